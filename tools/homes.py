@@ -25,13 +25,15 @@ class Homes:
 
     def __init__(self, files, sources, uses, heads):
         self.files, self.sources, self.uses, self.heads = files, sources, uses, heads
-        # Source files whose functions use something by another name than before.
-        self.renamed = []
-        # Who imports what: files of proofs by its path and name, source files by what it is.
+        # Source files whose functions use something by another name than before; what cannot be moved.
+        self.renamed, self.wrong = [], []
+        # Who imports what: files of definitions and proofs by where it stands, with how they name it; source files by what it is.
         self.citing, self.using, self.clauses = {}, {}, {}
         for (crate, module), file in sources.antt.items():
             for it in file.imports:
-                self.citing.setdefault((it.path, it.name), []).append(f"crates/{crate}/{'/'.join(module)}.antt")
+                found = sources.antt_name(it.path, it.name) if it.name else None
+                key = found[1:] if found and found[0] == "name" else (it.path, it.name)
+                self.citing.setdefault(key, []).append((f"crates/{crate}/{'/'.join(module)}.antt", it))
         for (crate, module), file in sources.rust.items():
             for it in file.ghost_imports:
                 self.clauses.setdefault((it.path, it.name), []).append(f"crates/{crate}/src/{module.replace('::', '/') or 'lib'}.rt")
@@ -51,11 +53,13 @@ class Homes:
         kind = "lemma" if "::" not in home else "const" if home.rpartition("::")[2].isupper() else "fn"
         there = [(key, self.text_of(kind, key[-1], self.files.get(self.path(key), ""))) for key in keys[1:]]
         there = [(key, found) for key, found in there if found]
-        if not there or f"crates/{keys[0][0]}/src/lib.rt" not in self.files:
+        of_the_kit = keys[0][0] not in self.sources.crates and kind == "lemma"
+        if not there or (f"crates/{keys[0][0]}/src/lib.rt" not in self.files and not of_the_kit):
             return 0
-        if not self.text_of(kind, keys[0][-1], self.files.get(self.path(keys[0]), "")):
-            self.make_home(kind, keys[0], *there[0])
-        self.open_home(kind, keys[0])
+        if not of_the_kit:
+            if not self.text_of(kind, keys[0][-1], self.files.get(self.path(keys[0]), "")):
+                self.make_home(kind, keys[0], *there[0])
+            self.open_home(kind, keys[0])
         for key, _ in there:
             self.take_out(kind, key, keys[0])
         return len(there)
@@ -71,6 +75,11 @@ class Homes:
         if module and module[0] in ("proofs", "specs"):
             return f"crates/{crate}/{'/'.join(module)}.antt"
         return f"crates/{crate}/src/{'/'.join(module) or 'lib'}.rt"
+
+    def root(self, crate):
+        """The root of a crate's sources."""
+        path = f"crates/{crate}/src/lib.rt"
+        return path if path in self.files else f"crates/{crate}/src/main.rt"
 
     def make_home(self, kind, home, copy, found):
         """Writes the text of a copy into its home, with what it imports."""
@@ -91,19 +100,35 @@ class Homes:
             words = words_in(block, ANTT)
             file = AnttFile(copy[0], copy[1], source)
             there = {it.local for it in AnttFile(home[0], home[1], text).imports}
+            beside = [it for it in file.items if it in words and it not in (copy[2], home[2])]
+            self.wrong += [f"{home[2]} needs {it}, which stays in {self.path(copy)}" for it in beside]
             for it in file.imports:
-                if is_used(it.local, words) and it.local not in there:
+                if is_used(it.local, words) and it.path[0] == "Rattle" and it.path[1] in self.uses and it.path[1] != home[0]:
+                    self.wrong += [f"{home[2]} needs {it.local} of {it.path[1]}, which {home[0]} does not use"] * (it.path[1] not in self.uses[home[0]])
+                if is_used(it.local, words) and it.local not in there and it.path != ("Rattle", home[0], *home[1]):
                     text = with_antt_use(text, ".".join(it.path), it.name, it.local)
         else:
-            words = words_in(block, ANTT) | words_in(block, RUST)
+            bare = re.sub(r"//[^\n]*", "", block)
+            words = words_in(bare, ANTT) | words_in(bare, RUST)
             file = RustFile(copy[0], "::".join(copy[1]), source)
             for it in file.ghost_imports:
                 if is_used(it.local, words):
                     text = with_antt_use(text, ".".join(it.path), it.name, it.local, ghost=True)
             for it in file.imports:
-                if it.local in words and it.path[0] != "crate":
+                if it.local in words and it.path[0] != "crate" and it.name not in RustFile(home[0], "", text).items:
                     text = with_rust_use(text, "::".join("crate" if part == home[0] else part for part in it.path), it.name)
+            self.move_proofs(home, copy)
         self.files[path] = text.rstrip("\n") + "\n\n" + block
+
+    def move_proofs(self, home, copy):
+        """Gives the function at home the proofs of a copy."""
+        begin, end = ("/".join((key[0], "proofs", *key[1], key[2])) for key in (copy, home))
+        old, new = (f"Rattle.{it.replace('/', '.')}." for it in (begin, end))
+        for path in [it for it in self.files if it.startswith(f"crates/{begin}/")]:
+            text = self.files[path].replace(old, new)
+            far = {*re.findall(r"Rattle\.(\w+)\.", text)} & {*self.uses} - {home[0], *self.uses[home[0]]}
+            self.wrong += [f"{home[2]} needs proofs of {it}, which {home[0]} does not use" for it in sorted(far)]
+            self.files[f"crates/{end}/{path[len(begin) + len('crates//'):]}"] = text
 
     def list_module(self, kind, home):
         """Names a new file in the root of its crate."""
@@ -112,13 +137,13 @@ class Homes:
             path = f"crates/{crate}/{module[0]}/Lib.antt"
             self.files[path] = self.files.get(path, "") + f"pub mod {module[-1]}\n"
         else:
-            path = f"crates/{crate}/src/lib.rt"
+            path = self.root(crate)
             self.files[path] = re.sub(r"^mod ", f"mod {module[-1]};\nmod ", self.files[path], count=1, flags=re.M)
 
     def open_home(self, kind, home):
         """Lets other crates name what is at home."""
         crate, module, name = home
-        path, root = self.path(home), f"crates/{crate}/src/lib.rt"
+        path, root = self.path(home), self.root(crate)
         text = self.files[path]
         if kind == "lemma":
             self.files[path] = re.sub(rf"^(abbrev |unfoldable )?(?:pub )?(?={re.escape(name)} :)", r"\1pub ", text, flags=re.M)
@@ -138,11 +163,11 @@ class Homes:
         gone = words_in(found.group(), ANTT) | words_in(found.group(), pattern)
         self.files[path] = text[: found.start()] + text[found.end() :]
         if kind == "lemma":
-            self.cite(path, copy, home, own=True)
+            self.cite(path, copy, home)
             self.files[path] = without_unused(self.files[path], gone, False)
-            for other in self.citing.get((("Rattle", copy[0], *copy[1]), copy[2]), ()):
+            for other, it in self.citing.get(copy, ()):
                 if other != path and other in self.files:
-                    self.cite(other, copy, home)
+                    self.cite(other, copy, home, it)
             for other in self.clauses.get((("Rattle", copy[0], *copy[1]), copy[2]), ()):
                 if other in self.files and copy[2] == home[2]:
                     left = without_antt_use(self.files[other], ".".join(("Rattle", copy[0], *copy[1])), copy[2])
@@ -158,7 +183,7 @@ class Homes:
             return
         self.use(path, copy, home, own=True)
         self.files[path] = without_unused(self.files[path], gone, True)
-        root = f"crates/{copy[0]}/src/lib.rt"
+        root = self.root(copy[0])
         self.files[root] = without_rust_use(self.files[root], "::".join(copy[1]), copy[2])
         key = ("item", copy[0], "::".join(copy[1]), copy[2])
         for other, it in self.using.get(key, ()):
@@ -166,7 +191,7 @@ class Homes:
                 self.files[other] = without_rust_use(self.files[other], "::".join(it.path), it.name)
                 self.use(other, copy, home)
         constants = ("Rattle", copy[0], "specs", "declared", *copy[1], "TheConstants")
-        for other in self.citing.get((constants, copy[2]), ()):
+        for other, _ in self.citing.get((constants, copy[2]), ()):
             if other in self.files:
                 left = without_antt_use(self.files[other], ".".join(constants), copy[2])
                 self.files[other] = with_antt_use(left, ".".join(("Rattle", home[0], "specs", "declared", *home[1], "TheConstants")), home[2], copy[2])
@@ -178,11 +203,15 @@ class Homes:
             self.files.pop(path)
             self.files[root] = re.sub(rf"^(?:pub )?mod {copy[1][-1]};\n", "", self.files[root], flags=re.M)
 
-    def cite(self, path, copy, home, own=False):
-        """Lets a file of proofs cite the home's lemma."""
+    def cite(self, path, copy, home, cited=None):
+        """Lets a file of proofs cite the home's lemma, in place of what it has imported."""
         text, place, local = self.files[path], ".".join(("Rattle", home[0], *home[1])), copy[2]
-        if not own:
-            text = without_antt_use(text, ".".join(("Rattle", copy[0], *copy[1])), copy[2])
+        if cited:
+            text = without_antt_use(text, ".".join(cited.path), cited.name)
+        if cited and cited.local != cited.name:
+            self.files[path] = with_antt_use(text, place, home[2], cited.local)
+            self.needs(path.split("/")[1], home[0])
+            return
         has_it = re.search(rf"^use {re.escape(place)}\.\{{[^}}]*(?<=[ {{]){re.escape(home[2])}[,}}]", text, re.M)
         if has_it or home[2] not in words_in(text, ANTT):
             text, local = rename_words(text, copy[2], home[2], ANTT), home[2]
@@ -205,7 +234,7 @@ class Homes:
 
     def needs(self, crate, home):
         """Sees to it that crates.txt names the home's crate for another one."""
-        if crate != home and home not in self.uses[crate]:
+        if crate != home and home not in ("core", "std") and home not in self.uses[crate]:
             self.uses[crate].append(home)
             self.files["crates.txt"] = re.sub(rf"^({crate}(?: [a-z]+)?:.*)$", rf"\1 {home}", self.files["crates.txt"], flags=re.M)
 
@@ -310,38 +339,42 @@ def without_unused(text, gone, is_source):
 
 
 def doubled_definitions(sources):
-    """For each name of a definition the crates that define it."""
+    """For each name of a definition where it is defined."""
     found = {}
     for (crate, module), file in sources.antt.items():
         if module[0] == "specs":
             for name in file.items:
-                found.setdefault(name, set()).add(crate)
+                found.setdefault(name, set()).add((crate, f"{crate}.{'.'.join(module)}.{name}"))
     return found
 
 
+def rust_place(crate, module, name):
+    return crate, "::".join(it for it in (crate, module, name) if it)
+
+
 def doubled_constants(sources):
-    """For each constant, with its type and its value, the crates that have it."""
+    """For each constant, with its type and its value, where it stands."""
     found = {}
-    for (crate, _), file in sources.rust.items():
+    for (crate, module), file in sources.rust.items():
         for name, rest in re.findall(r"^(?:pub(?:\([a-z]+\))? )?const (\w+): ((?:[^;\[]|\[[^\]]*\])*);", file.text, re.M):
-            found.setdefault((name, " ".join(rest.split())), set()).add(crate)
+            found.setdefault((name, " ".join(rest.split())), set()).add(rust_place(crate, module, name))
     return found
 
 
 def doubled_functions(sources):
-    """For each text of a function of four lines or more, but for its name and comment, the crates that have it."""
+    """For each text of a function of four lines or more, but for its name and comment, where it stands."""
     found = {}
-    for (crate, _), file in sources.rust.items():
+    for (crate, module), file in sources.rust.items():
         for begin, end, owner, name in file.functions:
             text = file.text[begin:end]
             if owner is None and text.count("\n") > 2:
                 text = re.sub(rf"^(?:pub(?:\([a-z]+\))? )?fn {name}\b", "fn", text)
-                found.setdefault(" ".join(text.split()), set()).add(crate)
+                found.setdefault(" ".join(text.split()), set()).add(rust_place(crate, module, name))
     return found
 
 
 def doubled_lemmas(sources):
-    """For each statement of a lemma, with its bound names in order, the crates that have it."""
+    """For each statement of a lemma, with its bound names in order, where it stands."""
     found = {}
     for (crate, module), file in sources.antt.items():
         if module[0] != "proofs" or module[-1] in (*OF_FUNCTIONS, "Lib"):
@@ -364,12 +397,12 @@ def doubled_lemmas(sources):
                     word = bound.setdefault(word, f"v{len(bound)}")
                 left.append(word)
                 before = token.text
-            found.setdefault(" ".join(left), set()).add(crate)
+            found.setdefault(" ".join(left), set()).add((crate, f"{crate}.{'.'.join(module)}.{name}"))
     return found
 
 
-def counts(sources):
-    """Lines that count what stands in two crates or more."""
+def counts(sources, names=False):
+    """Lines that count what stands in two crates or more, or that name it."""
     kinds = {
         "names of definitions": doubled_definitions,
         "constants of one name, type and value": doubled_constants,
@@ -378,5 +411,8 @@ def counts(sources):
     }
     for what, doubled in kinds.items():
         found = doubled(sources)
-        several = [it for it in found.values() if len(it) > 1]
-        yield f"{what}: {len(several)} of {len(found)} in two crates or more, {sum(map(len, several)) - len(several)} copies"
+        several = [it for it in found.values() if len({crate for crate, _ in it}) > 1]
+        crates = sum(len({crate for crate, _ in it}) for it in several)
+        yield f"{what}: {len(several)} of {len(found)} in two crates or more, {crates - len(several)} copies"
+        if names:
+            yield from sorted("    " + " ".join(sorted(place for _, place in it)) for it in several)

@@ -15,7 +15,7 @@ ITEM = re.compile(r"^(?P<indent> {4})?(?:pub(?:\([a-z]+\))? )?(?:const |unsafe |
 # Where a function ends, and where a method does.
 ENDS = re.compile(r"^(?:\}|\{\})", re.M), re.compile(r"^ {4}(?:\}|\{\})", re.M)
 OWNER = re.compile(r"^(?:unsafe )?(?:pub )?(?:impl|trait)(?:<[^>]*>)? (?:[\w:]+(?:<[^{]*?>)? for )?(\w+)", re.M)
-DEFINED = re.compile(r"^(?:(?:pub|abbrev|unfoldable|record|data|ruleset) )*([^\s(){}\[\];,.:\"=]+)(?= :| \(| \{| where)", re.M)
+DEFINED = re.compile(r"^(?:(?:pub|abbrev|unfoldable|record|data|ruleset) )*((?!--)[^\s(){}\[\];,.:\"=]+)(?= :| \(| \{| where)", re.M)
 
 # A constructor, or a definition of several that stand on each other; also a field.
 INNER = re.compile(r"^(?: +(?:(?:pub|abbrev|unfoldable) )*(?=\S+(?: :| \())|pub (?:record|data) (?=\S+$))([^\s(){}\[\];,.:\"=]+)", re.M)

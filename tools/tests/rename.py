@@ -5,7 +5,7 @@ from tool import TOP, Tool
 
 FILES = {
     "crates.txt": "# numbers\nlow: std_of_kit\n# what stands on them\nhigh: low\n",
-    "crates/low/src/lib.rt": "//! Numbers.\n#![tactic(auto)]\n\nmod beside;\nmod counts;\n\npub use beside::Beside;\npub use counts::{MOST, counted, is_right};\n",
+    "crates/low/src/lib.rt": "//! Numbers.\n#![tactic(auto)]\n\nmod beside;\nmod counts;\nmod kinds;\n\npub use beside::Beside;\npub use counts::{MOST, counted, is_right};\n",
     "crates/low/src/beside.rt": (
         "// What stands there.\nghost use Rattle.low.specs.Beside.{nothing};\n\n/// What stands beside.\npub struct Beside {\n    pub named: u8,\n}\n\nimpl Beside {\n"
         "    /// None, as `nothing`.\n    pub fn none() -> Beside\n        ensures { result ≡ nothing }\n    {\n        Beside { named: 0 }\n    }\n}\n"
@@ -29,6 +29,16 @@ FILES = {
         "use Rattle.high.proofs.task.named.Goals as goal\n\npub returns-then : goal.returns-then\nreturns-then c = c.counted-counted_twice.ensures (c.if-counted_twice-gt-MOST.true) c.args.beside.named\n"
     ),
     "crates/high/bodies/zero_for_all.edit": "file: src/task.rt\nold:     let counted_twice = counted(beside.named);\nnew:     let counted_twice = counted(MOST);\n",
+    "crates/low/src/kinds.rt": (
+        "// Kinds, and what is found of them.\n\n/// A kind.\npub enum Kind {\n    Settings,\n    Other,\n}\n\n/// One that is reached.\npub fn reached(count: u8) -> Option<u8>\n    ensures told { result ≡ Some count }\n{\n    print(\": reached\\n\");\n    Some(count)\n}\n\n"
+        "/// Two steps.\npub fn steps(count: u8) -> Option<u8> {\n    let reached = reached(count)?;\n    let told = told(reached);\n    Some(told)\n}\n\nfn told(count: u8) -> u8 {\n    count\n}\n"
+    ),
+    "crates/low/proofs/kinds/steps/Answers.antt": (
+        "use Rattle.low.specs.declared.kinds.Kind.TheVariants.{Settings, Other}\nuse Rattle.low.proofs.kinds.steps.Goals as goal\n\n"
+        "pub told-told-requires : goal.told-told-requires\ntold-told-requires c = is Settings c.in_ok-reached.reached.items c.in_ok-reached.ensures (c.reached.result) (c.told-told.ensures)\n\npub returns-clause-told : goal.returns-clause-told\nreturns-clause-told c = c.in_ok-reached.ensures.told\n"
+    ),
+    "crates/high/proofs/task/named/Invariants.antt": "use Rattle.high.proofs.task.named.Goals as goal\n\npub then-le-MOST-clause : goal.then-le-MOST-clause\nthen-le-MOST-clause c = c.if-gt-MOST.true\n",
+    "docs/GUIDE.md": "# Guide\n\nIt prints `FILE: reached`, and has `MOST`.\n",
     "docs/CLAIMS.md": "# Claims\n\n## low\n\n`counted` and `Beside::none` of low; `named` stays, [low](../crates/low/src/beside.rt).\n",
 }
 MAP = """[crates]
@@ -41,12 +51,16 @@ low::beside::Beside = Anchors
 [functions]
 low::counts::counted = count
 high::task::named = task
+low::kinds::reached = reach
+low::kinds::told = tell
 [constants]
 low::counts::MOST = MAX
 [definitions]
 low.specs.Beside.nothing = no_anchors
 [words]
 is_right = is_valid
+low: Settings = Properties
+low: MOST = LEAST
 [modules]
 low.proofs.Facts = Truths
 [homes]
@@ -99,6 +113,50 @@ class Rename(Tool):
         self.assertNotIn("again", text)
         self.assertNotIn("refl", text)
         self.has("crates/base/src/counts.rt", "pub const TWICE: u8 = 2;")
+
+    def test_steps_are_called_after_what_has_a_new_name(self):
+        """A variable keeps its name where a function of that name gets another, and a constant has its own before that by a word."""
+        self.said(MAP, "--write")
+        text = self.has("crates/base/proofs/kinds/steps/Answers.antt", "tell-told-requires : goal.tell-told-requires\ntell-told-requires c", "is Properties c.in_ok-reached.reached.items c.in_ok-reached.ensures (c.reach.result)\n    (c.tell-told.ensures)")
+        self.assertIn("TheVariants.{Properties, Other}", text)
+        self.assertIn("pub returns-clause-told : goal.returns-clause-told\nreturns-clause-told c = c.in_ok-reached.ensures.told\n", text)
+        self.has("crates/base/src/kinds.rt", "    Properties,\n", "ensures told {", "let reached = reach(count)?;", "let told = tell(reached);", '": reached\\n"')
+        self.has("crates/high/proofs/task/task/Invariants.antt", "pub then-le-MAX-clause : goal.then-le-MAX-clause\nthen-le-MAX-clause c = c.if-gt-MAX.true")
+
+    def test_what_is_printed_stays(self):
+        self.said(MAP, "--write")
+        self.has("docs/GUIDE.md", "`FILE: reached`", "`MAX`")
+
+    def test_a_lemma_goes_to_the_kit(self):
+        self.put("house/crates/high/proofs/Public.antt", "-- For others.\npub use Rattle.high.proofs.Words.{again, told}\n")
+        self.put("house/crates/low/proofs/More.antt", "use Rattle.high.proofs.Public.{again as twice, told}\n\nmore : (n : ℕ) → n ≡ n\nmore n = twice (told n)\n")
+        status, printed, said = self.said("[homes]\nstd.proofs.Common.self_is = high.proofs.Words.again\n", "--write")
+        self.assertEqual((status, said), (0, ""), printed)
+        self.assertNotIn("again", self.has("crates/high/proofs/Words.antt", "use Rattle.std.proofs.Common.{ℕ, ◌≡◌, self_is}", "told m = self_is m"))
+        self.has("crates/high/proofs/Public.antt", "pub use Rattle.high.proofs.Words.{told}\n")
+        self.has("crates/low/proofs/More.antt", "use Rattle.high.proofs.Public.{told}\nuse Rattle.std.proofs.Common.{self_is as twice}\n")
+
+    def test_a_lemma_that_needs_another_one_stays(self):
+        status, _, said = self.said("[homes]\nlow.proofs.Others.told = high.proofs.Words.told\n", "--write")
+        self.assertEqual(status, 1)
+        self.assertIn("told needs again, which stays in crates/high/proofs/Words.antt", said)
+
+    def test_a_function_has_one_home_with_its_proofs(self):
+        clause = "    ensures { result ≡ all_of values.now }"
+        text = f"ghost use Rattle.std.specs.Prelude.{{◌≡◌, all, values}};\nghost use Rattle.low.specs.Beside.{{nothing}};\n\n/// The sum of all.\nfn NAME(values: &[u8]) -> u8\n{clause}\n{{\n    0\n}}\n"
+        self.put("house/crates/high/src/sums.rt", text.replace("NAME", "sum_of"))
+        self.put("house/crates/high/proofs/sums/sum_of/Answers.antt", "use Rattle.high.proofs.sums.sum_of.Goals as goal\n\npub returns : goal.returns\nreturns c = refl\n")
+        status, printed, said = self.said("[homes]\nlow::counts::sum = high::sums::sum_of\n", "--write")
+        self.assertEqual((status, said), (0, ""), printed)
+        self.has("crates/low/src/counts.rt", "ghost use Rattle.std.specs.Prelude.{◌≡◌, values};", f"pub fn sum(values: &[u8]) -> u8\n{clause}\n")
+        self.has("crates/low/proofs/counts/sum/Answers.antt", "use Rattle.low.proofs.counts.sum.Goals as goal")
+        self.assertFalse(os.path.exists(self.path("house/crates/high/proofs/sums")))
+
+    def test_what_stands_twice_is_counted(self):
+        self.put("house/crates/high/src/more.rt", "// More.\nconst MOST: u8 = 7;\n")
+        printed = self.tool("--top", self.path("house"), "--counts", "--names")[1]
+        self.assertIn("constants of one name, type and value: 1 of 2 in two crates or more, 1 copies\n    high::more::MOST low::counts::MOST\n", printed)
+        self.assertIn("statements of lemmas: 1 of 1 in two crates or more, 1 copies\n    high.proofs.Words.again high.proofs.Words.told low.proofs.Facts.same\n", printed)
 
     def test_a_second_run_finds_nothing(self):
         self.said(MAP, "--write")

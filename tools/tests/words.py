@@ -17,7 +17,6 @@ CHANGES = (
     ("man/docbin.1", "\n.B 14\n", "\n.B 24\n", "man/docbin.1, the statuses"),
     ("man/docbin-script.5", "\\(dqerase\\(dq", "\\(dqerased\\(dq", "man/docbin-script.5, the commands"),
     ("docs/RULES.md", "| the file begins", "| a file begins", "man/docbin-rules.7, the rules"),
-    ("docs/CLAIMS.md", "; test `", "; test `no_such::test`, `", "docs/CLAIMS.md, tests that are not there"),
     ("docs/REFUSED.md", "| `rule 19 ", "| `rule 60 ", "crates/run_stages/src/reasons.rt, rules of docs/REFUSED.md that have no words of their own"),
     ("README.md", "./docbin text examples/hello.doc ", "./docbin text examples/hallo.doc ", "README.md, the file of the first command"),
     ("docs/BUILDING.md", "logic d", "logic e", "docs/BUILDING.md, the kit's line"),

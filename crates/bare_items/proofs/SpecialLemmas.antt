@@ -22,24 +22,24 @@ use Rattle.style_sheet.specs.Written.{IsWritable}
 use Rattle.plain_doc.specs.declared.item.Item.{Item}
 use Rattle.plain_doc.specs.declared.document.Document.{Document}
 use Rattle.plain_doc.specs.declared.rules_texts.ItemRule.{ItemRule}
-use Rattle.plain_doc.specs.declared.rules_texts.ItemRule.TheVariants.{Placing, Styles, Settings}
+use Rattle.plain_doc.specs.declared.rules_texts.ItemRule.TheVariants.{Placing, Styles, Properties}
 use Rattle.plain_doc.specs.declared.text_walk.TextWalk.{TextWalk}
 use Rattle.plain_doc.specs.Nesting.{field_characters, most_open, AreFields}
 use Rattle.plain_doc.specs.Rows.{FitsRow, open_cells, cells_after, is_on, paragraph_value}
-use Rattle.plain_doc.specs.RulesOfItems.{IsPlacedRight, HasShortSettings, IsShortChp, IsShortPap, IsShortSect}
+use Rattle.plain_doc.specs.RulesOfItems.{IsPlacedRight, HasShortProperties, IsShortChp, IsShortPap, IsShortSect}
 use Rattle.plain_doc.specs.RulesOfTexts.{EndsRight, HasParagraphStyle, text_of}
 use Rattle.plain_doc.specs.RulesOfSheet.{note_count, section_count, heads_of_sections, item_count, most_items}
 use Rattle.plain_doc.specs.RulesOfSheet.{HasShortStyle}
-use Rattle.plain_doc.specs.RightDocument.{HoldsAtItems, IsRightText}
+use Rattle.plain_doc.specs.RightDocument.{HoldsAtItems, IsValidText}
 use Rattle.plain_doc.specs.OpenFields.{after_unit}
 use Rattle.plain_doc.specs.Sound.{IsSound}
-use Rattle.plain_doc.specs.TextRules.{IsRightItem}
+use Rattle.plain_doc.specs.TextRules.{IsValidItem}
 use Rattle.plain_doc.specs.TextWalk.{PassesItem}
 use Rattle.plain_doc.proofs.RowLemmas.{open_cells_more}
 use Rattle.plain_doc.proofs.TextWalkLemmas.{last_is_mark}
-use Rattle.plain_doc.proofs.RightLemmas.{sound_is_right, right_is_sound}
-use Rattle.bare_items.specs.Specials.{is_special, special_items, IsPlainUnit, HasRightBareItems, AreSpecialsOf}
-use Rattle.bare_items.specs.Marks.{AreRightBookmarks}
+use Rattle.plain_doc.proofs.RightLemmas.{sound_is_valid, right_is_sound}
+use Rattle.bare_items.specs.Specials.{is_special, special_items, IsPlainUnit, HasValidBareItems, AreSpecialsOf}
+use Rattle.bare_items.specs.Marks.{AreValidBookmarks}
 
 -- ---- units of no mark
 
@@ -97,7 +97,7 @@ bare_placed part len place item bare plain inside =
     }
 
 -- the unit of a bare item of such a text
-plain_at : (text : List Item) → HasRightBareItems text → (i : ℕ) (item : Item) → slice_get text i ≡ Some item →
+plain_at : (text : List Item) → HasValidBareItems text → (i : ℕ) (item : Item) → slice_get text i ≡ Some item →
     is_special item ≡ false → IsPlainUnit item.unit
 plain_at text right i item there =
     subst (λ (x : Item). is_special x ≡ false → IsPlainUnit x.unit) (get_or_from_slice_get text i item item there)
@@ -154,7 +154,7 @@ special_more text i item there special =
 
 -- ---- the last item
 
-last_by : (has : Bool) (text : List Item) → HasRightBareItems text → (i : ℕ) (item : Item) →
+last_by : (has : Bool) (text : List Item) → HasValidBareItems text → (i : ℕ) (item : Item) →
     slice_get text i ≡ Some item → i + 1 ≡ length text → is_special item ≡ has → is_special item ≡ true
 last_by true text right i item there end is = is
 last_by false text right i item there end is =
@@ -167,7 +167,7 @@ last_by false text right i item there end is =
     ]
 
 -- the last item is a special one
-last_special : (text : List Item) → HasRightBareItems text → (i : ℕ) (item : Item) → slice_get text i ≡ Some item →
+last_special : (text : List Item) → HasValidBareItems text → (i : ℕ) (item : Item) → slice_get text i ≡ Some item →
     i + 1 ≡ length text → is_special item ≡ true
 last_special text right i item there end = last_by (is_special item) text right i item there end refl
 
@@ -186,7 +186,7 @@ record HasPlace (text : List Item) (i : ℕ) (item : Item) (place : ℕ) : Type 
   ends : place + 1 ≡ length (special_items text) → i + 1 ≡ length text
   ended : i + 1 ≡ length text → place + 1 ≡ length (special_items text)
 
-none_behind : (text : List Item) → HasRightBareItems text → (i : ℕ) (item : Item) → slice_get text i ≡ Some item →
+none_behind : (text : List Item) → HasValidBareItems text → (i : ℕ) (item : Item) → slice_get text i ≡ Some item →
     is_special item ≡ true → length (special_items (take i text)) + 1 ≡ length (special_items text)
     → i + 1 < length text → ⊥
 none_behind text right i item there special all more =
@@ -202,7 +202,7 @@ none_behind text right i item there special all more =
     let grown = more_specials text (i + 1) last (omega arith) in
     omega arith
 
-place_of : (text : List Item) → HasRightBareItems text → (i : ℕ) (item : Item) → slice_get text i ≡ Some item →
+place_of : (text : List Item) → HasValidBareItems text → (i : ℕ) (item : Item) → slice_get text i ≡ Some item →
     is_special item ≡ true → HasPlace text i item (length (special_items (take i text)))
 place_of text right i item there special =
     let front = special_items (take i text) in
@@ -341,7 +341,7 @@ same_count such none (item ∷ text) =
 
 -- ---- the text
 
-placed_by : (has : Bool) (part : Where) (text : List Item) → HasRightBareItems text → (i : ℕ) (item : Item) →
+placed_by : (has : Bool) (part : Where) (text : List Item) → HasValidBareItems text → (i : ℕ) (item : Item) →
     slice_get text i ≡ Some item → is_special item ≡ has
     → HoldsAtItems (special_items text) (IsPlacedRight part (length (special_items text)))
     → IsPlacedRight part (length text) i item
@@ -381,7 +381,7 @@ bare_fits cells item bare plain = record {
       (bare_parts item bare).mark mark);
 }
 
-rows_by : (has : Bool) (text : List Item) → HasRightBareItems text → (i : ℕ) (item : Item) →
+rows_by : (has : Bool) (text : List Item) → HasValidBareItems text → (i : ℕ) (item : Item) →
     slice_get text i ≡ Some item → is_special item ≡ has
     → HoldsAtItems (special_items text) (λ k x. FitsRow (open_cells (take k (special_items text))) x)
     → FitsRow (open_cells (take i text)) item
@@ -397,7 +397,7 @@ rows_by false text right i item there is rows =
 no_mark : {A : Type 0} (o : Option A) (P : A → Type 0) → is_some o ≡ false → ForSome o P
 no_mark o P none x is = let some : is_some o ≡ true = ap is_some is in absurd (cc)
 
-styles_by : (has : Bool) (sheet : Sheet) (text : List Item) → HasRightBareItems text → (i : ℕ) (item : Item) →
+styles_by : (has : Bool) (sheet : Sheet) (text : List Item) → HasValidBareItems text → (i : ℕ) (item : Item) →
     slice_get text i ≡ Some item → is_special item ≡ has
     → HoldsAtItems (special_items text) (λ k x. HasParagraphStyle sheet x) → HasParagraphStyle sheet item
 styles_by true sheet text right i item there is styles =
@@ -405,9 +405,9 @@ styles_by true sheet text right i item there is styles =
 styles_by false sheet text right i item there is styles =
     no_mark item.mark (λ mark. kind_at sheet mark.istd ≡ 1) (bare_parts item is).mark
 
-short_by : (has : Bool) (text : List Item) → HasRightBareItems text → (i : ℕ) (item : Item) →
+short_by : (has : Bool) (text : List Item) → HasValidBareItems text → (i : ℕ) (item : Item) →
     slice_get text i ≡ Some item → is_special item ≡ has
-    → HoldsAtItems (special_items text) (λ k x. HasShortSettings x) → HasShortSettings item
+    → HoldsAtItems (special_items text) (λ k x. HasShortProperties x) → HasShortProperties item
 short_by true text right i item there is short =
     short (length (special_items (take i text))) item (place_of text right i item there is).there
 short_by false text right i item there is short =
@@ -424,11 +424,11 @@ short_by false text right i item there is short =
 -- ---- a walk over a text
 
 bare_right : (rule : ItemRule) (sheet : Sheet) (part : Where) (len place : ℕ) (item : Item) → is_special item ≡ false →
-    IsPlainUnit item.unit → IsShortChp item.chp → (place + 1 ≡ len → ⊥) → IsRightItem rule sheet part len place item
+    IsPlainUnit item.unit → IsShortChp item.chp → (place + 1 ≡ len → ⊥) → IsValidItem rule sheet part len place item
 bare_right Placing sheet part len place item bare plain short inside = bare_placed part len place item bare plain inside
 bare_right Styles sheet part len place item bare plain short inside =
     no_mark item.mark (λ mark. kind_at sheet mark.istd ≡ 1) (bare_parts item bare).mark
-bare_right Settings sheet part len place item bare plain short inside = record {
+bare_right Properties sheet part len place item bare plain short inside = record {
   chp = short;
   pap = no_mark item.mark (λ mark. IsShortPap mark.pap) (bare_parts item bare).mark;
   sect = no_mark item.sect IsShortSect (bare_parts item bare).sect;
@@ -454,7 +454,7 @@ bare_passes sheet part len place item walk bare plain short inside =
 
 -- ---- the end of a text
 
-ends_by : (part : Where) (text : List Item) → HasRightBareItems text → EndsRight part (special_items text) →
+ends_by : (part : Where) (text : List Item) → HasValidBareItems text → EndsRight part (special_items text) →
     EndsRight part text
 ends_by part text right kept = elim right.ends [
   | inl empty ↦ subst (EndsRight part) (ap special_items empty ∙ sym empty) kept
@@ -462,8 +462,8 @@ ends_by part text right kept = elim right.ends [
 ]
 
 -- a text with right bare items is right where that of its special items is
-pub text_by_specials : (sheet : Sheet) (part : Where) (text : List Item) → HasRightBareItems text →
-    IsRightText sheet part (special_items text) → IsRightText sheet part text
+pub text_by_specials : (sheet : Sheet) (part : Where) (text : List Item) → HasValidBareItems text →
+    IsValidText sheet part (special_items text) → IsValidText sheet part text
 text_by_specials sheet part text right kept = record {
   ends = ends_by part text right kept.ends;
   placed = λ i item there. placed_by (is_special item) part text right i item there refl kept.placed;
@@ -489,22 +489,22 @@ list_text texts number text there =
     slice_get-map special_items texts number
     ∙ ap (λ (o : Option (List Item)). option_map special_items o) there
 
-list_right : (texts : List (List Item)) (number : ℕ) (text : List Item) → All HasRightBareItems texts →
-    slice_get texts number ≡ Some text → HasRightBareItems text
+list_right : (texts : List (List Item)) (number : ℕ) (text : List Item) → All HasValidBareItems texts →
+    slice_get texts number ≡ Some text → HasValidBareItems text
 list_right texts number text right there =
-    subst HasRightBareItems (get_or_from_slice_get texts number text text there)
-    (All-get_or HasRightBareItems texts number text (slice_get_within texts number text there) right)
+    subst HasValidBareItems (get_or_from_slice_get texts number text text there)
+    (All-get_or HasValidBareItems texts number text (slice_get_within texts number text there) right)
 
 text_there : (document kept : Document) → AreSpecialsOf document kept → (part : Where) (text : List Item) →
     text_of document part ≡ Some text →
-    (text_of kept part ≡ Some (special_items text)) × HasRightBareItems text
+    (text_of kept part ≡ Some (special_items text)) × HasValidBareItems text
 text_there document kept are File text there = absurd (cc)
 text_there document kept are Wd text there = absurd (cc)
 text_there document kept are Table text there = absurd (cc)
 text_there document kept are SheetPart text there = absurd (cc)
 text_there document kept are Main text there =
     let is : document.main ≡ text = cc in
-    (ap Some (are.main ∙ ap special_items is), subst HasRightBareItems is are.main_right)
+    (ap Some (are.main ∙ ap special_items is), subst HasValidBareItems is are.main_right)
 text_there document kept are (Note number) text there = (
   ap (λ (texts : List (List Item)). slice_get texts number) are.notes ∙ list_text document.notes number text there,
   list_right document.notes number text are.notes_right there,
@@ -516,10 +516,10 @@ text_there document kept are (Head number) text there = (
 
 -- a document with right bare items and right bookmarks is sound where that of its special items is
 pub sound_by_specials : (document kept : Document) → AreSpecialsOf document kept →
-    item_count document ≤ most_items → AreRightBookmarks (length document.main) document.bookmarks → IsSound kept →
+    item_count document ≤ most_items → AreValidBookmarks (length document.main) document.bookmarks → IsSound kept →
     IsSound document
 sound_by_specials document kept are few marks sound =
-    let right = sound_is_right kept sound in
+    let right = sound_is_valid kept sound in
     let sheets : kept.sheet ≡ document.sheet = are.sheet in
     let notes = same_count (λ (x : Item). is_some x.note) no_note document.main in
     let sections = same_count (λ (x : Item). is_some x.sect) no_sect document.main in
@@ -527,7 +527,7 @@ sound_by_specials document kept are few marks sound =
       texts = λ part text there.
           let found = text_there document kept are part text there in
           text_by_specials document.sheet part text found.1
-          (subst (λ (sheet : Sheet). IsRightText sheet part (special_items text)) sheets
+          (subst (λ (sheet : Sheet). IsValidText sheet part (special_items text)) sheets
           (right.texts part (special_items text) found.0));
       notes =
           sym (length-map document.notes special_items) ∙ ap length (sym are.notes) ∙ right.notes

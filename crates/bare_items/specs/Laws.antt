@@ -4,11 +4,11 @@ use Rattle.plain_doc.specs.declared.document.Document.{Document}
 use Rattle.plain_doc.specs.RulesOfSheet.{item_count, most_items}
 use Rattle.plain_doc.specs.Sound.{IsSound}
 use Rattle.bare_items.specs.Specials.{AreSpecialsOf}
-use Rattle.bare_items.specs.Marks.{AreRightBookmarks}
+use Rattle.bare_items.specs.Marks.{AreValidBookmarks}
 
 -- a document whose bare items are right, which has not too many, and whose bookmarks are right, is sound where that of
 -- its special items is
 abbrev pub SpecialItemsDecide : Type 0
 SpecialItemsDecide =
     (document kept : Document) → AreSpecialsOf document kept → item_count document ≤ most_items →
-    AreRightBookmarks (length document.main) document.bookmarks → IsSound kept → IsSound document
+    AreValidBookmarks (length document.main) document.bookmarks → IsSound kept → IsSound document

@@ -7,7 +7,7 @@ use Rattle.doc_parts.specs.Names.{HasSameName}
 use Rattle.plain_doc.specs.Marks.{most_bookmarks}
 
 -- the bookmarks of a main text of this length are formed, not too many, and none has the name of an earlier one
-pub record AreRightBookmarks (len : ℕ) (list : List Bookmark) : Type 0 where
+pub record AreValidBookmarks (len : ℕ) (list : List Bookmark) : Type 0 where
   pub formed : AreFormedBookmarks len list
   pub few : length list ≤ most_bookmarks
   pub names : Nowhere (HasSameName list)

@@ -1,4 +1,5 @@
--- The items of a text that have something beside their settings. The rest are bare: a text with right bare items breaks
+-- The items of a text that have something beside their properties. The rest are bare: a text with right bare items
+-- breaks
 -- a rule only where the text of the others does.
 use Rattle.std.specs.Prelude.{◌≡◌, ◌≢◌, ◌⊎◌, ℕ, ◌||◌, Bool, false, List, [], is_some, map, Some}
 use Rattle.std.specs.List.{All, filter}
@@ -8,7 +9,7 @@ use Rattle.plain_doc.specs.declared.document.Document.{Document}
 use Rattle.plain_doc.specs.RulesOfItems.{IsShortChp}
 use Rattle.plain_doc.specs.RulesOfTexts.{last_unit}
 
--- the item has something beside its settings
+-- the item has something beside its properties
 abbrev pub is_special : Item → Bool
 is_special item = is_some item.mark || (is_some item.sect || (is_some item.fld || is_some item.note))
 
@@ -21,8 +22,8 @@ pub record IsPlainUnit (unit : ℕ) : Type 0 where
   pub paragraph : unit ≢ paragraph_mark
   pub cell : unit ≢ cell_mark
 
--- the bare items of the text are right, all settings of characters are short, and the last unit is a paragraph mark
-pub record HasRightBareItems (text : List Item) : Type 0 where
+-- the bare items of the text are right, all properties of characters are short, and the last unit is a paragraph mark
+pub record HasValidBareItems (text : List Item) : Type 0 where
   pub plain : All (λ item. is_special item ≡ false → IsPlainUnit item.unit) text
   pub short : All (λ item. IsShortChp item.chp) text
   pub ends : (text ≡ []) ⊎ (last_unit text ≡ Some paragraph_mark)
@@ -33,6 +34,6 @@ pub record AreSpecialsOf (document kept : Document) : Type 0 where
   pub main : kept.main ≡ special_items document.main
   pub notes : kept.notes ≡ map special_items document.notes
   pub heads : kept.heads ≡ map special_items document.heads
-  pub main_right : HasRightBareItems document.main
-  pub notes_right : All HasRightBareItems document.notes
-  pub heads_right : All HasRightBareItems document.heads
+  pub main_right : HasValidBareItems document.main
+  pub notes_right : All HasValidBareItems document.notes
+  pub heads_right : All HasValidBareItems document.heads

@@ -1,4 +1,4 @@
-//! The items of a text that have something beside their settings, and what they say of the whole. No code but a law.
+//! The items of a text that have something beside their properties, and what they say of the whole. No code but a law.
 #![tactic(auto)]
 
 mod laws;

@@ -6,7 +6,7 @@ use Rattle.doc_bits.specs.Number.{u32_at}
 use Rattle.doc_bits.specs.Rules.{Among, LeastOrNone}
 use Rattle.doc_bits.proofs.RuleLemmas.{least_same}
 use Rattle.cfb_sectors.specs.SectorChain.{HasSector}
-use Rattle.cfb_directory.specs.Reach.{entry_place, IsReached, IsLink, IsNamedBefore, BreaksLink}
+use Rattle.cfb_directory.specs.Reach.{entry_place, IsReachedEntry, IsLink, IsNamedBefore, BreaksLink}
 use Rattle.cfb_directory.specs.Links.{ListsLinks, IsFirstNamed, IsWrongAt}
 use Rattle.cfb_sectors.proofs.ChainLemmas.{pushed_before, pushed_last, length_pushed}
 
@@ -20,7 +20,7 @@ pub record IsLinkFront (file directory order : List ℕ) (count : ℕ) (links : 
 
 -- the links of one entry more
 pub front_step : (file directory order links : List ℕ) (n at : ℕ) → IsLinkFront file directory order n links →
-    IsReached file directory (slice_index order n) → at ≡ entry_place directory (slice_index order n) →
+    IsReachedEntry file directory (slice_index order n) → at ≡ entry_place directory (slice_index order n) →
     at + 128 ≤ length file → IsLinkFront file directory order (n + 1) ((links ++ (at + 68) ∷ []) ++ (at + 72) ∷ [])
 front_step file directory order links n at f reached e low =
     let one = links ++ (at + 68) ∷ [] in

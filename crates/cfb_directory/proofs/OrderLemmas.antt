@@ -8,7 +8,8 @@ use Rattle.doc_bits.specs.Rules.{Nowhere}
 use Rattle.cfb_sectors.specs.SectorChain.{HasSector}
 use Rattle.cfb_directory.specs.Directory.{entry_type, entry_unit, entry_name_length, entry_name_units, upper_case}
 use Rattle.cfb_directory.specs.Directory.{EntryBefore, HaveOneName}
-use Rattle.cfb_directory.specs.Reach.{entry_place, entry_count, IsReached, ListsReached, BreaksName, IsWrongNameLength}
+use Rattle.cfb_directory.specs.Reach.{entry_place, entry_count, IsReachedEntry, ListsReached, BreaksName}
+use Rattle.cfb_directory.specs.Reach.{IsWrongNameLength}
 use Rattle.cfb_directory.specs.Order.{AreOrdered, ListsKind, ListsStreams, IsFirstAfter, PutsWanted}
 
 -- one of the first `count` entries
@@ -20,7 +21,7 @@ pub record IsEarly (reached : List ℕ) (count entry : ℕ) : Type 0 where
 -- those among the first `count` entries that are reached which are wanted, in the order of their names
 pub record ListsFront (file directory reached : List ℕ) (wanted : ℕ → Type 0) (count : ℕ) (entries : List ℕ) : Type 0
   where
-    pub are_reached : (i : ℕ) → i < length entries → IsReached file directory (slice_index entries i)
+    pub are_reached : (i : ℕ) → i < length entries → IsReachedEntry file directory (slice_index entries i)
     pub sound : (i : ℕ) → i < length entries → wanted (slice_index entries i)
     pub within : (i : ℕ) → i < length entries → slice_index entries i < entry_count directory
     pub early : (i : ℕ) → i < length entries → IsEarly reached count (slice_index entries i)
@@ -281,7 +282,8 @@ one_name-sym file a b h =
 -- where rule 9 holds two entries that are reached have two names
 pub names_apart : (file directory : List ℕ) (a b : ℕ) → Nowhere (BreaksName file directory) →
     ((i j : ℕ) → i < j → j < length directory → slice_index directory i ≢ slice_index directory j) →
-    IsReached file directory a → IsReached file directory b → a < entry_count directory → b < entry_count directory →
+    IsReachedEntry file directory a → IsReachedEntry file directory b → a < entry_count directory → b < entry_count
+    directory →
     a ≢ b → ¬ HaveOneName file (entry_place directory a) (entry_place directory b)
 names_apart file directory a b holds distinct ra rb ha hb ne one = elim
     (cases_order (entry_place directory a) (entry_place directory b)) [
@@ -338,13 +340,13 @@ front_put file directory reached wanted count entry old new lists names distinct
       let h = first.inside in
       let there : entry < entry_count directory = subst (λ x. x < entry_count directory) (sym e)
       (lists.within count low).1 in
-      let is_reached = subst (IsReached file directory) (sym e) (lists.sound count low) in
+      let is_reached = subst (IsReachedEntry file directory) (sym e) (lists.sound count low) in
       let ne : (i : ℕ) → i < length old → entry ≢ slice_index old i = λ i below same.
       let early = f.early i below in
       lists.distinct early.index count early.below low (early.here ∙ (sym same ∙ e)) in
       let len = length-insert old put.1.0 entry h in
       rw put.1.1.1 (record {
-        are_reached = all_insert (IsReached file directory) old put.1.0 entry h f.are_reached is_reached;
+        are_reached = all_insert (IsReachedEntry file directory) old put.1.0 entry h f.are_reached is_reached;
         sound = all_insert wanted old put.1.0 entry h f.sound put.0;
         within = all_insert (λ x. x < entry_count directory) old put.1.0 entry h f.within there;
         early = all_insert (IsEarly reached (count + 1)) old put.1.0 entry h
@@ -371,7 +373,8 @@ front_put file directory reached wanted count entry old new lists names distinct
 
 -- all entries that are reached and wanted were put
 pub front_all : (file directory reached : List ℕ) (wanted kind : ℕ → Type 0) (entries : List ℕ) →
-    ((k : ℕ) → IsReached file directory k → wanted k → kind k) → ((k : ℕ) → kind k → IsReached file directory k) →
+    ((k : ℕ) → IsReachedEntry file directory k → wanted k → kind k) → ((k : ℕ) → kind k → IsReachedEntry file directory
+    k) →
     ((k : ℕ) → kind k → wanted k) → ListsReached file directory reached →
     ListsFront file directory reached wanted (length reached) entries → ListsKind file directory kind entries
 front_all file directory reached wanted kind entries make is_reached is lists f = record {
@@ -399,7 +402,7 @@ streams_apart file directory streams lists i j less low e =
 
 -- where rule 9 holds the length of a name is even, from 4 to 64
 pub name_length : (file directory : List ℕ) (entry : ℕ) → Nowhere (BreaksName file directory) →
-    IsReached file directory entry → ¬ IsWrongNameLength (entry_name_length file (entry_place directory entry))
+    IsReachedEntry file directory entry → ¬ IsWrongNameLength (entry_name_length file (entry_place directory entry))
 name_length file directory entry holds reached wrong = holds (entry_place directory entry + 64)
     (record { entry = entry; reached = reached; broken = record { here = refl; wrong = inl wrong } })
 

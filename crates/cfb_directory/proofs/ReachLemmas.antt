@@ -5,7 +5,8 @@ use Rattle.std.proofs.lemmas.Bool.{cases_lt}
 use Rattle.cfb_sectors.specs.SectorChain.{HasSector}
 use Rattle.cfb_directory.specs.Directory.{entry_left, entry_right, entry_child}
 use Rattle.cfb_directory.specs.Seen.{IsSeen, Follows}
-use Rattle.cfb_directory.specs.Reach.{entry_place, entry_count, IsEntry, IsReached, child, left, right, ListsReached}
+use Rattle.cfb_directory.specs.Reach.{entry_place, entry_count, IsEntry, IsReachedEntry, child, left, right}
+use Rattle.cfb_directory.specs.Reach.{ListsReached}
 use Rattle.cfb_directory.specs.Reach.{AmongReached}
 use Rattle.doc_bits.specs.Rules.{Among, LeastOrNone}
 use Rattle.doc_bits.proofs.RuleLemmas.{least_same}
@@ -20,7 +21,7 @@ follows_has count link old new k f has =
 
 -- the list has only entries that are reached, the root's child, and what the first `next` of it name
 pub record IsClosedTo (file directory order : List ℕ) (next : ℕ) : Type 0 where
-  pub sound : (i : ℕ) → i < length order → IsReached file directory (slice_index order i)
+  pub sound : (i : ℕ) → i < length order → IsReachedEntry file directory (slice_index order i)
   pub first : IsEntry directory (entry_child file (entry_place directory 0)) → HasSector order
       (entry_child file (entry_place directory 0))
   pub lefts : (i : ℕ) → i < next → IsEntry directory (entry_left file (entry_place directory (slice_index order i))) →
@@ -44,7 +45,8 @@ pub closed_begin : (file directory order : List ℕ) (link count : ℕ) →
     link ≡ entry_child file (entry_place directory 0) → count ≡ entry_count directory → Follows count link [] order →
     ((i : ℕ) → i < length order → IsEntry directory (slice_index order i)) → IsClosedTo file directory order 0
 closed_begin file directory order link count e n f within = record {
-  sound = follows_all (IsReached file directory) directory count link [] order f within (λ i h. absurd (omega arith))
+  sound = follows_all (IsReachedEntry file directory) directory count link [] order f within (λ i h. absurd (omega
+      arith))
       (λ there. child link (sym e) there);
   first = λ there. subst (HasSector order) e
       (f.there (subst (λ k. 0 < k) (sym e) there.0) (let high = there.1 in omega arith));
@@ -67,13 +69,13 @@ closed_step file directory old mid new next l r count other c low le re n n2 f g
     slice_index new i ≡ slice_index old i = λ i h. g.front i (omega arith) ∙ f.front i h in
     let has : (k : ℕ) → HasSector old k →
     HasSector new k = λ k h. follows_has other r mid new k g (follows_has count l old mid k f h) in
-    let sound_mid = follows_all (IsReached file directory) directory count l old mid f within_mid c.sound
+    let sound_mid = follows_all (IsReachedEntry file directory) directory count l old mid f within_mid c.sound
     (λ there. left (slice_index old next) l (c.sound next low) (sym le) there) in
     let put : (k : ℕ) → k ≡ next →
     slice_index new k ≡ slice_index old next = λ k e. ap (λ i. slice_index new i) e ∙ at next low in
     let short = c.short in
     record {
-      sound = follows_all (IsReached file directory) directory other r mid new g within_new sound_mid
+      sound = follows_all (IsReachedEntry file directory) directory other r mid new g within_new sound_mid
           (λ there. right (slice_index old next) r (c.sound next low) (sym re) there);
       first = λ there. has (entry_child file (entry_place directory 0)) (c.first there);
       lefts = λ i h there. elim (cases_lt i next) [
@@ -108,7 +110,7 @@ closed_step file directory old mid new next l r count other c low le re n n2 f g
 
 -- a list that is closed has each entry that is reached
 pub closed_complete : (file directory order : List ℕ) (next : ℕ) {k : ℕ} → IsClosedTo file directory order next →
-    length order ≤ next → IsReached file directory k → HasSector order k
+    length order ≤ next → IsReachedEntry file directory k → HasSector order k
 closed_complete file directory order next c high (child k e there) = subst (HasSector order) e
     (c.first (subst (IsEntry directory) (sym e) there))
 closed_complete file directory order next c high (left from k r e there) =
@@ -155,7 +157,7 @@ reached_least file directory order each o lists =
     { entry = has.index; below = has.inside; broken = subst (λ k. each k p) (sym has.here) w.broken })
 
 -- an entry that is reached is above 0 and there
-pub reached_there : (file directory : List ℕ) {k : ℕ} → IsReached file directory k → IsEntry directory k
+pub reached_there : (file directory : List ℕ) {k : ℕ} → IsReachedEntry file directory k → IsEntry directory k
 reached_there file directory (child k e there) = there
 reached_there file directory (left from k r e there) = there
 reached_there file directory (right from k r e there) = there

@@ -40,24 +40,25 @@ abbrev pub IsEntry : List ℕ → ℕ → Type 0
 IsEntry directory k = (0 < k) × (k < entry_count directory)
 
 -- the entries that are reached from the root's child by left and right: no fewer, and no others
-pub data IsReached (file directory : List ℕ) : ℕ → Type 0 where
-  child : (k : ℕ) → entry_child file (entry_place directory 0) ≡ k → IsEntry directory k → IsReached file directory k
-  left : (from k : ℕ) → IsReached file directory from → entry_left file (entry_place directory from) ≡ k →
-      IsEntry directory k → IsReached file directory k
-  right : (from k : ℕ) → IsReached file directory from → entry_right file (entry_place directory from) ≡ k →
-      IsEntry directory k → IsReached file directory k
+pub data IsReachedEntry (file directory : List ℕ) : ℕ → Type 0 where
+  child : (k : ℕ) → entry_child file (entry_place directory 0) ≡ k → IsEntry directory k → IsReachedEntry file directory
+      k
+  left : (from k : ℕ) → IsReachedEntry file directory from → entry_left file (entry_place directory from) ≡ k →
+      IsEntry directory k → IsReachedEntry file directory k
+  right : (from k : ℕ) → IsReachedEntry file directory from → entry_right file (entry_place directory from) ≡ k →
+      IsEntry directory k → IsReachedEntry file directory k
 
 -- a list of the entries that are reached, each of them once
 pub record ListsReached (file directory order : List ℕ) : Type 0 where
-  pub sound : (i : ℕ) → i < length order → IsReached file directory (slice_index order i)
+  pub sound : (i : ℕ) → i < length order → IsReachedEntry file directory (slice_index order i)
   pub within : (i : ℕ) → i < length order → IsEntry directory (slice_index order i)
-  pub complete : (k : ℕ) → IsReached file directory k → HasSector order k
+  pub complete : (k : ℕ) → IsReachedEntry file directory k → HasSector order k
   pub distinct : (i j : ℕ) → i < j → j < length order → slice_index order i ≢ slice_index order j
 
 -- the place of a left or right link of an entry that is reached
 pub record IsSideLink (file directory : List ℕ) (place : ℕ) : Type 0 where
   pub entry : ℕ
-  pub reached : IsReached file directory entry
+  pub reached : IsReachedEntry file directory entry
   pub here : (place ≡ entry_place directory entry + 68) ⊎ (place ≡ entry_place directory entry + 72)
 
 -- the links that are judged stand at these places
@@ -83,7 +84,7 @@ pub record BreaksLink (file directory : List ℕ) (place : ℕ) : Type 0 where
 -- an entry that is reached breaks a rule
 pub record AmongReached (file directory : List ℕ) (each : ℕ → ℕ → Type 0) (place : ℕ) : Type 0 where
   pub entry : ℕ
-  pub reached : IsReached file directory entry
+  pub reached : IsReachedEntry file directory entry
   pub broken : each entry place
 
 -- the entry is neither a storage nor a stream
@@ -109,7 +110,7 @@ IsWrongNameLength len = (len % 2 ≢ 0) ⊎ ((len < 4) ⊎ (64 < len))
 -- an entry that stands at a lower offset has the same name
 pub record IsNameTaken (file directory : List ℕ) (at : ℕ) : Type 0 where
   pub earlier : ℕ
-  pub reached : IsReached file directory earlier
+  pub reached : IsReachedEntry file directory earlier
   pub below : entry_place directory earlier < at
   pub same : HaveOneName file (entry_place directory earlier) at
 

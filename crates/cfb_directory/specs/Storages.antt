@@ -1,7 +1,7 @@
 -- The storages of the root that have something.
 use Rattle.std.specs.Prelude.{◌≡◌, ◌≢◌, ℕ, List}
 use Rattle.cfb_directory.specs.Directory.{entry_type, entry_child, no_entry}
-use Rattle.cfb_directory.specs.Reach.{entry_place, IsReached}
+use Rattle.cfb_directory.specs.Reach.{entry_place, IsReachedEntry}
 
 -- a storage with a child
 abbrev pub IsFilled : List ℕ → List ℕ → ℕ → Type 0
@@ -11,5 +11,5 @@ IsFilled file directory entry =
 
 -- an entry that is reached and is such a storage
 pub record IsFilledStorage (file directory : List ℕ) (entry : ℕ) : Type 0 where
-  pub reached : IsReached file directory entry
+  pub reached : IsReachedEntry file directory entry
   pub filled : IsFilled file directory entry

@@ -2,7 +2,7 @@
 use Rattle.std.specs.Prelude.{◌≡◌, ℕ, ◌+◌, ◌<◌, ◌≤◌, List}
 use Rattle.cfb_sectors.specs.Chain.{Head}
 use Rattle.cfb_directory.specs.Directory.{entry_type, entry_start, entry_size}
-use Rattle.cfb_directory.specs.Reach.{entry_place, IsReached}
+use Rattle.cfb_directory.specs.Reach.{entry_place, IsReachedEntry}
 
 -- the chain of the stream whose entry stands at an offset, in sectors of so many bytes
 abbrev pub stream_head : List ℕ → ℕ → ℕ → Head
@@ -11,7 +11,7 @@ stream_head file unit at = record
 
 -- an entry that is reached and is a stream
 pub record IsStreamEntry (file directory : List ℕ) (entry : ℕ) : Type 0 where
-  pub reached : IsReached file directory entry
+  pub reached : IsReachedEntry file directory entry
   pub stream : entry_type file (entry_place directory entry) ≡ 2
 
 -- a stream of 4,096 bytes or more has sectors of its own

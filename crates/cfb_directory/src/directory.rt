@@ -109,7 +109,7 @@ fn reach_all(
 }
 
 /// The entries that the root reaches, each of them once.
-pub(crate) fn reached(alloc: Global, file: &[u8], directory: &[u32]) -> Result<Vec<u32>, Memory>
+pub(crate) fn reach(alloc: Global, file: &[u8], directory: &[u32]) -> Result<Vec<u32>, Memory>
     requires sectors { AreSectorsOf file.now directory.now }
     requires there { 0 < length directory.now }
     requires few { length directory.now ≤ 256 }

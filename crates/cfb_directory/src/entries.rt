@@ -2,7 +2,7 @@
 ghost use Rattle.std.specs.Prelude.{◌≡◌, ◌+◌, ◌<◌, ◌≤◌, IfOk, MatchResult, length};
 ghost use Rattle.cfb_sectors.specs.Chain.{AreSectorsOf};
 ghost use Rattle.cfb_directory.specs.Directory.{IsNameOf, entry_clsid, entry_name_length};
-ghost use Rattle.cfb_directory.specs.Reach.{IsDirectory, IsReached, IsWrongNameLength, BreaksStorage};
+ghost use Rattle.cfb_directory.specs.Reach.{IsDirectory, IsReachedEntry, IsWrongNameLength, BreaksStorage};
 ghost use Rattle.cfb_directory.specs.Reach.{entry_place as place_of};
 ghost use Rattle.cfb_directory.specs.Order.{ListsFilled};
 ghost use Rattle.doc_bits.specs.Rules.{Nowhere, rule};
@@ -11,7 +11,7 @@ ghost use Rattle.cfb_directory.specs.Entries.{AreEntries, IsBody, tree_rules};
 ghost use Rattle.cfb_sectors.specs.Judged.{IsCfbFault};
 
 use crate::body::{Body, body_of};
-use crate::directory::{CLSID, NAME_LEN, entry_place, reached, wrong_root};
+use crate::directory::{CLSID, NAME_LEN, entry_place, reach, wrong_root};
 use crate::links::{wrong_storages, wrong_tree};
 use crate::names::wrong_names;
 use crate::order::{list_storages, list_streams};
@@ -57,7 +57,7 @@ impl<'a> Entries<'a> {
             (IsCfbFault (tree_rules file.now directory.items)) }
     {
         refuse(RULE_ROOT, wrong_root(file, &directory))?;
-        let reached = reached(alloc, file, &directory)?;
+        let reached = reach(alloc, file, &directory)?;
         let tree = wrong_tree(alloc, file, &directory, &reached)?;
         refuse(RULE_TREE, tree)?;
         refuse(RULE_NAMES, wrong_names(file, &directory, &reached))?;
@@ -71,7 +71,7 @@ impl<'a> Entries<'a> {
     }
 
     /// Judges rule 10.
-    pub fn judge_storages(&self) -> Result<(), CfbFault>
+    pub fn check_storages(&self) -> Result<(), CfbFault>
         ensures { MatchResult result
             (λ _. Nowhere (BreaksStorage self.now.file self.now.directory))
             (IsCfbFault (rule 10 (BreaksStorage self.now.file self.now.directory))) }
@@ -127,7 +127,7 @@ impl<'a> Entries<'a> {
 
     /// The name of an entry that the root reaches.
     pub fn name(&self, alloc: Global, entry: u32) -> Result<Vec<u16>, Memory>
-        requires { IsReached self.now.file self.now.directory entry }
+        requires { IsReachedEntry self.now.file self.now.directory entry }
         ensures { IfOk result (λ name. IsNameOf self.now.file (place_of self.now.directory entry) name.items) }
     {
         let at = entry_place(self.file, &self.directory, entry as usize);

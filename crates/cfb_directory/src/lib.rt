@@ -9,6 +9,6 @@ mod names;
 mod order;
 
 pub use body::{Body, stream_claim};
-pub use directory::{ENTRY_SIZE, entry_place, upper};
+pub use directory::{ENTRY_LEN, ENTRY_SIZE, ENTRY_START, entry_place, upper};
 pub use entries::Entries;
 pub use names::same_name;

@@ -1,5 +1,5 @@
 -- What the streams of an accepted file hold: sectors and mini sectors, none of them in two streams.
-use Rattle.std.proofs.Common.{◌≡◌, ◌≢◌, inl, inr, ℕ, ◌+◌, ◌*◌, ◌%◌, ◌<◌, min, List, [], ◌∷◌, None, length, map}
+use Rattle.std.proofs.Common.{◌≡◌, ◌≢◌, inl, inr, ℕ, ◌+◌, ◌*◌, ◌<◌, List, [], ◌∷◌, None, length, map}
 use Rattle.std.proofs.Common.{get_or, slice_index, sum, refl, sym, ap, ◌∙◌, subst, arith, length-take}
 use Rattle.std.specs.List.{flat_map}
 use Rattle.std.proofs.lemmas.Bool.{cases_lt, cases_eq}
@@ -8,7 +8,7 @@ use Rattle.std.proofs.lemmas.List.Sums.{sum_by-append}
 use Rattle.std.proofs.lemmas.Option.{slice_get-get_or}
 use Rattle.doc_bits.specs.Rules.{Nowhere, Hold}
 use Rattle.cfb_sectors.specs.Header.{sector_bytes}
-use Rattle.cfb_sectors.specs.Opening.{IsWhole, BreaksLength}
+use Rattle.cfb_sectors.specs.Opening.{IsWhole}
 use Rattle.cfb_sectors.specs.HeaderRules.{BreaksFat}
 use Rattle.cfb_sectors.specs.Chain.{Table, Head, fat_table, HoldsChain}
 use Rattle.cfb_streams.specs.Contents.{Stream, Contents}
@@ -26,31 +26,13 @@ use Rattle.cfb_layout.specs.Counts.{large_len, small_len, mini_counts, large_cou
 use Rattle.cfb_layout.proofs.CountLemmas.{minis_at, length-mini_counts}
 use Rattle.cfb_layout.proofs.PartLemmas.{large_is, large_none, small_is, small_none}
 use Rattle.cfb_layout.proofs.RunLemmas.{IsRun, IsHeld, no_sectors, IsGathered, gather}
+use Rattle.cfb_sectors.proofs.OpeningLemmas.{whole_length}
 
 -- what is used of a file that breaks no rule
 pub record IsAccepted (file : List ℕ) (parts : Parts) : Type 0 where
   pub whole : IsWhole file
   pub fat : Nowhere (BreaksFat file)
   pub sharing : Nowhere (BreaksSharing file parts)
-
-whole_is : (file : List ℕ) → Nowhere (BreaksLength file) → IsWhole file
-whole_is file holds = record {
-  sectors = elim (cases_eq (length file % 512) 0) [
-    | inl e ↦ e
-    | inr odd ↦ absurd (holds (min (length file) 7143937)
-        (record { here = refl; wrong = inl odd }))
-  ];
-  least = elim (cases_lt (length file) 1536) [
-    | inl low ↦ absurd (holds (min (length file) 7143937)
-        (record { here = refl; wrong = inr (inl low) }))
-    | inr h ↦ h
-  ];
-  most = elim (cases_lt 7143936 (length file)) [
-    | inl high ↦ absurd (holds (min (length file) 7143937)
-        (record { here = refl; wrong = inr (inr high) }))
-    | inr h ↦ h
-  ];
-}
 
 pub accepted : (file : List ℕ) (contents : Contents) → Hold (container_rules file) →
     (has : HasContents file contents) → IsAccepted file has.parts
@@ -82,7 +64,7 @@ accepted file contents hold has =
       mini_fat = has.parts.mini_fat;
       mini_stream = x;
     }))) se second in
-    record { whole = whole_is file hold.0.0; fat = hold.1.0.1.1; sharing = third }
+    record { whole = whole_length file hold.0.0; fat = hold.1.0.1.1; sharing = third }
 
 -- two owners have no sector in common
 pub owners_apart : (file : List ℕ) (parts : Parts) (x y : Owner) (s : ℕ) → IsAccepted file parts → x ≢ y →

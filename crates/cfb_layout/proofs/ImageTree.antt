@@ -7,7 +7,7 @@ use Rattle.doc_bits.specs.Number.{u32_at}
 use Rattle.doc_bits.specs.Rules.{Nowhere}
 use Rattle.cfb_streams.specs.Contents.{NamedBytes}
 use Rattle.cfb_directory.specs.Directory.{no_entry, entry_left, entry_right, entry_child, entry_type}
-use Rattle.cfb_directory.specs.Reach.{entry_place, IsEntry, IsReached, child, left, right, IsLink, BreaksRoot}
+use Rattle.cfb_directory.specs.Reach.{entry_place, IsEntry, IsReachedEntry, child, left, right, IsLink, BreaksRoot}
 use Rattle.cfb_directory.specs.Reach.{BreaksTree, BreaksStorage}
 use Rattle.cfb_layout.specs.declared.tree.Span.{Span}
 use Rattle.cfb_layout.specs.Sectors.{units_for, start_of}
@@ -121,7 +121,7 @@ entry_some streams k few is = let below = is.1 in let len = length-directory_of 
 
 -- nothing else is reached
 pub reached_only : (file : List ℕ) (streams : List NamedBytes) (clsid : List ℕ) (k : ℕ) → IsImage file streams clsid →
-    length streams ≤ 1023 → IsReached file (directory_of streams) k → IsWithin (all_entries (length streams)) k
+    length streams ≤ 1023 → IsReachedEntry file (directory_of streams) k → IsWithin (all_entries (length streams)) k
 reached_only file streams clsid _ im few (child k link there) =
     let all = all_entries (length streams) in
     let t = top_cases all k (sym (image_child file streams clsid im) ∙ link) (entry_some streams k few there) in
@@ -146,11 +146,11 @@ within_entry streams k w = let a = w.from in let b = w.below in let len = length
 
 -- each stream is reached
 pub reached_each : (file : List ℕ) (streams : List NamedBytes) (clsid : List ℕ) (k : ℕ) → IsImage file streams clsid →
-    IsWithin (all_entries (length streams)) k → IsReached file (directory_of streams) k
+    IsWithin (all_entries (length streams)) k → IsReachedEntry file (directory_of streams) k
 reached_each file streams clsid k im w =
     let n = length streams in
     let all = all_entries n in
-    all_reached (λ e. IsReached file (directory_of streams) e) all
+    all_reached (λ e. IsReachedEntry file (directory_of streams) e) all
     (record {
       left = λ e v p some. left e (middle (lower (part_of n e all))) p ((image_node file streams clsid e im v).left ∙
           top_some (lower (part_of n e all)) some) (within_entry streams (middle (lower (part_of n e all)))

@@ -5,7 +5,6 @@ use Rattle.std.proofs.lemmas.List.{length-map, take_all}
 use Rattle.cfb_sectors.specs.Header.{sector_count, fat_sector_count, fat_sectors, valid_below}
 use Rattle.cfb_sectors.specs.Chain.{fat_table}
 use Rattle.cfb_streams.specs.Contents.{Contents}
-use Rattle.cfb_directory.specs.Directory.{entry_size}
 use Rattle.cfb_directory.specs.Reach.{entry_place, directory_head, IsEntry}
 use Rattle.cfb_streams.specs.StreamRules.{of_fat, of_directory, of_mini_fat, of_mini_stream, of_stream, IsMiniFat}
 use Rattle.cfb_streams.specs.StreamRules.{IsMiniStream, mini_table_of, mini_fat_head}
@@ -20,6 +19,7 @@ use Rattle.cfb_layout.proofs.CountLemmas.{length-mini_counts, sectors-needed}
 use Rattle.cfb_layout.proofs.RunLemmas.{IsRun, run_short, has_either, run_join, run_zero}
 use Rattle.cfb_layout.proofs.HeldLemmas.{IsAccepted, accepted, owners_apart, chain_run, entries_apart, lengths_in}
 use Rattle.cfb_layout.proofs.HeldLemmas.{length-large_counts, sum_counts, gathered_large, gathered_small}
+use Rattle.cfb_streams.proofs.ContentLemmas.{stored_room}
 
 -- the mini FAT's and the mini stream's sectors
 mini_fat_run : (file sectors : List ℕ) → IsMiniFat file sectors → IsRun (fat_table file).valid sectors
@@ -41,13 +41,6 @@ mini_stream_run file directory sectors is = elim is [
     distinct = λ i j less h. absurd (omega arith);
   })
   | inr some ↦ chain_run (fat_table file) (stream_head file 512 (entry_place directory 0)) sectors some.1
-]
-
-stored_enough : (file directory sectors : List ℕ) → IsMiniStream file directory sectors → entry_size file (entry_place
-    directory 0) ≤ length sectors * 512
-stored_enough file directory sectors is = elim is [
-  | inl none ↦ let size = none.0 in omega arith
-  | inr some ↦ some.1.enough
 ]
 
 -- the directory has an entry for the root and one for each stream
@@ -144,7 +137,7 @@ no_file_shorter file contents hold has =
     let all = all_sectors file contents has ok in
     let minis = all_minis file contents has ok in
     let directory = directory_room file contents has in
-    let stored = stored_enough file parts.directory parts.mini_stream has.mini_stream in
+    let stored = stored_room file parts.directory parts.mini_stream has.mini_stream in
     let same = length-map contents.streams (λ stream. length stream.bytes) in
     let total = sum_counts lengths in
     let needed = sectors-needed lengths in

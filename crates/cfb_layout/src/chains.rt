@@ -2,7 +2,7 @@
 ghost use Rattle.std.specs.Prelude.{◌≡◌, ◌^◌, ◌<◌, IfOk, length, sum, slice_index};
 ghost use Rattle.cfb_layout.specs.Counts.{first_sector};
 
-use crate::sectors::END_OF_CHAIN;
+use cfb_sectors::ENDOFCHAIN;
 use doc_bits::Memory;
 use std::alloc::Global;
 use std::marker::Model;
@@ -76,7 +76,7 @@ impl Chains {
         if 0 < self.counts[i] {
             self.starts[i]
         } else {
-            END_OF_CHAIN
+            ENDOFCHAIN
         }
     }
 }

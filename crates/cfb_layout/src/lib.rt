@@ -14,5 +14,6 @@ mod writing;
 
 pub use faults::LayoutFault;
 pub use laws::{breaks_no_rule, fat_is_least, holds_its_streams, no_file_is_shorter};
-pub use sizes::sectors_needed;
+pub use sectors::{FATSECT, FREESECT, push_row};
+pub use sizes::{MAX_SECTORS, sectors_needed};
 pub use writing::whole;

@@ -6,20 +6,17 @@ ghost use Rattle.doc_bits.specs.Number.{number_bytes};
 ghost use Rattle.cfb_layout.specs.Sectors.{units_for, padded, chain_entries, chains_from};
 ghost use Rattle.cfb_sectors.specs.Header.{sector_len};
 
-use cfb_sectors::SECTOR_LEN;
+use cfb_sectors::{ENDOFCHAIN, SECTOR_LEN};
 use doc_bits::{Bytes, Memory};
 
 /// The entries of a FAT or a mini FAT in a sector.
 pub const TABLE_ENTRIES: usize = 128;
 
-/// ENDOFCHAIN.
-pub const END_OF_CHAIN: u32 = 0xFFFF_FFFE;
-
 /// FREESECT.
-pub const FREE_SECTOR: u32 = 0xFFFF_FFFF;
+pub const FREESECT: u32 = 0xFFFF_FFFF;
 
 /// FATSECT.
-pub const FAT_SECTOR: u32 = 0xFFFF_FFFD;
+pub const FATSECT: u32 = 0xFFFF_FFFD;
 
 /// How many parts of `unit` hold so much.
 pub(crate) fn units_for(unit: u64, size: u64) -> u64
@@ -63,7 +60,7 @@ pub(crate) fn push_padded(out: &mut Bytes, bytes: &[u8], unit: usize) -> Result<
 }
 
 /// Appends numbers that follow one another.
-pub(crate) fn push_row(out: &mut Bytes, from: u32, count: u32) -> Result<(), Memory>
+pub fn push_row(out: &mut Bytes, from: u32, count: u32) -> Result<(), Memory>
     requires { from + count < 2 ^ 32 }
     ensures { OnOk result (out.new ≡ out.old ++ flat_map (number_bytes 4) (range_with_len from count)) }
 {
@@ -92,7 +89,7 @@ fn push_chain(out: &mut Bytes, start: u32, count: u32) -> Result<(), Memory>
         return Ok(());
     }
     push_row(out, start + 1, count - 1)?;
-    out.push32(END_OF_CHAIN)?;
+    out.push32(ENDOFCHAIN)?;
     Ok(())
 }
 

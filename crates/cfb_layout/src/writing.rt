@@ -15,18 +15,15 @@ use crate::entries::{EntryFields, push_entry};
 use crate::fields::{Field, push_fields};
 use crate::plan::{DIRECTORY, MINI_FAT, Plan};
 use crate::sectors::{
-    END_OF_CHAIN, FAT_SECTOR, FREE_SECTOR, TABLE_ENTRIES, push_chains, push_padded, push_repeated,
-    push_row, push_zeros, rest_of,
+    FATSECT, FREESECT, TABLE_ENTRIES, push_chains, push_padded, push_repeated, push_row,
+    push_zeros, rest_of,
 };
 use crate::sizes::{CUTOFF, MAX_SECTORS, sectors_needed};
 use crate::tree::NO_ENTRY;
-use cfb_sectors::{MINI_SECTOR_LEN, SECTOR_LEN};
+use cfb_sectors::{ENDOFCHAIN, MINI_SECTOR_LEN, SECTOR_LEN, SIGNATURE};
 use cfb_streams::Streams;
 use doc_bits::{Bytes, Memory};
 use std::alloc::Global;
-
-/// The first bytes of a compound file.
-const SIGNATURE: [u8; 8] = [0xD0, 0xCF, 0x11, 0xE0, 0xA1, 0xB1, 0x1A, 0xE1];
 
 /// The numbers of FAT sectors that the header has room for.
 const HEADER_FATS: usize = 109;
@@ -116,12 +113,12 @@ fn push_header(out: &mut Bytes, plan: &Plan) -> Result<(), Memory>
             Field::Long(CUTOFF as u32),
             mini_fat,
             mini_fats,
-            Field::Long(END_OF_CHAIN),
+            Field::Long(ENDOFCHAIN),
             zero,
         ],
     )?;
     push_row(out, sectors.total(), plan.fats())?;
-    push_repeated(out, FREE_SECTOR, HEADER_FATS - plan.fats() as usize)?;
+    push_repeated(out, FREESECT, HEADER_FATS - plan.fats() as usize)?;
     Ok(())
 }
 
@@ -181,7 +178,7 @@ fn push_mini_fat(out: &mut Bytes, plan: &Plan) -> Result<(), Memory>
     push_chains(out, minis.counts())?;
     push_repeated(
         out,
-        FREE_SECTOR,
+        FREESECT,
         rest_of(TABLE_ENTRIES, minis.total() as usize),
     )?;
     Ok(())
@@ -194,10 +191,10 @@ fn push_fat(out: &mut Bytes, plan: &Plan) -> Result<(), Memory>
     let sectors = plan.sectors();
     let fats = plan.fats() as usize;
     push_chains(out, sectors.counts())?;
-    push_repeated(out, FAT_SECTOR, fats)?;
+    push_repeated(out, FATSECT, fats)?;
     push_repeated(
         out,
-        FREE_SECTOR,
+        FREESECT,
         rest_of(TABLE_ENTRIES, sectors.total() as usize + fats),
     )?;
     Ok(())

@@ -8,7 +8,7 @@ use Rattle.std.proofs.lemmas.List.{get_or-set_same, get_or-set_other, ext_get_or
 use Rattle.doc_bits.specs.Rules.{Nowhere, LeastOrNone, Among}
 use Rattle.doc_bits.proofs.RuleLemmas.{least_same}
 use Rattle.cfb_sectors.specs.declared.chain.Walked.{Walked}
-use Rattle.cfb_sectors.specs.Marks.{IsMarked, IsMetSince}
+use Rattle.cfb_sectors.specs.Marks.{IsMarked, IsVisitedSince}
 use Rattle.cfb_sectors.specs.Chain.{Table, Head, HoldsChain, BreaksChain}
 use Rattle.cfb_sectors.specs.SectorChain.{HasSector, IsSectorChain, IsFullPath, last_of, end_of_chain}
 use Rattle.cfb_sectors.specs.Walk.{IsWalk}
@@ -17,14 +17,14 @@ use Rattle.cfb_sectors.proofs.ChainLemmas.{walk_step, pushed_before, pushed_last
 use Rattle.cfb_sectors.proofs.JudgeLemmas.{full_whole, whole_start}
 
 -- a sector that is not marked is not on the path
-pub since_apart : (old new : List Bool) (path : List ℕ) (at : ℕ) → IsMetSince old new path →
+pub since_apart : (old new : List Bool) (path : List ℕ) (at : ℕ) → IsVisitedSince old new path →
     slice_index_or new at false ≡ false → (i : ℕ) → i < length path → slice_index path i ≢ at
 since_apart old new path at met fresh i h e =
     false≢true (sym fresh ∙ (ap (λ k. slice_index_or new k false) (sym e) ∙ met.met i h))
 
 -- the mark of the sector that is put last
-pub since_step : (old new : List Bool) (path : List ℕ) (at : ℕ) → IsMetSince old new path →
-    slice_index_or new at false ≡ false → at < length new → IsMetSince old (set new at true) (path ++ at ∷ [])
+pub since_step : (old new : List Bool) (path : List ℕ) (at : ℕ) → IsVisitedSince old new path →
+    slice_index_or new at false ≡ false → at < length new → IsVisitedSince old (set new at true) (path ++ at ∷ [])
 since_step old new path at m fresh low =
     let n = length_pushed path at in
     let here : IsMarked (set new at true) at = get_or-set_same new at true false low in
@@ -74,7 +74,7 @@ walk_full entry valid start at xs w some stops =
 
 -- a walk over all sectors is a full path
 pub fresh_full : (entry : ℕ → ℕ) (valid start next : ℕ) (path : List ℕ) (old new : List Bool) → start < valid →
-    ((s : ℕ) → ¬ IsMarked old s) → IsWalk entry valid start next path → IsMetSince old new path →
+    ((s : ℕ) → ¬ IsMarked old s) → IsWalk entry valid start next path → IsVisitedSince old new path →
     (valid ≤ next) ⊎ IsMarked new next → IsFullPath entry valid start path
 fresh_full entry valid start next path old new low none w m stops =
     let has : (valid ≤ next) ⊎ HasSector path next = elim stops [
@@ -223,7 +223,7 @@ along_end entry valid first start next xs path from j range chain at w is = elim
 -- the sectors behind those of the walk were marked before it
 behind : (entry : ℕ → ℕ) (valid first start next : ℕ) (xs path : List ℕ) (from : ℕ) (old new : List Bool) →
     valid ≤ end_of_chain → IsSectorChain entry valid first xs → IsAt xs valid from start →
-    IsWalk entry valid start next path → IsMetSince old new path → (valid ≤ next) ⊎ IsMarked new next →
+    IsWalk entry valid start next path → IsVisitedSince old new path → (valid ≤ next) ⊎ IsMarked new next →
     AreClosed entry valid old → (d j : ℕ) → j ≡ from + length path + d → j < length xs →
     IsMarked old (slice_index xs j)
 behind entry valid first start next xs path from old new range chain at w m stops closed zero j is h =
@@ -255,9 +255,10 @@ behind entry valid first start next xs path from old new range chain at w m stop
 -- a walk over what is free, and one from there over what is not shared, take the chain
 pub walks_take : (entry : ℕ → ℕ) (valid start : ℕ) (xs : List ℕ) (old new : Claimed) (free shared : Walked) →
     valid ≤ end_of_chain → AreClosed entry valid old.taken → AreClosed entry valid old.shared →
-    IsWalk entry valid start free.next free.path.items → IsMetSince old.taken new.taken free.path.items →
+    IsWalk entry valid start free.next free.path.items → IsVisitedSince old.taken new.taken free.path.items →
     (valid ≤ free.next) ⊎ IsMarked new.taken free.next →
-    IsWalk entry valid free.next shared.next shared.path.items → IsMetSince old.shared new.shared shared.path.items →
+    IsWalk entry valid free.next shared.next shared.path.items → IsVisitedSince old.shared new.shared shared.path.items
+    →
     (valid ≤ shared.next) ⊎ IsMarked new.shared shared.next → IsSectorChain entry valid start xs →
     TakesWalked xs valid old new free
 walks_take entry valid start xs old new free shared range closed closed_shared w m stops v n halts chain =

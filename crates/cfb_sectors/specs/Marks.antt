@@ -16,7 +16,7 @@ abbrev pub AreStamps : List ℕ → ℕ → Type 0
 AreStamps stamps stamp = (s : ℕ) → slice_index stamps s ≤ stamp
 
 -- the sectors of a path, which were not marked, are marked
-pub record IsMetSince (old new : List Bool) (path : List ℕ) : Type 0 where
+pub record IsVisitedSince (old new : List Bool) (path : List ℕ) : Type 0 where
   pub kept : (s : ℕ) → IsMarked old s → IsMarked new s
   pub met : (i : ℕ) → i < length path → IsMarked new (slice_index path i)
   pub free : (i : ℕ) → i < length path → ¬ IsMarked old (slice_index path i)

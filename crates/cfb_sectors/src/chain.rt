@@ -1,7 +1,7 @@
 // One walk for the chains of the FAT and of the mini FAT.
 ghost use Rattle.std.specs.Prelude.{◌≡◌, ◌⊎◌, ◌<◌, ◌≤◌, length, slice_index, IfOk};
 ghost use Rattle.cfb_sectors.specs.SectorChain.{IsFullPath, last_of};
-ghost use Rattle.cfb_sectors.specs.Marks.{IsMarked, IsMetSince};
+ghost use Rattle.cfb_sectors.specs.Marks.{IsMarked, IsVisitedSince};
 ghost use Rattle.cfb_sectors.specs.Walk.{IsWalk};
 
 use crate::marks::Marks;
@@ -55,7 +55,7 @@ pub(crate) fn walk_on(
     requires room { length marks.old ≤ length entries.now }
     ensures walk { IfOk result (λ walked.
         IsWalk (λ s. slice_index entries.now s) (length marks.old) start walked.next walked.path.items) }
-    ensures met { IfOk result (λ walked. IsMetSince marks.old marks.new walked.path.items) }
+    ensures met { IfOk result (λ walked. IsVisitedSince marks.old marks.new walked.path.items) }
     ensures stops { IfOk result (λ walked. (length marks.old ≤ walked.next) ⊎ IsMarked marks.new walked.next) }
     ensures kept { length marks.new ≡ length marks.old }
 {

@@ -79,7 +79,7 @@ pub(crate) fn read_fat_sectors(alloc: Global, file: &[u8]) -> Result<Vec<u32>, M
 }
 
 /// Where entry `s` of a table stands, in bytes from the start of the file.
-pub(crate) fn table_place(sectors: &[u32], s: usize) -> usize
+pub fn table_place(sectors: &[u32], s: usize) -> usize
     requires { s < 128 * length sectors.now }
     ensures { result ≡ place_of (λ k. slice_index sectors.now k) s }
 {

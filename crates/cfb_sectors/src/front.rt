@@ -21,7 +21,7 @@ const RULE_DIFAT: u8 = 4;
 const RULE_FAT: u8 = 5;
 
 /// Judges the rules 3 to 5.
-pub fn judge_header(file: &[u8]) -> Option<BrokenRule>
+pub fn check_header(file: &[u8]) -> Option<BrokenRule>
     requires { sector_len ≤ length file.now }
     ensures { FirstOrNone (header_rules file.now) result }
 {

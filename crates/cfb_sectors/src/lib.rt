@@ -14,12 +14,12 @@ mod opening;
 mod stream;
 mod table;
 
-pub use chain::{Chain, Claim, Walked};
+pub use chain::{Chain, Claim, ENDOFCHAIN, Walked};
 pub use claims::Claims;
-pub use fat::TABLE_LEN;
+pub use fat::{FAT_COUNT, FAT_SECTORS, TABLE_LEN, table_place};
 pub use faults::{BrokenRule, CfbFault, refuse, whole};
-pub use front::{judge_header, read_fat};
+pub use front::{check_header, read_fat};
 pub use header::{CUTOFF, DIRECTORY_START, MINI_FAT_COUNT, MINI_FAT_START};
-pub use opening::{MINI_SECTOR_LEN, SECTOR_LEN, judge_opening};
+pub use opening::{MINI_SECTOR_LEN, SECTOR_LEN, SIGNATURE, check_opening};
 pub use stream::{join, read_sectors};
 pub use table::Table;

@@ -5,7 +5,7 @@ ghost use Rattle.cfb_sectors.specs.Judged.{FirstOrNone};
 use crate::faults::BrokenRule;
 
 /// The bytes that a compound file begins with.
-const SIGNATURE: [u8; 8] = [0xD0, 0xCF, 0x11, 0xE0, 0xA1, 0xB1, 0x1A, 0xE1];
+pub const SIGNATURE: [u8; 8] = [0xD0, 0xCF, 0x11, 0xE0, 0xA1, 0xB1, 0x1A, 0xE1];
 
 /// The length of a sector, and of the header.
 pub const SECTOR_LEN: usize = 512;
@@ -24,7 +24,7 @@ const RULE_LENGTH: u8 = 1;
 const RULE_SIGNATURE: u8 = 2;
 
 /// Judges the rules 1 and 2.
-pub fn judge_opening(file: &[u8]) -> Option<BrokenRule>
+pub fn check_opening(file: &[u8]) -> Option<BrokenRule>
     ensures { FirstOrNone (opening_rules file.now) result }
 {
     if file.len() % SECTOR_LEN != 0 || file.len() < MIN_LEN || file.len() > MAX_LEN {

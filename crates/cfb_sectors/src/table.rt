@@ -5,7 +5,7 @@ ghost use Rattle.cfb_sectors.specs.SectorChain.{IsFullPath};
 ghost use Rattle.cfb_sectors.specs.Chain.{AreSectorsOf, BreaksChain};
 ghost use Rattle.cfb_sectors.specs.Tables.{TablePlace, table_at};
 ghost use Rattle.cfb_sectors.specs.Ends.{IsEnd};
-ghost use Rattle.cfb_sectors.specs.Marks.{IsMarked, IsMetSince};
+ghost use Rattle.cfb_sectors.specs.Marks.{IsMarked, IsVisitedSince};
 ghost use Rattle.cfb_sectors.specs.Walk.{IsWalk};
 ghost use Rattle.cfb_sectors.specs.Judged.{IsFound};
 
@@ -102,7 +102,7 @@ impl<'a> Table<'a> {
         requires { length marks.old ≡ self.now.valid }
         ensures walk { IfOk result (λ walked.
             IsWalk (table_at self.now).entry self.now.valid start walked.next walked.path.items) }
-        ensures met { IfOk result (λ walked. IsMetSince marks.old marks.new walked.path.items) }
+        ensures met { IfOk result (λ walked. IsVisitedSince marks.old marks.new walked.path.items) }
         ensures stops { IfOk result (λ walked. (self.now.valid ≤ walked.next) ⊎ IsMarked marks.new walked.next) }
         ensures range { self.now.valid < 2 ^ 31 }
         ensures kept { length marks.new ≡ length marks.old }

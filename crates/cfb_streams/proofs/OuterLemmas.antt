@@ -1,5 +1,5 @@
 -- A file that breaks none of the rules 1 to 14 breaks none without rule 10, and no storage of it has something.
-use Rattle.std.proofs.Common.{◌≡◌, ◌≤◌, inl, inr, ℕ, ◌+◌, List, [], ◌∷◌, length, slice_index, arith, refl, subst}
+use Rattle.std.proofs.Common.{◌≡◌, ◌≤◌, inl, inr, ℕ, ◌+◌, List, [], length, slice_index, arith, refl, subst}
 use Rattle.std.proofs.lemmas.Bool.{cases_lt}
 use Rattle.doc_bits.specs.Rules.{Hold, IsFirst}
 use Rattle.doc_bits.proofs.RuleLemmas.{hold_or_first}
@@ -8,16 +8,13 @@ use Rattle.cfb_directory.specs.Storages.{IsFilledStorage}
 use Rattle.cfb_streams.specs.Container.{container_rules, outer_rules, ListsStorages}
 use Rattle.cfb_streams.specs.Laws.{IsOuter}
 use Rattle.cfb_streams.proofs.SingleLemmas.{directory_unique, outer_single}
+use Rattle.doc_bits.proofs.ListLemmas.{nil_from_length}
 
 pub outer_hold : (file : List ℕ) → Hold (container_rules file) → Hold (outer_rules file)
 outer_hold file h =
     let behind = h.1.1 in
     let rules = behind.1.1.1 in
     (h.0, (h.1.0, (behind.0, (behind.1.0, (behind.1.1.0, (rules.0, (rules.1.0, (rules.1.1.0, rules.1.1.1.1))))))))
-
-no_list : {A : Type 0} (xs : List A) → length xs ≡ 0 → xs ≡ []
-no_list [] e = refl
-no_list (x ∷ xs) e = absurd (omega arith)
 
 pub none_filled : (file : List ℕ) (names : List (List ℕ)) → Hold (container_rules file) → ListsStorages file names →
     names ≡ []
@@ -28,7 +25,7 @@ none_filled file names h lists =
     let same = directory_unique file lists.directory directory lists.is_directory behind.1.1.0 in
     let n = lists.named.len in
     elim (cases_lt 0 (length lists.entries)) [
-      | inr none ↦ no_list names (omega arith)
+      | inr none ↦ nil_from_length names (omega arith)
       | inl some ↦
           let entry = slice_index lists.entries 0 in
           let is = lists.lists.sound 0 some in

@@ -34,7 +34,7 @@ impl Container {
             (λ c. Hold (container_rules file.now) × HasContents file.now c)
             (IsCfbFault (container_rules file.now)) }
     {
-        let mut layout = Layout::judge(alloc, file)?;
+        let mut layout = Layout::check(alloc, file)?;
         let loaded = layout.contents(alloc);
         drop(layout);
         loaded
@@ -47,7 +47,7 @@ impl Container {
             (λ o. Hold (outer_rules file.now) × (HasContents file.now o.container × ListsStorages file.now o.storages))
             (IsCfbFault (outer_rules file.now)) }
     {
-        let mut layout = Layout::judge_outer(alloc, file)?;
+        let mut layout = Layout::check_outer(alloc, file)?;
         let loaded = layout.outer_contents(alloc);
         drop(layout);
         loaded

@@ -60,7 +60,7 @@ impl<'a> Layout<'a> {
     }
 
     /// Judges rule 13.
-    pub(crate) fn judge_streams(&mut self, alloc: Global) -> Result<(), CfbFault>
+    pub(crate) fn check_streams(&mut self, alloc: Global) -> Result<(), CfbFault>
         ensures judged { MatchResult result
             (λ _. Nowhere (BreaksStream self.old.file self.old.parts.directory self.old.parts.mini_fat))
             (IsCfbFault (rule 13 (BreaksStream self.old.file self.old.parts.directory self.old.parts.mini_fat))) }
@@ -81,12 +81,12 @@ impl<'a> Layout<'a> {
             (IsCfbFault (places_rules self.old)) }
         ensures kept { self.new ≡ self.old }
     {
-        self.judge_streams(alloc)?;
+        self.check_streams(alloc)?;
         let container = self.gather(alloc)?;
         Ok(container)
     }
 
-    /// The same, and the names of the storages that have something.
+    /// Reads the streams, and the names of the storages that have something.
     pub(crate) fn outer_contents(&mut self, alloc: Global) -> Result<OuterContainer, CfbFault>
         ensures { MatchResult result
             (λ o. Hold (places_rules self.old) × IsOuterOf self.old.file o)

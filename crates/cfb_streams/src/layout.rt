@@ -16,7 +16,7 @@ ghost use Rattle.cfb_sectors.specs.Judged.{IsCfbFault};
 use crate::CfbFault;
 use crate::parts::{find_directory, find_mini_fat, find_mini_stream, mini_sectors};
 use cfb_directory::Entries;
-use cfb_sectors::{Table, judge_header, judge_opening, read_fat, read_sectors, whole};
+use cfb_sectors::{Table, check_header, check_opening, read_fat, read_sectors, whole};
 use doc_bits::{Memory, Units};
 use std::alloc::Global;
 use std::marker::Model;
@@ -28,22 +28,22 @@ const RULE_MINI_FAT: u8 = 11;
 const RULE_MINI_STREAM: u8 = 12;
 
 /// Judges the rules 1 to 5.
-fn judge_front(file: &[u8]) -> Result<(), CfbFault>
+fn check_front(file: &[u8]) -> Result<(), CfbFault>
     ensures { MatchResult result
         (λ _. Hold (opening_rules file.now) × Hold (header_rules file.now))
         (IsCfbFault (opening_rules file.now then header_rules file.now)) }
 {
-    if let Some(broken) = judge_opening(file) {
+    if let Some(broken) = check_opening(file) {
         return Err(CfbFault::from(broken));
     }
-    if let Some(broken) = judge_header(file) {
+    if let Some(broken) = check_header(file) {
         return Err(CfbFault::from(broken));
     }
     Ok(())
 }
 
 /// Judges the rules 6 to 9.
-fn judge_entries<'a>(
+fn check_entries<'a>(
     alloc: Global,
     file: &'a [u8],
     fat: &mut Table<'_>,
@@ -97,28 +97,28 @@ impl<'a> Model for Layout<'a> {
 
 impl<'a> Layout<'a> {
     /// Judges the rules 1 to 12.
-    pub(crate) fn judge(alloc: Global, file: &'a [u8]) -> Result<Layout<'a>, CfbFault>
+    pub(crate) fn check(alloc: Global, file: &'a [u8]) -> Result<Layout<'a>, CfbFault>
         ensures { MatchResult result
             (λ l. (l.file ≡ file.now) × (IsLayout l × Nowhere (BreaksStorage l.file l.parts.directory)))
             (IsCfbFault (container_rules file.now)) }
     {
-        judge_front(file)?;
+        check_front(file)?;
         let mut fat = read_fat(alloc, file)?;
-        let entries = judge_entries(alloc, file, &mut fat)?;
-        entries.judge_storages()?;
+        let entries = check_entries(alloc, file, &mut fat)?;
+        entries.check_storages()?;
         let layout = Layout::of(alloc, entries, fat)?;
         Ok(layout)
     }
 
     /// Judges the rules 1 to 9, 11 and 12: storages may have something.
-    pub(crate) fn judge_outer(alloc: Global, file: &'a [u8]) -> Result<Layout<'a>, CfbFault>
+    pub(crate) fn check_outer(alloc: Global, file: &'a [u8]) -> Result<Layout<'a>, CfbFault>
         ensures { MatchResult result
             (λ layout. (layout.file ≡ file.now) × IsLayout layout)
             (IsCfbFault (outer_rules file.now)) }
     {
-        judge_front(file)?;
+        check_front(file)?;
         let mut fat = read_fat(alloc, file)?;
-        let entries = judge_entries(alloc, file, &mut fat)?;
+        let entries = check_entries(alloc, file, &mut fat)?;
         let layout = Layout::of(alloc, entries, fat)?;
         Ok(layout)
     }
@@ -235,7 +235,7 @@ pub fn layout_of<'a>(alloc: Global, file: &'a [u8]) -> Result<Layout<'a>, Memory
     requires { Hold (container_rules file.now) }
     ensures { IfOk result (λ layout. (layout.file ≡ file.now) × IsLayout layout) }
 {
-    match Layout::judge(alloc, file) {
+    match Layout::check(alloc, file) {
         Ok(layout) => Ok(layout),
         Err(CfbFault::Rule { .. }) => unreachable!(),
         Err(CfbFault::Memory) => Err(Memory),

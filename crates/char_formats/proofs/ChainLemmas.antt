@@ -11,11 +11,11 @@ use Rattle.std.proofs.Math.ListN.{get_or-eq_default}
 use Rattle.std.proofs.lemmas.Option.{same_Some, get_or_from_slice_get, slice_get_within, slice_get-get_or}
 use Rattle.std.specs.FinMap.{get, empty, get-empty}
 use Rattle.std.proofs.Common.{Bor, replicate}
-use Rattle.prop_map.specs.Settings.{Settings}
+use Rattle.prop_map.specs.Settings.{Properties}
 use Rattle.style_sheet.specs.Sheet.{Sheet, style_at}
 use Rattle.style_sheet.specs.Chain.{base_at, kind_in, kind_at, AreOfOneKind, IsBaseChain}
 use Rattle.style_sheet.proofs.OneChainLemmas.{base_chains_agree}
-use Rattle.effective_props.specs.Layers.{character_settings, settings_of_styles}
+use Rattle.effective_props.specs.Layers.{character_properties, properties_of_styles}
 use Rattle.effective_props.specs.ValueSteps.{layer_over}
 use Rattle.effective_props.proofs.LayerLemmas.{styles_more, match_now}
 use Rattle.style_sheet.specs.declared.styles.Style.{Style}
@@ -47,15 +47,15 @@ chain_front sheet istd chain i is within =
           let own = is.kind i within in
           let other = is.kind k (omega (arith, below, len, within)) in
           subst (AreOfOneKind sheet (slice_index chain i)) (sym (same k (omega (arith, below, len))))
-          (record { settings = rw own.same own.settings; same = other.same ∙ sym own.same });
+          (record { properties = rw own.same own.properties; same = other.same ∙ sym own.same });
       once = λ j k less below both.
           is.once j k less (omega (arith, below, len, within))
           (sym (same j (omega (arith, less, below, len))) ∙ both ∙ same k (omega (arith, below, len)));
     }
 
--- the settings of the styles up to a place of a chain
-abbrev pub settings_upto : Sheet → List ℕ → ℕ → List Settings
-settings_upto sheet chain i = settings_of_styles character_settings sheet (take i chain)
+-- the properties of the styles up to a place of a chain
+abbrev pub properties_upto : Sheet → List ℕ → ℕ → List Properties
+properties_upto sheet chain i = properties_of_styles character_properties sheet (take i chain)
 
 front_of : (sheet : Sheet) (istd : ℕ) (chain : List ℕ) (i number : ℕ) → IsBaseChain sheet istd chain → slice_get chain i
     ≡ Some number → IsBaseChain sheet number (take (i + 1) chain)
@@ -65,17 +65,19 @@ front_of sheet istd chain i number is there =
 
 -- the change so far is that below the next style of the chain
 pub below_next : (sheet : Sheet) (istd : ℕ) (chain : List ℕ) (i number : ℕ) (change : Change) → IsBaseChain sheet istd
-    chain → slice_get chain i ≡ Some number → IsChangeOf (over_all (settings_upto sheet chain i)) change → IsBelowStyle
+    chain → slice_get chain i ≡ Some number → IsChangeOf (over_all (properties_upto sheet chain i)) change →
+    IsBelowStyle
     sheet number change
 below_next sheet istd chain i number change is there said =
-    let layer : Settings = character_settings (style_at sheet number) in
-    let layers : List Settings = settings_upto sheet chain i in
+    let layer : Properties = character_properties (style_at sheet number) in
+    let layers : List Properties = properties_upto sheet chain i in
     record {
       layers = layers;
       are = record {
         chain = take (i + 1) chain;
         bases = front_of sheet istd chain i number is there;
-        are = styles_more character_settings sheet chain i number [] layers (layers ++ layer ∷ []) layer refl there refl
+        are = styles_more character_properties sheet chain i number [] layers (layers ++ layer ∷ []) layer refl there
+            refl
             refl;
       };
       said = said;
@@ -83,25 +85,25 @@ below_next sheet istd chain i number change is there said =
 
 -- the change of the style is that of the chain up to it
 pub change_upto : (sheet : Sheet) (istd : ℕ) (chain : List ℕ) (i number : ℕ) (change : Change) → IsBaseChain sheet istd
-    chain → slice_get chain i ≡ Some number → IsStyleChange sheet number change → IsChangeOf (over_all (settings_upto
+    chain → slice_get chain i ≡ Some number → IsStyleChange sheet number change → IsChangeOf (over_all (properties_upto
     sheet chain (i + 1))) change
 change_upto sheet istd chain i number change is there own =
     let same : own.are.chain ≡ take (i + 1) chain =
     base_chains_agree sheet number own.are.chain (take (i + 1) chain) own.are.bases
     (front_of sheet istd chain i number is there) in
-    subst (λ layers. IsChangeOf (over_all layers) change) (own.are.are ∙ ap (settings_of_styles character_settings
+    subst (λ layers. IsChangeOf (over_all layers) change) (own.are.are ∙ ap (properties_of_styles character_properties
     sheet) same) own.said
 
 -- at the end of the chain it is that of its style
 pub change_whole : (sheet : Sheet) (istd : ℕ) (chain : List ℕ) (i : ℕ) (change : Change) →
     IsBaseChain sheet istd chain → i ≡ length chain →
-    IsChangeOf (over_all (settings_upto sheet chain i)) change → IsStyleChange sheet istd change
+    IsChangeOf (over_all (properties_upto sheet chain i)) change → IsStyleChange sheet istd change
 change_whole sheet istd chain i change is end said = record {
-  layers = settings_upto sheet chain i;
+  layers = properties_upto sheet chain i;
   are = record {
     chain = chain;
     bases = is;
-    are = ap (settings_of_styles character_settings sheet) (ap (λ n. take n chain) end ∙ take-length chain);
+    are = ap (properties_of_styles character_properties sheet) (ap (λ n. take n chain) end ∙ take-length chain);
   };
   said = said;
 }
@@ -109,10 +111,10 @@ change_whole sheet istd chain i change is end said = record {
 -- what a style says after what is below it
 pub change_with_own : (sheet : Sheet) (istd : ℕ) (below change : Change) → IsBelowStyle sheet istd below →
     ((act : Act) → IsChangeOf act below →
-    IsChangeOf (with_layer (character_settings (style_at sheet istd)) act) change) →
+    IsChangeOf (with_layer (character_properties (style_at sheet istd)) act) change) →
     IsStyleChange sheet istd change
 change_with_own sheet istd below change h step =
-    let layer : Settings = character_settings (style_at sheet istd) in
+    let layer : Properties = character_properties (style_at sheet istd) in
     record {
       layers = h.layers ++ layer ∷ [];
       are = h.are;
@@ -120,8 +122,9 @@ change_with_own sheet istd below change h step =
           sym (over_all-append h.layers (layer ∷ []) code before)) (step (over_all h.layers) h.said);
     }
 
--- a style that is not there, or has no settings of characters, says nothing
-pub nothing_said : (layer : Settings) (act : Act) (change : Change) → layer ≡ empty → IsChangeOf act change → IsChangeOf
+-- a style that is not there, or has no properties of characters, says nothing
+pub nothing_said : (layer : Properties) (act : Act) (change : Change) → layer ≡ empty → IsChangeOf act change →
+    IsChangeOf
     (with_layer layer act) change
 nothing_said layer act change none h =
     same_act act (with_layer layer act) change (λ code before. ap (layer_over code (act code before)) (sym (ap (λ m. get
@@ -130,12 +133,13 @@ nothing_said layer act change none h =
 -- what is asked of a slot is what its style says
 pub said_by_slot : (sheet : Sheet) (istd : ℕ) (below change : Change) (style : Option (Bor Style)) → MatchOption style
     (style_at sheet istd ≡ None) (λ s. style_at sheet istd ≡ Some s.now) → IsBelowStyle sheet istd below → ((act : Act)
-    → IsChangeOf act below → IsChangeOf (with_layer (character_settings (option_map (λ s. s.now) style)) act) change) →
+    → IsChangeOf act below → IsChangeOf (with_layer (character_properties (option_map (λ s. s.now) style)) act) change)
+    →
     IsStyleChange sheet istd change
 said_by_slot sheet istd below change style found h step =
     let own : option_map (λ s. s.now) style ≡ style_at sheet istd = match_now (λ s. s.now) style (style_at sheet istd)
     found in
-    change_with_own sheet istd below change h (λ act k. subst (λ o. IsChangeOf (with_layer (character_settings o) act)
+    change_with_own sheet istd below change h (λ act k. subst (λ o. IsChangeOf (with_layer (character_properties o) act)
     change) own (step act k))
 
 -- no style is known

@@ -135,7 +135,7 @@ change-laid old new code value act count flags position symbol font h = record {
       font_laid act old.font code value before (h.font before) ∙ ap (λ o. instead o (font_of before)) (sym font);
 }
 
--- a setting that was off before a change
+-- a property that was off before a change
 pub on-after : (act : Act) (change : Change) → IsChangeOf act change → (i : ℕ) → i < 12 → does (flag_at change.flags i)
     false ≡ is_set (act (code_at i) None)
 on-after act change h i low = sym (h.flags i low None)

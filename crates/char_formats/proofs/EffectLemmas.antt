@@ -4,13 +4,14 @@ use Rattle.std.proofs.Common.{◌∙◌, append_assoc}
 use Rattle.std.proofs.lemmas.List.{append-nil}
 use Rattle.std.specs.FinMap.{get}
 use Rattle.sprm_table.specs.Codes.{class_of}
-use Rattle.prop_map.specs.Settings.{Settings}
+use Rattle.prop_map.specs.Settings.{Properties}
 use Rattle.effective_props.specs.Values.{tabs_code, is_toggle, effective_value}
 use Rattle.effective_props.specs.ValueSteps.{layer_over}
 use Rattle.effective_props.proofs.ValueLemmas.{effective_more}
 use Rattle.char_formats.specs.Changes.{over_all}
 
-pub over_all-append : (xs ys : List Settings) (code : ℕ) (before : Option (List ℕ)) → over_all (xs ++ ys) code before ≡
+pub over_all-append : (xs ys : List Properties) (code : ℕ) (before : Option (List ℕ)) → over_all (xs ++ ys) code before
+    ≡
     over_all ys code (over_all xs code before)
 over_all-append [] ys code before = refl
 over_all-append (x ∷ xs) ys code before = over_all-append xs ys code (layer_over code before (get x code))
@@ -24,7 +25,7 @@ effective-none code =
           as (λ b. cond {A = Option (List ℕ)} b None None ≡ None) [ true ↦ refl | false ↦ refl ]
     ]
 
-over-effective : (xs ys : List Settings) (code : ℕ) → over_all ys code (effective_value xs code) ≡ effective_value (xs
+over-effective : (xs ys : List Properties) (code : ℕ) → over_all ys code (effective_value xs code) ≡ effective_value (xs
     ++ ys) code
 over-effective xs [] code = ap (λ l. effective_value l code) (sym (append-nil xs))
 over-effective xs (y ∷ ys) code =
@@ -32,5 +33,5 @@ over-effective xs (y ∷ ys) code =
     effective_value l code) (append_assoc xs (y ∷ []) ys))
 
 -- over nothing the layers make the effective value
-pub over_all-effective : (layers : List Settings) (code : ℕ) → over_all layers code None ≡ effective_value layers code
+pub over_all-effective : (layers : List Properties) (code : ℕ) → over_all layers code None ≡ effective_value layers code
 over_all-effective layers code = ap (over_all layers code) (sym (effective-none code)) ∙ over-effective [] layers code

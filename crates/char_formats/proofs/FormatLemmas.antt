@@ -3,13 +3,13 @@ use Rattle.std.proofs.Common.{◌≡◌, ◌≢◌, ℕ, ◌==◌, ◌<◌, true
 use Rattle.std.proofs.Common.{sym, ap, ◌∙◌, arith}
 use Rattle.std.proofs.lemmas.Bool.{eqb-true, eq-eqb}
 use Rattle.std.specs.FinMap.{get}
-use Rattle.prop_map.specs.Settings.{Settings}
+use Rattle.prop_map.specs.Settings.{Properties}
 use Rattle.style_sheet.specs.Sheet.{Sheet}
 use Rattle.style_sheet.specs.Chain.{kind_at, HasSoundBases}
 use Rattle.style_sheet.proofs.OneChainLemmas.{base_chains_agree}
 use Rattle.effective_props.specs.Values.{effective_value}
 use Rattle.effective_props.specs.ValueSteps.{layer_over}
-use Rattle.effective_props.specs.Layers.{character_settings, settings_of_styles, named_style, AreChainLayers}
+use Rattle.effective_props.specs.Layers.{character_properties, properties_of_styles, named_style, AreChainLayers}
 use Rattle.effective_props.specs.Layers.{AreNamedLayers}
 use Rattle.char_formats.specs.declared.change.Change.{Change}
 use Rattle.char_formats.specs.declared.format.CharFormat.{CharFormat}
@@ -19,6 +19,7 @@ use Rattle.char_formats.specs.Styles.{IsStyleChange, IsNamedChange, IsUnderChang
 use Rattle.char_formats.specs.Laws.{CharFormatIsOne, CharFormatIsThere}
 use Rattle.char_formats.proofs.ChangeLemmas.{format_in-same}
 use Rattle.char_formats.proofs.EffectLemmas.{over_all-append, over_all-effective}
+use Rattle.effective_props.proofs.OneLemmas.{named_layers_one}
 
 -- it is one
 pub named-style : (sheet : Sheet) (istd : ℕ) (change : Change) → kind_at sheet istd ≡ 2 →
@@ -46,18 +47,18 @@ under-both sheet istd named style other then h k both = record {
 }
 
 -- the layers of a character
-abbrev layers_of : List Settings → List Settings → Settings → List Settings
+abbrev layers_of : List Properties → List Properties → Properties → List Properties
 layers_of style named direct = style ++ (named ++ direct ∷ [])
 
-value_through : (style named : List Settings) (direct : Settings) (code : ℕ) → layer_over code (over_all named code
+value_through : (style named : List Properties) (direct : Properties) (code : ℕ) → layer_over code (over_all named code
     (over_all style code None)) (get direct code) ≡ effective_value (layers_of style named direct) code
 value_through style named direct code =
     sym (over_all-append named (direct ∷ []) code (over_all style code None))
     ∙ (sym (over_all-append style (named ++ direct ∷ []) code None)
     ∙ over_all-effective (layers_of style named direct) code)
 
--- the format is that of the change under the direct settings, and then of these
-pub format_said : (sheet : Sheet) (istd : ℕ) (direct : Settings) (under change : Change) (format : CharFormat) →
+-- the format is that of the change under the direct properties, and then of these
+pub format_said : (sheet : Sheet) (istd : ℕ) (direct : Properties) (under change : Change) (format : CharFormat) →
     IsUnderChange sheet istd (named_style direct) under → ((act : Act) → IsChangeOf act under → IsChangeOf
     (with_layer direct act) change) → ((act : Act) → IsChangeOf act change → format ≡ format_in
     (λ code. act code None)) → IsCharFormat sheet istd direct format
@@ -79,23 +80,15 @@ format_said sheet istd direct under change format h laid said =
 
 -- ---- a character has one format
 
-chain_layers_one : (sheet : Sheet) (istd : ℕ) (a b : List Settings) → AreChainLayers character_settings sheet istd a →
-    AreChainLayers character_settings sheet istd b → a ≡ b
+chain_layers_one : (sheet : Sheet) (istd : ℕ) (a b : List Properties) → AreChainLayers character_properties sheet istd a
+    →
+    AreChainLayers character_properties sheet istd b → a ≡ b
 chain_layers_one sheet istd a b h k =
-    h.are ∙ (ap (settings_of_styles character_settings sheet) (base_chains_agree sheet istd h.chain k.chain h.bases
+    h.are ∙ (ap (properties_of_styles character_properties sheet) (base_chains_agree sheet istd h.chain k.chain h.bases
     k.bases) ∙ sym k.are)
 
 is_of_kind : (kind : ℕ) → (kind == 2) ≡ false → kind ≢ 2
 is_of_kind kind e is = absurd (cc (eq-eqb kind 2 is, e))
-
-named_layers_one : (sheet : Sheet) (named : Option ℕ) (a b : List Settings) → AreNamedLayers sheet named a →
-    AreNamedLayers sheet named b → a ≡ b
-named_layers_one sheet None a b h k = h ∙ sym k
-named_layers_one sheet (Some istd) a b h k =
-    elim (kind_at sheet istd == 2) as (λ t. (kind_at sheet istd == 2) ≡ t → a ≡ b) [
-      | true ↦ λ e. let is = eqb-true (kind_at sheet istd) 2 e in chain_layers_one sheet istd a b (h.0 is) (k.0 is)
-      | false ↦ λ e. let other = is_of_kind (kind_at sheet istd) e in h.1 other ∙ sym (k.1 other)
-    ] refl
 
 pub format_one : CharFormatIsOne
 format_one sheet istd direct one other h k =
@@ -107,17 +100,18 @@ format_one sheet istd direct one other h k =
 
 -- ---- and it has one
 
-named_there : (sheet : Sheet) (named : Option ℕ) → HasSoundBases sheet → (layers : List Settings) × AreNamedLayers sheet
+named_there : (sheet : Sheet) (named : Option ℕ) → HasSoundBases sheet → (layers : List Properties) × AreNamedLayers
+    sheet
     named layers
 named_there sheet None sound = ([], refl)
 named_there sheet (Some istd) sound =
-    elim (kind_at sheet istd == 2) as (λ t. (kind_at sheet istd == 2) ≡ t → (layers : List Settings) × AreNamedLayers
+    elim (kind_at sheet istd == 2) as (λ t. (kind_at sheet istd == 2) ≡ t → (layers : List Properties) × AreNamedLayers
     sheet (Some istd) layers) [
       | true ↦ λ e.
           let is : kind_at sheet istd ≡ 2 = eqb-true (kind_at sheet istd) 2 e in
           let some : 0 < kind_at sheet istd = omega arith in
           let chain = sound.chains istd some in (
-            settings_of_styles character_settings sheet chain.0,
+            properties_of_styles character_properties sheet chain.0,
             (
               (λ _. record {
                 chain = chain.0;
@@ -135,7 +129,7 @@ pub format_there : CharFormatIsThere
 format_there sheet istd direct sound kind =
     let some : 0 < kind_at sheet istd = omega arith in
     let chain = sound.chains istd some in
-    let style : List Settings = settings_of_styles character_settings sheet chain.0 in
+    let style : List Properties = properties_of_styles character_properties sheet chain.0 in
     let named = named_there sheet (named_style direct) sound in (
       format_in (effective_value (layers_of style named.0 direct)),
       record {

@@ -6,13 +6,14 @@ use Rattle.std.proofs.lemmas.List.{take_more, take_at, get_or_at, append-nil}
 use Rattle.std.proofs.lemmas.Bool.{eqb-true}
 use Rattle.std.specs.Ordering.{nat_cmp}
 use Rattle.std.specs.FinMap.{find, is_sorted, entries, get-entries}
-use Rattle.prop_map.specs.Settings.{Settings}
+use Rattle.prop_map.specs.Settings.{Properties}
 use Rattle.prop_map.specs.Entries.{Entries}
 use Rattle.effective_props.specs.ValueSteps.{layer_over}
-use Rattle.effective_props.proofs.ValueLemmas.{find-before, find-more}
+use Rattle.effective_props.proofs.ValueLemmas.{find-more}
 use Rattle.char_formats.specs.declared.change.Change.{Change}
 use Rattle.char_formats.specs.Changes.{Act, with_layer, with_value, IsChangeOf}
 use Rattle.char_formats.proofs.ChangeLemmas.{same_act}
+use Rattle.prop_map.proofs.ChangeLemmas.{find-earlier}
 
 -- what some entries make of the value so far, after another act
 abbrev pub with_entries : Entries → Act → Act
@@ -49,7 +50,7 @@ one_more done left code value sorted =
     record {
       fresh =
           ap (λ l. find nat_cmp code l) (sym front) ∙ (ap (λ (x : ℕ × List ℕ). find nat_cmp x.0 (take i es)) (sym here)
-          ∙ find-before es i entry sorted within);
+          ∙ find-earlier es i entry sorted within);
       found = λ other.
           ap (find nat_cmp other) (sym more) ∙ (find-more es i entry other sorted within
           ∙ (ap (λ (x : ℕ × List ℕ). cond (other == x.0) (Some x.1) (find nat_cmp other (take i es))) here
@@ -88,7 +89,7 @@ laid-next all left old now new code value sorted h step =
     }
 
 -- all of them
-pub laid-whole : (map : Settings) (old now : Change) → HasLaid (entries map) [] old now → (act : Act) → IsChangeOf act
+pub laid-whole : (map : Properties) (old now : Change) → HasLaid (entries map) [] old now → (act : Act) → IsChangeOf act
     old → IsChangeOf (with_layer map act) now
 laid-whole map old now h act k =
     let all : h.done ≡ entries map = sym (h.joined ∙ append-nil h.done) in

@@ -1,7 +1,7 @@
--- What layers of settings make of a format, whatever it was.
+-- What layers of properties make of a format, whatever it was.
 use Rattle.std.specs.Prelude.{◌≡◌, ℕ, ◌==◌, ◌<◌, List, [], ◌∷◌, length, Option, Some, None, if◌then◌else◌}
 use Rattle.std.specs.FinMap.{get}
-use Rattle.prop_map.specs.Settings.{Settings}
+use Rattle.prop_map.specs.Settings.{Properties}
 use Rattle.effective_props.specs.ValueSteps.{layer_over}
 use Rattle.char_formats.specs.declared.change.Change.{Change}
 use Rattle.char_formats.specs.Formats.{font_of, is_set, position_of, symbol_of}
@@ -16,7 +16,7 @@ abbrev pub no_act : Act
 no_act code before = before
 
 -- what one layer makes of it, after another act
-abbrev pub with_layer : Settings → Act → Act
+abbrev pub with_layer : Properties → Act → Act
 with_layer layer act code before = layer_over code (act code before) (get layer code)
 
 -- what one value makes of it, after another act
@@ -25,7 +25,7 @@ with_value code value act other before =
     if other == code then layer_over other (act other before) (Some value) else act other before
 
 -- what layers make of it, the first one first
-abbrev pub over_all : List Settings → Act
+abbrev pub over_all : List Properties → Act
 over_all [] code before = before
 over_all (layer ∷ layers) code before = over_all layers code (layer_over code before (get layer code))
 

@@ -1,4 +1,4 @@
--- What values make of a setting that is on or off.
+-- What values make of a property that is on or off.
 use Rattle.std.specs.Prelude.{ℕ, ◌==◌, Bool, not, List, [], ◌∷◌, Some, slice_index, slice_index_or, if◌then◌else◌}
 use Rattle.sprm_table.specs.Codes.{class_of}
 use Rattle.effective_props.specs.Toggles.{is_keep, is_turn}
@@ -7,7 +7,7 @@ use Rattle.char_formats.specs.declared.flag.Flag.{Flag}
 use Rattle.char_formats.specs.declared.flag.Flag.TheVariants.{Keep, Turn, Set}
 use Rattle.char_formats.specs.Formats.{is_set}
 
--- the codes of such settings, ascending
+-- the codes of such properties, ascending
 abbrev pub flag_codes : List ℕ
 flag_codes =
     0x0806 ∷ 0x080A ∷ 0x0835 ∷ 0x0836 ∷ 0x0837 ∷ 0x083A ∷ 0x083B ∷ 0x083C ∷ 0x0855 ∷ 0x0856 ∷ 0x2A3E ∷ 0x2A53 ∷ []
@@ -15,7 +15,7 @@ flag_codes =
 abbrev pub code_at : ℕ → ℕ
 code_at i = slice_index flag_codes i
 
--- the change of the setting with this number
+-- the change of the property with this number
 abbrev pub flag_at : List Flag → ℕ → Flag
 flag_at flags i = slice_index_or flags i Keep
 

@@ -1,7 +1,7 @@
--- How a character looks, and what else its settings say of it, by their effective values.
+-- How a character looks, and what else its properties say of it, by their effective values.
 use Rattle.std.specs.Prelude.{◌≡◌, ℕ, ◌==◌, Bool, false, not, ◌||◌, List, length, Option, Some, None, if◌then◌else◌}
 use Rattle.doc_bits.specs.Number.{u16_at}
-use Rattle.prop_map.specs.Settings.{Settings}
+use Rattle.prop_map.specs.Settings.{Properties}
 use Rattle.style_sheet.specs.Sheet.{Sheet}
 use Rattle.effective_props.specs.Toggles.{is_byte}
 use Rattle.effective_props.specs.Values.{effective_value}
@@ -53,8 +53,8 @@ format_in values = record {
   font = font_of (values 0x4A51);
 }
 
--- the format of a character, with these direct settings, in a paragraph of the style
-pub record IsCharFormat (sheet : Sheet) (istd : ℕ) (direct : Settings) (format : CharFormat) : Type 0 where
-  pub layers : List Settings
+-- the format of a character, with these direct properties, in a paragraph of the style
+pub record IsCharFormat (sheet : Sheet) (istd : ℕ) (direct : Properties) (format : CharFormat) : Type 0 where
+  pub layers : List Properties
   pub are : AreCharacterLayers sheet istd direct layers
   pub said : format ≡ format_in (effective_value layers)

@@ -1,25 +1,20 @@
-// What layers of settings make of a format, whatever it was.
+// What layers of properties make of a format, whatever it was.
 ghost use Rattle.std.specs.Prelude.{◌≡◌, ◌==◌, ◌<◌, ℕ, length, Option, Some, None, if◌then◌else◌};
 ghost use Rattle.char_formats.specs.Formats.{font_of, position_of, symbol_of, format_in};
 ghost use Rattle.char_formats.specs.Flags.{code_at, flag_at, flag_after, flag_then};
 ghost use Rattle.char_formats.specs.Changes.{Act, no_act, with_layer, with_value, IsChangeOf};
 
-use crate::flag::{Flag, is_byte};
+use crate::flag::Flag;
 use crate::{CharFormat, Position, Symbol};
 use doc_bits::get16;
+use effective_props::is_byte;
 use prop_map::PropMap;
-use sprm_table::Code;
-
-/// [MS-DOC] sprmCIss.
-const SPRM_C_ISS: Code = Code(0x2A48);
-
-/// [MS-DOC] sprmCSymbol.
-const SPRM_C_SYMBOL: Code = Code(0x6A09);
+use sprm_table::{Code, SPRM_C_ISS, SPRM_C_SYMBOL};
 
 /// [MS-DOC] sprmCRgFtc2.
 const SPRM_C_RG_FTC2: Code = Code(0x4A51);
 
-/// How many settings that are on or off are looked at.
+/// How many properties that are on or off are looked at.
 const FLAG_COUNT: usize = 12;
 
 /// Their codes, ascending: sprmCFData, sprmCFOle2, sprmCFBold, sprmCFItalic, sprmCFStrike, sprmCFSmallCaps, sprmCFCaps,
@@ -31,7 +26,7 @@ const FLAG_CODES: [u16; FLAG_COUNT] = [
 /// The last of them.
 const SPRM_C_F_D_STRIKE: u16 = 0x2A53;
 
-/// What is made of each setting.
+/// What is made of each property.
 #[derive(Clone, Copy)]
 pub(crate) struct Change {
     /// Of those that are on or off, in the order of their codes.

@@ -1,4 +1,4 @@
-// What values make of a setting that is on or off.
+// What values make of a property that is on or off.
 ghost use Rattle.std.specs.Prelude.{◌≡◌, Some, false};
 ghost use Rattle.sprm_table.specs.Codes.{class_of};
 ghost use Rattle.effective_props.specs.Toggles.{is_byte};
@@ -6,15 +6,10 @@ ghost use Rattle.effective_props.specs.Values.{is_toggle};
 ghost use Rattle.char_formats.specs.Formats.{is_set};
 ghost use Rattle.char_formats.specs.Flags.{does, flag_then, toggle_flag, flag_by};
 
+use effective_props::{TOGGLE_AS_STYLE, TOGGLE_OPPOSITE, is_byte};
 use sprm_table::{Class, Code, class};
 
-/// Keeps what the layers before have.
-const KEEP: u8 = 0x80;
-
-/// Turns it round.
-const TURN: u8 = 0x81;
-
-/// What is made of a setting that is on or off, whatever it was.
+/// What is made of a property that is on or off, whatever it was.
 #[derive(Clone, Copy)]
 pub(crate) enum Flag {
     Keep,
@@ -48,7 +43,7 @@ impl Flag {
         }
     }
 
-    /// Whether a setting that was off is on after it.
+    /// Whether a property that was off is on after it.
     pub(crate) fn is_on(self) -> bool
         ensures { result ≡ does self false }
     {
@@ -64,10 +59,10 @@ impl Flag {
 fn toggle(value: &[u8]) -> Flag
     ensures { result ≡ toggle_flag value.now }
 {
-    if is_byte(value, KEEP) {
+    if is_byte(value, TOGGLE_AS_STYLE) {
         return Flag::Keep;
     }
-    if is_byte(value, TURN) {
+    if is_byte(value, TOGGLE_OPPOSITE) {
         return Flag::Turn;
     }
     Flag::Set(is_set(value))
@@ -78,11 +73,4 @@ fn is_set(value: &[u8]) -> bool
     ensures { result ≡ is_set (Some value.now) }
 {
     !is_byte(value, 0)
-}
-
-/// Whether the value is this one byte.
-pub(crate) fn is_byte(value: &[u8], byte: u8) -> bool
-    ensures { result ≡ is_byte value.now byte }
-{
-    value.len() == 1 && value[0] == byte
 }

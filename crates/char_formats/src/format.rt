@@ -1,4 +1,4 @@
-// [MS-DOC] Sgc 2: what a reader sees of the settings of a character.
+// [MS-DOC] Sgc 2: what a reader sees of the properties of a character.
 
 /// Where a character stands beside its line.
 #[derive(Clone, Copy, PartialEq, Eq)]
@@ -17,7 +17,7 @@ pub struct Symbol {
     pub code: u16,
 }
 
-/// How a character looks, and what else its effective settings say of it.
+/// How a character looks, and what else its effective properties say of it.
 #[derive(Clone, Copy, PartialEq, Eq)]
 pub struct CharFormat {
     pub bold: bool,

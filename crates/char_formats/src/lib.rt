@@ -1,4 +1,4 @@
-//! How characters look by their effective settings: bold, hidden, raised and so on, found without memory.
+//! How characters look by their effective properties: bold, hidden, raised and so on, found without memory.
 #![tactic(auto)]
 
 mod change;

@@ -2,7 +2,7 @@
 ghost use Rattle.std.specs.Prelude.{◌≡◌, ◌-◌, ◌<◌, OnOk, IfOk, length, slice_index, None, Some, option_map};
 ghost use Rattle.std.specs.Prelude.{replicate};
 ghost use Rattle.style_sheet.specs.Chain.{kind_at, HasSoundBases, IsBaseChain};
-ghost use Rattle.effective_props.specs.Layers.{character_settings};
+ghost use Rattle.effective_props.specs.Layers.{character_properties};
 ghost use Rattle.char_formats.specs.Changes.{Act, with_layer, IsChangeOf};
 ghost use Rattle.char_formats.specs.Styles.{IsStyleChange, IsSlotChange, IsBelowStyle};
 ghost use Rattle.char_formats.specs.Styles.{AreKnownChanges, AreStyleChanges};
@@ -41,7 +41,7 @@ fn no_changes(alloc: Global, count: usize) -> Result<Vec<Option<Change>>, Memory
     Ok(known)
 }
 
-/// The change of the style of a slot, where that has settings.
+/// The change of the style of a slot, where that has properties.
 fn change_of_slot(
     alloc: Global,
     sheet: &StyleSheet,
@@ -53,7 +53,7 @@ fn change_of_slot(
     ensures change { IfOk result (λ change. IsSlotChange sheet.now istd change) }
     ensures known { OnOk result (AreKnownChanges sheet.now known.new.items) }
 {
-    if !sheet.has_settings(istd) {
+    if !sheet.has_properties(istd) {
         return Ok(None);
     }
     let change = change_of_style(alloc, sheet, known, istd)?;
@@ -126,7 +126,7 @@ fn change_over(
 /// A change, and what a style says by itself after it, where it is there.
 fn with_slot(below: Change, style: Option<&Style>) -> Change
     ensures { (act : Act) → IsChangeOf act below →
-        IsChangeOf (with_layer (character_settings (option_map (λ s. s.now) style.entry)) act) result }
+        IsChangeOf (with_layer (character_properties (option_map (λ s. s.now) style.entry)) act) result }
 {
     let mut change = below;
     let Some(style) = style else {

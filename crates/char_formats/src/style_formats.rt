@@ -11,13 +11,10 @@ use crate::change::Change;
 use crate::style_changes::style_changes;
 use doc_bits::Memory;
 use prop_map::PropMap;
-use sprm_table::Code;
+use sprm_table::SPRM_C_ISTD;
 use std::alloc::Global;
 use std::marker::Model;
 use style_sheet::StyleSheet;
-
-/// Names the style of a character.
-const SPRM_C_ISTD: Code = Code(0x4A30);
 
 /// A sheet, and what each of its styles makes of a format.
 #[derive(Drop)]
@@ -60,7 +57,7 @@ impl StyleFormats {
         change.format()
     }
 
-    /// The change of the style, and behind it that of the style that the direct settings name.
+    /// The change of the style, and behind it that of the style that the direct properties name.
     fn under_direct(&self, istd: u16, direct: &PropMap) -> Change
         requires { kind_at self.now istd ≡ 1 }
         ensures { IsUnderChange self.now istd (named_style direct.now) result }
@@ -72,7 +69,7 @@ impl StyleFormats {
         }
     }
 
-    /// The change of the style that the direct settings name, where it is one of characters.
+    /// The change of the style that the direct properties name, where it is one of characters.
     fn named_change(&self, direct: &PropMap) -> Option<Change>
         ensures { MatchOption result (AreNamedLayers self.now (named_style direct.now) [])
             (IsNamedChange self.now (named_style direct.now)) }
@@ -91,7 +88,7 @@ impl StyleFormats {
     fn is_of_characters(&self, istd: u16) -> bool
         ensures { IsTrue result ↔ kind_at self.now istd ≡ 2 }
     {
-        self.sheet.has_settings(istd) && !self.sheet.is_para(istd)
+        self.sheet.has_properties(istd) && !self.sheet.is_para(istd)
     }
 
     /// The change of a style of paragraphs or of characters.

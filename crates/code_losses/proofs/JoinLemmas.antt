@@ -8,7 +8,7 @@ use Rattle.std.proofs.lemmas.List.{append-nil}
 use Rattle.std.proofs.lemmas.Grind.{flat_map-append}
 use Rattle.sprm_table.specs.Sprm.{Prl}
 use Rattle.code_losses.specs.declared.counts.CodeCounts.{CodeCounts}
-use Rattle.code_losses.specs.Counted.{IsCounted, CountsPart}
+use Rattle.code_losses.specs.Counted.{AreCodeCounts, CountsPart}
 use Rattle.code_losses.specs.Pages.{AreJoined, CountsJoined}
 
 abbrev Lists : Type 0
@@ -52,31 +52,31 @@ joined_more is count lists part are one = record {
 
 -- one part more is counted
 pub counts_more : (is : ℕ → Lists → Type 0) (count : ℕ) (lists : Lists) (now new : CodeCounts) →
-    CountsJoined is count lists now → ((all : Lists) → IsCounted all now → CountsPart (is count) all new) →
+    CountsJoined is count lists now → ((all : Lists) → AreCodeCounts all now → CountsPart (is count) all new) →
     CountsJoined is (count + 1) lists new
 counts_more is count lists now new joined step =
     let more = step (lists ++ joined.found) joined.counted in
     record {
       found = joined.found ++ more.found;
       are = joined_more is count joined.found more.found joined.are more.is_found;
-      counted = subst (λ l. IsCounted l new) (append_assoc lists joined.found more.found) more.counted;
+      counted = subst (λ l. AreCodeCounts l new) (append_assoc lists joined.found more.found) more.counted;
     }
 
-pub counts_none : (is : ℕ → Lists → Type 0) (lists : Lists) (now : CodeCounts) → IsCounted lists now →
+pub counts_none : (is : ℕ → Lists → Type 0) (lists : Lists) (now : CodeCounts) → AreCodeCounts lists now →
     CountsJoined is 0 lists now
 counts_none is lists now counted = record {
   found = [];
   are = joined_none is;
-  counted = subst (λ l. IsCounted l now) (sym (append-nil lists)) counted;
+  counted = subst (λ l. AreCodeCounts l now) (sym (append-nil lists)) counted;
 }
 
 -- nothing is counted besides
-pub part_none : (is : Lists → Type 0) (lists : Lists) (now : CodeCounts) → is [] → IsCounted lists now →
+pub part_none : (is : Lists → Type 0) (lists : Lists) (now : CodeCounts) → is [] → AreCodeCounts lists now →
     CountsPart is lists now
 part_none is lists now none counted = record {
   found = [];
   is_found = none;
-  counted = subst (λ l. IsCounted l now) (sym (append-nil lists)) counted;
+  counted = subst (λ l. AreCodeCounts l now) (sym (append-nil lists)) counted;
 }
 
 -- ---- they are one

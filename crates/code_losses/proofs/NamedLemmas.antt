@@ -3,27 +3,21 @@ use Rattle.std.specs.Prelude.{slice_index}
 use Rattle.std.proofs.Common.{◌≡◌, ◌∙◌, ◌+◌, ◌<◌, refl, sym, ap, ℕ, List, [], ◌∷◌, ◌++◌, suc, zero, arith, map}
 use Rattle.std.proofs.Common.{append_assoc}
 use Rattle.std.specs.List.{flat_map, range_with_len}
-use Rattle.std.proofs.lemmas.List.{append-nil, map-id}
+use Rattle.std.proofs.lemmas.List.{append-nil}
 use Rattle.std.proofs.lemmas.Grind.{flat_map-append}
-use Rattle.std.proofs.lemmas.List.FromFn.{map-range_with_len_more}
 use Rattle.sprm_table.specs.Sprm.{Prl}
 use Rattle.text_losses.specs.declared.features.ListKind.{ListKind}
 use Rattle.text_losses.specs.declared.features.TextFeature.{TextFeature}
 use Rattle.text_losses.specs.Counts.{lists_with, lists_again, skipped_codes, repeated_codes}
 use Rattle.code_losses.specs.declared.counts.CodeCounts.{CodeCounts}
 use Rattle.code_losses.specs.Tallies.{code_count}
-use Rattle.code_losses.specs.Counted.{IsCounted}
+use Rattle.code_losses.specs.Counted.{AreCodeCounts}
 use Rattle.code_losses.specs.Losses.{skipped_of, repeated_of, named_by, codes_of}
+use Rattle.doc_bits.proofs.ListLemmas.{range_more}
 
 -- the features of the first codes
 abbrev pub named_below : (ℕ → List TextFeature) → ℕ → List TextFeature
 named_below each count = flat_map each (range_with_len 0 count)
-
-range_more : (n : ℕ) → range_with_len 0 (n + 1) ≡ range_with_len 0 n ++ n ∷ []
-range_more n =
-    sym (map-id (range_with_len 0 (n + 1)))
-    ∙ (map-range_with_len_more (λ k. k) 0 n n (omega arith)
-    ∙ ap (λ l. l ++ n ∷ []) (map-id (range_with_len 0 n)))
 
 pub below_one : (each : ℕ → List TextFeature) (n : ℕ) → named_below each (n + 1) ≡ named_below each n ++ each n
 below_one each n =
@@ -53,7 +47,7 @@ below_same one other (suc n) same =
     ∙ (ap (λ l. named_below other n ++ l) last
     ∙ (sym (below_one other n) ∙ ap (named_below other) (sym e)))))
 
-pub named_lists : (kind : ListKind) (lists : List (List Prl)) (counts : CodeCounts) → IsCounted lists counts →
+pub named_lists : (kind : ListKind) (lists : List (List Prl)) (counts : CodeCounts) → AreCodeCounts lists counts →
     named_by (λ code. skipped_of kind code (slice_index counts.first.counts.items code))
     ++ named_by (λ code. repeated_of kind code (slice_index counts.again.counts.items code)) ≡ codes_of kind lists
 unfolding named_by codes_of

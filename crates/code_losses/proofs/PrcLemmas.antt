@@ -11,7 +11,7 @@ use Rattle.sprm_table.specs.Sprm.{Prl}
 use Rattle.piece_table.specs.Front.{ArePrcs}
 use Rattle.piece_table.proofs.ClxLemmas.{prcs_unique, front_of_prc}
 use Rattle.code_losses.specs.declared.counts.CodeCounts.{CodeCounts}
-use Rattle.code_losses.specs.Counted.{IsFound, IsCounted}
+use Rattle.code_losses.specs.Counted.{IsFound, AreCodeCounts}
 use Rattle.code_losses.specs.Prcs.{AreFoundIn, AreListsOfPrcs}
 use Rattle.code_losses.proofs.JoinLemmas.{last_get, parts_one}
 use Rattle.code_losses.proofs.OneLemmas.{found_one}
@@ -58,7 +58,7 @@ pub record CountsPrcs (clx : List ℕ) (at : ℕ) (counts : CodeCounts) : Type 0
   pub are : ArePrcs clx prcs at
   pub lists : List (List Prl)
   pub found : AreFoundIn prcs lists
-  pub counted : IsCounted lists counts
+  pub counted : AreCodeCounts lists counts
 
 -- ---- they are one
 

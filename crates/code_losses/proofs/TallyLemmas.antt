@@ -10,7 +10,7 @@ use Rattle.text_losses.specs.Counts.{has_code, has_again, lists_with, lists_agai
 use Rattle.code_losses.specs.declared.counts.Tally.{Tally}
 use Rattle.code_losses.specs.declared.counts.CodeCounts.{CodeCounts}
 use Rattle.code_losses.specs.Tallies.{code_count, MeetsCode, IsTally}
-use Rattle.code_losses.specs.Counted.{HasCounts, IsCounted, IsListing}
+use Rattle.code_losses.specs.Counted.{HasCounts, AreCodeCounts, IsListing}
 
 -- ---- counts of one entry more
 
@@ -291,7 +291,8 @@ begins tally seen n m b is counts none = record {
   low = λ code low. let most = is.low code low in omega (arith, most);
 }
 
-pub listing_none : (counts : CodeCounts) (lists : List (List Prl)) → IsCounted lists counts → IsListing lists [] counts
+pub listing_none : (counts : CodeCounts) (lists : List (List Prl)) → AreCodeCounts lists counts → IsListing lists []
+    counts
 listing_none counts lists is = record {
   seen = is.seen;
   first = begins counts.first counts.seen (λ c. lists_with c lists) (λ c. lists_with c (lists ++ [] ∷ []))
@@ -304,7 +305,7 @@ ends : (tally : Tally) (number : ℕ) (n : ℕ → ℕ) (b : ℕ → Bool) → I
 ends tally number n b is = record { codes = is.codes; counts = is.counts; low = is.low }
 
 pub listing_ends : (old new : CodeCounts) (lists : List (List Prl)) (list : List Prl) → IsListing lists list old →
-    new.seen ≡ old.seen + 1 → new.first ≡ old.first → new.again ≡ old.again → IsCounted (lists ++ list ∷ []) new
+    new.seen ≡ old.seen + 1 → new.first ≡ old.first → new.again ≡ old.again → AreCodeCounts (lists ++ list ∷ []) new
 listing_ends old new lists list is seen first again =
     let more = lists ++ list ∷ [] in
     let len : length more ≡ length lists + 1 = length-append lists _ in

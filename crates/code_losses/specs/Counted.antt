@@ -17,7 +17,7 @@ pub record HasCounts (tally : Tally) (seen : ℕ) (count : ℕ → ℕ) : Type 0
   pub low : (code : ℕ) → code < code_count → slice_index tally.lists.items code ≤ seen
 
 -- these lists are counted
-pub record IsCounted (lists : List (List Prl)) (counts : CodeCounts) : Type 0 where
+pub record AreCodeCounts (lists : List (List Prl)) (counts : CodeCounts) : Type 0 where
   pub seen : counts.seen ≡ length lists
   pub first : HasCounts counts.first counts.seen (λ code. lists_with code lists)
   pub again : HasCounts counts.again counts.seen (λ code. lists_again code lists)
@@ -42,4 +42,4 @@ IsFound bytes found =
 pub record CountsPart (is : List (List Prl) → Type 0) (lists : List (List Prl)) (new : CodeCounts) : Type 0 where
   pub found : List (List Prl)
   pub is_found : is found
-  pub counted : IsCounted (lists ++ found) new
+  pub counted : AreCodeCounts (lists ++ found) new

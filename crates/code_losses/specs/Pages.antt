@@ -8,7 +8,7 @@ use Rattle.fkp_pages.specs.Fkp.{HasRunCount, page_count, least_list, IsListOf}
 use Rattle.fkp_pages.specs.Bin.{page_at}
 use Rattle.page_copies.specs.Names.{names_page}
 use Rattle.code_losses.specs.declared.counts.CodeCounts.{CodeCounts}
-use Rattle.code_losses.specs.Counted.{IsFound, IsCounted}
+use Rattle.code_losses.specs.Counted.{IsFound, AreCodeCounts}
 
 -- the lists of so many parts, one after the other
 pub record AreJoined (is : ℕ → List (List Prl) → Type 0) (count : ℕ) (lists : List (List Prl)) : Type 0 where
@@ -57,4 +57,4 @@ pub record CountsJoined
     (is : ℕ → List (List Prl) → Type 0) (count : ℕ) (lists : List (List Prl)) (new : CodeCounts) : Type 0 where
   pub found : List (List Prl)
   pub are : AreJoined is count found
-  pub counted : IsCounted (lists ++ found) new
+  pub counted : AreCodeCounts (lists ++ found) new

@@ -2,7 +2,7 @@
 ghost use Rattle.std.specs.Prelude.{◌≡◌, ◌^◌, ◌<◌, ◌≤◌, ◌+◌, ℕ, List, [], ◌∷◌, ◌++◌, IfOk};
 ghost use Rattle.sprm_table.specs.Sprm.{Prl, SpellsSprmList, IsAcceptedList};
 ghost use Rattle.code_losses.specs.Tallies.{HasCodes, HasNone, MeetsCode};
-ghost use Rattle.code_losses.specs.Counted.{HasAllCodes, IsCounted, IsFound, IsListing, CountsPart};
+ghost use Rattle.code_losses.specs.Counted.{HasAllCodes, AreCodeCounts, IsFound, IsListing, CountsPart};
 
 use doc_bits::Memory;
 use sprm_table::{SprmIter, list_fault};
@@ -56,7 +56,7 @@ impl Tally {
 impl CodeCounts {
     /// No list was met.
     pub(crate) fn new(alloc: Global) -> Result<CodeCounts, Memory>
-        ensures { IfOk result (IsCounted []) }
+        ensures { IfOk result (AreCodeCounts []) }
     {
         Ok(CodeCounts {
             seen: 0,
@@ -88,8 +88,8 @@ impl CodeCounts {
         requires few { self.old.seen < 2 ^ 63 }
         ensures codes { HasAllCodes self.new }
         ensures seen { self.new.seen ≡ self.old.seen + 1 }
-        ensures counted { (lists : List (List Prl)) → (prls : List Prl) → IsCounted lists self.old
-            → SpellsSprmList list.now prls → IsCounted (lists ++ prls ∷ []) self.new }
+        ensures counted { (lists : List (List Prl)) → (prls : List Prl) → AreCodeCounts lists self.old
+            → SpellsSprmList list.now prls → AreCodeCounts (lists ++ prls ∷ []) self.new }
     {
         let mut prls = SprmIter::new(list);
         while let Some((code, _, _)) = prls.next() {
@@ -105,7 +105,7 @@ impl CodeCounts {
         ensures codes { HasAllCodes self.new }
         ensures seen { self.new.seen ≤ self.old.seen + 1 }
         ensures counted { (lists : List (List Prl))
-            → IsCounted lists self.old → CountsPart (IsFound list.now) lists self.new }
+            → AreCodeCounts lists self.old → CountsPart (IsFound list.now) lists self.new }
     {
         match list_fault(list, 0) {
             Some(_) => {}

@@ -2,7 +2,7 @@
 ghost use Rattle.std.specs.Prelude.{◌≡◌, ◌<◌, ◌≤◌, ◌+◌, ◌*◌, ◌/◌, ◌^◌, ℕ, List, IfOk, length};
 ghost use Rattle.sprm_table.specs.Sprm.{Prl};
 ghost use Rattle.fkp_pages.specs.Fkp.{HasRunCount, page_count};
-ghost use Rattle.code_losses.specs.Counted.{HasAllCodes, IsCounted, CountsPart};
+ghost use Rattle.code_losses.specs.Counted.{HasAllCodes, AreCodeCounts, CountsPart};
 ghost use Rattle.page_copies.specs.Names.{names_page, mark_of};
 ghost use Rattle.code_losses.specs.Pages.{AreListsOfPage, AreListsOfPages};
 ghost use Rattle.code_losses.specs.Pages.{IsFoundInRun, IsFoundInPage};
@@ -22,7 +22,7 @@ fn count_run(counts: &mut CodeCounts, kind: PageKind, page: &[u8], run: usize)
     requires few { counts.old.seen < 2 ^ 63 }
     ensures codes { HasAllCodes counts.new }
     ensures seen { counts.new.seen ≤ counts.old.seen + 1 }
-    ensures counted { (lists : List (List Prl)) → IsCounted lists counts.old
+    ensures counted { (lists : List (List Prl)) → AreCodeCounts lists counts.old
         → CountsPart (IsFoundInRun kind page.now run) lists counts.new }
 {
     if let RunAnswer::Found { from, to } = answer_of(kind, page, run) {
@@ -38,7 +38,7 @@ fn count_page(counts: &mut CodeCounts, kind: PageKind, page: &[u8])
     requires few { counts.old.seen + 128 < 2 ^ 63 }
     ensures codes { HasAllCodes counts.new }
     ensures seen { counts.new.seen ≤ counts.old.seen + 128 }
-    ensures counted { (lists : List (List Prl)) → IsCounted lists counts.old
+    ensures counted { (lists : List (List Prl)) → AreCodeCounts lists counts.old
         → CountsPart (AreListsOfPage kind page.now) lists counts.new }
 {
     for run in 0..page[PAGE_LEN - 1] as usize {
@@ -54,7 +54,7 @@ fn count_numbered(counts: &mut CodeCounts, kind: PageKind, wd: &[u8], number: us
     ensures codes { HasAllCodes counts.new }
     ensures seen { counts.new.seen ≤ counts.old.seen + 128 }
     ensures counted { (bin : List ℕ) → (lists : List (List Prl)) → mark ≡ mark_of (names_page bin number)
-        → IsCounted lists counts.old → CountsPart (IsFoundInPage kind wd.now bin number) lists counts.new }
+        → AreCodeCounts lists counts.old → CountsPart (IsFoundInPage kind wd.now bin number) lists counts.new }
 {
     if number < 2 || mark == 0 {
         return;
@@ -74,7 +74,7 @@ pub(crate) fn count_pages(
     bin: &[u8],
 ) -> Result<CodeCounts, Memory>
     ensures { IfOk result (λ counts.
-        (lists : List (List Prl)) × (AreListsOfPages kind wd.now bin.now lists × IsCounted lists counts)) }
+        (lists : List (List Prl)) × (AreListsOfPages kind wd.now bin.now lists × AreCodeCounts lists counts)) }
 {
     let places = wd.len() / PAGE_LEN;
     let marks = named_pages(alloc, bin, places)?;

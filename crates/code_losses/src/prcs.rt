@@ -1,7 +1,7 @@
 // The lists of the Prcs of a Clx, counted.
 ghost use Rattle.std.specs.Prelude.{List, IfOk};
 ghost use Rattle.sprm_table.specs.Sprm.{Prl};
-ghost use Rattle.code_losses.specs.Counted.{IsCounted};
+ghost use Rattle.code_losses.specs.Counted.{AreCodeCounts};
 ghost use Rattle.code_losses.specs.Prcs.{AreListsOfPrcs};
 
 use crate::counts::CodeCounts;
@@ -12,7 +12,7 @@ use std::alloc::Global;
 /// Counts the lists of the Prcs at the front of a Clx.
 pub(crate) fn count_prcs(alloc: Global, clx: &[u8]) -> Result<CodeCounts, Memory>
     ensures { IfOk result (λ counts.
-        (lists : List (List Prl)) × (AreListsOfPrcs clx.now lists × IsCounted lists counts)) }
+        (lists : List (List Prl)) × (AreListsOfPrcs clx.now lists × AreCodeCounts lists counts)) }
 {
     let mut counts = CodeCounts::new(alloc)?;
     let mut at = 0;

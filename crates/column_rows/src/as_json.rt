@@ -3,14 +3,14 @@ use crate::lent::is_made;
 use crate::scripted::{EACH, is_edited, is_same};
 use doc_bits::{Memory, Text};
 use doc_columns::ColumnDocument;
-use json_doc::{columns_from_json, columns_json_out, to_json};
+use json_doc::{from_json_of_columns, json_out_of_columns, to_json};
 use plain_doc::Document;
 use std::alloc::Global;
 use std::test::Fail;
 
 /// The JSON of a document by columns, where it has at most so many bytes.
 fn text_of(alloc: Global, columns: &ColumnDocument, most: u64) -> Result<Text, Memory> {
-    let out = columns_json_out(alloc, columns, most)?;
+    let out = json_out_of_columns(alloc, columns, most)?;
     Ok(out.into_text())
 }
 
@@ -33,7 +33,7 @@ fn has_one_text(alloc: Global, columns: &ColumnDocument, plain: &Document) -> Re
 /// Whether a document is read from its JSON.
 fn comes_back(alloc: Global, text: &str, plain: &Document) -> Result<bool, Memory> {
     is_made(
-        columns_from_json(alloc, text.as_bytes()),
+        from_json_of_columns(alloc, text.as_bytes()),
         |columns: &ColumnDocument| -> Result<bool, Memory> { is_same(alloc, columns, plain) },
     )
 }

@@ -4,7 +4,7 @@ ghost use Rattle.plain_doc.specs.Document.{IsFormedText};
 
 use crate::scripted::{EACH, is_edited};
 use doc_bits::Memory;
-use doc_columns::{Columns, WholeText};
+use doc_columns::{Columns, SharedText};
 use plain_doc::{Document, Item};
 use std::alloc::Global;
 use std::test::Fail;
@@ -41,7 +41,7 @@ fn is_range(
 }
 
 /// Whether each cut of a text is its range, and so is a copy of the cut.
-fn are_ranges(alloc: Global, text: &Columns, whole: &mut WholeText) -> Result<bool, Memory>
+fn are_ranges(alloc: Global, text: &Columns, whole: &mut SharedText) -> Result<bool, Memory>
     requires { whole.old ≡ text.now }
 {
     let len = text.len();
@@ -63,7 +63,7 @@ fn is_cut_out(alloc: Global, items: &[Item], text: &Columns) -> Result<bool, Mem
     requires same { text.now ≡ items.now }
 {
     let same = Columns::from_items(alloc, items)?;
-    let mut whole = WholeText::new(alloc, same, &ENDS)?;
+    let mut whole = SharedText::new(alloc, same, &ENDS)?;
     let cut = are_ranges(alloc, text, &mut whole);
     drop(whole);
     cut

@@ -3,7 +3,7 @@ use crate::lent::is_made;
 use crate::scripted::{EACH, is_edited, is_same};
 use doc_bits::Memory;
 use doc_columns::{ColumnDocument, is_sound};
-use doc_show::{columns_accepted_line, columns_main_text};
+use doc_show::{accepted_line_of_columns, main_text_of_columns};
 use plain_doc::Document;
 use std::alloc::Global;
 use std::test::Fail;
@@ -14,8 +14,8 @@ fn are_shown_alike(
     plain: &Document,
     columns: &ColumnDocument,
 ) -> Result<bool, Memory> {
-    let text = columns_main_text(alloc, columns)?;
-    let line = columns_accepted_line(alloc, columns)?;
+    let text = main_text_of_columns(alloc, columns)?;
+    let line = accepted_line_of_columns(alloc, columns)?;
     let same_text = text.as_str() == doc_show::main_text(alloc, plain)?.as_str();
     let same_line = line.as_str() == doc_show::accepted_line(alloc, plain)?.as_str();
     Ok(same_text && same_line)

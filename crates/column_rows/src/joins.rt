@@ -3,7 +3,7 @@ use crate::lent::is_made;
 use crate::scripted::{EACH, breaks_none, is_edited, is_same};
 use doc_bits::Memory;
 use doc_columns::{ColumnDocument, is_sound};
-use doc_join::{JoinFault, columns_join, join};
+use doc_join::{JoinFault, join, join_of_columns};
 use plain_doc::{Document, blank};
 use std::alloc::Global;
 use std::test::Fail;
@@ -20,7 +20,7 @@ fn joined_by_columns(
     made
 }
 
-/// The same where the first is there by columns.
+/// The first document, which is there by columns, and then the second.
 fn joined_behind(
     alloc: Global,
     one: &ColumnDocument,
@@ -39,7 +39,7 @@ fn joined_columns(
     other: &ColumnDocument,
 ) -> Result<ColumnDocument, JoinFault> {
     if is_sound(alloc, one)? && is_sound(alloc, other)? {
-        columns_join(alloc, one, other)
+        join_of_columns(alloc, one, other)
     } else {
         Err(JoinFault::Memory)
     }

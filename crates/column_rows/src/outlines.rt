@@ -5,7 +5,7 @@ use crate::lent::is_made;
 use crate::scripted::{EACH, breaks_none, is_edited};
 use doc_bits::Memory;
 use doc_columns::{ColumnDocument, is_sound};
-use list_numbers::{Numbers, columns_numbers, columns_outline_lines, numbers, outline_lines};
+use list_numbers::{Numbers, numbers, numbers_of_columns, outline_lines, outline_lines_of_columns};
 use plain_doc::Document;
 use std::alloc::Global;
 use std::test::Fail;
@@ -66,9 +66,9 @@ fn are_numbered_alike(
     requires columns { IsSound columns.now }
     requires plain { IsSound plain.now }
 {
-    let lines = columns_outline_lines(alloc, columns)?;
+    let lines = outline_lines_of_columns(alloc, columns)?;
     let same_lines = lines.as_str() == outline_lines(alloc, plain)?.as_str();
-    let found = columns_numbers(alloc, columns)?;
+    let found = numbers_of_columns(alloc, columns)?;
     let same = are_same(&found, &numbers(alloc, plain)?);
     Ok(same_lines && same)
 }

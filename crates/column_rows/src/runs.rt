@@ -8,14 +8,14 @@ use sprm_table::Code;
 use std::alloc::Global;
 use std::test::Fail;
 
-/// A map with one character setting.
+/// A map with one character property.
 fn bold(alloc: Global) -> Result<PropMap, Memory> {
     let mut map = PropMap::new(alloc);
     map.set(Code(0x0835), &[1])?;
     Ok(map)
 }
 
-/// Two empty maps and four of one setting, of which the last is put apart.
+/// Two empty maps and four of one property, of which the last is put apart.
 fn six(alloc: Global) -> Result<Runs<PropMap>, Memory>
     ensures { IfOk result (λ list. length list ≡ 6) }
 {
@@ -26,7 +26,7 @@ fn six(alloc: Global) -> Result<Runs<PropMap>, Memory>
     Ok(list)
 }
 
-/// Whether the runs have these counts, and a setting or none.
+/// Whether the runs have these counts, and a property or none.
 fn are(list: &Runs<PropMap>, expected: &[(u32, bool)]) -> bool {
     let runs = list.as_runs();
     if runs.len() != expected.len() {

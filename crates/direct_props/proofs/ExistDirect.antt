@@ -1,4 +1,4 @@
--- A place that breaks no rule has direct settings, and they are well formed.
+-- A place that breaks no rule has direct properties, and they are well formed.
 use Rattle.std.proofs.Common.{refl, sym, subst, ℕ, zero, suc, ◌+◌, ◌*◌, ◌<◌, List, [], ◌∷◌, drop, false, Option, Some}
 use Rattle.std.proofs.Common.{None, arith}
 use Rattle.std.specs.Option.{unwrap_or, ForSome}
@@ -8,8 +8,8 @@ use Rattle.doc_bits.proofs.NumberLemmas.{number_at-bound}
 use Rattle.doc_bits.proofs.ByteListLemmas.{AreBytes-drop, AreBytes-range, no_bytes}
 use Rattle.sprm_table.specs.Sprm.{IsAcceptedList}
 use Rattle.prop_map.specs.declared.modifiers.Modifier.{Modifier}
-use Rattle.prop_map.specs.Settings.{Settings}
-use Rattle.prop_map.specs.Acting.{style_of}
+use Rattle.prop_map.specs.Settings.{Properties}
+use Rattle.prop_map.specs.Acting.{style_named}
 use Rattle.prop_map.specs.Formed.{character_groups, paragraph_groups, IsPropertyMap}
 use Rattle.prop_map.specs.Modifiers.{IsFormedModifier, mark_style}
 use Rattle.prop_map.proofs.ActingLemmas.{IsPropertyMap-after, IsPropertyMap-empty}
@@ -22,36 +22,37 @@ use Rattle.fkp_pages.specs.declared.kind.RunAnswer.{RunAnswer}
 use Rattle.fkp_pages.specs.declared.kind.RunAnswer.TheVariants.{Found, Empty, NoRun, BadCount, Leaves}
 use Rattle.fkp_pages.specs.Bin.{page_at}
 use Rattle.fkp_pages.specs.Properties.{bare_list, IsListAnswered, HasListAt}
-use Rattle.direct_props.specs.Direct.{MakesSettings, IsDirectCharacter}
-use Rattle.direct_props.specs.Laws.{RightPlacesHaveSettings}
-use Rattle.direct_props.proofs.ExistLists.{IsRight, right_at, list_there}
-pub use Rattle.direct_props.specs.Laws.{IsRightModifier, HasDirectCharacter, HasDirectMark}
+use Rattle.direct_props.specs.Direct.{MakesProperties, IsDirectCharacter}
+use Rattle.direct_props.specs.Laws.{RightPlacesHaveProperties}
+use Rattle.direct_props.proofs.ExistLists.{IsValid, right_at, list_there}
+pub use Rattle.direct_props.specs.Laws.{IsValidModifier, HasDirectCharacter, HasDirectMark}
 
 -- ---- what an accepted list makes
 
-pub record HasSettings (list : List ℕ) (groups : ℕ) : Type 0 where
-  pub made : Settings
+pub record HasProperties (list : List ℕ) (groups : ℕ) : Type 0 where
+  pub made : Properties
   pub style : Option ℕ
-  pub makes : MakesSettings list groups made style
+  pub makes : MakesProperties list groups made style
   pub formed : IsPropertyMap groups made
   pub small : ForSome style (λ n. n < 65536)
 
-pub settings_there : (list : List ℕ) (groups : ℕ) → AreBytes list → IsAcceptedList list groups → HasSettings list groups
-settings_there list groups bytes accepted =
+pub properties_there : (list : List ℕ) (groups : ℕ) → AreBytes list → IsAcceptedList list groups → HasProperties list
+    groups
+properties_there list groups bytes accepted =
     let after = after_list accepted.list groups empty in
     let values = list_bytes list accepted.list bytes accepted.spelt in
     record {
       made = after.new;
-      style = style_of accepted.list groups;
+      style = style_named accepted.list groups;
       makes = record { prls = accepted.list; spelt = accepted.spelt; map = after.after; style_is = refl };
       formed = IsPropertyMap-after accepted.list groups empty after.new accepted.spelt.entries values after.after
           (IsPropertyMap-empty groups);
       small = λ n e. style_small accepted.list groups n values e;
     }
 
--- what a list of bytes makes of no settings is well formed
-pub made_formed : (list : List ℕ) (groups : ℕ) (made : Settings) (style : Option ℕ) → AreBytes list →
-    MakesSettings list groups made style → IsPropertyMap groups made
+-- what a list of bytes makes of no properties is well formed
+pub made_formed : (list : List ℕ) (groups : ℕ) (made : Properties) (style : Option ℕ) → AreBytes list →
+    MakesProperties list groups made style → IsPropertyMap groups made
 made_formed list groups made style bytes makes =
     IsPropertyMap-after makes.prls groups empty made makes.spelt.entries (list_bytes list makes.prls bytes
     makes.spelt) makes.map (IsPropertyMap-empty groups)
@@ -81,23 +82,24 @@ list_at_bytes kind bin wd fc list bytes has =
     answered_bytes kind (page_at wd has.number) has.answer list (AreBytes-range wd (512 * has.number)
     (512 * has.number + 512) bytes) has.answered
 
--- the direct settings of a character in a stream of bytes are well formed
-pub character_formed : (wd bin : List ℕ) (fc : ℕ) (modifier : Modifier) (settings : Settings) → AreBytes wd →
-    IsFormedModifier modifier → IsDirectCharacter wd bin fc modifier settings → IsPropertyMap character_groups settings
-character_formed wd bin fc modifier settings bytes formed is =
-    IsPropertyMap-over character_groups modifier.clear modifier.chp is.made settings is.modified formed.chp
+-- the direct properties of a character in a stream of bytes are well formed
+pub character_formed : (wd bin : List ℕ) (fc : ℕ) (modifier : Modifier) (properties : Properties) → AreBytes wd →
+    IsFormedModifier modifier → IsDirectCharacter wd bin fc modifier properties → IsPropertyMap character_groups
+    properties
+character_formed wd bin fc modifier properties bytes formed is =
+    IsPropertyMap-over character_groups modifier.clear modifier.chp is.made properties is.modified formed.chp
     (made_formed is.list character_groups is.made is.style (list_at_bytes Chpx bin wd fc is.list bytes is.has) is.makes)
 
 -- ---- characters and marks
 
-pub character_there : (wd bin : List ℕ) (fc : ℕ) (modifier : Modifier) → AreBytes wd → IsRight Chpx wd bin fc →
-    IsRightModifier modifier → HasDirectCharacter wd bin fc modifier
+pub character_there : (wd bin : List ℕ) (fc : ℕ) (modifier : Modifier) → AreBytes wd → IsValid Chpx wd bin fc →
+    IsValidModifier modifier → HasDirectCharacter wd bin fc modifier
 character_there wd bin fc modifier bytes right is =
     let has = list_there Chpx wd bin fc bytes right in
-    let made = settings_there has.list character_groups has.bytes has.accepted in
+    let made = properties_there has.list character_groups has.bytes has.accepted in
     let after = character_after modifier made.made in
     record {
-      settings = after.new;
+      properties = after.new;
       is = record {
         list = has.list;
         has = has.has;
@@ -114,15 +116,15 @@ small_or : (o : Option ℕ) (n : ℕ) → ForSome o (λ k. k < 65536) → n < 65
 small_or None n some less = less
 small_or (Some k) n some less = some k refl
 
-pub mark_there : (wd bin : List ℕ) (fc : ℕ) (modifier : Modifier) → AreBytes wd → IsRight Papx wd bin fc →
-    IsRightModifier modifier → HasDirectMark wd bin fc modifier
+pub mark_there : (wd bin : List ℕ) (fc : ℕ) (modifier : Modifier) → AreBytes wd → IsValid Papx wd bin fc →
+    IsValidModifier modifier → HasDirectMark wd bin fc modifier
 mark_there wd bin fc modifier bytes right is =
     let has = list_there Papx wd bin fc bytes right in
-    let made = settings_there (drop 2 has.list) paragraph_groups (AreBytes-drop 2 has.list has.bytes) has.accepted in
+    let made = properties_there (drop 2 has.list) paragraph_groups (AreBytes-drop 2 has.list has.bytes) has.accepted in
     let after = mark_after modifier made.made in
     record {
       istd = mark_style modifier (unwrap_or made.style (u16_at has.list 0));
-      settings = after.new;
+      properties = after.new;
       is = record {
         list = has.list;
         has = has.has;
@@ -139,8 +141,8 @@ mark_there wd bin fc modifier bytes right is =
           made.formed;
     }
 
-pub direct_settings_there : RightPlacesHaveSettings
-direct_settings_there wd bin fc modifier bytes is = record {
+pub direct_properties_there : RightPlacesHaveProperties
+direct_properties_there wd bin fc modifier bytes is = record {
   character = λ right. character_there wd bin fc modifier bytes (right_at Chpx wd bin fc right) is;
   mark = λ right. mark_there wd bin fc modifier bytes (right_at Papx wd bin fc right) is;
 }

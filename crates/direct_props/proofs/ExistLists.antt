@@ -17,7 +17,7 @@ use Rattle.fkp_pages.specs.Fkp.{entry_byte, entry_place, list_from, list_to, lea
 use Rattle.fkp_pages.specs.Bin.{IsBinRange, IsBinPage, bin_count, page_number, page_at}
 use Rattle.fkp_pages.specs.Properties.{HasListAt}
 use Rattle.fkp_pages.specs.Runs.{run_groups}
-use Rattle.direct_props.specs.PageRules.{page_rules, IsRightPlace, HasPageAnswer, HasNoPage, HasBadPage, IsInNoRun}
+use Rattle.direct_props.specs.PageRules.{page_rules, IsValidPlace, HasPageAnswer, HasNoPage, HasBadPage, IsInNoRun}
 use Rattle.direct_props.specs.PageRules.{HasListOutside, HasListFault}
 use Rattle.direct_props.proofs.AnswerLemmas.{found_has_room}
 use Rattle.direct_props.proofs.StretchLemmas.{cut_rest}
@@ -27,7 +27,7 @@ use Rattle.direct_props.proofs.FirstOf.{first_or_none}
 use Rattle.direct_props.specs.declared.rules.PageRule.TheVariants as breaks
 
 -- a place that breaks none of the five rules on pages
-pub record IsRight (kind : PageKind) (wd bin : List ℕ) (fc : ℕ) : Type 0 where
+pub record IsValid (kind : PageKind) (wd bin : List ℕ) (fc : ℕ) : Type 0 where
   pub bin_page : Nowhere (HasNoPage bin fc)
   pub page : Nowhere (HasBadPage kind wd bin fc)
   pub run : Nowhere (IsInNoRun kind wd bin fc)
@@ -35,7 +35,7 @@ pub record IsRight (kind : PageKind) (wd bin : List ℕ) (fc : ℕ) : Type 0 whe
   pub sprms : Nowhere (HasListFault kind wd bin fc)
 
 pub right_of : (kind : PageKind) (wd bin places : List ℕ) → Hold (page_rules kind wd bin places) → (k : ℕ) →
-    k < length places → IsRight kind wd bin (slice_index places k)
+    k < length places → IsValid kind wd bin (slice_index places k)
 right_of kind wd bin places h k below = record {
   bin_page = λ p b. h.0 p (record { entry = k; below = below; broken = b });
   page = λ p b. h.1.0 p (record { entry = k; below = below; broken = b });
@@ -45,7 +45,7 @@ right_of kind wd bin places h k below = record {
 }
 
 -- the same of a right place
-pub right_at : (kind : PageKind) (wd bin : List ℕ) (fc : ℕ) → IsRightPlace kind wd bin fc → IsRight kind wd bin fc
+pub right_at : (kind : PageKind) (wd bin : List ℕ) (fc : ℕ) → IsValidPlace kind wd bin fc → IsValid kind wd bin fc
 right_at kind wd bin fc right = record {
   bin_page = right breaks.Bin;
   page = right breaks.Page;
@@ -145,7 +145,7 @@ bare Papx wd bin fc number has there = record {
     zeroes (suc (suc i)) = omega arith
 
 there_list : (kind : PageKind) (wd bin : List ℕ) (fc number from to : ℕ) → AreBytes wd → HasPageAnswer kind wd bin fc
-    number (Found from to) → 512 * number + 512 ≤ length wd → IsRight kind wd bin fc → HasAcceptedList kind wd bin fc
+    number (Found from to) → 512 * number + 512 ≤ length wd → IsValid kind wd bin fc → HasAcceptedList kind wd bin fc
 there_list kind wd bin fc number from to bytes has there right =
     let page = page_at wd number in
     let found = found_has_room kind wd fc number from to has.answers in
@@ -181,7 +181,7 @@ there_list kind wd bin fc number from to bytes has there right =
 
 run_list_there : (kind : PageKind) (wd bin : List ℕ) (fc number run : ℕ) → AreBytes wd → IsBinPage bin fc number →
     512 * number + 512 ≤ length wd → HasRunCount kind (page_at wd number) → IsFirstRun (page_at wd number) fc run →
-    IsRight kind wd bin fc → HasAcceptedList kind wd bin fc
+    IsValid kind wd bin fc → HasAcceptedList kind wd bin fc
 run_list_there kind wd bin fc number run bytes named there count first right =
     let page = page_at wd number in
     let at = 2 * entry_byte kind page run in
@@ -231,7 +231,7 @@ run_list_there kind wd bin fc number run bytes named there count first right =
     ]
 
 page_list_there : (kind : PageKind) (wd bin : List ℕ) (fc number : ℕ) → AreBytes wd → IsBinPage bin fc number →
-    512 * number + 512 ≤ length wd → IsRight kind wd bin fc → HasAcceptedList kind wd bin fc
+    512 * number + 512 ≤ length wd → IsValid kind wd bin fc → HasAcceptedList kind wd bin fc
 page_list_there kind wd bin fc number bytes named there right =
     let page = page_at wd number in
     elim (counted_or_not kind page) [
@@ -259,7 +259,7 @@ page_list_there kind wd bin fc number bytes named there right =
     ]
 
 -- a right place has its list
-pub list_there : (kind : PageKind) (wd bin : List ℕ) (fc : ℕ) → AreBytes wd → IsRight kind wd bin fc → HasAcceptedList
+pub list_there : (kind : PageKind) (wd bin : List ℕ) (fc : ℕ) → AreBytes wd → IsValid kind wd bin fc → HasAcceptedList
     kind wd bin fc
 list_there kind wd bin fc bytes right = elim (first_or_none (bin_count bin) (IsBinRange bin fc) (in_range bin fc)) [
   | inr none ↦ absurd (right.bin_page fc (record { here = refl; none = λ k range. none k range.below range }))

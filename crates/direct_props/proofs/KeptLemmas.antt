@@ -20,15 +20,15 @@ use Rattle.fkp_pages.specs.declared.kind.RunAnswer.TheVariants.{Found}
 use Rattle.fkp_pages.specs.Fkp.{least_list}
 use Rattle.fkp_pages.specs.Bin.{page_at}
 use Rattle.fkp_pages.specs.Runs.{run_groups}
-use Rattle.direct_props.specs.declared.kept.Made.{Made}
-use Rattle.direct_props.specs.declared.kept.MadeStretch.{MadeStretch}
+use Rattle.direct_props.specs.declared.grpprl_cache.Decoded.{Decoded}
+use Rattle.direct_props.specs.declared.grpprl_cache.DecodedRun.{DecodedRun}
 use Rattle.direct_props.specs.declared.pages.PageStretch.{PageStretch}
 use Rattle.direct_props.specs.Direct.{IsDirectMark}
-use Rattle.direct_props.specs.Stretches.{IsRightList, HasSettingsAround}
+use Rattle.direct_props.specs.Stretches.{IsValidList, HasPropertiesAround}
 use Rattle.direct_props.specs.Pages.{HasPageAround}
-use Rattle.direct_props.specs.Kept.{HasNoFault, HaveNoFault, IsMadeOf, IsMadeIn, AreMade, PlaceSource, IsMadeAt}
-use Rattle.direct_props.specs.Kept.{AreKept, HasMadeAround, IsMadeByAnswer}
-use Rattle.direct_props.specs.PageRules.{IsRightBetween}
+use Rattle.direct_props.specs.GrpprlCache.{HasNoFault, HaveNoFault, IsMadeOf, IsMadeIn, AreMade, PlaceSource, IsMadeAt}
+use Rattle.direct_props.specs.GrpprlCache.{AreKept, HasMadeAround, IsMadeByAnswer}
+use Rattle.direct_props.specs.PageRules.{IsValidBetween}
 use Rattle.direct_props.proofs.StretchLemmas.{in_page, cut_rest}
 
 -- a value of a list with one more is one of the list, or the last
@@ -55,7 +55,7 @@ one_faultless kind wd places from to have one k a b e = elim (got places (from, 
 
 -- a list that has no fault in the stream has none in its page
 pub right_in_page : (kind : PageKind) (wd : List ℕ) (number from to : ℕ) → from + least_list kind ≤ to → to ≤ 511 →
-    HasNoFault kind wd (512 * number + from) (512 * number + to) → IsRightList kind (page_at wd number) from to
+    HasNoFault kind wd (512 * number + from) (512 * number + to) → IsValidList kind (page_at wd number) from to
 right_in_page kind wd number from to room within none =
     let e : 512 * number + from + least_list kind ≡ 512 * number + (from + least_list kind) = omega arith in
     record {
@@ -65,7 +65,7 @@ right_in_page kind wd number from to room within none =
           to)) e ∙ sym (in_page wd number (from + least_list kind) to (omega arith) (omega arith))) none;
     }
 
-pub faultless_in_stream : (kind : PageKind) (wd : List ℕ) (number from to : ℕ) → IsRightList kind (page_at wd number)
+pub faultless_in_stream : (kind : PageKind) (wd : List ℕ) (number from to : ℕ) → IsValidList kind (page_at wd number)
     from to → HasNoFault kind wd (512 * number + from) (512 * number + to)
 faultless_in_stream kind wd number from to right =
     let room = right.room in
@@ -94,8 +94,8 @@ pub no_made : (kind : PageKind) (wd : List ℕ) (modifier : Modifier) → AreMad
 no_made kind wd modifier = record { len = refl; each = λ k place one p q. absurd (none-some place p) }
 
 -- what is kept at a number
-pub made_of_place : (kind : PageKind) (wd : List ℕ) (modifier : Modifier) (places : List (ℕ × ℕ)) (made : List Made)
-    (k from to : ℕ) (one : Made) →
+pub made_of_place : (kind : PageKind) (wd : List ℕ) (modifier : Modifier) (places : List (ℕ × ℕ)) (made : List Decoded)
+    (k from to : ℕ) (one : Decoded) →
     AreMade kind wd modifier places made → slice_get places k ≡ Some (from, to) → one ≡ get_or made k one →
     IsMadeOf kind (slice_range wd from to) modifier one
 made_of_place kind wd modifier places made k from to one are there here =
@@ -105,7 +105,7 @@ made_of_place kind wd modifier places made k from to one are there here =
 
 -- what is kept at the number of a list of the same bytes
 pub made_of_like : (kind : PageKind) (wd list : List ℕ) (modifier : Modifier) (places : List (ℕ × ℕ))
-    (made : List Made) (k : ℕ) (one : Made) → AreMade kind wd modifier places made → IsListLike wd list places k →
+    (made : List Decoded) (k : ℕ) (one : Decoded) → AreMade kind wd modifier places made → IsListLike wd list places k →
     one ≡ get_or made k one → IsMadeOf kind list modifier one
 made_of_like kind wd list modifier places made k one are like here =
     subst (λ l. IsMadeOf kind l modifier one) like.same (made_of_place kind wd modifier places made k like.from like.to
@@ -131,8 +131,8 @@ like_faultless kind wd places k from to have like =
     (have k like.from like.to like.place)
 
 -- one list more is kept
-pub one_made : (kind : PageKind) (wd : List ℕ) (modifier : Modifier) (places : List (ℕ × ℕ)) (made : List Made)
-    (from to : ℕ) (one : Made) →
+pub one_made : (kind : PageKind) (wd : List ℕ) (modifier : Modifier) (places : List (ℕ × ℕ)) (made : List Decoded)
+    (from to : ℕ) (one : Decoded) →
     IsMadeOf kind (slice_range wd from to) modifier one → AreMade kind wd modifier places made →
     AreMade kind wd modifier (places ++ (from, to) ∷ []) (made ++ one ∷ [])
 one_made kind wd modifier places made from to one is are =
@@ -144,8 +144,8 @@ pub no_kept : (kind : PageKind) (wd : List ℕ) (modifier : Modifier) → AreKep
 no_kept kind wd modifier = record { right = no_places kind wd; made_are = no_made kind wd modifier }
 
 -- one right list more is kept
-pub one_kept : (kind : PageKind) (wd : List ℕ) (modifier : Modifier) (places : List (ℕ × ℕ)) (made : List Made)
-    (from to : ℕ) (one : Made) →
+pub one_kept : (kind : PageKind) (wd : List ℕ) (modifier : Modifier) (places : List (ℕ × ℕ)) (made : List Decoded)
+    (from to : ℕ) (one : Decoded) →
     HasNoFault kind wd from to → IsMadeOf kind (slice_range wd from to) modifier one →
     AreKept kind wd modifier places made →
     AreKept kind wd modifier (places ++ (from, to) ∷ []) (made ++ one ∷ [])
@@ -155,8 +155,8 @@ one_kept kind wd modifier places made from to one none is are = record {
 }
 
 -- what is kept of a list of the stream is what the page's answer makes
-pub kept_answer : (kind : PageKind) (wd : List ℕ) (modifier : Modifier) (number from to : ℕ) (made : Made) →
-    IsRightList kind (page_at wd number) from to →
+pub kept_answer : (kind : PageKind) (wd : List ℕ) (modifier : Modifier) (number from to : ℕ) (made : Decoded) →
+    IsValidList kind (page_at wd number) from to →
     IsMadeOf kind (slice_range wd (512 * number + from) (512 * number + to)) modifier made →
     IsMadeByAnswer kind modifier (page_at wd number) (Found from to) made
 kept_answer kind wd modifier number from to made right is =
@@ -170,8 +170,8 @@ kept_answer kind wd modifier number from to made right is =
     }
 
 -- what the answer of a page makes is what the list of each of its places makes
-pub made_along : (source : PlaceSource) (fc : ℕ) (stretch : PageStretch) (made : Made) → HasPageAround source.kind
-    source.wd source.bin fc stretch → IsRightBetween source.kind source.wd source.bin stretch.first stretch.last →
+pub made_along : (source : PlaceSource) (fc : ℕ) (stretch : PageStretch) (made : Decoded) → HasPageAround source.kind
+    source.wd source.bin fc stretch → IsValidBetween source.kind source.wd source.bin stretch.first stretch.last →
     IsMadeByAnswer source.kind source.modifier (page_at source.wd stretch.number) stretch.answer made →
     HasMadeAround source fc (record { first = stretch.first; last = stretch.last; made = made })
 made_along source fc stretch made h between by = record {
@@ -194,10 +194,10 @@ made_along source fc stretch made h between by = record {
       };
 }
 
--- the settings of the characters of a stretch
-pub characters_around : (source : PlaceSource) (fc : ℕ) (stretch : MadeStretch) → source.kind ≡ Chpx →
+-- the properties of the characters of a stretch
+pub characters_around : (source : PlaceSource) (fc : ℕ) (stretch : DecodedRun) → source.kind ≡ Chpx →
     HasMadeAround source fc stretch →
-    HasSettingsAround source.wd source.bin source.modifier fc stretch.first stretch.last stretch.made.map
+    HasPropertiesAround source.wd source.bin source.modifier fc stretch.first stretch.last stretch.made.map
 characters_around source fc stretch e h =
     let made : (other : ℕ) → stretch.first ≤ other → other ≤ stretch.last → IsMadeAt (record {
       kind = Chpx;
@@ -230,7 +230,7 @@ characters_around source fc stretch e h =
     }
 
 -- the mark of a place
-pub mark_of : (source : PlaceSource) (fc : ℕ) (made : Made) → source.kind ≡ Papx → IsMadeAt source fc made →
+pub mark_of : (source : PlaceSource) (fc : ℕ) (made : Decoded) → source.kind ≡ Papx → IsMadeAt source fc made →
     IsDirectMark source.wd source.bin fc source.modifier made.istd made.map × (IsFormedModifier source.modifier →
     IsPropertyMap paragraph_groups made.map)
 mark_of source fc made e here =

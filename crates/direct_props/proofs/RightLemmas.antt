@@ -5,12 +5,12 @@ use Rattle.doc_bits.specs.Rules.{Hold}
 use Rattle.fkp_pages.specs.declared.kind.PageKind.{PageKind}
 use Rattle.direct_props.specs.declared.rules.PageRule.TheVariants as breaks
 use Rattle.fkp_pages.proofs.PropertyLemmas.{run_answer_one}
-use Rattle.direct_props.specs.PageRules.{page_rules, IsRightPlace}
-use Rattle.direct_props.specs.RightLists.{RightListsAreRight, RightPlacesHaveLists, RightPlacesHold}
+use Rattle.direct_props.specs.PageRules.{page_rules, IsValidPlace}
+use Rattle.direct_props.specs.RightLists.{RightListsAreValid, RightPlacesHaveLists, RightPlacesHold}
 use Rattle.direct_props.proofs.StretchLemmas.{right_here, right_list}
 
 pub right_where_hold : (kind : PageKind) (wd bin places : List ℕ) → Hold (page_rules kind wd bin places) → (k : ℕ) →
-    k < length places → IsRightPlace kind wd bin (slice_index_or places k 0)
+    k < length places → IsValidPlace kind wd bin (slice_index_or places k 0)
 right_where_hold kind wd bin places h k below breaks.Bin p b = h.0 p (record { entry = k; below = below; broken = b })
 right_where_hold kind wd bin places h k below breaks.Page p b = h.1.0 p (record {
   entry = k;
@@ -45,8 +45,8 @@ right_places_hold kind wd bin places right = (
   ),
 )
 
-pub right_lists_are_right : RightListsAreRight
-right_lists_are_right kind wd bin fc list table h =
+pub right_lists_are_valid : RightListsAreValid
+right_lists_are_valid kind wd bin fc list table h =
     right_here kind wd bin fc h.number h.answer run_answer_one table (record { page = h.named; answers = h.answers })
     h.low h.within h.right
 

@@ -1,8 +1,8 @@
 -- The places around a place at which the list is the same.
 use Rattle.std.proofs.Common.{◌≡◌, ◌<◌, ◌≤◌, ◌+◌, ◌-◌, ◌*◌, ◌^◌, ◌∙◌, inl, inr, ap, refl, sym, subst, ℕ, List, length}
-use Rattle.std.proofs.Common.{take, drop, min, max, None, arith, length-drop}
+use Rattle.std.proofs.Common.{take, drop, min, max, None, arith}
 use Rattle.std.specs.Prelude.{slice_range}
-use Rattle.std.proofs.lemmas.List.{drop-drop, drop-take, take-take, take_all}
+use Rattle.std.proofs.lemmas.List.{drop-drop, drop-take, take-take}
 use Rattle.fkp_pages.specs.declared.kind.PageKind.{PageKind}
 use Rattle.fkp_pages.specs.declared.kind.RunAnswer.{RunAnswer}
 use Rattle.fkp_pages.specs.declared.kind.RunAnswer.TheVariants.{Found, Empty, NoRun, BadCount, Leaves}
@@ -16,14 +16,10 @@ use Rattle.fkp_pages.specs.Laws.{RunAnswerIsOne}
 use Rattle.direct_props.specs.declared.rules.PageRule.TheVariants as breaks
 use Rattle.direct_props.specs.declared.pages.PageCursor.{PageCursor}
 use Rattle.direct_props.specs.declared.pages.PageStretch.{PageStretch}
-use Rattle.direct_props.specs.PageRules.{HasPageAnswer, IsRightPlace, IsRightBetween}
-use Rattle.direct_props.specs.Stretches.{HasRightList}
+use Rattle.direct_props.specs.PageRules.{HasPageAnswer, IsValidPlace, IsValidBetween}
+use Rattle.direct_props.specs.Stretches.{HasValidList}
 use Rattle.direct_props.specs.Pages.{IsPageCursor, IsPageIn, HasPageAround}
 use Rattle.direct_props.proofs.AnswerLemmas.{not_bad, runs_here, inside_here, fault_here, no_list_here, found_has_room}
-
--- the rest of a list, as a range of it
-pub rest_of : (xs : List ℕ) (k : ℕ) → take (length xs - k) (drop k xs) ≡ drop k xs
-rest_of xs k = take_all (length xs - k) (drop k xs) (omega (arith, length-drop k xs))
 
 -- a range without its first bytes
 pub cut_rest : (page : List ℕ) (from to k : ℕ) → from + k ≤ to → drop k (take (to - from) (drop from page)) ≡
@@ -67,7 +63,7 @@ small_page bin fc range h = let page = h.page in omega arith
 pub right_here : (kind : PageKind) (wd bin : List ℕ) (fc number : ℕ) (answer : RunAnswer) → RunAnswerIsOne →
     IsBinTable bin →
     HasPageAnswer kind wd bin fc number answer → 2 ≤ number → 512 * number + 512 ≤ length wd →
-    HasRightList kind (page_at wd number) answer → IsRightPlace kind wd bin fc
+    HasValidList kind (page_at wd number) answer → IsValidPlace kind wd bin fc
 right_here kind wd bin fc number (Found from to) law table has low there list breaks.Bin = λ p w. w.none
     has.page.entry has.page.range
 right_here kind wd bin fc number (Found from to) law table has low there list breaks.Page = not_bad kind wd bin fc
@@ -99,7 +95,7 @@ right_here kind wd bin fc number (Leaves entry) law table has low there list pag
 
 -- where a place breaks no rule its list is right
 pub right_list : (kind : PageKind) (wd bin : List ℕ) (fc number : ℕ) (answer : RunAnswer) → HasPageAnswer kind wd bin
-    fc number answer → IsRightPlace kind wd bin fc → HasRightList kind (page_at wd number) answer
+    fc number answer → IsValidPlace kind wd bin fc → HasValidList kind (page_at wd number) answer
 right_list kind wd bin fc number (Found from to) has right =
     let room = found_has_room kind wd fc number from to has.answers in
     record {
@@ -158,10 +154,10 @@ page_stretch kind wd bin fc found page met h known e in_stream s runs =
 -- a page that answers a right list breaks no rule at its places
 pub right_stretch : (kind : PageKind) (wd bin : List ℕ) (fc : ℕ) (stretch : PageStretch) → IsBinTable bin →
     HasPageAround kind wd bin fc stretch →
-    HasRightList kind (page_at wd stretch.number) stretch.answer →
-    IsRightPlace kind wd bin fc × IsRightBetween kind wd bin stretch.first stretch.last
+    HasValidList kind (page_at wd stretch.number) stretch.answer →
+    IsValidPlace kind wd bin fc × IsValidBetween kind wd bin stretch.first stretch.last
 right_stretch kind wd bin fc stretch table h list =
-    let between : IsRightBetween kind wd bin stretch.first stretch.last =
+    let between : IsValidBetween kind wd bin stretch.first stretch.last =
     λ other a b. right_here kind wd bin other stretch.number stretch.answer run_answer_one table (h.each other a b)
     h.page.low h.page.within list in
     (between fc h.from h.to, between)

@@ -5,7 +5,7 @@ use Rattle.prop_map.specs.declared.modifiers.Modifier.{Modifier}
 use Rattle.prop_map.specs.contracts.modifiers.Modifier as modifier
 use Rattle.fkp_pages.specs.declared.kind.PageKind.{PageKind}
 use Rattle.fkp_pages.specs.contracts.kind.PageKind as kind
-use Rattle.direct_props.specs.Kept.{PlaceSource}
+use Rattle.direct_props.specs.GrpprlCache.{PlaceSource}
 
 abbrev pub source_code : Coded PlaceSource
 source_code =

@@ -2,7 +2,7 @@ pub mod Direct
 pub mod PageRules
 pub mod Stretches
 pub mod Pages
-pub mod Kept
+pub mod GrpprlCache
 pub mod Codes
 pub mod Rows
 pub mod RightLists

@@ -96,13 +96,13 @@ page_rules kind wd bin places =
     then rule (first_rule kind + 4) (BreaksAtPlaces breaks.Sprm kind wd bin places)
 
 -- a place that breaks none of the five
-abbrev pub IsRightPlace : PageKind → List ℕ → List ℕ → ℕ → Type 0
-IsRightPlace kind wd bin fc = (page_rule : PageRule) → Nowhere (BreaksPageRule page_rule kind wd bin fc)
+abbrev pub IsValidPlace : PageKind → List ℕ → List ℕ → ℕ → Type 0
+IsValidPlace kind wd bin fc = (page_rule : PageRule) → Nowhere (BreaksPageRule page_rule kind wd bin fc)
 
 -- the places from the first to the last break none
-abbrev pub IsRightBetween : PageKind → List ℕ → List ℕ → ℕ → ℕ → Type 0
-IsRightBetween kind wd bin first last = (fc : ℕ) → first ≤ fc → fc ≤ last → IsRightPlace kind wd bin fc
+abbrev pub IsValidBetween : PageKind → List ℕ → List ℕ → ℕ → ℕ → Type 0
+IsValidBetween kind wd bin first last = (fc : ℕ) → first ≤ fc → fc ≤ last → IsValidPlace kind wd bin fc
 
 -- each of the places breaks none
-abbrev pub AreRightPlaces : PageKind → List ℕ → List ℕ → List ℕ → Type 0
-AreRightPlaces kind wd bin places = (k : ℕ) → k < length places → IsRightPlace kind wd bin (slice_index places k)
+abbrev pub AreValidPlaces : PageKind → List ℕ → List ℕ → List ℕ → Type 0
+AreValidPlaces kind wd bin places = (k : ℕ) → k < length places → IsValidPlace kind wd bin (slice_index places k)

@@ -6,7 +6,7 @@ use Rattle.fkp_pages.specs.Stretch.{IsRunCursor}
 use Rattle.direct_props.specs.declared.pages.PageCursor.{PageCursor}
 use Rattle.direct_props.specs.declared.pages.PageStretch.{PageStretch}
 use Rattle.direct_props.specs.declared.rules.RightStretch.{RightStretch}
-use Rattle.direct_props.specs.PageRules.{HasPageAnswer, IsRightBetween}
+use Rattle.direct_props.specs.PageRules.{HasPageAnswer, IsValidBetween}
 
 -- the range of the cursor names its page for each of its places, and the run may be tried first in that page
 pub record IsPageCursor (wd bin : List ℕ) (cursor : PageCursor) : Type 0 where
@@ -31,6 +31,6 @@ pub record HasPageAround (kind : PageKind) (wd bin : List ℕ) (fc : ℕ) (stret
   pub next : IsPageCursor wd bin stretch.next
 
 -- the places from the first to the last break no rule, and what is known of where they were found
-pub record IsRightStretch (kind : PageKind) (wd bin : List ℕ) (stretch : RightStretch) : Type 0 where
-  pub right : IsRightBetween kind wd bin stretch.first stretch.last
+pub record IsValidStretch (kind : PageKind) (wd bin : List ℕ) (stretch : RightStretch) : Type 0 where
+  pub right : IsValidBetween kind wd bin stretch.first stretch.last
   pub next : IsPageCursor wd bin stretch.next

@@ -1,14 +1,14 @@
 // Laws over the definitions alone.
 ghost use Rattle.direct_props.specs.Laws.{DirectCharacterIsOne, DirectMarkIsOne, FirstPageFaultIsLeast};
-ghost use Rattle.direct_props.specs.RightLists.{RightListsAreRight, RightPlacesHaveLists, RightPlacesHold};
-ghost use Rattle.direct_props.specs.Laws.{RightPlacesHaveSettings};
+ghost use Rattle.direct_props.specs.RightLists.{RightListsAreValid, RightPlacesHaveLists, RightPlacesHold};
+ghost use Rattle.direct_props.specs.Laws.{RightPlacesHaveProperties};
 
-/// A character has one map of direct settings.
+/// A character has one map of direct properties.
 pub fn direct_character_is_one()
     ensures { DirectCharacterIsOne }
 {}
 
-/// A mark has one style number and one map of direct settings.
+/// A mark has one style number and one map of direct properties.
 pub fn direct_mark_is_one()
     ensures { DirectMarkIsOne }
 {}
@@ -19,8 +19,8 @@ pub fn first_page_fault_is_least()
 {}
 
 /// A bin table and a right list make a right place.
-pub fn right_lists_are_right()
-    ensures { RightListsAreRight }
+pub fn right_lists_are_valid()
+    ensures { RightListsAreValid }
 {}
 
 /// A right place that has a list has a right list.
@@ -33,7 +33,7 @@ pub fn right_places_hold()
     ensures { RightPlacesHold }
 {}
 
-/// A right place has direct settings.
-pub fn right_places_have_settings()
-    ensures { RightPlacesHaveSettings }
+/// A right place has direct properties.
+pub fn right_places_have_properties()
+    ensures { RightPlacesHaveProperties }
 {}

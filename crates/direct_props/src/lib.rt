@@ -1,9 +1,9 @@
-//! Direct settings: what the pages of a file and the modifiers of its pieces give to each unit and
+//! Direct properties: what the pages of a file and the modifiers of its pieces give to each unit and
 //! to each paragraph mark, and the rules on the pages.
 #![tactic(auto)]
 
 mod characters;
-mod kept;
+mod grpprl_cache;
 mod laws;
 mod lists;
 mod marks;
@@ -13,10 +13,10 @@ mod reader;
 mod rules;
 
 pub use laws::{
-    direct_character_is_one, direct_mark_is_one, first_page_fault_is_least, right_lists_are_right,
-    right_places_have_lists, right_places_have_settings, right_places_hold,
+    direct_character_is_one, direct_mark_is_one, first_page_fault_is_least, right_lists_are_valid,
+    right_places_have_lists, right_places_have_properties, right_places_hold,
 };
 pub use marks::{DirectMark, read_mark};
 pub use places::{PlaceRow, Places};
 pub use reader::PlaceReader;
-pub use rules::{PageFault, judge_each, judge_places, judge_rows};
+pub use rules::{PageFault, check_each, check_places, check_rows};

@@ -1,11 +1,11 @@
-// The style number and the direct settings of paragraph marks.
+// The style number and the direct properties of paragraph marks.
 ghost use Rattle.std.specs.Prelude.{◌<◌, ◌^◌, length, IfOk};
 ghost use Rattle.prop_map.specs.Formed.{IsPropertyMap, paragraph_groups};
 ghost use Rattle.prop_map.specs.Modifiers.{IsFormedModifier};
 ghost use Rattle.fkp_pages.specs.declared.kind.PageKind.TheVariants.{Papx};
 ghost use Rattle.fkp_pages.specs.Bin.{IsBinTable};
 ghost use Rattle.direct_props.specs.Direct.{IsDirectMark};
-ghost use Rattle.direct_props.specs.PageRules.{IsRightPlace};
+ghost use Rattle.direct_props.specs.PageRules.{IsValidPlace};
 
 use crate::PlaceReader;
 use doc_bits::Memory;
@@ -13,7 +13,7 @@ use fkp_pages::PageKind;
 use prop_map::{Modifier, PropMap};
 use std::alloc::Global;
 
-/// The style number and the direct settings of a paragraph mark.
+/// The style number and the direct properties of a paragraph mark.
 #[derive(Drop)]
 pub struct DirectMark {
     pub istd: u16,
@@ -30,7 +30,7 @@ pub fn read_mark(
 ) -> Result<DirectMark, Memory>
     requires table { IsBinTable bin.now }
     requires small { length wd.now < 2 ^ 32 }
-    requires right { IsRightPlace Papx wd.now bin.now fc }
+    requires right { IsValidPlace Papx wd.now bin.now fc }
     ensures mark { IfOk result (λ mark. IsDirectMark wd.now bin.now fc modifier.now mark.istd mark.pap) }
     ensures formed { IfOk result (λ mark. IsFormedModifier modifier.now → IsPropertyMap paragraph_groups mark.pap) }
 {

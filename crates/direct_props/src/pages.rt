@@ -1,7 +1,7 @@
 // The page of a place, what it answers there, and how far around the place.
 ghost use Rattle.std.specs.Prelude.{◌≡◌, ◌<◌, ◌≤◌, ◌+◌, ◌*◌, ◌^◌, ℕ, List, length, MatchOption};
 ghost use Rattle.fkp_pages.specs.Bin.{IsBinTable, HasNoBin, HasBinRange};
-ghost use Rattle.direct_props.specs.PageRules.{IsRightPlace};
+ghost use Rattle.direct_props.specs.PageRules.{IsValidPlace};
 ghost use Rattle.direct_props.specs.Pages.{HasPageAround, IsPageCursor};
 
 use crate::rules::page_of;
@@ -72,7 +72,7 @@ pub(crate) fn page_around(
     requires table { IsBinTable bin.now }
     requires cursor { IsPageCursor wd.now bin.now cursor }
     ensures { MatchOption result
-        (¬ (IsRightPlace kind wd.now bin.now fc))
+        (¬ (IsValidPlace kind wd.now bin.now fc))
         (HasPageAround kind wd.now bin.now fc) }
 {
     let Some(found) = cursor.at(wd, bin, fc) else {

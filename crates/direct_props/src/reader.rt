@@ -1,15 +1,15 @@
-// Readers of the settings of places, which keep what each list makes.
+// Readers of the properties of places, which keep what each list makes.
 ghost use Rattle.std.specs.Prelude.{◌≡◌, ◌↔◌, ◌+◌, ◌<◌, ◌^◌, length, IsTrue, IfOk, IfSome, MatchOption};
 ghost use Rattle.prop_map.specs.Formed.{IsPropertyMap, paragraph_groups};
 ghost use Rattle.prop_map.specs.Modifiers.{IsFormedModifier};
 ghost use Rattle.fkp_pages.specs.declared.kind.PageKind.TheVariants.{Chpx, Papx};
 ghost use Rattle.fkp_pages.specs.Bin.{IsBinTable};
 ghost use Rattle.direct_props.specs.Direct.{IsDirectMark};
-ghost use Rattle.direct_props.specs.PageRules.{AreRightPlaces, IsRightPlace};
-ghost use Rattle.direct_props.specs.Stretches.{AddsCharacters, BeginsWith, HasSettingsAround};
-ghost use Rattle.direct_props.specs.Kept.{HasMadeAround, PlaceSource};
+ghost use Rattle.direct_props.specs.PageRules.{AreValidPlaces, IsValidPlace};
+ghost use Rattle.direct_props.specs.Stretches.{AddsCharacters, BeginsWith, HasPropertiesAround};
+ghost use Rattle.direct_props.specs.GrpprlCache.{HasMadeAround, PlaceSource};
 
-use crate::kept::{KeptLists, ListSource, Made, MadeStretch};
+use crate::grpprl_cache::{Decoded, DecodedRun, GrpprlCache, ListSource};
 use crate::pages::{PageCursor, page_around};
 use crate::{DirectMark, Places};
 use doc_bits::Memory;
@@ -19,7 +19,7 @@ use run_lists::Runs;
 use std::alloc::Global;
 use std::marker::Model;
 
-/// Reads the settings that the pages of a kind give to the places of pieces with one modifier. A list is acted
+/// Reads the properties that the pages of a kind give to the places of pieces with one modifier. A list is acted
 /// with once.
 #[derive(Drop)]
 pub struct PlaceReader<'a> {
@@ -28,11 +28,11 @@ pub struct PlaceReader<'a> {
     bin: &'a [u8],
     modifier: Modifier,
     cursor: PageCursor,
-    kept: KeptLists,
+    kept: GrpprlCache,
 }
 
 impl<'a> Model for PlaceReader<'a> {
-    ghost use Rattle.direct_props.specs.Kept.{PlaceSource, IsReader};
+    ghost use Rattle.direct_props.specs.GrpprlCache.{PlaceSource, IsReader};
     ghost use Rattle.direct_props.specs.Codes.{source_code};
 
     ghost Value = { PlaceSource };
@@ -65,7 +65,7 @@ impl<'a> PlaceReader<'a> {
             bin,
             modifier: modifier.copy(alloc)?,
             cursor: PageCursor::start(),
-            kept: KeptLists::new(alloc),
+            kept: GrpprlCache::new(alloc),
         })
     }
 
@@ -76,7 +76,7 @@ impl<'a> PlaceReader<'a> {
         self.modifier.equal(modifier)
     }
 
-    /// Appends the direct settings of the characters at these places, run by run, and answers whether each place is
+    /// Appends the direct properties of the characters at these places, run by run, and answers whether each place is
     /// right. Where one is not, and after want of memory, some of them may stand in the list.
     pub fn push_character_runs(
         &mut self,
@@ -88,7 +88,7 @@ impl<'a> PlaceReader<'a> {
         requires few { length runs.old + length places.now < 2 ^ 32 }
         ensures same { self.new ≡ self.old }
         ensures right { IfOk result
-            (λ right. IsTrue right ↔ AreRightPlaces Chpx self.old.wd self.old.bin places.now) }
+            (λ right. IsTrue right ↔ AreValidPlaces Chpx self.old.wd self.old.bin places.now) }
         ensures added { IfOk result (λ right. IsTrue right
             → AddsCharacters self.old.wd self.old.bin places.now self.old.modifier runs.old runs.new) }
         ensures begins { BeginsWith runs.old runs.new }
@@ -110,13 +110,13 @@ impl<'a> PlaceReader<'a> {
         Ok(true)
     }
 
-    /// The places around one that have its settings, where it is right.
+    /// The places around one that have its properties, where it is right.
     fn stretch_around(&mut self, alloc: Global, fc: u32) -> Result<Option<CharacterStretch>, Memory>
         requires kind { self.old.kind ≡ Chpx }
         ensures same { self.new ≡ self.old }
         ensures around { IfOk result (λ stretch. MatchOption stretch
-            (¬ (IsRightPlace Chpx self.old.wd self.old.bin fc))
-            (λ s. HasSettingsAround self.old.wd self.old.bin self.old.modifier fc s.first s.last s.map)) }
+            (¬ (IsValidPlace Chpx self.old.wd self.old.bin fc))
+            (λ s. HasPropertiesAround self.old.wd self.old.bin self.old.modifier fc s.first s.last s.map)) }
     {
         match self.made_around(alloc, fc)? {
             None => Ok(None),
@@ -129,8 +129,8 @@ impl<'a> PlaceReader<'a> {
         requires kind { self.old.kind ≡ Papx }
         ensures same { self.new ≡ self.old }
         ensures mark { IfOk result (λ mark. MatchOption mark
-            (¬ (IsRightPlace Papx self.old.wd self.old.bin fc))
-            (λ mark. IsRightPlace Papx self.old.wd self.old.bin fc
+            (¬ (IsValidPlace Papx self.old.wd self.old.bin fc))
+            (λ mark. IsValidPlace Papx self.old.wd self.old.bin fc
             × IsDirectMark self.old.wd self.old.bin fc self.old.modifier mark.istd mark.pap)) }
         ensures formed { IfOk result (λ mark. IfSome mark
             (λ mark. IsFormedModifier self.old.modifier → IsPropertyMap paragraph_groups mark.pap)) }
@@ -142,10 +142,10 @@ impl<'a> PlaceReader<'a> {
     }
 
     /// What the list of a place makes, where it is right, and how far around the place it is the list.
-    fn made_around(&mut self, alloc: Global, fc: u32) -> Result<Option<MadeStretch>, Memory>
+    fn made_around(&mut self, alloc: Global, fc: u32) -> Result<Option<DecodedRun>, Memory>
         ensures same { self.new ≡ self.old }
         ensures around { IfOk result (λ stretch. MatchOption stretch
-            (¬ (IsRightPlace self.old.kind self.old.wd self.old.bin fc))
+            (¬ (IsValidPlace self.old.kind self.old.wd self.old.bin fc))
             (HasMadeAround self.old fc)) }
     {
         let Some(stretch) = page_around(self.kind, self.wd, self.bin, fc, self.cursor) else {
@@ -163,7 +163,7 @@ impl<'a> PlaceReader<'a> {
         else {
             return Ok(None);
         };
-        Ok(Some(MadeStretch {
+        Ok(Some(DecodedRun {
             first: stretch.first,
             last: stretch.last,
             made,
@@ -171,29 +171,29 @@ impl<'a> PlaceReader<'a> {
     }
 }
 
-/// The settings that a stretch makes for its characters.
-fn characters_of(stretch: MadeStretch) -> CharacterStretch
+/// The properties that a stretch makes for its characters.
+fn characters_of(stretch: DecodedRun) -> CharacterStretch
     ensures { result ≡ record { first = stretch.first; last = stretch.last; map = stretch.made.map } }
 {
-    let MadeStretch { first, last, made } = stretch;
-    let Made { istd: _, map } = made;
+    let DecodedRun { first, last, made } = stretch;
+    let Decoded { istd: _, map } = made;
     CharacterStretch { first, last, map }
 }
 
 /// The mark that a stretch makes.
-fn direct_mark(stretch: MadeStretch) -> DirectMark
+fn direct_mark(stretch: DecodedRun) -> DirectMark
     ensures { result ≡ record { istd = stretch.made.istd; pap = stretch.made.map } }
 {
-    let MadeStretch {
+    let DecodedRun {
         first: _,
         last: _,
         made,
     } = stretch;
-    let Made { istd, map } = made;
+    let Decoded { istd, map } = made;
     DirectMark { istd, pap: map }
 }
 
-/// The places from `first` to `last`, and the settings that characters have there.
+/// The places from `first` to `last`, and the properties that characters have there.
 #[derive(Drop)]
 struct CharacterStretch {
     first: u32,

@@ -9,20 +9,22 @@ ghost use Rattle.fkp_pages.specs.declared.kind.RunAnswer.TheVariants.{Found, Lea
 ghost use Rattle.fkp_pages.specs.Fkp.{HasRunAnswer, least_list};
 ghost use Rattle.fkp_pages.specs.Bin.{IsBinTable, page_at};
 ghost use Rattle.fkp_pages.specs.Runs.{run_groups};
-ghost use Rattle.direct_props.specs.PageRules.{AreRightPlaces, BreaksAtPlaces, BreaksPageRule, HasBadPage};
+ghost use Rattle.direct_props.specs.PageRules.{AreValidPlaces, BreaksAtPlaces, BreaksPageRule, HasBadPage};
 ghost use Rattle.direct_props.specs.PageRules.{HasListFault, HasListOutside, HasPageAnswer, HasRoom, IsInNoRun};
-ghost use Rattle.direct_props.specs.PageRules.{IsRightPlace, LooksBad, first_rule as first_number};
+ghost use Rattle.direct_props.specs.PageRules.{IsValidPlace, LooksBad, first_rule as first_number};
 ghost use Rattle.direct_props.specs.PageRules.{page_rules};
-ghost use Rattle.direct_props.specs.Stretches.{HasRightList};
-ghost use Rattle.direct_props.specs.Pages.{IsPageIn, IsRightStretch};
-ghost use Rattle.direct_props.specs.Kept.{HaveNoFault};
+ghost use Rattle.direct_props.specs.Stretches.{HasValidList};
+ghost use Rattle.direct_props.specs.Pages.{IsPageIn, IsValidStretch};
+ghost use Rattle.direct_props.specs.GrpprlCache.{HaveNoFault};
 
 use crate::Places;
 use crate::lists::list_in;
 use crate::pages::{PageCursor, page_around};
 use doc_bits::{Memory, lesser};
-use fkp_pages::{PAGE_LEN, PageKind, RunAnswer, bin_at, chpx_at, papx_at, run_answer_is_one};
-use prop_map::{CHARACTER_GROUPS, MetLists, PARAGRAPH_GROUPS};
+use fkp_pages::{
+    PAGE_LEN, PageKind, RunAnswer, bin_at, chpx_at, groups_of_runs, papx_at, run_answer_is_one,
+};
+use prop_map::SeenGrpprls;
 use sprm_table::{SprmFault, list_fault};
 use std::alloc::Global;
 use thiserror::Error;
@@ -58,7 +60,7 @@ pub(crate) enum PageRule {
 }
 
 /// Judges the pages of these byte places: the first broken rule, if one is broken. A list is judged once.
-pub fn judge_places(
+pub fn check_places(
     alloc: Global,
     kind: PageKind,
     wd: &[u8],
@@ -71,21 +73,21 @@ pub fn judge_places(
         (Hold (page_rules kind wd.now bin.now places.now))
         (λ fault. IsFirst (page_rules kind wd.now bin.now places.now) fault.rule fault.offset)) }
 
-    // The same of each place, as readers of settings ask for it.
-    ensures right { IfOk result (λ fault. MatchOption fault (AreRightPlaces kind wd.now bin.now places.now) (λ _. ⊤)) }
+    // The same of each place, as readers of properties ask for it.
+    ensures right { IfOk result (λ fault. MatchOption fault (AreValidPlaces kind wd.now bin.now places.now) (λ _. ⊤)) }
 {
     // Places of one run are judged at once. Only where one is wrong each place is looked at.
-    if are_right(alloc, kind, wd, bin, places)? {
+    if are_valid(alloc, kind, wd, bin, places)? {
         return Ok(None);
     }
-    match judge_each(kind, wd, bin, places) {
+    match check_each(kind, wd, bin, places) {
         Ok(()) => Ok(None),
         Err(fault) => Ok(Some(fault)),
     }
 }
 
 /// Whether no place breaks a rule.
-fn are_right(
+fn are_valid(
     alloc: Global,
     kind: PageKind,
     wd: &[u8],
@@ -94,16 +96,16 @@ fn are_right(
 ) -> Result<bool, Memory>
     requires table { IsBinTable bin.now }
     requires small { length wd.now < 2 ^ 32 }
-    ensures { IfOk result (λ right. IsTrue right → AreRightPlaces kind wd.now bin.now places.now) }
+    ensures { IfOk result (λ right. IsTrue right → AreValidPlaces kind wd.now bin.now places.now) }
 {
-    let mut known = MetLists::new(alloc);
+    let mut known = SeenGrpprls::new(alloc);
     let mut stretch = RightStretch {
         first: 1,
         last: 0,
         next: PageCursor::start(),
     };
     for place in places {
-        match right_around(kind, wd, bin, *place, stretch, &mut known)? {
+        match valid_run_at(kind, wd, bin, *place, stretch, &mut known)? {
             None => return Ok(false),
             Some(around) => stretch = around,
         }
@@ -111,8 +113,8 @@ fn are_right(
     Ok(true)
 }
 
-/// The same as `judge_places`, of places that are kept as rows.
-pub fn judge_rows(
+/// Checks places as `check_places` does, where they are kept as rows.
+pub fn check_rows(
     alloc: Global,
     kind: PageKind,
     wd: &[u8],
@@ -125,22 +127,22 @@ pub fn judge_rows(
         (Hold (page_rules kind wd.now bin.now places.now))
         (λ fault. IsFirst (page_rules kind wd.now bin.now places.now) fault.rule fault.offset)) }
 
-    // The same of each place, as readers of settings ask for it.
-    ensures right { IfOk result (λ fault. MatchOption fault (AreRightPlaces kind wd.now bin.now places.now) (λ _. ⊤)) }
+    // The same of each place, as readers of properties ask for it.
+    ensures right { IfOk result (λ fault. MatchOption fault (AreValidPlaces kind wd.now bin.now places.now) (λ _. ⊤)) }
 {
     // Only where a place is wrong the places are listed.
-    if are_right_rows(alloc, kind, wd, bin, places)? {
+    if are_valid_rows(alloc, kind, wd, bin, places)? {
         return Ok(None);
     }
     let list = places.to_list(alloc)?;
-    match judge_each(kind, wd, bin, &list) {
+    match check_each(kind, wd, bin, &list) {
         Ok(()) => Ok(None),
         Err(fault) => Ok(Some(fault)),
     }
 }
 
 /// Whether no place of rows breaks a rule. Places of a row in one stretch are passed at once.
-fn are_right_rows(
+fn are_valid_rows(
     alloc: Global,
     kind: PageKind,
     wd: &[u8],
@@ -149,9 +151,9 @@ fn are_right_rows(
 ) -> Result<bool, Memory>
     requires table { IsBinTable bin.now }
     requires small { length wd.now < 2 ^ 32 }
-    ensures { IfOk result (λ right. IsTrue right → AreRightPlaces kind wd.now bin.now places.now) }
+    ensures { IfOk result (λ right. IsTrue right → AreValidPlaces kind wd.now bin.now places.now) }
 {
-    let mut known = MetLists::new(alloc);
+    let mut known = SeenGrpprls::new(alloc);
     let mut stretch = RightStretch {
         first: 1,
         last: 0,
@@ -159,7 +161,7 @@ fn are_right_rows(
     };
     let mut left = places.skip(0);
     while left.len() > 0 {
-        match right_around(kind, wd, bin, left.first(), stretch, &mut known)? {
+        match valid_run_at(kind, wd, bin, left.first(), stretch, &mut known)? {
             None => return Ok(false),
             Some(around) => stretch = around,
         }
@@ -177,20 +179,20 @@ pub(crate) struct RightStretch {
 }
 
 /// The stretch where it has the place, or else the one around the place, where that is right.
-fn right_around(
+fn valid_run_at(
     kind: PageKind,
     wd: &[u8],
     bin: &[u8],
     fc: u32,
     stretch: RightStretch,
-    known: &mut MetLists,
+    known: &mut SeenGrpprls,
 ) -> Result<Option<RightStretch>, Memory>
     requires table { IsBinTable bin.now }
-    requires stretch { IsRightStretch kind wd.now bin.now stretch }
+    requires stretch { IsValidStretch kind wd.now bin.now stretch }
     requires known { HaveNoFault kind wd.now known.old }
     ensures known { OnOk result (HaveNoFault kind wd.now known.new) }
-    ensures right { IfOk result (λ around. IfSome around (λ s. IsRightPlace kind wd.now bin.now fc
-        × IsRightStretch kind wd.now bin.now s)) }
+    ensures right { IfOk result (λ around. IfSome around (λ s. IsValidPlace kind wd.now bin.now fc
+        × IsValidStretch kind wd.now bin.now s)) }
     ensures around { IfOk result (λ around. IfSome around (λ s. (s.first ≤ fc) × (fc ≤ s.last))) }
 {
     if stretch.first <= fc && fc <= stretch.last {
@@ -199,7 +201,7 @@ fn right_around(
     let Some(around) = page_around(kind, wd, bin, fc, stretch.next) else {
         return Ok(None);
     };
-    if !is_right(kind, wd, around.number, around.answer, known)? {
+    if !is_valid(kind, wd, around.number, around.answer, known)? {
         return Ok(None);
     }
     Ok(Some(RightStretch {
@@ -210,20 +212,20 @@ fn right_around(
 }
 
 /// Whether the list that a page answers is right. A list that is known to have no fault is not looked at.
-fn is_right(
+fn is_valid(
     kind: PageKind,
     wd: &[u8],
     number: u32,
     answer: RunAnswer,
-    known: &mut MetLists,
+    known: &mut SeenGrpprls,
 ) -> Result<bool, Memory>
     requires page { IsPageIn wd.now number }
     requires known { HaveNoFault kind wd.now known.old }
     ensures known { OnOk result (HaveNoFault kind wd.now known.new) }
-    ensures right { IfOk result (λ right. IsTrue right → HasRightList kind (page_at wd.now number) answer) }
+    ensures right { IfOk result (λ right. IsTrue right → HasValidList kind (page_at wd.now number) answer) }
 {
     match answer {
-        RunAnswer::Found { from, to } => is_right_list(kind, wd, number, (from, to), known),
+        RunAnswer::Found { from, to } => is_valid_list(kind, wd, number, (from, to), known),
         RunAnswer::Empty => Ok(true),
         RunAnswer::NoRun => Ok(false),
         RunAnswer::BadCount => Ok(false),
@@ -232,18 +234,18 @@ fn is_right(
 }
 
 /// Whether the list in a range of a page is right.
-fn is_right_list(
+fn is_valid_list(
     kind: PageKind,
     wd: &[u8],
     number: u32,
     range: (usize, usize),
-    known: &mut MetLists,
+    known: &mut SeenGrpprls,
 ) -> Result<bool, Memory>
     requires page { IsPageIn wd.now number }
     requires known { HaveNoFault kind wd.now known.old }
     ensures known { OnOk result (HaveNoFault kind wd.now known.new) }
     ensures right { IfOk result
-        (λ right. IsTrue right → HasRightList kind (page_at wd.now number) (Found range.0 range.1)) }
+        (λ right. IsTrue right → HasValidList kind (page_at wd.now number) (Found range.0 range.1)) }
 {
     let begin = PAGE_LEN * number as usize;
     let (from, to) = range;
@@ -262,9 +264,10 @@ fn is_right_list(
     }
 }
 
-/// The same as `judge_places`, place by place and without memory: each of the five rules is looked at for all places
+/// Checks places as `check_places` does, place by place and without memory: each of the five rules is looked at for all
+/// places
 /// before the next one is.
-pub fn judge_each(kind: PageKind, wd: &[u8], bin: &[u8], places: &[u32]) -> Result<(), PageFault>
+pub fn check_each(kind: PageKind, wd: &[u8], bin: &[u8], places: &[u32]) -> Result<(), PageFault>
     requires table { IsBinTable bin.now }
     requires small { length wd.now < 2 ^ 32 }
     ensures { MatchResult result
@@ -478,7 +481,7 @@ fn fault_in(kind: PageKind, wd: &[u8], number: u32, from: usize, to: usize) -> O
     if to < start || PAGE_LEN <= to {
         return None;
     }
-    match list_fault(&page[start..to], groups_of(kind)) {
+    match list_fault(&page[start..to], groups_of_runs(kind)) {
         None => None,
         Some(fault) => Some(512 * number + (start + place_of(fault)) as u32),
     }
@@ -501,15 +504,5 @@ pub(crate) fn style_len(kind: PageKind) -> usize
     match kind {
         PageKind::Chpx => 0,
         PageKind::Papx => 2,
-    }
-}
-
-/// The groups that the lists of a kind of page hold.
-pub(crate) fn groups_of(kind: PageKind) -> u8
-    ensures { result ≡ run_groups kind }
-{
-    match kind {
-        PageKind::Chpx => CHARACTER_GROUPS,
-        PageKind::Papx => PARAGRAPH_GROUPS,
     }
 }

@@ -83,3 +83,7 @@ number_bytes-number_at k xs bytes long =
     let read : number_at xs 0 k / 256 ^ 0 ≡ number_at (take k xs) 0 k = div-one (number_at xs 0 k) ∙ sym
     (number_at-take k xs 0 k (omega arith)) in
     digits k 0 (number_at xs 0 k) (take k xs) len (AreBytes-take k xs bytes) read
+
+pub small_byte : (i x : ℕ) → byte_at i x < 256
+small_byte zero x = omega arith
+small_byte (suc i) x = omega arith

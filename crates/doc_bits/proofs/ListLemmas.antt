@@ -1,19 +1,22 @@
 -- Lists: fronts and parts, what stands at a place, and what holds of each element.
 use Rattle.std.proofs.Common.{◌≡◌, ◌≢◌, ◌∙◌, inl, inr, refl, sym, ap, subst, ℕ, zero, suc, ◌+◌, ◌-◌, ◌<◌, ◌≤◌, Bool}
 use Rattle.std.proofs.Common.{true, false, cond, List, [], ◌∷◌, ◌++◌, length, map, take, drop, Option, Some, eqb}
-use Rattle.std.proofs.Common.{get_or, arith, length-take, length-drop}
+use Rattle.std.proofs.Common.{get_or, arith, length-take, length-drop, slice_set, length-set, filter}
 use Rattle.std.specs.Prelude.{slice_get, slice_index, slice_range}
-use Rattle.std.specs.List.{All, find}
+use Rattle.std.specs.List.{All, find, range_with_len}
 use Rattle.std.specs.Option.{option_map}
-use Rattle.std.proofs.Math.Seq.{take-append_seam, drop-append_seam}
+use Rattle.std.proofs.Math.Seq.{take-append_seam, drop-append_seam, take-add}
 use Rattle.std.proofs.lemmas.Bool.{cases_lt, ne_eqb, false≢true}
-use Rattle.std.proofs.lemmas.List.{take-append-drop, drop-drop}
+use Rattle.std.proofs.lemmas.List.{take-append-drop, drop-drop, get_or-set_same, get_or-set_other, get_or-take, map-id}
 use Rattle.std.proofs.lemmas.List.Elements.{All-head, All-tail, All-from_get_or}
 use Rattle.std.proofs.lemmas.List.Folds.{list_any_none}
 use Rattle.std.proofs.lemmas.Grind.{get_or_default_zero}
 use Rattle.std.proofs.lemmas.Map.Keys.{IsDistinct-from_apart}
 use Rattle.std.proofs.lemmas.Map.Steps.{length-le_from_distinct_below}
-use Rattle.std.proofs.lemmas.Option.{same_Some, slice_get-map, slice_get-get_or}
+use Rattle.std.proofs.lemmas.Option.{same_Some, slice_get-map, slice_get-get_or, slice_get_past, slice_get_within}
+use Rattle.std.proofs.lemmas.List.{get_or-drop, take_all, take_more}
+use Rattle.std.proofs.lemmas.List.FromFn.{map-range_with_len_more}
+use Rattle.std.proofs.lemmas.Option.{get_or_from_slice_get}
 
 -- a map of a map
 pub map-map : {A B C : Type 0} (f : B → C) (g : A → B) (xs : List A) → map f (map g xs) ≡ map (λ x. f (g x)) xs
@@ -130,3 +133,69 @@ slice_get-take zero xs i x here = absurd (grind (arith, here))
 slice_get-take (suc k) [] i x here = here
 slice_get-take (suc k) (y ∷ ys) zero x here = here
 slice_get-take (suc k) (y ∷ ys) (suc i) x here = slice_get-take k ys i x here
+
+pub nil_from_length : {A : Type 0} (xs : List A) → length xs ≡ 0 → xs ≡ []
+nil_from_length [] none = refl
+nil_from_length (x ∷ xs) none = absurd (omega (arith, none))
+
+pub set_here : {X : Type 0} (xs : List X) (i : ℕ) (x : X) → i < length xs → slice_get (slice_set xs i x) i ≡ Some x
+set_here xs i x h =
+    let len = length-set xs i x in
+    slice_get-get_or (slice_set xs i x) i x (omega arith) ∙ ap (λ y. Some y) (get_or-set_same xs i x x h)
+
+pub set_other : {X : Type 0} (xs : List X) (i s : ℕ) (x : X) → s ≢ i → slice_get (slice_set xs i x) s ≡ slice_get xs s
+set_other xs i s x other =
+    let len = length-set xs i x in
+    elim (cases_lt s (length xs)) [
+      | inl h ↦ slice_get-get_or (slice_set xs i x) s x (omega arith) ∙ (ap (λ y. Some y) (get_or-set_other xs i s x x
+          other) ∙ sym (slice_get-get_or xs s x h))
+      | inr past ↦ slice_get_past (slice_set xs i x) s (omega arith) ∙ sym (slice_get_past xs s past)
+    ]
+
+-- a part of a list
+pub range_index : (xs : List ℕ) (from to i : ℕ) → i < to - from →
+    slice_index (slice_range xs from to) i ≡ slice_index xs
+    (from + i)
+range_index xs from to i h = get_or-take (to - from) (drop from xs) i 0 h ∙ get_or-drop from xs i 0
+
+pub get_or-behind : {A : Type 0} (xs : List A) (n : ℕ) (d : A) → length xs ≤ n → get_or xs n d ≡ d
+get_or-behind [] n d low = refl
+get_or-behind (x ∷ xs) zero d low = absurd (omega (arith, low))
+get_or-behind (x ∷ xs) (suc n) d low = get_or-behind xs n d (omega (arith, low))
+
+-- units of the rest are units of the list
+pub part_within : (units : List ℕ) (count more : ℕ) → count ≤ length units →
+    more ≤ length (take (length units - count) (drop count units)) → count + more ≤ length units
+part_within units count more within few =
+    let whole = take_all (length units - count) (drop count units) (omega (arith, length-drop count units)) in
+    omega (arith, within, few, ap length whole, length-drop count units)
+
+-- a slice from an offset on
+pub rest_is : (xs : List ℕ) (at : ℕ) → take (length xs - at) (drop at xs) ≡ drop at xs
+rest_is xs at = take_all (length xs - at) (drop at xs) (omega (arith, length-drop at xs))
+
+pub range_more : (n : ℕ) → range_with_len 0 (n + 1) ≡ range_with_len 0 n ++ n ∷ []
+range_more n =
+    sym (map-id (range_with_len 0 (n + 1)))
+    ∙ (map-range_with_len_more (λ k. k) 0 n n (omega arith)
+    ∙ ap (λ l. l ++ n ∷ []) (map-id (range_with_len 0 n)))
+
+pub one_not_kept : (p : ℕ → Bool) (n : ℕ) → p n ≡ false → filter p (n ∷ []) ≡ []
+one_not_kept p n e = rw e (refl)
+
+-- a part of a list in two
+pub range_split : {A : Type 0} (xs : List A) (from i to : ℕ) → from ≤ i → i ≤ to →
+    slice_range xs from to ≡ slice_range xs from i ++ slice_range xs i to
+range_split xs from i to low high =
+    let e : to - from ≡ (i - from) + (to - i) = omega arith in
+    let at : from + (i - from) ≡ i = omega arith in
+    ap (λ (n : ℕ). take n (drop from xs)) e
+    ∙ (take-add (i - from) (to - i) (drop from xs)
+    ∙ ap (λ (ys : List _). slice_range xs from i ++ take (to - i) ys) (drop-drop (i - from) from xs ∙ ap
+    (λ (n : ℕ). drop n xs) at))
+
+pub take_step : {X : Type 0} (xs : List X) (i : ℕ) (x : X) → slice_get xs i ≡ Some x → take (i + 1) xs ≡ take i xs ++ x
+    ∷ []
+take_step xs i x there =
+    take_more xs i x (slice_get_within xs i x there)
+    ∙ ap (λ y. take i xs ++ y ∷ []) (get_or_from_slice_get xs i x x there)

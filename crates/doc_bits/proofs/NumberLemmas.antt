@@ -158,3 +158,7 @@ zeros-add n m = sym (replicate-append-replicate n m 0)
 pub length-zeros : (n : ℕ) → length (zeros n) ≡ n
 unfolding zeros
 length-zeros n = length-replicate n 0
+
+-- a CP counted from the start
+pub zero_more : (cp : ℕ) → 0 + cp ≡ cp
+zero_more cp = omega arith

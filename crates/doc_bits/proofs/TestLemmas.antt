@@ -2,6 +2,7 @@
 use Rattle.std.proofs.Common.{◌≡◌, inl, inr, ℕ, ◌≤◌, Bool, true, false, ◌&&◌, not, cond, Option, Some, refl, arith}
 use Rattle.std.specs.Option.{option_or}
 use Rattle.std.proofs.lemmas.Bool.{cases_lt, cases_eq}
+use Rattle.std.proofs.Common.{◌||◌}
 
 -- both tests pass
 pub both_true : (a b : Bool) → (a && b) ≡ true → (a ≡ true) × (b ≡ true)
@@ -24,3 +25,49 @@ stable_le a b twice = elim (cases_lt b a) [ inl over ↦ absurd (twice (λ le. o
 
 pub stable_eq : (a b : ℕ) → ¬ ¬ (a ≡ b) → a ≡ b
 stable_eq a b twice = elim (cases_eq a b) [ inl e ↦ e | inr differ ↦ absurd (twice differ) ]
+
+pub and_true : (a b : Bool) → a ≡ true → b ≡ true → (a && b) ≡ true
+and_true true b e f = f
+and_true false b e f = absurd (cc (e))
+
+pub and_first : (a b : Bool) → (a && b) ≡ true → a ≡ true
+and_first true b e = refl
+and_first false b e = e
+
+pub and_second : (a b : Bool) → (a && b) ≡ true → b ≡ true
+and_second true b e = e
+and_second false b e = absurd (cc (e))
+
+pub second_false : (low high : Bool) → (low && high) ≡ false → low ≡ true → high ≡ false
+second_false true high e l = e
+second_false false high e l = absurd (cc (l))
+
+-- neither of two is there
+pub neither : (a b : Bool) → (a || b) ≡ false → (a ≡ false) × (b ≡ false)
+neither false false e = (refl, refl)
+neither false true e = absurd (cc e)
+neither true b e = absurd (cc e)
+
+pub and_false : (x : Bool) → (x && false) ≡ false
+and_false true = refl
+and_false false = refl
+
+pub or_first : (x y : Bool) → x ≡ true → (x || y) ≡ true
+or_first true y is = refl
+or_first false y is = absurd (cc is)
+
+pub or_second : (a b : Bool) → b ≡ true → (a || b) ≡ true
+or_second true b e = refl
+or_second false b e = e
+
+pub or_true : (b : Bool) → (b || true) ≡ true
+or_true true = refl
+or_true false = refl
+
+pub or_false : (b : Bool) → (b || false) ≡ b
+or_false true = refl
+or_false false = refl
+
+pub not_true : (a : Bool) → not a ≡ true → a ≡ false
+not_true true e = absurd (cc (e))
+not_true false e = refl

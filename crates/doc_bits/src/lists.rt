@@ -153,7 +153,7 @@ impl Text {
         }
     }
 
-    /// The same text. It takes no memory.
+    /// The text of a string. It takes no memory.
     pub fn from_string(text: String) -> Text
         ensures { result ≡ string_bytes text }
     {

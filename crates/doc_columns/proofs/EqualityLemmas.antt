@@ -6,10 +6,10 @@ use Rattle.std.proofs.lemmas.List.{same_lists, length-map}
 use Rattle.std.proofs.lemmas.Option.{slice_get-get_or, get_or_from_slice_get}
 use Rattle.run_lists.specs.declared.runs.Run.{Run}
 use Rattle.run_lists.specs.declared.cursor.Cursor.{Cursor}
-use Rattle.run_lists.specs.Spread.{spread, extent}
+use Rattle.run_lists.specs.Spread.{expanded, total_len}
 use Rattle.run_lists.proofs.RunsLemmas.{extent_of}
 use Rattle.plain_doc.specs.declared.item.Item.{Item}
-use Rattle.doc_columns.specs.Beside.{beside_of}
+use Rattle.doc_columns.specs.Attached.{attached_of}
 use Rattle.doc_columns.specs.Columns.{items_of}
 use Rattle.doc_columns.proofs.ItemsOfLemmas.{items_of-maps}
 
@@ -24,7 +24,7 @@ begins_at_start cursor is = let e : cursor.begin ≡ 0 = ap (λ (c : Cursor). c.
 
 -- a column has as many values as its text has items
 pub column_long : {T : Type 0} (runs : List (Run T)) (text : List Item) (f : Item → T) (len : ℕ) →
-    spread runs ≡ map f text → len ≡ length text → extent runs ≡ len
+    expanded runs ≡ map f text → len ≡ length text → total_len runs ≡ len
 column_long runs text f len is long = extent_of runs (map f text) is ∙ length-map text f ∙ sym long
 
 -- lists of one length that are the same place by place
@@ -38,6 +38,7 @@ whole_same xs ys len xs_long ys_long same =
 
 -- texts whose columns are the same are the same
 pub same_columns : (one other : List Item) → map (λ item. item.unit) one ≡ map (λ item. item.unit) other →
-    map (λ item. item.chp) one ≡ map (λ item. item.chp) other → map beside_of one ≡ map beside_of other → one ≡ other
-same_columns one other units chps besides =
-    sym (items_of-maps one) ∙ (λ i. items_of (units i) (chps i) (besides i)) ∙ items_of-maps other
+    map (λ item. item.chp) one ≡ map (λ item. item.chp) other → map attached_of one ≡ map attached_of other → one ≡
+    other
+same_columns one other units chps attachments =
+    sym (items_of-maps one) ∙ (λ i. items_of (units i) (chps i) (attachments i)) ∙ items_of-maps other

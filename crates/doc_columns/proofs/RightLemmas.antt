@@ -7,7 +7,7 @@ use Rattle.std.specs.List.{All}
 use Rattle.std.proofs.lemmas.List.{length-map}
 use Rattle.std.proofs.lemmas.List.Elements.{All-map}
 use Rattle.std.proofs.lemmas.Option.{slice_get-map}
-use Rattle.prop_map.specs.Settings.{Settings}
+use Rattle.prop_map.specs.Settings.{Properties}
 use Rattle.prop_map.specs.Formed.{IsPropertyMap, character_groups}
 use Rattle.text_codes.specs.Paragraph.{paragraph_mark}
 use Rattle.doc_bits.specs.declared.places.Where.{Where}
@@ -19,10 +19,10 @@ use Rattle.plain_doc.specs.declared.item.Item.{Item}
 use Rattle.plain_doc.specs.Document.{IsFormedItem}
 use Rattle.plain_doc.specs.RulesOfTexts.{EndsRight, IsHead}
 use Rattle.plain_doc.specs.Marks.{most_bookmarks}
-use Rattle.bare_items.specs.Marks.{AreRightBookmarks}
+use Rattle.bare_items.specs.Marks.{AreValidBookmarks}
 
--- the settings of formed items are of characters
-pub chps_formed : (text : List Item) (chps : List Settings) → chps ≡ map (λ item. item.chp) text →
+-- the properties of formed items are of characters
+pub chps_formed : (text : List Item) (chps : List Properties) → chps ≡ map (λ item. item.chp) text →
     All IsFormedItem text → All (IsPropertyMap character_groups) chps
 chps_formed text chps is formed =
     subst (All (IsPropertyMap character_groups)) (sym is)
@@ -54,7 +54,7 @@ taken {A = A} P found x is said = subst (λ (o : Option A). IfSome o P) is said
 -- they are right where they are formed, few, and no name is there twice
 pub right_marks : (len : ℕ) (list : List Bookmark) (found : Option ℕ) (none : Bool) → AreFormedBookmarks len list →
     length list ≤ most_bookmarks → LeastOrNone (HasSameName list) found → is_some found ≡ not none → IsTrue none →
-    AreRightBookmarks len list
+    AreValidBookmarks len list
 right_marks len list None none formed few first is all = record { formed = formed; few = few; names = first }
 right_marks len list (Some place) true formed few first is all = absurd (cc is)
 right_marks len list (Some place) false formed few first is all = absurd (cc all)

@@ -6,52 +6,56 @@ use Rattle.std.proofs.lemmas.Bool.{cases_lt}
 use Rattle.std.proofs.lemmas.Option.{same_Some, slice_get-map, slice_get_past}
 use Rattle.doc_bits.proofs.ListLemmas.{there_is, get-map, slice_get-take}
 use Rattle.doc_bits.proofs.TogetherLemmas.{got_drop}
-use Rattle.run_lists.specs.Spread.{spread}
+use Rattle.run_lists.specs.Spread.{expanded}
 use Rattle.run_lists.proofs.SpreadLemmas.{length-spread}
 use Rattle.plain_doc.specs.declared.item.Item.{Item}
 use Rattle.plain_doc.specs.Stretches.{joins_at, joins_next, BeginsStretch}
-use Rattle.doc_columns.specs.declared.beside.Beside.{Beside}
+use Rattle.doc_columns.specs.declared.attached.Attached.{Attached}
 use Rattle.doc_columns.specs.declared.walk.Parts.{Parts}
 use Rattle.doc_columns.specs.declared.walk.Walk.{Walk}
-use Rattle.doc_columns.specs.Beside.{beside_of}
+use Rattle.doc_columns.specs.Attached.{attached_of}
 use Rattle.doc_columns.specs.Walks.{items_in, AreParts, IsWalk}
-use Rattle.doc_columns.proofs.ItemsOfLemmas.{length-items_of, units-items_of, chps-items_of, besides-items_of}
+use Rattle.doc_columns.proofs.ItemsOfLemmas.{length-items_of, units-items_of, chps-items_of, attachments-items_of}
 use Rattle.doc_columns.proofs.CollectLemmas.{start_at}
 
 -- ---- columns and items
 
-pub long_chps : (parts : Parts) → AreParts parts → length (spread parts.chps.now) ≡ length parts.units.now
+pub long_chps : (parts : Parts) → AreParts parts → length (expanded parts.chps.now) ≡ length parts.units.now
 long_chps parts are = length-spread parts.chps.now ∙ are.chps_long
 
-pub long_besides : (parts : Parts) → AreParts parts → length (spread parts.besides.now) ≡ length parts.units.now
-long_besides parts are = length-spread parts.besides.now ∙ are.besides_long
+pub long_attachments : (parts : Parts) → AreParts parts → length (expanded parts.attachments.now) ≡ length
+    parts.units.now
+long_attachments parts are = length-spread parts.attachments.now ∙ are.attachments_long
 
 pub items_long : (parts : Parts) → AreParts parts → length (items_in parts) ≡ length parts.units.now
 items_long parts are =
-    length-items_of parts.units.now (spread parts.chps.now) (spread parts.besides.now) (long_chps parts are)
-    (long_besides parts are)
+    length-items_of parts.units.now (expanded parts.chps.now) (expanded parts.attachments.now) (long_chps parts are)
+    (long_attachments parts are)
 
 pub units_are : (parts : Parts) → AreParts parts → map (λ item. item.unit) (items_in parts) ≡ parts.units.now
 units_are parts are =
-    units-items_of parts.units.now (spread parts.chps.now) (spread parts.besides.now) (long_chps parts are)
-    (long_besides parts are)
+    units-items_of parts.units.now (expanded parts.chps.now) (expanded parts.attachments.now) (long_chps parts are)
+    (long_attachments parts are)
 
-pub chps_are : (parts : Parts) → AreParts parts → map (λ item. item.chp) (items_in parts) ≡ spread parts.chps.now
+pub chps_are : (parts : Parts) → AreParts parts → map (λ item. item.chp) (items_in parts) ≡ expanded parts.chps.now
 chps_are parts are =
-    chps-items_of parts.units.now (spread parts.chps.now) (spread parts.besides.now) (long_chps parts are)
-    (long_besides parts are)
+    chps-items_of parts.units.now (expanded parts.chps.now) (expanded parts.attachments.now) (long_chps parts are)
+    (long_attachments parts are)
 
-pub besides_are : (parts : Parts) → AreParts parts → map beside_of (items_in parts) ≡ spread parts.besides.now
-besides_are parts are =
-    besides-items_of parts.units.now (spread parts.chps.now) (spread parts.besides.now) (long_chps parts are)
-    (long_besides parts are)
+pub attachments_are : (parts : Parts) → AreParts parts → map attached_of (items_in parts) ≡ expanded
+    parts.attachments.now
+attachments_are parts are =
+    attachments-items_of parts.units.now (expanded parts.chps.now) (expanded parts.attachments.now) (long_chps parts
+    are)
+    (long_attachments parts are)
 
 -- what stands beside an item is in its column
-pub beside_there : (parts : Parts) → AreParts parts → (k : ℕ) (item : Item) → slice_get (items_in parts) k ≡ Some item →
-    slice_get (spread parts.besides.now) k ≡ Some (beside_of item)
-beside_there parts are k item here =
-    subst (λ (xs : List Beside). slice_get xs k ≡ Some (beside_of item)) (besides_are parts are)
-    (get-map beside_of (items_in parts) k item here)
+pub attached_there : (parts : Parts) → AreParts parts → (k : ℕ) (item : Item) → slice_get (items_in parts) k ≡ Some item
+    →
+    slice_get (expanded parts.attachments.now) k ≡ Some (attached_of item)
+attached_there parts are k item here =
+    subst (λ (xs : List Attached). slice_get xs k ≡ Some (attached_of item)) (attachments_are parts are)
+    (get-map attached_of (items_in parts) k item here)
 
 -- ---- walks
 
@@ -59,20 +63,20 @@ pub later_walk : (parts : Parts) (walk : Walk) (m n : ℕ) → IsWalk parts walk
 later_walk parts walk m n is le = record {
   at_chps = is.at_chps;
   chps_ahead = (let ahead = is.chps_ahead in omega (arith, ahead, le));
-  at_besides = is.at_besides;
-  besides_ahead = (let ahead = is.besides_ahead in omega (arith, ahead, le));
+  at_attachments = is.at_attachments;
+  attachments_ahead = (let ahead = is.attachments_ahead in omega (arith, ahead, le));
 }
 
 pub first_walk : (parts : Parts) (walk : Walk) →
-    walk ≡ record { chps = record { run = 0; begin = 0 }; besides = record { run = 0; begin = 0 } } →
+    walk ≡ record { chps = record { run = 0; begin = 0 }; attachments = record { run = 0; begin = 0 } } →
     IsWalk parts walk 0
 first_walk parts walk is =
     subst (λ (w : Walk). IsWalk parts w 0) (sym is)
     (record {
       at_chps = start_at parts.chps.now (record { run = 0; begin = 0 }) refl;
       chps_ahead = omega arith;
-      at_besides = start_at parts.besides.now (record { run = 0; begin = 0 }) refl;
-      besides_ahead = omega arith;
+      at_attachments = start_at parts.attachments.now (record { run = 0; begin = 0 }) refl;
+      attachments_ahead = omega arith;
     })
 
 -- a part of an element is in the column of these parts

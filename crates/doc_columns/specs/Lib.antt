@@ -1,4 +1,4 @@
-pub mod Beside
+pub mod Attached
 pub mod Columns
 pub mod Changes
 pub mod Judging

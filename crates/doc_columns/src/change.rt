@@ -1,9 +1,9 @@
 // Texts by columns that are copied in part, or of which a column is changed.
 ghost use Rattle.std.specs.Prelude.{◌≡◌, ◌≤◌, length, slice_range, IfOk};
 ghost use Rattle.run_lists.specs.Changed.{IsChanged};
-ghost use Rattle.doc_columns.specs.Changes.{HasOtherChp, HasOtherBeside, KeepsCharacters, KeepsMaps};
+ghost use Rattle.doc_columns.specs.Changes.{HasOtherChp, HasOtherAttached, KeepsCharacters, KeepsMaps};
 
-use crate::Beside;
+use crate::Attached;
 use crate::own::OwnColumns;
 use crate::ranges::are_ranged;
 use doc_bits::Memory;
@@ -21,15 +21,15 @@ impl OwnColumns {
         let all = self.units();
         let units = Vec::from_slice(alloc, &all[from..to])?;
         let chps = self.chps.copy(alloc, from, to)?;
-        let besides = self.besides.copy(alloc, from, to)?;
+        let attachments = self.attachments.copy(alloc, from, to)?;
         Ok(OwnColumns {
             units,
             chps,
-            besides,
+            attachments,
         })
     }
 
-    /// Changes the settings of the items from `from` to before `to`, run by run.
+    /// Changes the properties of the items from `from` to before `to`, run by run.
     pub(crate) fn change_chps<C: Change<PropMap>>(
         self,
         alloc: Global,
@@ -45,18 +45,18 @@ impl OwnColumns {
         let OwnColumns {
             units,
             mut chps,
-            besides,
+            attachments,
         } = self;
         chps.change(alloc, from, to, by)?;
         Ok(OwnColumns {
             units,
             chps,
-            besides,
+            attachments,
         })
     }
 
     /// Changes what stands beside the items from `from` to before `to`, run by run.
-    pub(crate) fn change_besides<C: Change<Beside>>(
+    pub(crate) fn change_attachments<C: Change<Attached>>(
         self,
         alloc: Global,
         from: usize,
@@ -66,19 +66,19 @@ impl OwnColumns {
         requires ordered { from ≤ to }
         requires within { to ≤ length self }
         requires kept { KeepsMaps (C.becomes by.now) }
-        ensures { IfOk result (IsChanged (HasOtherBeside (C.becomes by.now)) from to self) }
+        ensures { IfOk result (IsChanged (HasOtherAttached (C.becomes by.now)) from to self) }
     {
         let OwnColumns {
             units,
             chps,
-            mut besides,
+            mut attachments,
         } = self;
-        besides.change(alloc, from, to, by)?;
-        are_ranged(besides.as_runs());
+        attachments.change(alloc, from, to, by)?;
+        are_ranged(attachments.as_runs());
         Ok(OwnColumns {
             units,
             chps,
-            besides,
+            attachments,
         })
     }
 }

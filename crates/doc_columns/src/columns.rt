@@ -4,13 +4,13 @@ ghost use Rattle.std.specs.Prelude.{[], ◌∷◌, ◌++◌, length, map, slice_
 ghost use Rattle.std.specs.List.{splice};
 ghost use Rattle.prop_map.specs.Formed.{IsPropertyMap, character_groups};
 ghost use Rattle.run_lists.specs.Changed.{IsChanged};
-ghost use Rattle.run_lists.specs.Spread.{spread};
+ghost use Rattle.run_lists.specs.Spread.{expanded};
 ghost use Rattle.plain_doc.specs.Document.{HasPropertyMaps, IsFormedText};
-ghost use Rattle.doc_columns.specs.Beside.{beside_of};
-ghost use Rattle.doc_columns.specs.Changes.{HasOtherChp, HasOtherBeside, KeepsCharacters, KeepsMaps};
+ghost use Rattle.doc_columns.specs.Attached.{attached_of};
+ghost use Rattle.doc_columns.specs.Changes.{HasOtherChp, HasOtherAttached, KeepsCharacters, KeepsMaps};
 ghost use Rattle.doc_columns.specs.Columns.{item_of, items_of, bare_items};
 
-use crate::Beside;
+use crate::Attached;
 use crate::own::OwnColumns;
 use crate::window::Window;
 use doc_bits::Memory;
@@ -20,16 +20,16 @@ use run_lists::{Change, Cursor, Run, Runs, Shared, seek};
 use std::alloc::Global;
 use std::marker::Model;
 
-/// A text: its units, the settings of each as runs, and what stands beside each as runs. A text that was cut out of
+/// A text: its units, the properties of each as runs, and what is attached to each as runs. A text that was cut out of
 /// another one may share its columns: its first change copies its part of them.
 #[derive(Drop)]
 pub struct Columns {
-    kept: Kept,
+    kept: Storage,
 }
 
 /// Where the columns of a text are.
 #[derive(Drop)]
-pub(crate) enum Kept {
+pub(crate) enum Storage {
     Own(OwnColumns),
     Shared(Window),
 }
@@ -54,20 +54,20 @@ impl Columns {
         ensures { result ≡ [] }
     {
         Columns {
-            kept: Kept::Own(OwnColumns::new(alloc)),
+            kept: Storage::Own(OwnColumns::new(alloc)),
         }
     }
 
     /// The text of three columns. None is moved.
-    pub fn from_parts(units: Vec<u16>, chps: Runs<PropMap>, besides: Runs<Beside>) -> Columns
+    pub fn from_parts(units: Vec<u16>, chps: Runs<PropMap>, attachments: Runs<Attached>) -> Columns
         requires few { length units.items < 2 ^ 32 }
         requires chps { length chps ≡ length units.items }
-        requires besides { length besides ≡ length units.items }
-        requires maps { All HasPropertyMaps (items_of units.items chps besides) }
-        ensures { result ≡ items_of units.items chps besides }
+        requires attachments { length attachments ≡ length units.items }
+        requires maps { All HasPropertyMaps (items_of units.items chps attachments) }
+        ensures { result ≡ items_of units.items chps attachments }
     {
         Columns {
-            kept: Kept::Own(OwnColumns::from_parts(units, chps, besides)),
+            kept: Storage::Own(OwnColumns::from_parts(units, chps, attachments)),
         }
     }
 
@@ -76,7 +76,7 @@ impl Columns {
         ensures { result ≡ own }
     {
         Columns {
-            kept: Kept::Own(own),
+            kept: Storage::Own(own),
         }
     }
 
@@ -85,7 +85,7 @@ impl Columns {
         ensures { result ≡ window }
     {
         Columns {
-            kept: Kept::Shared(window),
+            kept: Storage::Shared(window),
         }
     }
 
@@ -94,8 +94,8 @@ impl Columns {
         ensures { IfOk result (λ own. own ≡ self) }
     {
         match self.kept {
-            Kept::Own(own) => Ok(own),
-            Kept::Shared(window) => Ok(window.own()?),
+            Storage::Own(own) => Ok(own),
+            Storage::Shared(window) => Ok(window.own()?),
         }
     }
 
@@ -105,8 +105,8 @@ impl Columns {
         ensures formed { IsFormedText self.now }
     {
         match &self.kept {
-            Kept::Own(own) => own.len(),
-            Kept::Shared(window) => window.len(),
+            Storage::Own(own) => own.len(),
+            Storage::Shared(window) => window.len(),
         }
     }
 
@@ -115,28 +115,28 @@ impl Columns {
         ensures { result.now ≡ map (λ item. item.unit) self.now }
     {
         match &self.kept {
-            Kept::Own(own) => own.units(),
-            Kept::Shared(window) => window.units(),
+            Storage::Own(own) => own.units(),
+            Storage::Shared(window) => window.units(),
         }
     }
 
-    /// The runs of their settings.
+    /// The runs of their properties.
     pub fn chps(&self) -> &[Run<PropMap>]
-        ensures { spread result.now ≡ map (λ item. item.chp) self.now }
+        ensures { expanded result.now ≡ map (λ item. item.chp) self.now }
     {
         match &self.kept {
-            Kept::Own(own) => own.chps(),
-            Kept::Shared(window) => window.chps(),
+            Storage::Own(own) => own.chps(),
+            Storage::Shared(window) => window.chps(),
         }
     }
 
     /// The runs of what stands beside them.
-    pub fn besides(&self) -> &[Run<Beside>]
-        ensures { spread result.now ≡ map beside_of self.now }
+    pub fn attachments(&self) -> &[Run<Attached>]
+        ensures { expanded result.now ≡ map attached_of self.now }
     {
         match &self.kept {
-            Kept::Own(own) => own.besides(),
-            Kept::Shared(window) => window.besides(),
+            Storage::Own(own) => own.attachments(),
+            Storage::Shared(window) => window.attachments(),
         }
     }
 
@@ -146,8 +146,8 @@ impl Columns {
         ensures { IfOk result (λ item. slice_get self.now place ≡ Some item) }
     {
         let chp = seek(self.chps(), &mut Cursor::new(), place).copy(alloc)?;
-        let beside = seek(self.besides(), &mut Cursor::new(), place).copy(alloc)?;
-        Ok(item_with(self.units()[place], chp, beside))
+        let attached = seek(self.attachments(), &mut Cursor::new(), place).copy(alloc)?;
+        Ok(item_with(self.units()[place], chp, attached))
     }
 
     /// The items from `from` to before `to`. Their maps are shared, and all of a window shares its columns.
@@ -157,8 +157,8 @@ impl Columns {
         ensures { IfOk result (λ copy. copy ≡ slice_range self.now from to) }
     {
         match &self.kept {
-            Kept::Own(own) => Ok(Columns::from_own(own.copy(alloc, from, to)?)),
-            Kept::Shared(window) => Ok(window.cut(alloc, from, to)?),
+            Storage::Own(own) => Ok(Columns::from_own(own.copy(alloc, from, to)?)),
+            Storage::Shared(window) => Ok(window.cut(alloc, from, to)?),
         }
     }
 
@@ -172,7 +172,7 @@ impl Columns {
         Ok(Columns::from_own(own.add(item)?))
     }
 
-    /// The text with units more, which have the same settings and nothing beside them.
+    /// The text with units more, which have the same properties and nothing beside them.
     pub fn add_units(self, more: &[u16], chp: PropMap) -> Result<Columns, Memory>
         requires few { length self + length more.now < 2 ^ 32 }
         requires map { IsPropertyMap character_groups chp }
@@ -200,7 +200,7 @@ impl Columns {
         Ok(Columns::from_own(own.splice(alloc, from, to, more)?))
     }
 
-    /// Changes the settings of the items from `from` to before `to`, run by run.
+    /// Changes the properties of the items from `from` to before `to`, run by run.
     pub fn change_chps<C: Change<PropMap>>(
         self,
         alloc: Global,
@@ -218,7 +218,7 @@ impl Columns {
     }
 
     /// Changes what stands beside the items from `from` to before `to`, run by run.
-    pub fn change_besides<C: Change<Beside>>(
+    pub fn change_attachments<C: Change<Attached>>(
         self,
         alloc: Global,
         from: usize,
@@ -228,23 +228,23 @@ impl Columns {
         requires ordered { from ≤ to }
         requires within { to ≤ length self }
         requires kept { KeepsMaps (C.becomes by.now) }
-        ensures { IfOk result (IsChanged (HasOtherBeside (C.becomes by.now)) from to self) }
+        ensures { IfOk result (IsChanged (HasOtherAttached (C.becomes by.now)) from to self) }
     {
         let own = self.into_own()?;
-        Ok(Columns::from_own(own.change_besides(alloc, from, to, by)?))
+        Ok(Columns::from_own(own.change_attachments(alloc, from, to, by)?))
     }
 }
 
-/// The item of a unit, its settings and what stands beside.
-pub(crate) fn item_with(unit: u16, chp: PropMap, beside: Beside) -> Item
-    ensures { result ≡ item_of unit chp beside }
+/// The item of a unit, its properties and what stands beside.
+pub(crate) fn item_with(unit: u16, chp: PropMap, attached: Attached) -> Item
+    ensures { result ≡ item_of unit chp attached }
 {
-    let Beside {
+    let Attached {
         fld,
         note,
         mark,
         sect,
-    } = beside;
+    } = attached;
     Item {
         unit,
         fld,

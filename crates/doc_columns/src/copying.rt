@@ -1,6 +1,6 @@
 // Parts of columns, copied.
 ghost use Rattle.std.specs.Prelude.{◌≡◌, ◌+◌, ◌^◌, ◌<◌, ◌≤◌, ◌++◌, length, replicate, slice_range, IfOk, OnOk};
-ghost use Rattle.run_lists.specs.Spread.{spread};
+ghost use Rattle.run_lists.specs.Spread.{expanded};
 ghost use Rattle.plain_doc.specs.Document.{IsFormedText};
 ghost use Rattle.doc_columns.specs.Walks.{items_in, AreParts, IsWalk};
 
@@ -27,12 +27,12 @@ pub(crate) fn copy_part(
 {
     let Walk {
         chps: mut at_chps,
-        besides: mut at_besides,
+        attachments: mut at_attachments,
     } = walk;
     let units = Vec::from_slice(alloc, &parts.units[from..to])?;
     let chps = copy_runs(alloc, parts.chps, &mut at_chps, from, to)?;
-    let besides = copy_runs(alloc, parts.besides, &mut at_besides, from, to)?;
-    Ok(OwnColumns::from_parts(units, chps, besides))
+    let attachments = copy_runs(alloc, parts.attachments, &mut at_attachments, from, to)?;
+    Ok(OwnColumns::from_parts(units, chps, attachments))
 }
 
 /// Places where runs are to end. They ascend, and so many are passed.
@@ -66,7 +66,7 @@ pub(crate) fn into_rows<T: Shared>(
     runs: Runs<T>,
     places: &[u32],
 ) -> Result<Vec<Run<T>>, Memory>
-    ensures { IfOk result (λ rows. spread rows.items ≡ runs) }
+    ensures { IfOk result (λ rows. expanded rows.items ≡ runs) }
 {
     if !are_cut(runs.as_runs(), places) {
         return Ok(runs.into_runs());
@@ -91,7 +91,7 @@ fn are_cut<T>(runs: &[Run<T>], places: &[u32]) -> bool {
 
 /// The runs of a list. Each ends where one of the places, which ascend, is inside it.
 fn cut_rows<T: Shared>(alloc: Global, runs: &Runs<T>, places: &[u32]) -> Result<Vec<Run<T>>, Memory>
-    ensures { IfOk result (λ rows. spread rows.items ≡ runs.now) }
+    ensures { IfOk result (λ rows. expanded rows.items ≡ runs.now) }
 {
     let all = runs.as_runs();
     let mut rows = Vec::with_capacity(alloc, all.len())?;
@@ -114,7 +114,7 @@ fn push_rows<T: Shared>(
 ) -> Result<(), Memory>
     requires { place + run.now.count < 2 ^ 32 }
     ensures { OnOk result
-        (spread rows.new.items ≡ spread rows.old.items ++ replicate run.now.count run.now.value) }
+        (expanded rows.new.items ≡ expanded rows.old.items ++ replicate run.now.count run.now.value) }
 {
     let end = place + run.count as usize;
     let mut at = place;

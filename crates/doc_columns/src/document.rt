@@ -39,7 +39,7 @@ impl Model for ColumnDocument {
 }
 
 impl ColumnDocument {
-    /// The same document. Maps and styles are shared.
+    /// A copy of the document, which shares its maps and styles.
     pub fn copy(&self, alloc: Global) -> Result<ColumnDocument, Memory>
         ensures { IfOk result (λ copy. copy ≡ self.now) }
     {
@@ -49,7 +49,7 @@ impl ColumnDocument {
     }
 }
 
-/// The same texts. Their maps are shared.
+/// Copies of the texts, which share their maps.
 fn copy_texts(
     alloc: Global,
     main: &Columns,
@@ -74,7 +74,7 @@ pub(crate) struct OtherParts {
     pub(crate) bookmarks: Bookmarks,
 }
 
-/// The same parts. Styles are shared.
+/// Copies of the other parts, which share their styles.
 pub(crate) fn copy_others(
     alloc: Global,
     sheet: &StyleSheet,

@@ -1,6 +1,6 @@
 // Whether texts and documents by columns are the same. No item is put together, and no memory is taken.
 ghost use Rattle.std.specs.Prelude.{◌≡◌, ◌↔◌, ◌^◌, ◌<◌, IsTrue};
-ghost use Rattle.run_lists.specs.Spread.{spread, extent};
+ghost use Rattle.run_lists.specs.Spread.{expanded, total_len};
 
 use crate::{ColumnDocument, ColumnTexts, Columns};
 use run_lists::{Cursor, Run, Shared, value_until};
@@ -17,7 +17,7 @@ impl Columns {
         if !same_values(self.chps(), other.chps(), len) {
             return false;
         }
-        same_values(self.besides(), other.besides(), len)
+        same_values(self.attachments(), other.attachments(), len)
     }
 }
 
@@ -54,21 +54,21 @@ impl ColumnDocument {
 
 /// Whether runs of `len` values each stand for the same ones.
 fn same_values<T: Shared>(one: &[Run<T>], other: &[Run<T>], len: usize) -> bool
-    requires one { extent one.now ≡ len }
-    requires other { extent other.now ≡ len }
+    requires one { total_len one.now ≡ len }
+    requires other { total_len other.now ≡ len }
     requires few { len < 2 ^ 32 }
-    ensures { IsTrue result ↔ spread one.now ≡ spread other.now }
+    ensures { IsTrue result ↔ expanded one.now ≡ expanded other.now }
 {
     let mut first = Cursor::new();
     let mut second = Cursor::new();
     let mut place = 0;
     while place < len {
         let (value, end) = value_until(one, &mut first, place);
-        let (beside, beside_end) = value_until(other, &mut second, place);
-        if !value.equal(beside) {
+        let (attached, attached_end) = value_until(other, &mut second, place);
+        if !value.equal(attached) {
             return false;
         }
-        place = end.min(beside_end);
+        place = end.min(attached_end);
     }
     true
 }

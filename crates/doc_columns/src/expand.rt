@@ -23,7 +23,7 @@ impl Columns {
         let mut items = Items::new(alloc);
         let mut cursor = Cursor::new();
         let mut place = 0;
-        for run in self.besides() {
+        for run in self.attachments() {
             push_run(alloc, &parts, &mut cursor, place, run, &mut items)?;
             place += run.count as usize;
         }

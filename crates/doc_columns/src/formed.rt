@@ -4,8 +4,7 @@ ghost use Rattle.doc_bits.specs.Number.{AreBytes};
 ghost use Rattle.plain_doc.specs.Formed.{IsFormed, carried_parts};
 
 use crate::ColumnDocument;
-use crate::ranges::is_word;
-use plain_doc::Carried;
+use plain_doc::{Carried, is_word};
 
 /// Every document by columns is well formed: its types keep it so.
 pub fn columns_are_formed(document: &ColumnDocument)

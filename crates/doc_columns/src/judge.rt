@@ -3,28 +3,25 @@
 ghost use Rattle.std.specs.Prelude.{◌≡◌, ◌⊎◌, ◌+◌, ◌-◌, ◌<◌, ◌≤◌, [], length, slice_get, All};
 ghost use Rattle.std.specs.Prelude.{Some, IsTrue, IfOk, IfSome, OnOk};
 ghost use Rattle.prop_map.specs.Formed.{IsPropertyMap, character_groups};
-ghost use Rattle.run_lists.specs.Spread.{spread};
+ghost use Rattle.run_lists.specs.Spread.{expanded};
 ghost use Rattle.run_lists.specs.Places.{IsAt};
 ghost use Rattle.plain_doc.specs.RulesOfItems.{IsShortChp};
 ghost use Rattle.plain_doc.specs.RulesOfTexts.{IsHead};
-ghost use Rattle.plain_doc.specs.TextWalk.{KeepsTextRules, AreRightTexts, HasCounts};
+ghost use Rattle.plain_doc.specs.TextWalk.{KeepsTextRules, AreValidTexts, HasCounts};
 ghost use Rattle.bare_items.specs.Specials.{IsPlainUnit};
-ghost use Rattle.doc_columns.specs.Judging.{IsJudged, IsPassedTo, IsRunAt};
+ghost use Rattle.doc_columns.specs.Judging.{IsJudgedText, IsPassedTo, IsRunAt};
 
 use crate::columns::item_with;
-use crate::{Beside, ColumnTexts, Columns};
+use crate::{Attached, ColumnTexts, Columns};
 use doc_bits::{Memory, Where};
-use plain_doc::{Counts, Item, Side, TextWalk, is_head};
+use plain_doc::{Counts, Item, MAX_CHPX_GRPPRL, Side, TextWalk, is_head};
 use prop_map::PropMap;
 use run_lists::{Cursor, Run, Shared, seek};
 use std::alloc::Global;
 use style_sheet::StyleSheet;
 use text_codes::{PARAGRAPH_MARK, bare_len};
 
-/// [MS-DOC] Chpx: its length is counted by a byte.
-const CHP_MOST: u64 = 255;
-
-/// A text that is judged: its sheet, which text it is, and its units and the runs of their settings.
+/// A text that is judged: its sheet, which text it is, and its units and the runs of their properties.
 #[derive(Drop)]
 pub(crate) struct JudgedText<'a> {
     pub(crate) sheet: &'a StyleSheet,
@@ -35,13 +32,13 @@ pub(crate) struct JudgedText<'a> {
 }
 
 /// Whether no text of a list is known to break a rule.
-pub(crate) fn are_right_texts(
+pub(crate) fn are_valid_texts(
     alloc: Global,
     sheet: &StyleSheet,
     side: Side,
     texts: &ColumnTexts,
 ) -> Result<bool, Memory>
-    ensures { IfOk result (λ right. IsTrue right → AreRightTexts sheet.now side texts.now) }
+    ensures { IfOk result (λ right. IsTrue right → AreValidTexts sheet.now side texts.now) }
 {
     for k in 0..texts.len() {
         match right_counts(alloc, sheet, side.part(k as u32), texts.get(k))? {
@@ -91,10 +88,10 @@ fn ends_right(part: Where, units: &[u16]) -> bool
     units[units.len() - 1] == PARAGRAPH_MARK
 }
 
-/// Whether all settings are short enough for a file.
+/// Whether all properties are short enough for a file.
 fn are_short(chps: &[Run<PropMap>]) -> bool
-    requires { All (IsPropertyMap character_groups) (spread chps.now) }
-    ensures { IsTrue result → All IsShortChp (spread chps.now) }
+    requires { All (IsPropertyMap character_groups) (expanded chps.now) }
+    ensures { IsTrue result → All IsShortChp (expanded chps.now) }
 {
     for run in chps {
         if !is_short_run(run) {
@@ -104,7 +101,7 @@ fn are_short(chps: &[Run<PropMap>]) -> bool
     true
 }
 
-/// Whether the settings of a run are, where it has a value.
+/// Whether the properties of a run are, where it has a value.
 fn is_short_run(run: &Run<PropMap>) -> bool
     requires { 0 < run.now.count → IsPropertyMap character_groups run.now.value }
     ensures { IsTrue result → 0 < run.now.count → IsShortChp run.now.value }
@@ -112,12 +109,12 @@ fn is_short_run(run: &Run<PropMap>) -> bool
     if run.count == 0 {
         return true;
     }
-    run.value.printed_len() <= CHP_MOST
+    run.value.printed_len() <= MAX_CHPX_GRPPRL
 }
 
 /// The counts of a text whose items are all passed.
 fn judged_counts(alloc: Global, judged: &JudgedText<'_>) -> Result<Option<Counts>, Memory>
-    requires { IsJudged judged.now }
+    requires { IsJudgedText judged.now }
     ensures { IfOk result (λ found. IfSome found (λ counts.
         KeepsTextRules judged.now.sheet.now judged.now.part judged.now.text.now
         × HasCounts judged.now.text.now counts)) }
@@ -125,7 +122,7 @@ fn judged_counts(alloc: Global, judged: &JudgedText<'_>) -> Result<Option<Counts
     let mut walk = TextWalk::new();
     let mut cursor = Cursor::new();
     let mut place = 0;
-    for run in judged.text.besides() {
+    for run in judged.text.attachments() {
         if !pass_run(alloc, judged, &mut cursor, place, run, &mut walk)? {
             return Ok(None);
         }
@@ -140,10 +137,10 @@ fn pass_run(
     judged: &JudgedText<'_>,
     cursor: &mut Cursor,
     place: usize,
-    run: &Run<Beside>,
+    run: &Run<Attached>,
     walk: &mut TextWalk,
 ) -> Result<bool, Memory>
-    requires judged { IsJudged judged.now }
+    requires judged { IsJudgedText judged.now }
     requires run { IsRunAt judged.now.text.now place run.now }
     requires at { IsAt judged.now.chps.now cursor.old }
     requires ahead { cursor.old.begin ≤ place }
@@ -172,10 +169,10 @@ fn pass_items(
     judged: &JudgedText<'_>,
     cursor: &mut Cursor,
     place: usize,
-    run: &Run<Beside>,
+    run: &Run<Attached>,
     walk: &mut TextWalk,
 ) -> Result<bool, Memory>
-    requires judged { IsJudged judged.now }
+    requires judged { IsJudgedText judged.now }
     requires run { IsRunAt judged.now.text.now place run.now }
     requires at { IsAt judged.now.chps.now cursor.old }
     requires ahead { cursor.old.begin ≤ place }
@@ -200,10 +197,10 @@ fn made_item(
     judged: &JudgedText<'_>,
     cursor: &mut Cursor,
     place: usize,
-    run: &Run<Beside>,
+    run: &Run<Attached>,
     at: usize,
 ) -> Result<Item, Memory>
-    requires judged { IsJudged judged.now }
+    requires judged { IsJudgedText judged.now }
     requires run { IsRunAt judged.now.text.now place run.now }
     requires at { IsAt judged.now.chps.now cursor.old }
     requires ahead { cursor.old.begin ≤ at }
@@ -214,6 +211,6 @@ fn made_item(
     ensures item { IfOk result (λ item. slice_get judged.now.text.now at ≡ Some item) }
 {
     let chp = seek(judged.chps, cursor, at).copy(alloc)?;
-    let beside = run.value.copy(alloc)?;
-    Ok(item_with(judged.units[at], chp, beside))
+    let attached = run.value.copy(alloc)?;
+    Ok(item_with(judged.units[at], chp, attached))
 }

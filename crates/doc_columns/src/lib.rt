@@ -1,7 +1,7 @@
-//! Texts and documents by columns: units, runs of settings, and runs of what stands beside.
+//! Texts and documents by columns: units, runs of properties, and runs of what stands beside.
 #![tactic(auto)]
 
-mod beside;
+mod attached;
 mod change;
 mod collect;
 mod columns;
@@ -13,17 +13,17 @@ mod formed;
 mod judge;
 mod own;
 mod ranges;
+mod shared_text;
 mod sound;
 mod texts;
 mod walk;
-mod whole;
 mod window;
 
-pub use beside::Beside;
+pub use attached::Attached;
 pub use columns::Columns;
 pub use document::ColumnDocument;
 pub use formed::columns_are_formed;
+pub use shared_text::SharedText;
 pub use sound::{all_items, is_sound};
 pub use texts::ColumnTexts;
 pub use walk::{Alike, Parts, Walk, alike_from, paragraph_end};
-pub use whole::WholeText;

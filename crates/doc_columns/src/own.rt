@@ -3,26 +3,26 @@ ghost use Rattle.std.specs.Prelude.{◌≡◌, ◌+◌, ◌-◌, ◌^◌, ◌<�
 ghost use Rattle.std.specs.Prelude.{[], ◌∷◌, ◌++◌, length, map, All, IfOk};
 ghost use Rattle.std.specs.List.{splice};
 ghost use Rattle.prop_map.specs.Formed.{IsPropertyMap, character_groups};
-ghost use Rattle.run_lists.specs.Spread.{spread};
+ghost use Rattle.run_lists.specs.Spread.{expanded};
 ghost use Rattle.plain_doc.specs.Document.{HasPropertyMaps, IsFormedText};
-ghost use Rattle.doc_columns.specs.Beside.{beside_of};
+ghost use Rattle.doc_columns.specs.Attached.{attached_of};
 ghost use Rattle.doc_columns.specs.Columns.{item_of, items_of, bare_items};
 
-use crate::Beside;
-use crate::ranges::{are_ranged, are_words, is_ranged, is_word};
+use crate::Attached;
+use crate::ranges::{are_ranged, are_words, is_ranged};
 use doc_bits::{Memory, splice_list};
-use plain_doc::Item;
+use plain_doc::{Item, is_word};
 use prop_map::PropMap;
 use run_lists::{Run, Runs};
 use std::alloc::Global;
 use std::marker::Model;
 
-/// A text: its units, the settings of each as runs, and what stands beside each as runs.
+/// A text: its units, the properties of each as runs, and what stands beside each as runs.
 #[derive(Drop)]
 pub(crate) struct OwnColumns {
     pub(crate) units: Vec<u16>,
     pub(crate) chps: Runs<PropMap>,
-    pub(crate) besides: Runs<Beside>,
+    pub(crate) attachments: Runs<Attached>,
 }
 
 impl Model for OwnColumns {
@@ -36,9 +36,9 @@ impl Model for OwnColumns {
 
     ghost coded = { coded_list item.the_row.coded };
 
-    ghost view = { λ c. items_of c.units.items c.chps c.besides };
+    ghost view = { λ c. items_of c.units.items c.chps c.attachments };
 
-    ghost invariant = { λ c. AreColumns c.units.items c.chps c.besides };
+    ghost invariant = { λ c. AreColumns c.units.items c.chps c.attachments };
 }
 
 impl OwnColumns {
@@ -49,7 +49,7 @@ impl OwnColumns {
         OwnColumns {
             units: Vec::new(alloc),
             chps: Runs::new(alloc),
-            besides: Runs::new(alloc),
+            attachments: Runs::new(alloc),
         }
     }
 
@@ -57,20 +57,20 @@ impl OwnColumns {
     pub(crate) fn from_parts(
         units: Vec<u16>,
         chps: Runs<PropMap>,
-        besides: Runs<Beside>,
+        attachments: Runs<Attached>,
     ) -> OwnColumns
         requires few { length units.items < 2 ^ 32 }
         requires chps { length chps ≡ length units.items }
-        requires besides { length besides ≡ length units.items }
-        requires maps { All HasPropertyMaps (items_of units.items chps besides) }
-        ensures { result ≡ items_of units.items chps besides }
+        requires attachments { length attachments ≡ length units.items }
+        requires maps { All HasPropertyMaps (items_of units.items chps attachments) }
+        ensures { result ≡ items_of units.items chps attachments }
     {
         are_words(&units);
-        are_ranged(besides.as_runs());
+        are_ranged(attachments.as_runs());
         OwnColumns {
             units,
             chps,
-            besides,
+            attachments,
         }
     }
 
@@ -89,18 +89,18 @@ impl OwnColumns {
         &self.units
     }
 
-    /// The runs of their settings.
+    /// The runs of their properties.
     pub(crate) fn chps(&self) -> &[Run<PropMap>]
-        ensures { spread result.now ≡ map (λ item. item.chp) self.now }
+        ensures { expanded result.now ≡ map (λ item. item.chp) self.now }
     {
         self.chps.as_runs()
     }
 
     /// The runs of what stands beside them.
-    pub(crate) fn besides(&self) -> &[Run<Beside>]
-        ensures { spread result.now ≡ map beside_of self.now }
+    pub(crate) fn attachments(&self) -> &[Run<Attached>]
+        ensures { expanded result.now ≡ map attached_of self.now }
     {
-        self.besides.as_runs()
+        self.attachments.as_runs()
     }
 
     /// The text with an item more.
@@ -112,22 +112,22 @@ impl OwnColumns {
         let OwnColumns {
             mut units,
             mut chps,
-            mut besides,
+            mut attachments,
         } = self;
-        let (unit, chp, beside) = parts_of(item);
+        let (unit, chp, attached) = parts_of(item);
         is_word(unit);
-        is_ranged(&beside);
+        is_ranged(&attached);
         units.push(unit)?;
         chps.add(1, chp)?;
-        besides.add(1, beside)?;
+        attachments.add(1, attached)?;
         Ok(OwnColumns {
             units,
             chps,
-            besides,
+            attachments,
         })
     }
 
-    /// The text with units more, which have the same settings and nothing beside them.
+    /// The text with units more, which have the same properties and nothing beside them.
     pub(crate) fn add_units(self, more: &[u16], chp: PropMap) -> Result<OwnColumns, Memory>
         requires few { length self + length more.now < 2 ^ 32 }
         requires map { IsPropertyMap character_groups chp }
@@ -136,16 +136,16 @@ impl OwnColumns {
         let OwnColumns {
             mut units,
             mut chps,
-            mut besides,
+            mut attachments,
         } = self;
         are_words(more);
         units.extend_from_slice(more)?;
         chps.add(more.len() as u32, chp)?;
-        besides.add(more.len() as u32, Beside::none())?;
+        attachments.add(more.len() as u32, Attached::none())?;
         Ok(OwnColumns {
             units,
             chps,
-            besides,
+            attachments,
         })
     }
 
@@ -165,26 +165,26 @@ impl OwnColumns {
         let OwnColumns {
             mut units,
             mut chps,
-            mut besides,
+            mut attachments,
         } = self;
         let OwnColumns {
             units: more_units,
             chps: more_chps,
-            besides: more_besides,
+            attachments: more_attachments,
         } = fresh;
         splice_list(&mut units, from, to, more_units)?;
         chps.splice(alloc, from, to, more_chps)?;
-        besides.splice(alloc, from, to, more_besides)?;
+        attachments.splice(alloc, from, to, more_attachments)?;
         Ok(OwnColumns {
             units,
             chps,
-            besides,
+            attachments,
         })
     }
 }
 
-/// What an item has beside its unit and its settings, with these.
-fn parts_of(item: Item) -> (u16, PropMap, Beside)
+/// What an item has beside its unit and its properties, with these.
+fn parts_of(item: Item) -> (u16, PropMap, Attached)
     ensures { item ≡ item_of result.0 result.1 result.2 }
 {
     let Item {
@@ -198,7 +198,7 @@ fn parts_of(item: Item) -> (u16, PropMap, Beside)
     (
         unit,
         chp,
-        Beside {
+        Attached {
             fld,
             note,
             mark,

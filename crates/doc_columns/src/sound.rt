@@ -3,53 +3,50 @@ ghost use Rattle.std.specs.Prelude.{◌≡◌, ◌<◌, ◌^◌, IsTrue, IfOk, l
 ghost use Rattle.std.specs.List.{sum_by};
 ghost use Rattle.plain_doc.specs.RulesOfSheet.{heads_of_sections, item_count};
 ghost use Rattle.plain_doc.specs.Sound.{IsSound};
-ghost use Rattle.bare_items.specs.Marks.{AreRightBookmarks};
+ghost use Rattle.bare_items.specs.Marks.{AreValidBookmarks};
 
-use crate::judge::{are_right_texts, right_counts};
+use crate::judge::{are_valid_texts, right_counts};
 use crate::{ColumnDocument, ColumnTexts};
 use doc_bits::{Memory, Where};
 use doc_parts::Bookmarks;
-use plain_doc::{Counts, HEADS_A_SECTION, SEPARATORS, Side, is_right_sheet};
+use plain_doc::{Counts, HEADERS_PER_SECTION, MAX_BOOKMARKS, SEPARATORS, Side, is_valid_sheet};
 use std::alloc::Global;
 
 /// The most items of all texts.
-const MOST_ITEMS: u128 = 499_998;
-
-/// The most bookmarks.
-const MOST_BOOKMARKS: usize = 16_000;
+const MAX_ITEMS: u128 = 499_998;
 
 /// Whether a document is known to break no rule. Where it is not known, a walk over its items tells:
 /// `plain_doc::check`.
 pub fn is_sound(alloc: Global, document: &ColumnDocument) -> Result<bool, Memory>
     ensures { IfOk result (λ sound. IsTrue sound → IsSound document.now) }
 {
-    if all_items(document) > MOST_ITEMS {
+    if all_items(document) > MAX_ITEMS {
         return Ok(false);
     }
-    if !are_right(&document.bookmarks, document.main.len()) {
+    if !are_valid(&document.bookmarks, document.main.len()) {
         return Ok(false);
     }
     let Some(counts) = right_counts(alloc, &document.sheet, Where::Main, &document.main)? else {
         return Ok(false);
     };
-    if !are_right_texts(alloc, &document.sheet, Side::Notes, &document.notes)? {
+    if !are_valid_texts(alloc, &document.sheet, Side::Notes, &document.notes)? {
         return Ok(false);
     }
-    if !are_right_texts(alloc, &document.sheet, Side::Heads, &document.heads)? {
+    if !are_valid_texts(alloc, &document.sheet, Side::Heads, &document.heads)? {
         return Ok(false);
     }
     if !fit_counts(document, counts) {
         return Ok(false);
     }
-    Ok(is_right_sheet(&document.sheet))
+    Ok(is_valid_sheet(&document.sheet))
 }
 
 /// Whether the bookmarks of a main text of `len` units are formed, not too many, and none has the
 /// name of an earlier one.
-fn are_right(bookmarks: &Bookmarks, len: usize) -> bool
-    ensures { IsTrue result → AreRightBookmarks len bookmarks.now }
+fn are_valid(bookmarks: &Bookmarks, len: usize) -> bool
+    ensures { IsTrue result → AreValidBookmarks len bookmarks.now }
 {
-    if bookmarks.len() > MOST_BOOKMARKS || !bookmarks.are_formed(len) {
+    if bookmarks.len() > MAX_BOOKMARKS || !bookmarks.are_formed(len) {
         return false;
     }
     bookmarks.same_name().is_none()
@@ -64,15 +61,15 @@ fn fit_counts(document: &ColumnDocument, counts: Counts) -> bool
     if document.notes.len() != counts.notes {
         return false;
     }
-    document.heads.len() == SEPARATORS + HEADS_A_SECTION * counts.sections
+    document.heads.len() == SEPARATORS + HEADERS_PER_SECTION * counts.sections
 }
 
 /// How many items all texts have.
 pub fn all_items(document: &ColumnDocument) -> u128
     ensures { result ≡ item_count document.now }
 {
-    let beside = items_of(&document.notes) as u128 + items_of(&document.heads) as u128;
-    document.main.len() as u128 + beside
+    let attached = items_of(&document.notes) as u128 + items_of(&document.heads) as u128;
+    document.main.len() as u128 + attached
 }
 
 /// How many items these texts have.

@@ -1,13 +1,13 @@
 // A walk over the columns of a text, run by run.
 ghost use Rattle.std.specs.Prelude.{◌≡◌, ℕ, ◌+◌, ◌-◌, ◌^◌, ◌<◌, ◌≤◌, length, slice_get, Some, None, IsSome};
-ghost use Rattle.run_lists.specs.Spread.{spread, extent};
+ghost use Rattle.run_lists.specs.Spread.{expanded, total_len};
 ghost use Rattle.run_lists.specs.Places.{IsAt};
 ghost use Rattle.plain_doc.specs.declared.item.Item.{Item};
-ghost use Rattle.doc_columns.specs.declared.beside.Beside as stands;
-ghost use Rattle.doc_columns.specs.Beside.{beside_of};
+ghost use Rattle.doc_columns.specs.declared.attached.Attached as stands;
+ghost use Rattle.doc_columns.specs.Attached.{attached_of};
 ghost use Rattle.doc_columns.specs.Walks.{items_in, AreParts, IsWalk};
 
-use crate::{Beside, Columns};
+use crate::{Attached, Columns};
 use prop_map::PropMap;
 use run_lists::{Cursor, Run, value_until};
 
@@ -16,7 +16,7 @@ use run_lists::{Cursor, Run, value_until};
 pub struct Parts<'a> {
     pub units: &'a [u16],
     pub chps: &'a [Run<PropMap>],
-    pub besides: &'a [Run<Beside>],
+    pub attachments: &'a [Run<Attached>],
 }
 
 impl Columns {
@@ -29,7 +29,7 @@ impl Columns {
         Parts {
             units: self.units(),
             chps: self.chps(),
-            besides: self.besides(),
+            attachments: self.attachments(),
         }
     }
 }
@@ -38,26 +38,26 @@ impl Columns {
 #[derive(Clone, Copy)]
 pub struct Walk {
     pub chps: Cursor,
-    pub besides: Cursor,
+    pub attachments: Cursor,
 }
 
 impl Walk {
     /// At the start.
     pub fn new() -> Walk
-        ensures { result ≡ record { chps = record { run = 0; begin = 0 }; besides = record { run = 0; begin = 0 } } }
+        ensures { result ≡ record { chps = record { run = 0; begin = 0 }; attachments = record { run = 0; begin = 0 } } }
     {
         Walk {
             chps: Cursor::new(),
-            besides: Cursor::new(),
+            attachments: Cursor::new(),
         }
     }
 }
 
-/// What items of a text have in common: their settings and what stands beside them. They end at a place.
+/// What items of a text have in common: their properties and what stands beside them. They end at a place.
 #[derive(Drop)]
 pub struct Alike<'a> {
     pub chp: &'a PropMap,
-    pub beside: &'a Beside,
+    pub attached: &'a Attached,
     pub end: usize,
 }
 
@@ -71,38 +71,43 @@ pub fn alike_from<'a>(parts: &Parts<'a>, walk: &mut Walk, place: usize) -> Alike
     ensures within { result.end ≤ length parts.now.units.now }
     ensures chps { (k : ℕ) (item : Item) → place ≤ k → k < result.end
         → slice_get (items_in parts.now) k ≡ Some item → item.chp ≡ result.chp.now }
-    ensures besides { (k : ℕ) (item : Item) → place ≤ k → k < result.end
-        → slice_get (items_in parts.now) k ≡ Some item → beside_of item ≡ result.beside.now }
+    ensures attachments { (k : ℕ) (item : Item) → place ≤ k → k < result.end
+        → slice_get (items_in parts.now) k ≡ Some item → attached_of item ≡ result.attached.now }
 {
     let (chp, chps_end) = value_until(parts.chps, &mut walk.chps, place);
-    let (beside, besides_end) = value_until(parts.besides, &mut walk.besides, place);
+    let (attached, attachments_end) = value_until(parts.attachments, &mut walk.attachments, place);
     Alike {
         chp,
-        beside,
-        end: chps_end.min(besides_end),
+        attached,
+        end: chps_end.min(attachments_end),
     }
 }
 
 /// Where the paragraph of a place ends: behind the first mark, or at the end of the text, which has `len` units.
-pub fn paragraph_end(besides: &[Run<Beside>], marks: &mut Cursor, place: usize, len: usize) -> usize
-    requires long { extent besides.now ≡ len }
+pub fn paragraph_end(
+    attachments: &[Run<Attached>],
+    marks: &mut Cursor,
+    place: usize,
+    len: usize,
+) -> usize
+    requires long { total_len attachments.now ≡ len }
     requires few { len < 2 ^ 32 }
-    requires at { IsAt besides.now marks.old }
+    requires at { IsAt attachments.now marks.old }
     requires ahead { marks.old.begin ≤ place }
     requires within { place < len }
-    ensures at { IsAt besides.now marks.new }
+    ensures at { IsAt attachments.now marks.new }
     ensures ahead { marks.new.begin < result }
     ensures some { place < result }
     ensures within { result ≤ len }
-    ensures inside { (k : ℕ) (beside : stands.Beside) → place ≤ k → k + 1 < result
-        → slice_get (spread besides.now) k ≡ Some beside → beside.mark ≡ None }
-    ensures ends { result < len → (beside : stands.Beside)
-        → slice_get (spread besides.now) (result - 1) ≡ Some beside → IsSome beside.mark }
+    ensures inside { (k : ℕ) (attached : stands.Attached) → place ≤ k → k + 1 < result
+        → slice_get (expanded attachments.now) k ≡ Some attached → attached.mark ≡ None }
+    ensures ends { result < len → (attached : stands.Attached)
+        → slice_get (expanded attachments.now) (result - 1) ≡ Some attached → IsSome attached.mark }
 {
     let mut at = place;
     while at < len {
-        let (beside, end) = value_until(besides, marks, at);
-        if beside.mark.is_some() {
+        let (attached, end) = value_until(attachments, marks, at);
+        if attached.mark.is_some() {
             return at + 1;
         }
         at = end;

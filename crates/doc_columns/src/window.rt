@@ -1,14 +1,14 @@
 // A text that is a window of columns which other texts share. Contracts see the list of its items.
 ghost use Rattle.std.specs.Prelude.{◌≡◌, ◌≤◌, length, map, slice_range, IfOk};
-ghost use Rattle.run_lists.specs.Spread.{spread};
+ghost use Rattle.run_lists.specs.Spread.{expanded};
 ghost use Rattle.plain_doc.specs.Document.{IsFormedText};
-ghost use Rattle.doc_columns.specs.Beside.{beside_of};
+ghost use Rattle.doc_columns.specs.Attached.{attached_of};
 ghost use Rattle.doc_columns.specs.Walks.{items_in, AreParts};
 ghost use Rattle.doc_columns.specs.Windows.{in_span, window_items, IsSpan, IsWindow};
 
 use crate::copying::copy_part;
 use crate::own::OwnColumns;
-use crate::{Beside, Columns, Parts, Walk};
+use crate::{Attached, Columns, Parts, Walk};
 use doc_bits::Memory;
 use prop_map::PropMap;
 use run_lists::Run;
@@ -21,7 +21,7 @@ use std::rc::Rc;
 pub(crate) struct Whole {
     pub(crate) units: Vec<u16>,
     pub(crate) chps: Vec<Run<PropMap>>,
-    pub(crate) besides: Vec<Run<Beside>>,
+    pub(crate) attachments: Vec<Run<Attached>>,
 }
 
 /// Entries of a list, from one to before another.
@@ -36,7 +36,7 @@ pub(crate) struct Span {
 pub(crate) struct Spans {
     pub(crate) units: Span,
     pub(crate) chps: Span,
-    pub(crate) besides: Span,
+    pub(crate) attachments: Span,
 }
 
 /// A window of columns.
@@ -92,21 +92,21 @@ impl Window {
         entries(&self.whole.units, self.spans.units)
     }
 
-    /// The runs of their settings.
+    /// The runs of their properties.
     pub(crate) fn chps(&self) -> &[Run<PropMap>]
-        ensures { spread result.now ≡ map (λ item. item.chp) self.now }
+        ensures { expanded result.now ≡ map (λ item. item.chp) self.now }
     {
         entries(&self.whole.chps, self.spans.chps)
     }
 
     /// The runs of what stands beside them.
-    pub(crate) fn besides(&self) -> &[Run<Beside>]
-        ensures { spread result.now ≡ map beside_of self.now }
+    pub(crate) fn attachments(&self) -> &[Run<Attached>]
+        ensures { expanded result.now ≡ map attached_of self.now }
     {
-        entries(&self.whole.besides, self.spans.besides)
+        entries(&self.whole.attachments, self.spans.attachments)
     }
 
-    /// The same items. No column is copied.
+    /// A copy of the items, which shares their columns.
     pub(crate) fn copy(&self, alloc: Global) -> Result<Window, Memory>
         ensures { IfOk result (λ copy. copy ≡ self.now) }
     {
@@ -158,7 +158,7 @@ impl Window {
         Parts {
             units: self.units(),
             chps: self.chps(),
-            besides: self.besides(),
+            attachments: self.attachments(),
         }
     }
 }

@@ -3,8 +3,8 @@ use Rattle.std.proofs.Common.{◌≡◌, ◌∙◌, refl, sym, ap, subst, ℕ, L
 use Rattle.std.proofs.lemmas.List.{map-append}
 use Rattle.cfb_streams.specs.Contents.{HasNamed}
 use Rattle.cfb_streams.specs.Names.{wd_name}
-use Rattle.doc_load.specs.FileRules.{table_stream_name}
-use Rattle.doc_load.proofs.NameLemmas.{named_one}
+use Rattle.file_rules.specs.FileRules.{table_stream_name}
+use Rattle.file_rules.proofs.NameLemmas.{named_one}
 use Rattle.doc_lift.specs.declared.lifting.Lifted.{Lifted}
 use Rattle.doc_lift.specs.LiftedFiles.{IsLifted}
 use Rattle.loss_report.specs.Features.{Inventory}

@@ -14,11 +14,11 @@ use Rattle.fib_versions.specs.VersionRules.{version_rules}
 use Rattle.fib_versions.proofs.EarlyLemmas.{early-read_back}
 use Rattle.plain_doc.specs.declared.document.Document.{Document}
 use Rattle.plain_doc.proofs.SoundLemmas.{document_rules-IsSingle}
-use Rattle.doc_load.specs.BinRules.{rules_of_bins}
-use Rattle.doc_load.specs.FileRules.{FileText, HasText, source_of, table_stream_name}
-use Rattle.doc_load.proofs.ContentsLemmas.{streams-small}
-use Rattle.doc_load.proofs.NameLemmas.{named_one}
-use Rattle.doc_load.proofs.RightPlaces.{hold_out}
+use Rattle.file_rules.specs.BinRules.{rules_of_bins}
+use Rattle.file_rules.specs.FileRules.{FileText, HasText, source_of, table_stream_name}
+use Rattle.file_rules.proofs.ContentsLemmas.{streams-small}
+use Rattle.file_rules.proofs.NameLemmas.{named_one}
+use Rattle.file_rules.proofs.RightPlaces.{hold_out}
 use Rattle.doc_meaning.specs.Meaning.{MeansDocument}
 use Rattle.doc_meaning.proofs.MeaningLemmas.{meaning_is_one}
 use Rattle.doc_read.specs.Holds.{FileParts}

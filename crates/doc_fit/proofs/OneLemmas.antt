@@ -7,10 +7,10 @@ use Rattle.doc_bits.proofs.RuleLemmas.{first_agrees}
 use Rattle.cfb_streams.specs.Contents.{Contents, HasNamed}
 use Rattle.cfb_streams.specs.Names.{wd_name}
 use Rattle.cfb_streams.proofs.UniqueLemmas.{contents_unique, storages_unique}
-use Rattle.doc_load.specs.Units.{text_units}
-use Rattle.doc_load.specs.FileRules.{FileText, HasText}
-use Rattle.doc_load.proofs.NameLemmas.{named_one}
-use Rattle.doc_load.proofs.TextLemmas.{text_one}
+use Rattle.file_rules.specs.Units.{text_units}
+use Rattle.file_rules.specs.FileRules.{FileText, HasText}
+use Rattle.file_rules.proofs.NameLemmas.{named_one}
+use Rattle.file_rules.proofs.TextLemmas.{text_one}
 use Rattle.loss_report.specs.Features.{Inventory}
 use Rattle.text_losses.specs.declared.features.TextFeature.{TextFeature}
 use Rattle.code_losses.proofs.LawLemmas.{losses_one}

@@ -2,15 +2,15 @@
 use Rattle.std.proofs.Common.{◌≡◌, ◌∙◌, ap, subst, ℕ, List}
 use Rattle.cfb_streams.specs.Contents.{Contents}
 use Rattle.cfb_streams.proofs.UniqueLemmas.{contents_unique}
-use Rattle.doc_load.specs.FileRules.{FileText, HasText}
-use Rattle.doc_load.proofs.TextLemmas.{text_one}
+use Rattle.file_rules.specs.FileRules.{FileText, HasText}
+use Rattle.file_rules.proofs.TextLemmas.{text_one}
 use Rattle.doc_losses.specs.References.{Names, names_of}
 use Rattle.plain_doc.specs.Marks.{HasFormedBookmarks}
 use Rattle.doc_bits.specs.Rules.{Hold, given}
 use Rattle.plain_doc.specs.Sound.{document_rules}
-use Rattle.doc_load.specs.declared.fault.ReadFault.{ReadFault}
-use Rattle.doc_load.specs.Faults.{IsReadFault}
-use Rattle.doc_load.proofs.RefusalLemmas.{refused-first, refused-next, refused-given}
+use Rattle.file_rules.specs.declared.fault.ReadFault.{ReadFault}
+use Rattle.file_rules.specs.Faults.{IsReadFault}
+use Rattle.file_rules.proofs.RefusalLemmas.{refused-first, refused-next, refused-given}
 use Rattle.doc_lift.specs.declared.lifting.Lifted.{Lifted}
 use Rattle.doc_lift.specs.LiftedFiles.{IsLifted, lifted_rules}
 use Rattle.doc_mends.specs.declared.mends.Mend.{Mend}

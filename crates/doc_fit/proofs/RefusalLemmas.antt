@@ -13,7 +13,7 @@ use Rattle.cfb_streams.proofs.UniqueLemmas.{contents_unique}
 use Rattle.fib_versions.specs.VersionRules.{IsShortFib}
 use Rattle.doc_lift.specs.LiftedRules.{lifted_wd_rules}
 use Rattle.doc_lift.specs.LiftedFiles.{lifted_rules}
-use Rattle.doc_load.proofs.FileLemmas.{ascends_in}
+use Rattle.file_rules.proofs.FileLemmas.{ascends_in}
 use Rattle.doc_lift.proofs.RuleLemmas.{outer_ascends}
 use Rattle.run_stages.specs.Lines.{rule_line}
 use Rattle.run_stages.specs.Outcomes.{Outcome, says}

@@ -8,8 +8,8 @@ use Rattle.fib_form.specs.Fib.{table_part}
 use Rattle.fib_form.specs.TableParts.{pair_of}
 use Rattle.fib_form.specs.declared.table_parts.TablePart.TheVariants.{PlcfBteChpx, PlcfBtePapx, Clx}
 use Rattle.fib_versions.specs.VersionRules.{version_rules}
-use Rattle.doc_load.specs.Units.{text_units}
-use Rattle.doc_load.specs.FileRules.{FileText, HasText, table_stream_name}
+use Rattle.file_rules.specs.Units.{text_units}
+use Rattle.file_rules.specs.FileRules.{FileText, HasText, table_stream_name}
 use Rattle.doc_lift.specs.declared.lifting.Lifted.{Lifted}
 use Rattle.loss_report.specs.Features.{Inventory}
 use Rattle.loss_report.specs.Losses.{losses}

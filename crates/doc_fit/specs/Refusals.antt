@@ -5,7 +5,7 @@ use Rattle.doc_bits.specs.Places.{Place, IsFirstPlace}
 use Rattle.cfb_streams.specs.Contents.{Contents, HasNamed}
 use Rattle.cfb_streams.specs.Container.{HasContents}
 use Rattle.cfb_streams.specs.Names.{wd_name}
-use Rattle.doc_load.specs.FileRules.{table_stream_name}
+use Rattle.file_rules.specs.FileRules.{table_stream_name}
 use Rattle.run_stages.specs.Lines.{rule_line}
 use Rattle.run_stages.specs.Outcomes.{Outcome, says}
 use Rattle.doc_fit.specs.declared.refusing.FibVersion.{FibVersion}

@@ -7,15 +7,11 @@ ghost use Rattle.doc_fit.specs.Losses.{AreTextLosses};
 
 use code_losses::code_losses;
 use doc_bits::{Memory, Text};
+use doc_lift::{PLCF_BTE_CHPX, PLCF_BTE_PAPX};
 use fib_versions::AnyFib;
 use loss_report::LossLines;
 use std::alloc::Global;
 use text_losses::{TextFeature, push_feature};
-
-/// The pairs of the bin tables of characters and of paragraphs, and of the Clx.
-const PLCF_BTE_CHPX: u16 = 12;
-
-const PLCF_BTE_PAPX: u16 = 13;
 
 const CLX: u16 = 33;
 

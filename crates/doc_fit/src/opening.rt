@@ -2,17 +2,17 @@
 ghost use Rattle.std.specs.Prelude.{◌≡◌, IfOk, MatchResult};
 ghost use Rattle.plain_doc.specs.Marks.{HasFormedBookmarks};
 ghost use Rattle.plain_doc.specs.Sound.{IsSound};
-ghost use Rattle.doc_load.specs.Faults.{IsReadFault};
+ghost use Rattle.file_rules.specs.Faults.{IsReadFault};
 ghost use Rattle.doc_lift.specs.LiftedFiles.{IsLifted};
 ghost use Rattle.doc_fit.specs.Losses.{HasLiftedStreams};
 ghost use Rattle.doc_fit.specs.Opened.{IsOpenedAny, IsReported};
 ghost use Rattle.doc_fit.specs.Rules.{fit_rules};
 
 use crate::losses::found_in;
-use doc_bits::Memory;
+use doc_bits::{Memory, drop_then};
 use doc_lift::{Lifted, ReadFault, lift};
 use doc_mends::{Mend, mend};
-use doc_read::judge_document;
+use doc_read::check_document;
 use loss_report::LossLines;
 use std::alloc::Global;
 
@@ -48,14 +48,14 @@ fn open_lifted(alloc: Global, file: &[u8], mut lifted: Lifted) -> Result<OpenedA
     requires { IsLifted file.now lifted }
     ensures { MatchResult result (IsOpenedAny file.now) (IsReadFault (fit_rules file.now)) }
 {
-    match judge_lifted(alloc, file, &mut lifted) {
-        Ok(report) => Ok(opened(lifted, report)),
-        Err(fault) => let_go(lifted, Err(fault)),
+    match check_lifted(alloc, file, &mut lifted) {
+        Ok(report) => Ok(open_parts(lifted, report)),
+        Err(fault) => drop_then(lifted, Err(fault)),
     }
 }
 
 /// What was opened, of its parts. It takes no memory.
-fn opened(lifted: Lifted, report: Report) -> OpenedAny
+fn open_parts(lifted: Lifted, report: Report) -> OpenedAny
     ensures { result ≡ record { lifted = lifted; losses = report.losses; mends = report.mends } }
 {
     let Report { losses, mends } = report;
@@ -67,7 +67,7 @@ fn opened(lifted: Lifted, report: Report) -> OpenedAny
 }
 
 /// Mends what was lifted out of a file, and tells of it, where its document is sound then.
-fn judge_lifted(alloc: Global, file: &[u8], lifted: &mut Lifted) -> Result<Report, ReadFault>
+fn check_lifted(alloc: Global, file: &[u8], lifted: &mut Lifted) -> Result<Report, ReadFault>
     requires { IsLifted file.now lifted.old }
     ensures { MatchResult result
         (λ report. IsReported lifted.old lifted.new report.losses report.mends.items × IsSound lifted.new.document)
@@ -76,7 +76,7 @@ fn judge_lifted(alloc: Global, file: &[u8], lifted: &mut Lifted) -> Result<Repor
     let Ok(report) = mend_lifted(alloc, lifted) else {
         return Err(ReadFault::Memory);
     };
-    match judge_document(alloc, &lifted.document) {
+    match check_document(alloc, &lifted.document) {
         Ok(()) => Ok(report),
         Err(fault) => Err(fault),
     }
@@ -92,12 +92,4 @@ fn mend_lifted(alloc: Global, lifted: &mut Lifted) -> Result<Report, Memory>
     let mends = mend(alloc, &mut lifted.document, &found.marks)?;
     let losses = found.losses;
     Ok(Report { losses, mends })
-}
-
-/// An answer, once a value is let go.
-fn let_go<T: Drop, A>(value: T, answer: A) -> A
-    ensures { result ≡ answer }
-{
-    drop(value);
-    answer
 }

@@ -1,7 +1,7 @@
 // Why a file is not opened: of another program, encrypted, or the first of the rules that are left.
 ghost use Rattle.std.specs.Prelude.{◌≡◌, ◌↔◌, ◌⊎◌, IsTrue, IfOk};
 ghost use Rattle.doc_bits.specs.Places.{IsFirstPlace};
-ghost use Rattle.doc_load.specs.Faults.{IsReadFault};
+ghost use Rattle.file_rules.specs.Faults.{IsReadFault};
 ghost use Rattle.run_stages.specs.Outcomes.{says};
 ghost use Rattle.doc_fit.specs.Lines.{encrypted_line as encrypted_of};
 ghost use Rattle.doc_fit.specs.Rules.{fit_rules};
@@ -14,17 +14,13 @@ use crate::streams::main_stream;
 use cfb_streams::{Container, OuterContainer};
 use doc_bits::{Memory, Text, Where, get16};
 use doc_lift::ReadFault;
+use fib_form::{N_FIB, RULE_FORM, RULE_IDENT};
 use run_stages::{Ending, STATUS_REFUSED, reason_of_name, rule_broken, why_refused};
 use std::alloc::Global;
-
-/// [MS-DOC] the rules on wIdent and nFib, that on fEncrypted and fObfuscated, and that on csw, cslw and cbRgFcLcb.
-const RULE_IDENT: u8 = 17;
 
 const RULE_VERSION: u8 = 18;
 
 const RULE_ENCRYPTED: u8 = 19;
-
-const RULE_FORM: u8 = 21;
 
 /// The rules on the codes of Prcs, characters, paragraphs and styles.
 const RULE_PRC_CODES: u8 = 31;
@@ -34,9 +30,6 @@ const RULE_CHARACTER_CODES: u8 = 43;
 const RULE_PARAGRAPH_CODES: u8 = 48;
 
 const RULE_STYLE_CODES: u8 = 51;
-
-/// Where the FIB has its nFib.
-const N_FIB: usize = 2;
 
 const OTHER_PROGRAM: &str =
     "of Word 95 or older, or of another program: soffice --convert-to doc makes a Word 97 document of it";
@@ -85,7 +78,7 @@ fn refused_at(
         return other_program(alloc, name, file);
     }
     if rule == RULE_ENCRYPTED {
-        return encrypted(alloc, name);
+        return encrypted_ending(alloc, name);
     }
     rule_broken(alloc, name, rule, place, why_not_opened(rule, file))
 }
@@ -124,7 +117,7 @@ pub fn why_not_opened(rule: u8, file: &[u8]) -> &'static str {
 }
 
 /// The ending of an encrypted file.
-fn encrypted(alloc: Global, name: &str) -> Result<Ending, Memory>
+fn encrypted_ending(alloc: Global, name: &str) -> Result<Ending, Memory>
     ensures { IfOk result (λ ending. ending ≡ says 16 (encrypted_of name.now)) }
 {
     let text = encrypted_line(alloc, name)?;
@@ -156,7 +149,7 @@ fn version_of(alloc: Global, file: &[u8]) -> Result<FibVersion, Memory>
     }
 }
 
-/// The same of its streams.
+/// The wIdent and the nFib of a file, by its streams.
 fn version_in(outer: &OuterContainer) -> FibVersion
     requires { HasOneMain outer.now.container }
     ensures { IsVersionIn outer.now.container result }

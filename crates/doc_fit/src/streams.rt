@@ -4,7 +4,7 @@ ghost use Rattle.doc_bits.specs.Rules.{Hold};
 ghost use Rattle.cfb_streams.specs.Contents.{HasNamed};
 ghost use Rattle.cfb_streams.specs.Names.{wd_name};
 ghost use Rattle.fib_versions.specs.VersionRules.{version_rules};
-ghost use Rattle.doc_load.specs.FileRules.{table_stream_name};
+ghost use Rattle.file_rules.specs.FileRules.{table_stream_name};
 ghost use Rattle.doc_fit.specs.Refusals.{HasMain, HasTable};
 
 use cfb_streams::{OuterContainer, WORD_DOCUMENT, table_name};

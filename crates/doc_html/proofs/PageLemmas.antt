@@ -14,7 +14,7 @@ use Rattle.form_page.specs.declared.page.PageForm.{PageForm}
 use Rattle.form_page.specs.Forms.{form_text}
 use Rattle.plain_doc.specs.declared.document.Document.{Document}
 use Rattle.plain_doc.specs.Sound.{IsSound}
-use Rattle.plain_doc.proofs.RightLemmas.{sound_is_right}
+use Rattle.plain_doc.proofs.RightLemmas.{sound_is_valid}
 use Rattle.list_numbers.specs.declared.paragraph_values.ParagraphValues.{ParagraphValues}
 use Rattle.list_numbers.specs.ParagraphValues.{AreParagraphValuesOf}
 use Rattle.list_numbers.proofs.OneLemmas.{paragraph_values_of_one}
@@ -42,7 +42,7 @@ pub form_ok : {K E : Type 0} (sink : Ghosts K) (a b c : K) (p q : Page) (form : 
     bytes))
 form_ok sink a b c p q form document values options (Err e) are sound empty right put fine ends = tt
 form_ok sink a b c p q form document values options (Ok u) are sound empty right put fine ends =
-    let there = formats_there document.sheet (sound_is_right document sound).bases in
+    let there = formats_there document.sheet (sound_is_valid document sound).bases in
     let bytes = encode_utf8_all (form_text form document (head_of there.0 options document) (places_of there.0 values options document)) in (
       bytes,
       (
@@ -61,7 +61,7 @@ pub form_prefix : {K E : Type 0} (sink : Ghosts K) (a b c : K) (p q : Page) (for
     × AppendsPrefix (sink.written a) (sink.written c) bytes))
 form_prefix sink a b c p q form document values options (Ok u) are sound empty right put fails stays on = tt
 form_prefix sink a b c p q form document values options (Err e) are sound empty right put fails stays on =
-    let there = formats_there document.sheet (sound_is_right document sound).bases in
+    let there = formats_there document.sheet (sound_is_valid document sound).bases in
     let bytes = encode_utf8_all (form_text form document (head_of there.0 options document) (places_of there.0 values options document)) in (
       bytes,
       (
@@ -80,7 +80,7 @@ pub form_rose : {K E : Type 0} (sink : Ghosts K) (a b c : K) (p q : Page) (form 
     OnErr taken (Rose (sink.faults a) (sink.faults c))
 form_rose sink a b c p q form document values options (Ok u) are sound right put fails stays on = tt
 form_rose sink a b c p q form document values options (Err e) are sound right put fails stays on =
-    let there = formats_there document.sheet (sound_is_right document sound).bases in
+    let there = formats_there document.sheet (sound_is_valid document sound).bases in
     let bytes = encode_utf8_all (form_text form document (head_of there.0 options document) (places_of there.0 values options document)) in
     (failed_page sink a b c p q bytes right (put there.0 there.1) fails stays on).rose
 

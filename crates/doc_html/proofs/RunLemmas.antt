@@ -4,11 +4,11 @@ use Rattle.std.proofs.Common.{map, take, Option, Some, None, refl, sym, ap, subs
 use Rattle.std.specs.Prelude.{if◌then◌else◌, is_some, slice_get, slice_range}
 use Rattle.std.proofs.lemmas.List.{length-map, map-append}
 use Rattle.std.proofs.lemmas.Option.{slice_get_within}
-use Rattle.doc_bits.proofs.ListLemmas.{length-range}
+use Rattle.doc_bits.proofs.ListLemmas.{length-range, range_split}
 use Rattle.doc_outer.specs.declared.sink.Sink.{Ghosts}
 use Rattle.plain_doc.specs.declared.item.Item.{Item}
 use Rattle.plain_doc.specs.declared.item.NoteKind.{NoteKind}
-use Rattle.doc_columns.specs.declared.beside.Beside.{Beside}
+use Rattle.doc_columns.specs.declared.attached.Attached.{Attached}
 use Rattle.char_formats.specs.declared.format.CharFormat.{CharFormat}
 use Rattle.field_links.specs.declared.places.OpenField.{OpenField}
 use Rattle.field_links.specs.OpenFields.{hyperlink_in, open_fields}
@@ -26,7 +26,7 @@ use Rattle.doc_view.specs.declared.text.Course.{Course}
 use Rattle.doc_view.specs.Blocks.{shows_units}
 use Rattle.doc_view.specs.Course.{HasFormat, IsCourse}
 use Rattle.doc_view.specs.Seen.{Formats, references_in, seen_as, some_shown}
-use Rattle.doc_view.proofs.RangeLemmas.{one_range, range_then, seen_one, seen_range, seen_then}
+use Rattle.doc_view.proofs.RangeLemmas.{one_range, seen_one, seen_range, seen_then}
 use Rattle.doc_view.proofs.UnitLemmas.{AreUnits, IsUnitAt, behind_units, course_behind, seen_itself, still_shows, unit_seen}
 use Rattle.doc_view.proofs.UnitLemmas.{units_course}
 use Rattle.doc_places.specs.Places.{count_of, format_elements, item_places, items_places, label_places, link_elements}
@@ -39,28 +39,30 @@ use Rattle.doc_html.proofs.WriteLemmas.{puts_same, referred_on}
 -- ---- what is seen of a run
 
 one_seen : (formats : Formats) (manner : Manner) (istd : ℕ) (items : List Item) (units : List ℕ) (format : CharFormat)
-    (beside : Beside) (course : Course) (one : IsUnitAt items units beside course.place) → IsCourse manner items course →
-    shows_units manner format course.front beside ≡ true → formats istd one.item.chp ≡ format →
+    (attached : Attached) (course : Course) (one : IsUnitAt items units attached course.place) → IsCourse manner items
+    course →
+    shows_units manner format course.front attached ≡ true → formats istd one.item.chp ≡ format →
     seen_range formats manner istd items course.place (course.place + 1) ≡ map (unit_seen format) (slice_range units
     course.place (course.place + 1))
-one_seen formats manner istd items units format beside course one is shows formed =
+one_seen formats manner istd items units format attached course one is shows formed =
     let unit = one.item.unit in
     seen_one formats manner istd items course.place one.item one.here
     ∙ (λ i. seen_as manner (formed i) (sym is.front i) one.item ∷ [])
-    ∙ ap (λ (s : Seen). s ∷ []) (seen_itself manner format course.front beside one.item shows one.same one.itself)
+    ∙ ap (λ (s : Seen). s ∷ []) (seen_itself manner format course.front attached one.item shows one.same one.itself)
     ∙ ap (map (unit_seen format)) (sym (one_range units course.place unit one.unit))
 
 run_seen : (formats : Formats) (manner : Manner) (istd : ℕ) (items : List Item) (units : List ℕ) (format : CharFormat)
-    (beside : Beside) (course : Course) (n : ℕ) → IsCourse manner items course → shows_units manner format course.front
-    beside ≡ true → AreUnits items units beside course.place (course.place + suc n) →
+    (attached : Attached) (course : Course) (n : ℕ) → IsCourse manner items course → shows_units manner format
+    course.front
+    attached ≡ true → AreUnits items units attached course.place (course.place + suc n) →
     HasFormat formats istd items course.place (course.place + suc n) format →
     seen_range formats manner istd items course.place (course.place + suc n) ≡ map (unit_seen format) (slice_range units
     course.place (course.place + suc n))
-run_seen formats manner istd items units format beside course zero is shows are has =
+run_seen formats manner istd items units format attached course zero is shows are has =
     let one = are course.place (omega arith) (omega arith) in
-    one_seen formats manner istd items units format beside course one is shows
+    one_seen formats manner istd items units format attached course one is shows
     (has course.place one.item (omega arith) (omega arith) one.here)
-run_seen formats manner istd items units format beside course (suc n) is shows are has =
+run_seen formats manner istd items units format attached course (suc n) is shows are has =
     let from = course.place in
     let place = from + suc n in
     let one = are place (omega arith) (omega arith) in
@@ -68,20 +70,20 @@ run_seen formats manner istd items units format beside course (suc n) is shows a
     let low : from ≤ place = omega arith in
     let high : place ≤ place + 1 = omega arith in
     let before =
-    run_seen formats manner istd items units format beside course n is shows
+    run_seen formats manner istd items units format attached course n is shows
     (λ k low below. are k low (omega (arith, below)))
     (λ k item low below here. has k item low (omega (arith, below)) here) in
     let last =
-    one_seen formats manner istd items units format beside (behind_units course place) one
-    (units_course manner items units course format beside n is shows
+    one_seen formats manner istd items units format attached (behind_units course place) one
+    (units_course manner items units course format attached n is shows
     (λ k low below. are k low (omega (arith, below))))
-    (still_shows manner format course.front beside shows)
+    (still_shows manner format course.front attached shows)
     (has place one.item (omega arith) (omega arith) one.here) in
     subst (λ (to : ℕ). seen_range formats manner istd items from to ≡ map (unit_seen format) (slice_range units from to))
     more
     (seen_then formats manner istd items from place (place + 1) low high ∙ (λ i. before i ++ last i)
     ∙ sym (map-append {B = Seen} (unit_seen format) (slice_range units from place) (slice_range units place (place + 1)))
-    ∙ ap (map (unit_seen format)) (sym (range_then units from place (place + 1) low high)))
+    ∙ ap (map (unit_seen format)) (sym (range_split units from place (place + 1) low high)))
 
 -- ---- the links of a run
 
@@ -89,42 +91,48 @@ pub run_few : (count place more : ℕ) → count ≤ place → count ≤ place +
 run_few count place more few = omega (arith, few)
 
 -- no reference ends in it
-pub referred_along : (items : List Item) (units : List ℕ) (beside : Beside) (place count : ℕ) → beside.note ≡ None →
-    AreUnits items units beside place (place + count) → up_to_reference (take (place + count) items) ≡ up_to_reference
+pub referred_along : (items : List Item) (units : List ℕ) (attached : Attached) (place count : ℕ) → attached.note ≡ None
+    →
+    AreUnits items units attached place (place + count) → up_to_reference (take (place + count) items) ≡ up_to_reference
     (take place items)
-referred_along items units beside place zero none are =
+referred_along items units attached place zero none are =
     let same : place + zero ≡ place = omega arith in ap (λ (n : ℕ). up_to_reference (take n items)) same
-referred_along items units beside place (suc n) none are =
+referred_along items units attached place (suc n) none are =
     let at = place + n in
     let one = are at (omega arith) (omega arith) in
     let more : at + 1 ≡ place + suc n = omega arith in
     let before = up_to_reference (take at items) in
     ap (λ (k : ℕ). up_to_reference (take k items)) (sym more)
-    ∙ sym (referred_on items at one.item beside before one.here one.same refl)
+    ∙ sym (referred_on items at one.item attached before one.here one.same refl)
     ∙ ap (λ (note : Option NoteKind). if is_some note then at + 1 else before) none
-    ∙ referred_along items units beside place n none (λ k low below. are k low (omega (arith, below)))
+    ∙ referred_along items units attached place n none (λ k low below. are k low (omega (arith, below)))
 
 -- the fields that are open stay so
-fields_along : (manner : Manner) (items : List Item) (units : List ℕ) (course : Course) (format : CharFormat) (beside :
-    Beside) (count k : ℕ) → k < count → IsCourse manner items course → shows_units manner format course.front beside ≡
-    true → AreUnits items units beside course.place (course.place + count) → course.fields ≡ open_fields (take
+fields_along : (manner : Manner) (items : List Item) (units : List ℕ) (course : Course) (format : CharFormat) (attached
+    :
+    Attached) (count k : ℕ) → k < count → IsCourse manner items course → shows_units manner format course.front attached
+    ≡
+    true → AreUnits items units attached course.place (course.place + count) → course.fields ≡ open_fields (take
     (course.place + k) items)
-fields_along manner items units course format beside count zero below is shows are =
+fields_along manner items units course format attached count zero below is shows are =
     let same : course.place ≡ course.place + zero = omega arith in
     is.fields ∙ ap (λ (n : ℕ). open_fields (take n items)) same
-fields_along manner items units course format beside count (suc k) below is shows are =
-    (units_course manner items units course format beside k is shows
+fields_along manner items units course format attached count (suc k) below is shows are =
+    (units_course manner items units course format attached k is shows
     (λ i low small. are i low (omega (arith, small, below)))).fields
 
-link_along : (manner : Manner) (items : List Item) (units : List ℕ) (reading : Reading) (format : CharFormat) (beside :
-    Beside) (count k : ℕ) → k < count → IsReading manner items reading → shows_units manner format reading.course.front
-    beside ≡ true → beside.note ≡ None → AreUnits items units beside reading.course.place (reading.course.place + count) →
+link_along : (manner : Manner) (items : List Item) (units : List ℕ) (reading : Reading) (format : CharFormat) (attached
+    :
+    Attached) (count k : ℕ) → k < count → IsReading manner items reading → shows_units manner format
+    reading.course.front
+    attached ≡ true → attached.note ≡ None → AreUnits items units attached reading.course.place (reading.course.place +
+    count) →
     links_in reading.origin items (reading.course.place + k) ≡ link_to reading.origin.note reading.referred (hyperlink_in
     reading.origin.begin reading.course.fields)
-link_along manner items units reading format beside count k below is shows none are =
-    let referred = is.referred ∙ sym (referred_along items units beside reading.course.place k none
+link_along manner items units reading format attached count k below is shows none are =
+    let referred = is.referred ∙ sym (referred_along items units attached reading.course.place k none
     (λ i low small. are i low (omega (arith, small, below)))) in
-    let fields = fields_along manner items units reading.course format beside count k below is.course shows are in
+    let fields = fields_along manner items units reading.course format attached count k below is.course shows are in
     λ i. link_to reading.origin.note (sym referred i) (hyperlink_in reading.origin.begin (sym fields i))
 
 -- ---- the places of a run
@@ -209,9 +217,10 @@ range_long units from count within =
 
 pub run_written : {K : Type 0} (sink : Ghosts K) (out mid next : K) (page said left : FormPage) (reading : Reading)
     (link : Option Link) (block : List Element) (label : List ℕ) (formats : Formats) (manner : Manner) (istd : ℕ) (items :
-    List Item) (units : List ℕ) (format : CharFormat) (beside : Beside) (count : ℕ) → 0 < count → IsReading manner items
-    reading → shows_units manner format reading.course.front beside ≡ true → beside.note ≡ None →
-    AreUnits items units beside reading.course.place (reading.course.place + count) →
+    List Item) (units : List ℕ) (format : CharFormat) (attached : Attached) (count : ℕ) → 0 < count → IsReading manner
+    items
+    reading → shows_units manner format reading.course.front attached ≡ true → attached.note ≡ None →
+    AreUnits items units attached reading.course.place (reading.course.place + count) →
     HasFormat formats istd items reading.course.place (reading.course.place + count) format →
     link ≡ link_to reading.origin.note reading.referred (hyperlink_in reading.origin.begin reading.course.fields) →
     PutsPlaces sink out page mid said (if true && not reading.begun then label_places block label else []) →
@@ -234,9 +243,11 @@ pub run_written : {K : Type 0} (sink : Ghosts K) (out mid next : K) (page said l
       references = reading.course.references.list;
     }) (links_in reading.origin items) block label (seen_range formats manner istd items reading.course.place
     (reading.course.place + count))
-run_written sink out mid next page said left reading link block label formats manner istd items units format beside zero
+run_written sink out mid next page said left reading link block label formats manner istd items units format attached
+    zero
     some is shows none are has leads first puts = absurd (omega (arith, some))
-run_written sink out mid next page said left reading link block label formats manner istd items units format beside (suc n)
+run_written sink out mid next page said left reading link block label formats manner istd items units format attached
+    (suc n)
     some is shows none are has leads first puts =
     let from = reading.course.place in
     let run = slice_range units from (from + suc n) in
@@ -245,7 +256,8 @@ run_written sink out mid next page said left reading link block label formats ma
     let long : length run ≡ suc n = range_long units from (suc n) (omega (arith, within)) in
     let links = links_in reading.origin items in
     let same : (k : ℕ) → k < length run → links (from + k) ≡ link =
-    λ k small. link_along manner items units reading format beside (suc n) k (omega (arith, small, long)) is shows none are
+    λ k small. link_along manner items units reading format attached (suc n) k (omega (arith, small, long)) is shows
+    none are
     ∙ sym leads in
     let end : from + length run ≡ from + suc n = omega (arith, long) in
     let written =
@@ -267,7 +279,7 @@ run_written sink out mid next page said left reading link block label formats ma
       place = from + suc n;
       references = reading.course.references.list;
     }) links block label seen)
-    (sym (run_seen formats manner istd items units format beside reading.course n is.course shows are has))
+    (sym (run_seen formats manner istd items units format attached reading.course n is.course shows are has))
     (subst (λ (to : ℕ). Writes sink (record {
       out = out;
       page = page;

@@ -2,15 +2,12 @@
 use Rattle.std.proofs.Common.{◌≡◌, ◌∙◌, ℕ, zero, suc, ◌<◌, ◌≤◌, Bool, true, false, List, [], ◌∷◌, ◌++◌, length, take, refl, sym, ap, arith}
 use Rattle.std.proofs.Common.{append-nil, length-append, Option, Some, None}
 use Rattle.std.specs.Prelude.{if◌then◌else◌}
-use Rattle.std.specs.List.{cons_option, count_by, filter_map}
+use Rattle.std.specs.List.{cons_option, filter_map}
 use Rattle.std.proofs.Math.Seq.{take-append_seam}
 use Rattle.std.proofs.lemmas.List.{take_all}
 use Rattle.std.proofs.lemmas.List.Elements.{filter_map-append}
-use Rattle.plain_doc.specs.declared.item.Item.{Item}
-use Rattle.symbol_fonts.specs.declared.fonts.SymbolFonts.{SymbolFonts}
 use Rattle.doc_view.specs.declared.reading.Seen.{Seen}
 use Rattle.doc_view.specs.declared.reading.TextKind.TheVariants as text_kind
-use Rattle.doc_view.specs.Course.{has_reference}
 use Rattle.doc_view.specs.Seen.{Paragraph}
 use Rattle.doc_html.specs.Head.{is_title, longest_title, seen_unit, title_in, title_units, untitled}
 
@@ -67,9 +64,3 @@ title_past paragraph more is =
 pub no_title : (paragraphs : List Paragraph) → paragraphs ≡ [] → title_in paragraphs ≡ untitled
 unfolding title_in
 no_title paragraphs none = ap title_in none
-
--- in the text of a header nothing refers to a note
-pub none_met : (hidden : Bool) (fonts : SymbolFonts) (items : List Item) →
-    count_by (has_reference (record { hidden = hidden; kind = text_kind.Header; fonts = fonts })) items ≡ 0
-none_met hidden fonts [] = refl
-none_met hidden fonts (item ∷ items) = none_met hidden fonts items

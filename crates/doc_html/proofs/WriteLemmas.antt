@@ -5,13 +5,12 @@ use Rattle.std.proofs.Common.{append_assoc, append-nil, Option, Some, None, leng
 use Rattle.std.proofs.Common.{◌&&◌, ◌||◌}
 use Rattle.std.specs.Prelude.{slice_get, if◌then◌else◌, is_some}
 use Rattle.view_places.specs.declared.glyph.Glyph.{Glyph}
-use Rattle.std.specs.List.{cons_option}
 use Rattle.std.proofs.lemmas.List.Elements.{filter_map-append}
 use Rattle.std.proofs.lemmas.Option.{slice_get_within}
 use Rattle.doc_outer.specs.declared.sink.Sink.{Ghosts}
 use Rattle.plain_doc.specs.declared.item.Item.{Item}
-use Rattle.doc_columns.specs.Beside.{beside_of}
-use Rattle.doc_columns.specs.declared.beside.Beside.{Beside}
+use Rattle.doc_columns.specs.Attached.{attached_of}
+use Rattle.doc_columns.specs.declared.attached.Attached.{Attached}
 use Rattle.doc_columns.specs.declared.walk.Walk.{Walk}
 use Rattle.char_formats.specs.declared.format.CharFormat.{CharFormat}
 use Rattle.view_places.specs.declared.element.Element.{Element}
@@ -26,8 +25,8 @@ use Rattle.doc_view.specs.declared.text.Course.{Course}
 use Rattle.doc_view.specs.Course.{IsCourse, with_reference}
 use Rattle.doc_view.specs.Kept.{KeptReferences}
 use Rattle.doc_view.specs.Seen.{Formats, front_of, references_in, seen_as, some_shown}
-use Rattle.doc_view.proofs.RangeLemmas.{one_more_front, seen_none, seen_one, seen_range, seen_then}
-use Rattle.doc_view.proofs.CourseLemmas.{course_walk}
+use Rattle.doc_view.proofs.RangeLemmas.{seen_none, seen_one, seen_range, seen_then}
+use Rattle.doc_view.proofs.CourseLemmas.{course_walk, references_on}
 use Rattle.std.proofs.Math.Bool.{or_assoc}
 use Rattle.std.proofs.lemmas.List.Folds.{list_any-append}
 use Rattle.doc_places.specs.Places.{count_of, item_places, items_places, label_places, link_to, place_of}
@@ -39,6 +38,8 @@ use Rattle.doc_places.specs.declared.links.Origin.{Origin}
 use Rattle.doc_places.proofs.PlaceLemmas.{count_one, items_places-append, items_places-hidden, items_places-none, items_places-one}
 use Rattle.doc_html.specs.declared.reading.Reading.{Reading}
 use Rattle.doc_html.specs.Writes.{At, IsReading, Writes, label_before, links_in}
+use Rattle.doc_bits.proofs.TestLemmas.{or_false}
+use Rattle.doc_bits.proofs.ListLemmas.{take_step}
 
 -- other places that are the same
 pub puts_same : {K : Type 0} (sink : Ghosts K) (a b : K) (page left : FormPage) (xs ys : Places) → xs ≡ ys →
@@ -56,14 +57,6 @@ shown_item block link count seen glyph is same =
     Glyph). place_of block link count seen g ∷ []) same
 
 -- ---- a label before the first item that is shown
-
-and_false : (b : Bool) → (b && false) ≡ false
-and_false true = refl
-and_false false = refl
-
-or_false : (b : Bool) → (b || false) ≡ b
-or_false true = refl
-or_false false = refl
 
 -- where something was written before, nothing of a label is
 pub past_label : (shown : Bool) (label : Places) → (if shown && false then label else []) ≡ []
@@ -197,12 +190,6 @@ pub count_few : (reference : Option Reference) → count_of reference ≤ 1
 count_few None = omega arith
 count_few (Some reference) = omega arith
 
-references_on : (kept : KeptReferences) (reference : Option Reference) → (with_reference kept reference).list ≡
-    kept.list ++
-    cons_option reference []
-references_on kept None = sym (append-nil kept.list)
-references_on kept (Some reference) = refl
-
 item_writes : {K : Type 0} (sink : Ghosts K) (out mid next : K) (page said left : FormPage) (begun : Bool) (count place
     : ℕ) (kept : KeptReferences) (links : ℕ → Option Link) (block : List Element) (label : List ℕ) (seen : Seen) →
     PutsPlaces sink out page mid said (if seen.is_shown && not begun then label_places block label else []) →
@@ -292,15 +279,16 @@ item_written sink out mid next page said left begun count referred origin link b
     count seen) (ap (λ (l : Option Link). item_places block l count seen) right) puts))
 
 -- where the last reference ends behind the item
-pub referred_on : (items : List Item) (place : ℕ) (item : Item) (beside : Beside) (referred : ℕ) → slice_get items place
-    ≡ Some item → beside_of item ≡ beside → referred ≡ up_to_reference (take place items) →
-    (if is_some beside.note then place + 1 else referred) ≡ up_to_reference (take (place + 1) items)
-referred_on items place item beside referred here same is =
+pub referred_on : (items : List Item) (place : ℕ) (item : Item) (attached : Attached) (referred : ℕ) → slice_get items
+    place
+    ≡ Some item → attached_of item ≡ attached → referred ≡ up_to_reference (take place items) →
+    (if is_some attached.note then place + 1 else referred) ≡ up_to_reference (take (place + 1) items)
+referred_on items place item attached referred here same is =
     let within = slice_get_within items place item here in
     let front = take place items in
     let long : place + 1 ≡ suc (length front) = omega (arith, length-take place items, within) in
     (λ i. if is_some ((sym same i).note) then long i else is i) ∙ sym (up_to_reference-more front item)
-    ∙ ap up_to_reference (sym (one_more_front items place item here))
+    ∙ ap up_to_reference (sym (take_step items place item here))
 
 -- the walk over the columns is none of where the reading is
 pub reading_walk : (manner : Manner) (items : List Item) (reading : Reading) (walk : Walk) → IsReading manner items

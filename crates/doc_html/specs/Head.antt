@@ -19,7 +19,7 @@ use Rattle.doc_view.specs.Page.{header_manner}
 use Rattle.doc_view.specs.Seen.{Formats, Paragraph, paragraphs_of, shown_glyph}
 use Rattle.html_page.specs.Pages.{Head}
 
--- the value of the character settings of a style at a code
+-- the value of the character properties of a style at a code
 abbrev pub value_in : Kind → ℕ → Option (List ℕ)
 value_in (Para pap chp) code = get chp code
 value_in (Char chp) code = get chp code

@@ -31,7 +31,7 @@ fn language_in(kind: &Kind) -> Option<u16>
     }
 }
 
-/// The same, as later versions write it.
+/// The language of a style of this kind, as later versions write it.
 fn later_language(kind: &Kind) -> Option<u16>
     ensures { result ≡ later_language kind.now }
 {
@@ -41,7 +41,7 @@ fn later_language(kind: &Kind) -> Option<u16>
     }
 }
 
-/// The value of the character settings at a code.
+/// The value of the character properties at a code.
 fn value_in(kind: &Kind, code: Code) -> Option<&[u8]>
     ensures { MatchOption result (value_in kind.now code.0 ≡ None) (λ value. value_in kind.now code.0 ≡ Some value.now) }
 {

@@ -22,7 +22,7 @@ pub(crate) fn is_head(
     known: Option<bool>,
 ) -> bool
     requires parts { AreParts parts.now }
-    requires marks { IsAt parts.now.besides.now marks }
+    requires marks { IsAt parts.now.attachments.now marks }
     requires ahead { marks.begin ≤ place }
     requires within { place ≤ length parts.now.units.now }
     requires known { (formats : Formats) (manner : Manner) (head : Bool) → known ≡ Some head
@@ -53,7 +53,7 @@ pub(crate) fn known_behind(standing: Standing, is_head: bool) -> Option<bool>
 /// Whether the row that goes on at a place is a head of its table. It is linear in the rest of the row.
 fn is_head_row(parts: &Parts<'_>, from: Cursor, place: usize) -> bool
     requires parts { AreParts parts.now }
-    requires marks { IsAt parts.now.besides.now from }
+    requires marks { IsAt parts.now.attachments.now from }
     requires ahead { from.begin ≤ place }
     requires within { place ≤ length parts.now.units.now }
     ensures { (formats : Formats) (manner : Manner)
@@ -63,8 +63,8 @@ fn is_head_row(parts: &Parts<'_>, from: Cursor, place: usize) -> bool
     let mut marks = from;
     let mut at = place;
     while at < len {
-        let end = paragraph_end(parts.besides, &mut marks, at, len);
-        let last = seek(parts.besides, &mut marks, end - 1);
+        let end = paragraph_end(parts.attachments, &mut marks, at, len);
+        let last = seek(parts.attachments, &mut marks, end - 1);
         let standing = Standing::of(parts.units[end - 1], &last.mark);
         if !standing.keeps_row() {
             return standing.ends_head();

@@ -8,7 +8,7 @@ ghost use Rattle.plain_doc.specs.declared.item.Item.{Item};
 ghost use Rattle.plain_doc.specs.RightDocument.{HoldsAtItems};
 ghost use Rattle.plain_doc.specs.RulesOfTexts.{HasParagraphStyle};
 ghost use Rattle.doc_columns.specs.Walks.{items_in, AreParts, IsWalk};
-ghost use Rattle.doc_view.specs.Course.{HasBeside, HasFormat, IsCourse, has_reference};
+ghost use Rattle.doc_view.specs.Course.{HasAttached, HasFormat, IsCourse, has_reference};
 ghost use Rattle.doc_view.specs.declared.reading.Manner.{Manner};
 ghost use Rattle.doc_view.specs.Page.{AreFormats};
 ghost use Rattle.doc_view.specs.Seen.{Formats, paragraphs_of, references_of, seen_from, with_values};
@@ -19,7 +19,7 @@ ghost use Rattle.doc_html.specs.Writes.{IsReading, Writes, at, links_in};
 use crate::anchors::write_anchors;
 use crate::heads::{is_head, known_behind};
 use crate::writer::Writer;
-use doc_columns::{Beside, alike_from, paragraph_end};
+use doc_columns::{Attached, alike_from, paragraph_end};
 use doc_outer::Sink;
 use doc_parts::Bookmarks;
 use doc_places::{Grid, Lists, Look, Origin, label_units, push_block};
@@ -43,7 +43,14 @@ impl Reading {
     /// At the start of the text of a note with this number, from 1, or of the main text.
     fn new(references: References, note: usize) -> Reading
         ensures place { result.course.place ≡ 0 }
-        ensures walk { result.course.walk ≡ record { chps = record { run = 0; begin = 0 }; besides = record { run = 0; begin = 0 } } }
+        ensures walk { result.course.walk ≡ record {
+          chps = record { run = 0; begin = 0 };
+          attachments = record {
+            run =
+                0;
+            begin = 0;
+          };
+        } }
         ensures references { result.course.references ≡ references }
         ensures count { result.count ≡ 0 }
         ensures referred { result.referred ≡ 0 }
@@ -66,13 +73,13 @@ impl Reading {
         requires ahead { self.now.course.place ≤ stretch.now.until }
         requires within { stretch.now.until ≤ length text.now.parts.units.now }
         ensures within { self.now.course.place + result ≤ stretch.now.until }
-        ensures note { 0 < result → stretch.now.beside.now.note ≡ None }
+        ensures note { 0 < result → stretch.now.attached.now.note ≡ None }
         ensures shows { 0 < result
-            → shows_units text.now.manner stretch.now.format self.now.course.front stretch.now.beside.now ≡ true }
+            → shows_units text.now.manner stretch.now.format self.now.course.front stretch.now.attached.now ≡ true }
         ensures units { (k : ℕ) → self.now.course.place ≤ k → k < self.now.course.place + result
             → IsItself (slice_index text.now.parts.units.now k) }
     {
-        match stretch.beside.note {
+        match stretch.attached.note {
             None => self.course.run_len(text, stretch),
             Some(_) => 0,
         }
@@ -120,8 +127,13 @@ pub(crate) fn write_text<K: Sink>(
     let mut lists = Lists::none();
     let mut next = 0;
     while reading.course.place < len {
-        let end = paragraph_end(text.parts.besides, &mut marks, reading.course.place, len);
-        let last = seek(text.parts.besides, &mut marks, end - 1);
+        let end = paragraph_end(
+            text.parts.attachments,
+            &mut marks,
+            reading.course.place,
+            len,
+        );
+        let last = seek(text.parts.attachments, &mut marks, end - 1);
         let standing = Standing::of(text.parts.units[end - 1], &last.mark);
         let own = context.values.get(grid.number);
         let in_table = standing.is_in_table();
@@ -179,7 +191,7 @@ fn write_paragraph<K: Sink>(
         let stretch = Stretch {
             until: alike.end.min(bounds.end),
             format: text.formats.format(bounds.istd, alike.chp),
-            beside: alike.beside,
+            attached: alike.attached,
         };
         write_stretch(writer, out, reading, text, &stretch, label);
     }
@@ -198,7 +210,8 @@ fn write_stretch<K: Sink>(
     requires reading { IsReading text.now.manner (items_in text.now.parts) reading.old }
     requires ahead { reading.old.course.place ≤ stretch.now.until }
     requires within { stretch.now.until ≤ length text.now.parts.units.now }
-    requires beside { HasBeside (items_in text.now.parts) reading.old.course.place stretch.now.until stretch.now.beside.now }
+    requires attached { HasAttached (items_in text.now.parts) reading.old.course.place stretch.now.until
+        stretch.now.attached.now }
     requires depth { length writer.old.path + 8 ≤ MAX_DEPTH }
     ensures place { reading.new.course.place ≡ stretch.now.until }
     ensures walk { reading.new.course.walk ≡ reading.old.course.walk }
@@ -232,7 +245,8 @@ fn write_some<K: Sink>(
     requires reading { IsReading text.now.manner (items_in text.now.parts) reading.old }
     requires ahead { reading.old.course.place < stretch.now.until }
     requires within { stretch.now.until ≤ length text.now.parts.units.now }
-    requires beside { HasBeside (items_in text.now.parts) reading.old.course.place stretch.now.until stretch.now.beside.now }
+    requires attached { HasAttached (items_in text.now.parts) reading.old.course.place stretch.now.until
+        stretch.now.attached.now }
     requires depth { length writer.old.path + 8 ≤ MAX_DEPTH }
     ensures ahead { reading.old.course.place < reading.new.course.place }
     ensures within { reading.new.course.place ≤ stretch.now.until }
@@ -278,7 +292,8 @@ fn write_item<K: Sink>(
     requires reading { IsReading text.now.manner (items_in text.now.parts) reading.old }
     requires ahead { reading.old.course.place < stretch.now.until }
     requires within { stretch.now.until ≤ length text.now.parts.units.now }
-    requires beside { HasBeside (items_in text.now.parts) reading.old.course.place stretch.now.until stretch.now.beside.now }
+    requires attached { HasAttached (items_in text.now.parts) reading.old.course.place stretch.now.until
+        stretch.now.attached.now }
     requires depth { length writer.old.path + 8 ≤ MAX_DEPTH }
     ensures place { reading.new.course.place ≡ reading.old.course.place + 1 }
     ensures walk { reading.new.course.walk ≡ reading.old.course.walk }
@@ -299,7 +314,7 @@ fn write_item<K: Sink>(
         &stretch.format,
         reading.course.front,
         unit,
-        stretch.beside,
+        stretch.attached,
     );
     writer.begin(out, seen.is_shown, reading.begun, label);
     let link = reading
@@ -307,9 +322,9 @@ fn write_item<K: Sink>(
         .link(&reading.course.fields, reading.referred);
     writer.write(out, link, reading.count, &seen);
     reading.begun = begun_behind(reading.begun, seen.is_shown);
-    reading.course.pass(unit, stretch.beside, seen.reference);
+    reading.course.pass(unit, stretch.attached, seen.reference);
     reading.count = count_behind(reading.count, seen.reference);
-    reading.referred = referred_behind(reading.referred, reading.course.place, stretch.beside);
+    reading.referred = referred_behind(reading.referred, reading.course.place, stretch.attached);
 }
 
 /// Whether something was written behind an item that is shown or not.
@@ -320,10 +335,14 @@ fn begun_behind(begun: bool, is_shown: bool) -> bool
 }
 
 /// Where the last reference to a note ends, at the end of an item with this beside it.
-fn referred_behind(referred: usize, end: usize, beside: &Beside) -> usize
-    ensures { result ≡ (if is_some beside.now.note then end else referred) }
+fn referred_behind(referred: usize, end: usize, attached: &Attached) -> usize
+    ensures { result ≡ (if is_some attached.now.note then end else referred) }
 {
-    if beside.note.is_some() { end } else { referred }
+    if attached.note.is_some() {
+        end
+    } else {
+        referred
+    }
 }
 
 /// How many references there are behind one more, or none.

@@ -67,8 +67,8 @@ fn title_in(alloc: Global, text: &Text<'_>) -> Result<Units, Memory>
     let mut course = Course::new(References::none(alloc));
     let mut marks = Cursor::new();
     while course.place < len {
-        let end = paragraph_end(text.parts.besides, &mut marks, course.place, len);
-        let last = seek(text.parts.besides, &mut marks, end - 1);
+        let end = paragraph_end(text.parts.attachments, &mut marks, course.place, len);
+        let last = seek(text.parts.attachments, &mut marks, end - 1);
         let bounds = Bounds {
             end,
             istd: style_of(&last.mark),
@@ -140,8 +140,8 @@ fn next_seen(course: &mut Course, text: &Text<'_>, istd: u16) -> Seen
     let alike = alike_from(&text.parts, &mut course.walk, course.place);
     let format = text.formats.format(istd, alike.chp);
     let unit = text.parts.units[course.place];
-    let seen = see(text.manner, &format, course.front, unit, alike.beside);
-    course.pass(unit, alike.beside, seen.reference);
+    let seen = see(text.manner, &format, course.front, unit, alike.attached);
+    course.pass(unit, alike.attached, seen.reference);
     seen
 }
 

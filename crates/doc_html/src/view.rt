@@ -24,7 +24,7 @@ use doc_columns::ColumnDocument;
 use doc_outer::{OutBlock, Sink, SinkFailed};
 use doc_view::{Manner, Options, References, Text, TextKind, ViewFault, fonts_of};
 use form_page::{FormPage, PageForm};
-use list_numbers::{ParagraphValuesList, columns_paragraph_values};
+use list_numbers::{ParagraphValuesList, paragraph_values_of_columns};
 use std::alloc::Global;
 use view_paths::Path;
 use view_places::Element;
@@ -112,7 +112,7 @@ fn needs_of(alloc: Global, document: &ColumnDocument, options: Options) -> Resul
     let title = title_of(alloc, document, &formats, options)?;
     Ok(Needs {
         formats,
-        values: columns_paragraph_values(alloc, document)?,
+        values: paragraph_values_of_columns(alloc, document)?,
         title,
         references: References::new(alloc, document.notes.len())?,
         block: OutBlock::new(alloc)?,

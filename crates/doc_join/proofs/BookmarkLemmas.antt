@@ -31,8 +31,8 @@ use Rattle.doc_join.specs.Bookmarks.{bookmark_behind, has_name, bookmarks_from_s
 -- ---- one more of the second document
 
 -- those that the first list has no name of, so far
-abbrev others : List Bookmark → List Bookmark → List Bookmark
-others first list = filter (λ bookmark. not (has_name first bookmark.name)) list
+abbrev second_maps : List Bookmark → List Bookmark → List Bookmark
+second_maps first list = filter (λ bookmark. not (has_name first bookmark.name)) list
 
 pub length-second : (len : ℕ) (first second : List Bookmark) →
     length (bookmarks_from_second len first second) ≤ length second
@@ -130,7 +130,7 @@ both_fit before len first second formed next_formed =
     let P : Bookmark → Type 0 = IsFormedBookmark (before + len) in
     All-append P first (bookmarks_from_second before first second)
     (All-weaker (IsFormedBookmark before) P (first_fits before len) first formed)
-    (All-map P (bookmark_behind before) (others first second)
+    (All-map P (bookmark_behind before) (second_maps first second)
     (All-filter (λ bookmark. not (has_name first bookmark.name)) (λ b. P (bookmark_behind before b)) second
     (All-weaker (IsFormedBookmark len) (λ b. P (bookmark_behind before b)) (second_fits before len) second
     next_formed)))
@@ -212,10 +212,10 @@ one_left first name bookmark list false is there none = elim (cases_Bool (is_nam
 
 -- those of a name that the first list has are left out
 none_left : (first : List Bookmark) (name : List ℕ) (list : List Bookmark) → has_name first name ≡ true →
-    count_by (is_named name) (others first list) ≡ 0
+    count_by (is_named name) (second_maps first list) ≡ 0
 none_left first name [] there = refl
 none_left first name (bookmark ∷ list) there =
-    one_left first name bookmark (others first list) (has_name first bookmark.name) refl there
+    one_left first name bookmark (second_maps first list) (has_name first bookmark.name) refl there
     (none_left first name list there)
 
 filter_fewer : (p : Bookmark → Bool) (name : List ℕ) (list : List Bookmark) →
@@ -238,7 +238,7 @@ both_apart : (len : ℕ) (first second : List Bookmark) → AreApart first → A
     AreApart (first ++ bookmarks_from_second len first second)
 both_apart len first second one other name =
     let both = sum_by-append (one_named name) first (bookmarks_from_second len first second) in
-    let moved = moved_count len name (others first second) in
+    let moved = moved_count len name (second_maps first second) in
     elim (cases_lt 0 (count_by (is_named name) first)) [
       | inl some ↦
           omega (arith, both, moved, one name, none_left first name second (counted_any name first some))

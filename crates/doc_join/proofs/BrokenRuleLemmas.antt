@@ -10,30 +10,27 @@ use Rattle.plain_doc.specs.declared.item.Item.{Item}
 use Rattle.plain_doc.specs.declared.document.Document.{Document}
 use Rattle.plain_doc.specs.Nesting.{field_characters, most_open, BreaksNesting}
 use Rattle.plain_doc.specs.Rows.{FitsRow, open_cells, BreaksRows}
-use Rattle.plain_doc.specs.RulesOfItems.{IsWrongItem, IsPlacedRight, HasShortSettings}
+use Rattle.plain_doc.specs.RulesOfItems.{IsWrongItem, IsPlacedRight, HasShortProperties}
 use Rattle.plain_doc.specs.RulesOfTexts.{InTexts, HasWrongEnd, HasParagraphStyle}
 use Rattle.plain_doc.specs.Sound.{document_rules, text_rules, base_rules, size_rules}
-use Rattle.plain_doc.specs.RightDocument.{HoldsAtItems, IsRightText}
+use Rattle.plain_doc.specs.RightDocument.{IsValidText}
 use Rattle.plain_doc.proofs.WalkLemmas.{after_all}
 use Rattle.plain_doc.proofs.NestingLemmas.{nest_passes}
 use Rattle.plain_doc.proofs.FieldLemmas.{nothing_open}
 use Rattle.doc_join.specs.Join.{document_join}
 use Rattle.doc_join.specs.Laws.{JoinsBreakCountsAlone}
-use Rattle.doc_join.proofs.JoinedRightLemmas.{IsRightBesideCounts, right_beside_counts}
+use Rattle.doc_join.proofs.JoinedRightLemmas.{IsRightAttachedCounts, right_attached_counts}
+use Rattle.plain_doc.proofs.RightLemmas.{none_wrong}
 
 -- ---- the rules that hold
 
-nowhere_in_texts : (document : Document) (breaks : Where → List Item → ℕ → Type 0) → IsRightBesideCounts document →
-    ((part : Where) (text : List Item) → IsRightText document.sheet part text → (i : ℕ) → ¬ (breaks part text i)) →
+nowhere_in_texts : (document : Document) (breaks : Where → List Item → ℕ → Type 0) → IsRightAttachedCounts document →
+    ((part : Where) (text : List Item) → IsValidText document.sheet part text → (i : ℕ) → ¬ (breaks part text i)) →
     Nowhere (InTexts document breaks)
 nowhere_in_texts document breaks right none place w =
     none place.0 w.text (right.texts place.0 w.text w.there) place.1 w.broken
 
-none_wrong : (such : ℕ → Item → Type 0) (text : List Item) → HoldsAtItems text such → (i : ℕ) →
-    ¬ (IsWrongItem such text i)
-none_wrong such text right i wrong = wrong.wrong (right i wrong.item wrong.there)
-
-texts_hold : (document : Document) → IsRightBesideCounts document → Hold (text_rules document)
+texts_hold : (document : Document) → IsRightAttachedCounts document → Hold (text_rules document)
 texts_hold document right =
     let sheet = document.sheet in (
       nowhere_in_texts document HasWrongEnd right (λ part text t i w. w.1 t.ends),
@@ -59,17 +56,17 @@ texts_hold document right =
       ),
     )
 
-bases_hold : (document : Document) → IsRightBesideCounts document → Hold (base_rules document)
+bases_hold : (document : Document) → IsRightAttachedCounts document → Hold (base_rules document)
 bases_hold document right place w = elim w.1 [
   | inl normal ↦ normal.1 right.bases.normal
-  | inr none ↦ let found = right.bases.chains place.1 none.settings in none.none found.0 found.1
+  | inr none ↦ let found = right.bases.chains place.1 none.properties in none.none found.0 found.1
 ]
 
-sizes_hold : (document : Document) → IsRightBesideCounts document → Hold (size_rules document)
+sizes_hold : (document : Document) → IsRightAttachedCounts document → Hold (size_rules document)
 sizes_hold document right =
     let short =
-    nowhere_in_texts document (λ part text. IsWrongItem (λ i item. HasShortSettings item) text) right
-    (λ part text t. none_wrong (λ i item. HasShortSettings item) text t.short) in (
+    nowhere_in_texts document (λ part text. IsWrongItem (λ i item. HasShortProperties item) text) right
+    (λ part text t. none_wrong (λ i item. HasShortProperties item) text t.short) in (
       λ place w. elim w [ inl style ↦ style.1 (right.short place.1) | inr item ↦ short place item ],
       λ place w. w.1 (right.writable place.1),
     )
@@ -82,7 +79,7 @@ text_single document = (tt, (tt, (tt, (tt, tt))))
 size_single : (document : Document) → IsSingle (size_rules document)
 size_single document = (tt, tt)
 
-counts_alone : (document : Document) (number : ℕ) (place : Place) → IsRightBesideCounts document →
+counts_alone : (document : Document) (number : ℕ) (place : Place) → IsRightAttachedCounts document →
     IsFirstPlace (document_rules document) number place → (number ≡ 68) ⊎ (number ≡ 69)
 counts_alone document number place right first = elim first [
   | inl text ↦
@@ -107,4 +104,4 @@ counts_alone document number place right first = elim first [
 
 pub break_counts_alone : JoinsBreakCountsAlone
 break_counts_alone first second number place can broken =
-    counts_alone (document_join first second) number place (right_beside_counts first second can) broken
+    counts_alone (document_join first second) number place (right_attached_counts first second can) broken

@@ -69,12 +69,12 @@ alike_upto one other (suc n) alike within =
     let found = there_is one n (omega (arith, within)) in
     let facing = there_is other n (omega (arith, within, same)) in
     let more = part_more one n found.0 found.1 (omega (arith, within)) in
-    let others = part_more other n facing.0 facing.1 (omega (arith, within, same)) in
+    let second_maps = part_more other n facing.0 facing.1 (omega (arith, within, same)) in
     ap open_cells more
     ∙ (cells_push (take n one) found.0
     ∙ (ap (λ cells. cells_after cells found.0) (alike_upto one other n alike (omega (arith, within)))
     ∙ (alike.each n found.0 facing.0 (open_cells (take n other)) found.1 facing.1
-    ∙ (sym (cells_push (take n other) facing.0) ∙ ap open_cells (sym others)))))
+    ∙ (sym (cells_push (take n other) facing.0) ∙ ap open_cells (sym second_maps)))))
 
 pub cells_alike : (one other : List Item) → CountAlike one other → open_cells one ≡ open_cells other
 cells_alike one other alike =

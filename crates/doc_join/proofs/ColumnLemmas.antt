@@ -9,21 +9,21 @@ use Rattle.std.proofs.lemmas.List.{take_more, map-append, length-map, drop_all, 
 use Rattle.std.proofs.lemmas.List.Elements.{All-map, All-weaker}
 use Rattle.std.proofs.lemmas.Option.{get_or_from_slice_get, slice_get_within}
 use Rattle.prop_map.specs.Formed.{IsPropertyMap, character_groups}
-use Rattle.prop_map.specs.Settings.{Settings}
+use Rattle.prop_map.specs.Settings.{Properties}
 use Rattle.run_lists.specs.declared.runs.Run.{Run}
-use Rattle.run_lists.specs.Spread.{spread, extent}
+use Rattle.run_lists.specs.Spread.{expanded, total_len}
 use Rattle.run_lists.proofs.SpreadLemmas.{spread_push, length-spread, count_within}
 use Rattle.plain_doc.specs.declared.item.Item.{Item}
 use Rattle.plain_doc.specs.Document.{HasPropertyMaps, IsFormedItem, IsFormedText}
-use Rattle.doc_columns.specs.declared.beside.Beside.{Beside}
-use Rattle.doc_columns.specs.Beside.{beside_of}
+use Rattle.doc_columns.specs.declared.attached.Attached.{Attached}
+use Rattle.doc_columns.specs.Attached.{attached_of}
 use Rattle.doc_columns.specs.Columns.{item_of, items_of}
 use Rattle.doc_columns.proofs.ItemsOfLemmas.{items_of-maps}
 use Rattle.doc_join.specs.declared.renumbering.Renumbering.{Renumbering}
 use Rattle.doc_join.specs.Settings.{renumbered}
 use Rattle.doc_join.specs.Texts.{renumbered_item, renumbered_text, ending_section, section_ended, HasOwnStyle}
 use Rattle.doc_join.specs.Texts.{HaveOwnStyles}
-use Rattle.doc_join.specs.Columns.{renumbered_beside, HasOwnMark}
+use Rattle.doc_join.specs.JoinedColumns.{renumbered_attached, HasOwnMark}
 
 -- ---- runs whose values became others
 
@@ -34,35 +34,36 @@ map-replicate {B = B} f (suc n) x = ap (λ (rest : List B). f x ∷ rest) (map-r
 -- one run more
 pub runs_more : {A B : Type 0} (f : A → B) (runs : List (Run A)) (k : ℕ) (run : Run A) → k < length runs →
     run ≡ get_or runs k run
-    → map f (spread (take k runs)) ++ replicate run.count (f run.value) ≡ map f (spread (take (k + 1) runs))
+    → map f (expanded (take k runs)) ++ replicate run.count (f run.value) ≡ map f (expanded (take (k + 1) runs))
 runs_more {A = A} {B = B} f runs k run within here =
     let front = take k runs in
-    let more : spread (take (k + 1) runs) ≡ spread front ++ replicate run.count run.value =
-    ap spread (take_more runs k run within)
-    ∙ (ap (λ (r : Run A). spread (front ++ r ∷ [])) (sym here) ∙ spread_push front run) in
+    let more : expanded (take (k + 1) runs) ≡ expanded front ++ replicate run.count run.value =
+    ap expanded (take_more runs k run within)
+    ∙ (ap (λ (r : Run A). expanded (front ++ r ∷ [])) (sym here) ∙ spread_push front run) in
     sym (ap (map f) more
-    ∙ (map-append f (spread front) (replicate run.count run.value)
-    ∙ ap (λ (rest : List B). map f (spread front) ++ rest) (map-replicate f run.count run.value)))
+    ∙ (map-append f (expanded front) (replicate run.count run.value)
+    ∙ ap (λ (rest : List B). map f (expanded front) ++ rest) (map-replicate f run.count run.value)))
 
 -- it has room
 pub run_fits : {A B : Type 0} (f : A → B) (runs : List (Run A)) (k : ℕ) (run : Run A) (made : List B) →
-    k < length runs → run ≡ get_or runs k run → extent runs < 2 ^ 32 → made ≡ map f (spread (take k runs))
+    k < length runs → run ≡ get_or runs k run → total_len runs < 2 ^ 32 → made ≡ map f (expanded (take k runs))
     → length made + run.count < 2 ^ 32
 run_fits {A = A} f runs k run made within here few is =
-    let long = ap length is ∙ (length-map (spread (take k runs)) f ∙ length-spread (take k runs)) in
+    let long = ap length is ∙ (length-map (expanded (take k runs)) f ∙ length-spread (take k runs)) in
     let count : run.count ≡ (get_or runs k run).count = ap (λ (r : Run A). r.count) here in
     omega (arith, long, count, count_within runs k run within, few)
 
 -- ---- what a text says of its columns
 
-pub own_marks : (numbers : Renumbering) (text : List Item) (besides : List Beside) → besides ≡ map beside_of text →
-    HaveOwnStyles numbers text → All (HasOwnMark numbers) besides
-own_marks numbers text besides is own =
+pub own_marks : (numbers : Renumbering) (text : List Item) (attachments : List Attached) → attachments ≡ map attached_of
+    text →
+    HaveOwnStyles numbers text → All (HasOwnMark numbers) attachments
+own_marks numbers text attachments is own =
     subst (All (HasOwnMark numbers)) (sym is)
-    (All-map (HasOwnMark numbers) beside_of text
-    (All-weaker (HasOwnStyle numbers) (λ item. HasOwnMark numbers (beside_of item)) (λ item held. held) text own))
+    (All-map (HasOwnMark numbers) attached_of text
+    (All-weaker (HasOwnStyle numbers) (λ item. HasOwnMark numbers (attached_of item)) (λ item held. held) text own))
 
-pub character_maps : (text : List Item) (chps : List Settings) → chps ≡ map (λ (item : Item). item.chp) text →
+pub character_maps : (text : List Item) (chps : List Properties) → chps ≡ map (λ (item : Item). item.chp) text →
     IsFormedText text → All (IsPropertyMap character_groups) chps
 character_maps text chps is formed =
     subst (All (IsPropertyMap character_groups)) (sym is)
@@ -76,33 +77,33 @@ maps_at text k item formed here =
     subst HasPropertyMaps (get_or_from_slice_get text k item item here)
     (formed.each k item (slice_get_within text k item here)).maps
 
-pub column_few : {A : Type 0} (f : Item → A) (runs : List (Run A)) (text : List Item) → spread runs ≡ map f text →
-    IsFormedText text → extent runs < 2 ^ 32
+pub column_few : {A : Type 0} (f : Item → A) (runs : List (Run A)) (text : List Item) → expanded runs ≡ map f text →
+    IsFormedText text → total_len runs < 2 ^ 32
 column_few f runs text is formed =
     let few = formed.few in
     omega (arith, length-spread runs, ap length is, length-map text f, few)
 
 -- ---- the text of columns that became others
 
-columns_renumbered : (numbers : Renumbering) (units : List ℕ) (chps : List Settings) (besides : List Beside) →
-    items_of units (map (renumbered numbers) chps) (map (renumbered_beside numbers) besides)
-    ≡ map (renumbered_item numbers) (items_of units chps besides)
-columns_renumbered numbers [] chps besides = refl
-columns_renumbered numbers (unit ∷ units) [] besides = refl
+columns_renumbered : (numbers : Renumbering) (units : List ℕ) (chps : List Properties) (attachments : List Attached) →
+    items_of units (map (renumbered numbers) chps) (map (renumbered_attached numbers) attachments)
+    ≡ map (renumbered_item numbers) (items_of units chps attachments)
+columns_renumbered numbers [] chps attachments = refl
+columns_renumbered numbers (unit ∷ units) [] attachments = refl
 columns_renumbered numbers (unit ∷ units) (chp ∷ chps) [] = refl
-columns_renumbered numbers (unit ∷ units) (chp ∷ chps) (beside ∷ besides) =
-    ap (λ (rest : List Item). renumbered_item numbers (item_of unit chp beside) ∷ rest)
-    (columns_renumbered numbers units chps besides)
+columns_renumbered numbers (unit ∷ units) (chp ∷ chps) (attached ∷ attachments) =
+    ap (λ (rest : List Item). renumbered_item numbers (item_of unit chp attached) ∷ rest)
+    (columns_renumbered numbers units chps attachments)
 
-pub text_renumbered : (numbers : Renumbering) (text : List Item) (units : List ℕ) (chps : List Settings)
-    (besides : List Beside) → units ≡ map (λ (item : Item). item.unit) text →
+pub text_renumbered : (numbers : Renumbering) (text : List Item) (units : List ℕ) (chps : List Properties)
+    (attachments : List Attached) → units ≡ map (λ (item : Item). item.unit) text →
     chps ≡ map (renumbered numbers) (map (λ (item : Item). item.chp) text)
-    → besides ≡ map (renumbered_beside numbers) (map beside_of text)
-    → items_of units chps besides ≡ renumbered_text numbers text
-text_renumbered numbers text units chps besides first second third =
+    → attachments ≡ map (renumbered_attached numbers) (map attached_of text)
+    → items_of units chps attachments ≡ renumbered_text numbers text
+text_renumbered numbers text units chps attachments first second third =
     rw (first, second, third)
     (columns_renumbered numbers (map (λ (item : Item). item.unit) text) (map (λ (item : Item). item.chp) text)
-    (map beside_of text)
+    (map attached_of text)
     ∙ ap (renumbered_text numbers) (items_of-maps text))
 
 -- ---- the end of the first main text

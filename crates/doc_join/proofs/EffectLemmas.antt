@@ -82,12 +82,12 @@ first_kept_text : (first second : Document) (part : Where) (at : ℕ) (found : E
     AreEffectsAt (document_join first second) (part, at) (renumbered_effects (first_numbers first) found)
 unfolding renumbered_text_moves
 first_kept_text first second part at found can was is =
-    let ones = first_numbers first in
+    let first_maps = first_numbers first in
     let joined = document_join first second in
-    effects_moved ones first joined (part, at) (part, at) found (renumbered_item ones found.item) was
+    effects_moved first_maps first joined (part, at) (part, at) found (renumbered_item first_maps found.item) was
     (first_part first.sheet second.sheet can.fits) (first_numbers_few first second can)
-    (renumbered_text_moves ones first joined was.text at (part, at) is refl)
-    (get-map (renumbered_item ones) was.text at found.item was.item) refl
+    (renumbered_text_moves first_maps first joined was.text at (part, at) is refl)
+    (get-map (renumbered_item first_maps) was.text at found.item was.item) refl
 
 second_kept_text : (first second : Document) (part there : Where) (at : ℕ) (found : Effects)
     (can : CanBeJoined first second) (was : AreEffectsAt second (part, at) found) →
@@ -95,12 +95,12 @@ second_kept_text : (first second : Document) (part there : Where) (at : ℕ) (fo
     AreEffectsAt (document_join first second) (there, at) (renumbered_effects (second_numbers first second) found)
 unfolding renumbered_text_moves
 second_kept_text first second part there at found can was is =
-    let others = second_numbers first second in
+    let second_maps = second_numbers first second in
     let joined = document_join first second in
-    effects_moved others second joined (part, at) (there, at) found (renumbered_item others found.item) was
+    effects_moved second_maps second joined (part, at) (there, at) found (renumbered_item second_maps found.item) was
     (second_part first.sheet second.sheet can.fits) can.fits
-    (renumbered_text_moves others second joined was.text at (there, at) is refl)
-    (get-map (renumbered_item others) was.text at found.item was.item) refl
+    (renumbered_text_moves second_maps second joined was.text at (there, at) is refl)
+    (get-map (renumbered_item second_maps) was.text at found.item was.item) refl
 
 -- a place in the first main text
 main_moved : (first second : Document) (at : ℕ) (text : List Item) → first.main ≡ text →
@@ -182,19 +182,19 @@ second_kept first second Wd at found can was other = absurd (none-some was.text 
 second_kept first second Table at found can was other = absurd (none-some was.text was.there)
 second_kept first second SheetPart at found can was other = absurd (none-some was.text was.there)
 second_kept first second Main at found can was other =
-    let others = second_numbers first second in
+    let second_maps = second_numbers first second in
     let joined = document_join first second in
-    effects_moved others second joined (Main, at) (Main, length first.main + at) found
-    (renumbered_item others found.item) was (second_part first.sheet second.sheet can.fits) can.fits (record {
+    effects_moved second_maps second joined (Main, at) (Main, length first.main + at) found
+    (renumbered_item second_maps found.item) was (second_part first.sheet second.sheet can.fits) can.fits (record {
       shift = length first.main;
       made = joined.main;
       is = refl;
       stands =
-          subst (λ t. StandsIn others (length first.main) t joined.main) (same_Some second.main was.text was.there)
-          (second_main_stands (first_numbers first) others first.main second.main);
+          subst (λ t. StandsIn second_maps (length first.main) t joined.main) (same_Some second.main was.text was.there)
+          (second_main_stands (first_numbers first) second_maps first.main second.main);
       at = refl;
     })
-    (second_main (first_numbers first) others first.main second.main at found.item (main_item second at found was))
+    (second_main (first_numbers first) second_maps first.main second.main at found.item (main_item second at found was))
     refl
 second_kept first second (Note number) at found can was other =
     second_kept_text first second (Note number) (Note (length first.notes + number)) at found can was

@@ -24,8 +24,8 @@ use Rattle.plain_doc.specs.Document.{IsFormedText}
 use Rattle.plain_doc.specs.Formed.{IsFormed}
 use Rattle.plain_doc.specs.RulesOfTexts.{text_of}
 use Rattle.plain_doc.specs.RulesOfSheet.{HasShortStyle, note_count, head_count}
-use Rattle.plain_doc.specs.RightDocument.{IsRightText, IsRightDocument}
-use Rattle.plain_doc.proofs.RightLemmas.{sound_is_right}
+use Rattle.plain_doc.specs.RightDocument.{IsValidText, IsValidDocument}
+use Rattle.plain_doc.proofs.RightLemmas.{sound_is_valid}
 use Rattle.doc_join.specs.declared.renumbering.Renumbering.{Renumbering}
 use Rattle.doc_join.specs.Texts.{renumbered_item, renumbered_text, renumbered_texts, ending_section, section_ended}
 use Rattle.doc_join.specs.Texts.{joined_main, joined_texts}
@@ -41,9 +41,9 @@ use Rattle.doc_join.proofs.BookmarkLemmas.{joined_apart}
 -- ---- what is right of the joined document
 
 -- all that a right document says but the numbers of items and of bookmarks
-pub record IsRightBesideCounts (document : Document) : Type 0 where
+pub record IsRightAttachedCounts (document : Document) : Type 0 where
   pub texts :
-      (part : Where) (text : List Item) → text_of document part ≡ Some text → IsRightText document.sheet part text
+      (part : Where) (text : List Item) → text_of document part ≡ Some text → IsValidText document.sheet part text
   pub notes : length document.notes ≡ note_count document.main
   pub heads : length document.heads ≡ head_count document.main
   pub bases : HasSoundBases document.sheet
@@ -68,7 +68,7 @@ counted_same p numbers (item ∷ text) same =
     )
 
 -- an end of a section is counted as the item before it
-counted_ended : (p : Item → Bool) (text : List Item) (sheet : Sheet) → IsRightText sheet Main text →
+counted_ended : (p : Item → Bool) (text : List Item) (sheet : Sheet) → IsValidText sheet Main text →
     ((item : Item) → p (ending_section item) ≡ p item) → count_by p (section_ended text) ≡ count_by p text
 counted_ended p text sheet right same =
     let one : Item → ℕ = λ x. cond (p x) 1 0 in
@@ -84,28 +84,28 @@ counted_ended p text sheet right same =
       ap {B = ℕ} (λ b. cond b 1 0) (same last.item),
     )
 
-main_counted : (p : Item → Bool) (ones others : Renumbering) (first second : List Item) (sheet : Sheet) →
-    IsRightText sheet Main (renumbered_text ones first) → ((item : Item) → p (ending_section item) ≡ p item) →
+main_counted : (p : Item → Bool) (first_maps second_maps : Renumbering) (first second : List Item) (sheet : Sheet) →
+    IsValidText sheet Main (renumbered_text first_maps first) → ((item : Item) → p (ending_section item) ≡ p item) →
     ((numbers : Renumbering) (item : Item) → p (renumbered_item numbers item) ≡ p item) →
-    count_by p (joined_main ones first others second) ≡ count_by p first + count_by p second
-main_counted p ones others first second sheet right same each =
+    count_by p (joined_main first_maps first second_maps second) ≡ count_by p first + count_by p second
+main_counted p first_maps second_maps first second sheet right same each =
     omega (
       arith,
-      sum_by-append (λ (x : Item). cond (p x) 1 0) (section_ended (renumbered_text ones first))
-          (renumbered_text others second),
-      counted_ended p (renumbered_text ones first) sheet right same,
-      counted_same p ones first (each ones),
-      counted_same p others second (each others),
+      sum_by-append (λ (x : Item). cond (p x) 1 0) (section_ended (renumbered_text first_maps first))
+          (renumbered_text second_maps second),
+      counted_ended p (renumbered_text first_maps first) sheet right same,
+      counted_same p first_maps first (each first_maps),
+      counted_same p second_maps second (each second_maps),
     )
 
-length-texts : (from : ℕ) (ones others : Renumbering) (first second : List (List Item)) →
-    length (joined_texts from ones first others second) ≡ length first + (length second - from)
-length-texts from ones others first second =
+length-texts : (from : ℕ) (first_maps second_maps : Renumbering) (first second : List (List Item)) →
+    length (joined_texts from first_maps first second_maps second) ≡ length first + (length second - from)
+length-texts from first_maps second_maps first second =
     omega (
       arith,
-      length-append (renumbered_texts ones first) (renumbered_texts others (drop from second)),
-      length-map first (renumbered_text ones),
-      length-map (drop from second) (renumbered_text others),
+      length-append (renumbered_texts first_maps first) (renumbered_texts second_maps (drop from second)),
+      length-map first (renumbered_text first_maps),
+      length-map (drop from second) (renumbered_text second_maps),
       length-drop from second,
     )
 
@@ -145,40 +145,42 @@ formed_text document (Head number) text formed is =
 
 -- a text of a document stays right in the joined one
 stays : (document : Document) (numbers : Renumbering) (joined : Sheet) (part other : Where) (text : List Item) →
-    IsFormed document → IsRightDocument document → IsSheetPart numbers document.sheet joined → IsLikePart part other →
-    text_of document part ≡ Some text → IsRightText joined other (renumbered_text numbers text)
+    IsFormed document → IsValidDocument document → IsSheetPart numbers document.sheet joined → IsLikePart part other →
+    text_of document part ≡ Some text → IsValidText joined other (renumbered_text numbers text)
 stays document numbers joined part other text formed right within like is =
     text_stays_right numbers document.sheet joined part other text within like
     (formed_text document part text formed is) (right.texts part text is)
 
 -- a text of a joined list is one of the first, or one of the second
-texts_right : (from : ℕ) (ones others : Renumbering) (first second : List (List Item)) (P : List Item → Type 0) →
-    ((i : ℕ) (text : List Item) → slice_get first i ≡ Some text → P (renumbered_text ones text)) →
-    ((i : ℕ) (text : List Item) → slice_get second i ≡ Some text → P (renumbered_text others text)) →
-    (i : ℕ) (text : List Item) → slice_get (joined_texts from ones first others second) i ≡ Some text → P text
-texts_right from ones others first second P one other i text is =
-    let front = renumbered_texts ones first in
-    let back = renumbered_texts others (drop from second) in
+texts_right : (from : ℕ) (first_maps second_maps : Renumbering) (first second : List (List Item)) (P : List Item → Type
+    0) →
+    ((i : ℕ) (text : List Item) → slice_get first i ≡ Some text → P (renumbered_text first_maps text)) →
+    ((i : ℕ) (text : List Item) → slice_get second i ≡ Some text → P (renumbered_text second_maps text)) →
+    (i : ℕ) (text : List Item) → slice_get (joined_texts from first_maps first second_maps second) i ≡ Some text → P
+    text
+texts_right from first_maps second_maps first second P one other i text is =
+    let front = renumbered_texts first_maps first in
+    let back = renumbered_texts second_maps (drop from second) in
     elim (cases_lt i (length front)) [
       | inl low ↦
           let found =
-          from_map (renumbered_text ones) first i text (sym (slice_get_before front back i low) ∙ is) in
+          from_map (renumbered_text first_maps) first i text (sym (slice_get_before front back i low) ∙ is) in
           subst P found.1.1 (one i found.0 found.1.0)
       | inr high ↦
           let j = i - length front in
           let at : i ≡ length front + j = omega (arith, high) in
           let found =
-          from_map (renumbered_text others) (drop from second) j text
+          from_map (renumbered_text second_maps) (drop from second) j text
           (sym (from_behind front back j) ∙ (ap (slice_get (front ++ back)) (sym at) ∙ is)) in
           subst P found.1.1 (other (from + j) found.0 (got_drop from second j found.0 found.1.0))
     ]
 
 main_right : (first second : Document) → CanBeJoined first second →
-    IsRightText (document_join first second).sheet Main (document_join first second).main
+    IsValidText (document_join first second).sheet Main (document_join first second).main
 main_right first second can =
     let sheet = (document_join first second).sheet in
-    let one = sound_is_right first can.sound_first in
-    let other = sound_is_right second can.sound_second in
+    let one = sound_is_valid first can.sound_first in
+    let other = sound_is_valid second can.sound_second in
     let some = (are_few second can.sound_second).some in
     main_joined_right sheet (renumbered_text (first_numbers first) first.main)
     (renumbered_text (second_numbers first second) second.main)
@@ -189,64 +191,72 @@ main_right first second can =
     (omega (arith, some, length-map second.main (renumbered_item (second_numbers first second))))
 
 all_texts_right : (first second : Document) → CanBeJoined first second → (part : Where) (text : List Item) →
-    text_of (document_join first second) part ≡ Some text → IsRightText (document_join first second).sheet part text
+    text_of (document_join first second) part ≡ Some text → IsValidText (document_join first second).sheet part text
 all_texts_right first second can File text is = absurd (none-some text is)
 all_texts_right first second can Wd text is = absurd (none-some text is)
 all_texts_right first second can Table text is = absurd (none-some text is)
 all_texts_right first second can SheetPart text is = absurd (none-some text is)
 all_texts_right first second can Main text is =
     let sheet = (document_join first second).sheet in
-    subst (IsRightText sheet Main) (same_Some (document_join first second).main text is) (main_right first second can)
+    subst (IsValidText sheet Main) (same_Some (document_join first second).main text is) (main_right first second can)
 all_texts_right first second can (Note number) text is =
     let sheet = (document_join first second).sheet in
     texts_right 0 (first_numbers first) (second_numbers first second) first.notes second.notes
-    (IsRightText sheet (Note number))
+    (IsValidText sheet (Note number))
     (λ i t there.
     stays first (first_numbers first) sheet (Note i) (Note number) t can.formed_first
-    (sound_is_right first can.sound_first) (first_part first.sheet second.sheet can.fits) (notes_alike i number)
+    (sound_is_valid first can.sound_first) (first_part first.sheet second.sheet can.fits) (notes_alike i number)
     there)
     (λ i t there.
     stays second (second_numbers first second) sheet (Note i) (Note number) t can.formed_second
-    (sound_is_right second can.sound_second) (second_part first.sheet second.sheet can.fits) (notes_alike i number)
+    (sound_is_valid second can.sound_second) (second_part first.sheet second.sheet can.fits) (notes_alike i number)
     there)
     number text is
 all_texts_right first second can (Head number) text is =
     let sheet = (document_join first second).sheet in
     texts_right 6 (first_numbers first) (second_numbers first second) first.heads second.heads
-    (IsRightText sheet (Head number))
+    (IsValidText sheet (Head number))
     (λ i t there.
     stays first (first_numbers first) sheet (Head i) (Head number) t can.formed_first
-    (sound_is_right first can.sound_first) (first_part first.sheet second.sheet can.fits) (heads_alike i number)
+    (sound_is_valid first can.sound_first) (first_part first.sheet second.sheet can.fits) (heads_alike i number)
     there)
     (λ i t there.
     stays second (second_numbers first second) sheet (Head i) (Head number) t can.formed_second
-    (sound_is_right second can.sound_second) (second_part first.sheet second.sheet can.fits) (heads_alike i number)
+    (sound_is_valid second can.sound_second) (second_part first.sheet second.sheet can.fits) (heads_alike i number)
     there)
     number text is
 
-pub right_beside_counts : (first second : Document) → CanBeJoined first second →
-    IsRightBesideCounts (document_join first second)
-right_beside_counts first second can =
+pub right_attached_counts : (first second : Document) → CanBeJoined first second →
+    IsRightAttachedCounts (document_join first second)
+right_attached_counts first second can =
     let joined = document_join first second in
-    let ones = first_numbers first in
-    let others = second_numbers first second in
-    let one = sound_is_right first can.sound_first in
-    let other = sound_is_right second can.sound_second in
+    let first_maps = first_numbers first in
+    let second_maps = second_numbers first second in
+    let one = sound_is_valid first can.sound_first in
+    let other = sound_is_valid second can.sound_second in
     let start =
-    stays first ones joined.sheet Main Main first.main can.formed_first one
+    stays first first_maps joined.sheet Main Main first.main can.formed_first one
     (first_part first.sheet second.sheet can.fits) (same_part Main) refl in
     let noted =
-    main_counted (λ item. is_some item.note) ones others first.main second.main joined.sheet start (λ item. refl)
+    main_counted (λ item. is_some item.note) first_maps second_maps first.main second.main joined.sheet start (λ item.
+    refl)
     (λ numbers item. refl) in
     let sections =
-    main_counted (λ item. is_some item.sect) ones others first.main second.main joined.sheet start (λ item. refl)
+    main_counted (λ item. is_some item.sect) first_maps second_maps first.main second.main joined.sheet start (λ item.
+    refl)
     (λ numbers item. refl) in
     record {
       texts = all_texts_right first second can;
       notes =
-          omega (arith, length-texts 0 ones others first.notes second.notes, one.notes, other.notes, noted);
+          omega (arith, length-texts 0 first_maps second_maps first.notes second.notes, one.notes, other.notes, noted);
       heads =
-          omega (arith, length-texts 6 ones others first.heads second.heads, one.heads, other.heads, sections);
+          omega (
+            arith,
+            length-texts 6 first_maps second_maps first.heads second.heads,
+            one.heads,
+            other.heads,
+            sections,
+          );
       bases = joined_bases first.sheet second.sheet can.fits one.bases other.bases;
       short =
           joined_short first.sheet second.sheet can.formed_first.sheet can.formed_second.sheet one.short other.short;

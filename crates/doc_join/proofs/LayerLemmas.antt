@@ -9,13 +9,14 @@ use Rattle.std.specs.List.{cons_option, last_or}
 use Rattle.std.specs.FinMap.{get}
 use Rattle.doc_bits.specs.Number.{u16_at, number_bytes}
 use Rattle.doc_bits.proofs.NumberLemmas.{number_at-number_bytes}
-use Rattle.prop_map.specs.Settings.{Settings}
+use Rattle.prop_map.specs.Settings.{Properties}
 use Rattle.style_sheet.specs.declared.styles.Style.{Style}
 use Rattle.style_sheet.specs.Sheet.{Sheet, style_at}
 use Rattle.style_sheet.specs.Chain.{kind_at, kind_in}
 use Rattle.effective_props.specs.declared.effective.ParaEffect.{ParaEffect}
 use Rattle.effective_props.specs.Values.{tabs_code, values_at, value_of, effective_value, IsEffectiveMap}
-use Rattle.effective_props.specs.Layers.{paragraph_settings, character_settings, settings_of_styles, AreChainLayers}
+use Rattle.effective_props.specs.Layers.{paragraph_properties, character_properties, properties_of_styles}
+use Rattle.effective_props.specs.Layers.{AreChainLayers}
 use Rattle.effective_props.specs.Layers.{character_style_code, named_style, AreNamedLayers}
 use Rattle.effective_props.specs.Effective.{IsEffectiveCharacter, IsEffectiveParagraph}
 use Rattle.doc_join.specs.declared.renumbering.Renumbering.{Renumbering}
@@ -26,53 +27,53 @@ use Rattle.doc_join.proofs.PartLemmas.{IsSheetPart, chain_there, chain_moved}
 
 -- ---- the layers of a chain
 
--- settings of styles, each of which another function gives at its new number
-settings_moved : (settings : Option Style → Settings) (change : Settings → Settings) (sheet joined : Sheet)
+-- properties of styles, each of which another function gives at its new number
+properties_moved : (properties : Option Style → Properties) (change : Properties → Properties) (sheet joined : Sheet)
     (move : ℕ → ℕ) (chain : List ℕ) →
     ((i : ℕ) → i < length chain →
-    settings (style_at joined (move (slice_index chain i)))
-    ≡ change (settings (style_at sheet (slice_index chain i)))) →
-    settings_of_styles settings joined (map move chain) ≡ map change (settings_of_styles settings sheet chain)
-settings_moved settings change sheet joined move [] each = refl
-settings_moved settings change sheet joined move (n ∷ chain) each =
-    let first : settings (style_at joined (move n)) ≡ change (settings (style_at sheet n)) = each 0 (omega arith) in
-    let rest : settings_of_styles settings joined (map move chain)
-    ≡ map change (settings_of_styles settings sheet chain) =
-    settings_moved settings change sheet joined move chain (λ i within. each (suc i) (omega (arith, within))) in
+    properties (style_at joined (move (slice_index chain i)))
+    ≡ change (properties (style_at sheet (slice_index chain i)))) →
+    properties_of_styles properties joined (map move chain) ≡ map change (properties_of_styles properties sheet chain)
+properties_moved properties change sheet joined move [] each = refl
+properties_moved properties change sheet joined move (n ∷ chain) each =
+    let first : properties (style_at joined (move n)) ≡ change (properties (style_at sheet n)) = each 0 (omega arith) in
+    let rest : properties_of_styles properties joined (map move chain)
+    ≡ map change (properties_of_styles properties sheet chain) =
+    properties_moved properties change sheet joined move chain (λ i within. each (suc i) (omega (arith, within))) in
     λ i. first i ∷ rest i
 
-chain_layers : (settings : Option Style → Settings) (change : Settings → Settings) (numbers : Renumbering)
-    (sheet joined : Sheet) (istd : ℕ) (layers : List Settings) → IsSheetPart numbers sheet joined →
+chain_layers : (properties : Option Style → Properties) (change : Properties → Properties) (numbers : Renumbering)
+    (sheet joined : Sheet) (istd : ℕ) (layers : List Properties) → IsSheetPart numbers sheet joined →
     ((n : ℕ) → n < numbers.slots →
-    settings (style_at joined (n + numbers.before)) ≡ change (settings (style_at sheet n))) →
-    AreChainLayers settings sheet istd layers →
-    AreChainLayers settings joined (istd + numbers.before) (map change layers)
-chain_layers settings change numbers sheet joined istd layers part each old = record {
+    properties (style_at joined (n + numbers.before)) ≡ change (properties (style_at sheet n))) →
+    AreChainLayers properties sheet istd layers →
+    AreChainLayers properties joined (istd + numbers.before) (map change layers)
+chain_layers properties change numbers sheet joined istd layers part each old = record {
   chain = map (λ n. n + numbers.before) old.chain;
   bases = chain_moved numbers sheet joined istd old.chain part old.bases;
   are =
       ap (map change) old.are
-      ∙ sym (settings_moved settings change sheet joined (λ n. n + numbers.before) old.chain
+      ∙ sym (properties_moved properties change sheet joined (λ n. n + numbers.before) old.chain
       (λ i within.
       each (slice_index old.chain i) (chain_there numbers sheet joined istd old.chain part old.bases i within)));
 }
 
-character_chain : (numbers : Renumbering) (sheet joined : Sheet) (istd : ℕ) (layers : List Settings) →
-    IsSheetPart numbers sheet joined → AreChainLayers character_settings sheet istd layers →
-    AreChainLayers character_settings joined (istd + numbers.before) (map (renumbered numbers) layers)
+character_chain : (numbers : Renumbering) (sheet joined : Sheet) (istd : ℕ) (layers : List Properties) →
+    IsSheetPart numbers sheet joined → AreChainLayers character_properties sheet istd layers →
+    AreChainLayers character_properties joined (istd + numbers.before) (map (renumbered numbers) layers)
 character_chain numbers sheet joined istd layers part old =
-    chain_layers character_settings (renumbered numbers) numbers sheet joined istd layers part part.characters old
+    chain_layers character_properties (renumbered numbers) numbers sheet joined istd layers part part.characters old
 
-paragraph_chain : (numbers : Renumbering) (sheet joined : Sheet) (istd : ℕ) (layers : List Settings) →
-    IsSheetPart numbers sheet joined → AreChainLayers paragraph_settings sheet istd layers →
-    AreChainLayers paragraph_settings joined (istd + numbers.before) layers
+paragraph_chain : (numbers : Renumbering) (sheet joined : Sheet) (istd : ℕ) (layers : List Properties) →
+    IsSheetPart numbers sheet joined → AreChainLayers paragraph_properties sheet istd layers →
+    AreChainLayers paragraph_properties joined (istd + numbers.before) layers
 paragraph_chain numbers sheet joined istd layers part old =
-    subst (AreChainLayers paragraph_settings joined (istd + numbers.before)) (map-id layers)
-    (chain_layers paragraph_settings (λ map. map) numbers sheet joined istd layers part part.paragraphs old)
+    subst (AreChainLayers paragraph_properties joined (istd + numbers.before)) (map-id layers)
+    (chain_layers paragraph_properties (λ map. map) numbers sheet joined istd layers part part.paragraphs old)
 
 -- ---- the named style
 
--- the style that renumbered settings name
+-- the style that renumbered properties name
 number_small : (numbers : Renumbering) (istd : ℕ) (test : Bool) → nat_lt istd numbers.slots ≡ test →
     numbers.before + numbers.slots ≤ 4094 → cond test (istd + numbers.before) no_style < 65536
 number_small numbers istd true is few = let low = ltb-true istd numbers.slots is in omega (arith, low, few)
@@ -87,7 +88,7 @@ read_back numbers value few =
     ap (λ (bytes : List ℕ). u16_at bytes 0) (sym (append-nil (number_bytes 2 number)))
     ∙ number_at-number_bytes 2 number [] small
 
-named_one : (numbers : Renumbering) (sheet joined : Sheet) (istd : ℕ) (layers : List Settings) →
+named_one : (numbers : Renumbering) (sheet joined : Sheet) (istd : ℕ) (layers : List Properties) →
     IsSheetPart numbers sheet joined → AreNamedLayers sheet (Some istd) layers →
     AreNamedLayers joined (Some (style_behind numbers istd)) (map (renumbered numbers) layers)
 named_one numbers sheet joined istd layers part old = elim (cases_lt istd numbers.slots) [
@@ -114,7 +115,7 @@ named_one numbers sheet joined istd layers part old = elim (cases_lt istd number
       )
 ]
 
-named_in : (numbers : Renumbering) (sheet joined : Sheet) (named : Option (List ℕ)) (layers : List Settings) →
+named_in : (numbers : Renumbering) (sheet joined : Sheet) (named : Option (List ℕ)) (layers : List Properties) →
     IsSheetPart numbers sheet joined → numbers.before + numbers.slots ≤ 4094 →
     AreNamedLayers sheet (option_map (λ value. u16_at value 0) named) layers →
     AreNamedLayers joined (option_map (λ value. u16_at value 0) (option_map (renamed numbers) named))
@@ -124,7 +125,7 @@ named_in numbers sheet joined (Some value) layers part few old =
     subst (λ n. AreNamedLayers joined (Some n) (map (renumbered numbers) layers)) (sym (read_back numbers value few))
     (named_one numbers sheet joined (u16_at value 0) layers part old)
 
-named_layers : (numbers : Renumbering) (sheet joined : Sheet) (direct : Settings) (layers : List Settings) →
+named_layers : (numbers : Renumbering) (sheet joined : Sheet) (direct : Properties) (layers : List Properties) →
     IsSheetPart numbers sheet joined → numbers.before + numbers.slots ≤ 4094 →
     AreNamedLayers sheet (named_style direct) layers →
     AreNamedLayers joined (named_style (renumbered numbers direct)) (map (renumbered numbers) layers)
@@ -137,7 +138,7 @@ named_layers numbers sheet joined direct layers part few old =
 -- ---- values
 
 -- at other codes the layers have the same values
-values_other : (numbers : Renumbering) (layers : List Settings) (code : ℕ) → code ≢ character_style_code →
+values_other : (numbers : Renumbering) (layers : List Properties) (code : ℕ) → code ≢ character_style_code →
     values_at (map (renumbered numbers) layers) code ≡ values_at layers code
 values_other numbers [] code apart = refl
 values_other numbers (layer ∷ layers) code apart =
@@ -150,7 +151,7 @@ cons_named : (change : List ℕ → List ℕ) (o : Option (List ℕ)) (values : 
 cons_named change None values = refl
 cons_named change (Some value) values = refl
 
-values_named : (numbers : Renumbering) (layers : List Settings) →
+values_named : (numbers : Renumbering) (layers : List Properties) →
     values_at (map (renumbered numbers) layers) character_style_code
     ≡ map (renamed numbers) (values_at layers character_style_code)
 values_named numbers [] = refl
@@ -165,7 +166,8 @@ last_named : (change : List ℕ → List ℕ) (before : Option (List ℕ)) (valu
 last_named change before [] = refl
 last_named change before (value ∷ values) = last_named change (Some value) values
 
-pub map_renumbered : (numbers : Renumbering) (layers : List Settings) (made : Settings) → IsEffectiveMap layers made →
+pub map_renumbered : (numbers : Renumbering) (layers : List Properties) (made : Properties) → IsEffectiveMap layers made
+    →
     IsEffectiveMap (map (renumbered numbers) layers) (renumbered numbers made)
 map_renumbered numbers layers made effective code = elim (cases_Bool (code == character_style_code)) [
   | inl same ↦
@@ -185,7 +187,7 @@ map_renumbered numbers layers made effective code = elim (cases_Bool (code == ch
 
 -- ---- what is in effect
 
-pub character_moved : (numbers : Renumbering) (sheet joined : Sheet) (istd : ℕ) (direct made : Settings) →
+pub character_moved : (numbers : Renumbering) (sheet joined : Sheet) (istd : ℕ) (direct made : Properties) →
     IsSheetPart numbers sheet joined → numbers.before + numbers.slots ≤ 4094 →
     IsEffectiveCharacter sheet istd direct made →
     IsEffectiveCharacter joined (istd + numbers.before) (renumbered numbers direct) (renumbered numbers made)
@@ -207,7 +209,7 @@ character_moved numbers sheet joined istd direct made part few old =
       values = map_renumbered numbers old.layers made old.values;
     }
 
-pub paragraph_moved : (numbers : Renumbering) (sheet joined : Sheet) (istd : ℕ) (direct : Settings)
+pub paragraph_moved : (numbers : Renumbering) (sheet joined : Sheet) (istd : ℕ) (direct : Properties)
     (effect : ParaEffect) → IsSheetPart numbers sheet joined → IsEffectiveParagraph sheet istd direct effect →
     IsEffectiveParagraph joined (istd + numbers.before) direct effect
 paragraph_moved numbers sheet joined istd direct effect part old =

@@ -7,15 +7,15 @@ use Rattle.std.proofs.lemmas.List.{length-map, get_or_append_left, get_or-append
 use Rattle.std.proofs.lemmas.List.FromFn.{get_or-map-range_with_len}
 use Rattle.std.proofs.lemmas.Option.{none-some}
 use Rattle.std.specs.Prelude.{slice_index}
-use Rattle.prop_map.specs.Settings.{Settings}
+use Rattle.prop_map.specs.Settings.{Properties}
 use Rattle.style_sheet.specs.declared.styles.Style.{Style}
 use Rattle.style_sheet.specs.declared.styles.Kind.{Kind}
 use Rattle.style_sheet.specs.declared.styles.Kind.TheVariants.{Para, Char, Other}
 use Rattle.style_sheet.specs.Sheet.{Sheet, style_at}
 use Rattle.style_sheet.specs.Changes.{characters_of, paragraphs_of, with_characters}
-use Rattle.style_sheet.specs.Chain.{settings_kind, kind_in, kind_at, base_in, base_at, IsBaseChain}
+use Rattle.style_sheet.specs.Chain.{properties_kind, kind_in, kind_at, base_in, base_at, IsBaseChain}
 use Rattle.style_sheet.proofs.OneChainLemmas.{there}
-use Rattle.effective_props.specs.Layers.{paragraph_settings, character_settings}
+use Rattle.effective_props.specs.Layers.{paragraph_properties, character_properties}
 use Rattle.doc_join.specs.declared.renumbering.Renumbering.{Renumbering}
 use Rattle.doc_join.specs.Numbers.{base_behind, numbers_of_first, numbers_of_second}
 use Rattle.doc_join.specs.Settings.{renumbered}
@@ -23,7 +23,7 @@ use Rattle.doc_join.specs.Styles.{slot_from_first, slot_from_second, slots_from_
 use Rattle.doc_join.proofs.SettingLemmas.{renumbered-empty}
 use Rattle.doc_join.proofs.SheetLemmas.{length-first, length-second}
 
--- the styles of a sheet stand in a joined one, each with its kind, its base and its settings renumbered
+-- the styles of a sheet stand in a joined one, each with its kind, its base and its properties renumbered
 pub record IsSheetPart (numbers : Renumbering) (sheet joined : Sheet) : Type 0 where
   pub slots : numbers.slots ≡ length sheet.styles
   pub few : length joined.styles ≤ 4094
@@ -35,20 +35,20 @@ pub record IsSheetPart (numbers : Renumbering) (sheet joined : Sheet) : Type 0 w
       base_at joined (istd + numbers.before) ≡ Some (base + numbers.before)
   pub paragraphs :
       (istd : ℕ) → istd < numbers.slots →
-      paragraph_settings (style_at joined (istd + numbers.before)) ≡ paragraph_settings (style_at sheet istd)
+      paragraph_properties (style_at joined (istd + numbers.before)) ≡ paragraph_properties (style_at sheet istd)
   pub characters :
       (istd : ℕ) → istd < numbers.slots →
-      character_settings (style_at joined (istd + numbers.before))
-      ≡ renumbered numbers (character_settings (style_at sheet istd))
+      character_properties (style_at joined (istd + numbers.before))
+      ≡ renumbered numbers (character_properties (style_at sheet istd))
 
 -- ---- one slot
 
-same_kind : (kind : Kind) (map : Settings) → settings_kind (with_characters kind map) ≡ settings_kind kind
+same_kind : (kind : Kind) (map : Properties) → properties_kind (with_characters kind map) ≡ properties_kind kind
 same_kind (Para pap chp) map = refl
 same_kind (Char chp) map = refl
 same_kind (Other stk upxes) map = refl
 
-same_paragraphs : (kind : Kind) (map : Settings) → paragraphs_of (with_characters kind map) ≡ paragraphs_of kind
+same_paragraphs : (kind : Kind) (map : Properties) → paragraphs_of (with_characters kind map) ≡ paragraphs_of kind
 same_paragraphs (Para pap chp) map = refl
 same_paragraphs (Char chp) map = refl
 same_paragraphs (Other stk upxes) map = refl
@@ -70,12 +70,12 @@ first_base numbers None = refl
 first_base numbers (Some style) = refl
 
 first_paragraphs : (numbers : Renumbering) (slot : Option Style) →
-    paragraph_settings (slot_from_first numbers slot) ≡ paragraph_settings slot
+    paragraph_properties (slot_from_first numbers slot) ≡ paragraph_properties slot
 first_paragraphs numbers None = refl
 first_paragraphs numbers (Some style) = same_paragraphs style.kind (renumbered numbers (characters_of style.kind))
 
 first_characters : (numbers : Renumbering) (slot : Option Style) →
-    character_settings (slot_from_first numbers slot) ≡ renumbered numbers (character_settings slot)
+    character_properties (slot_from_first numbers slot) ≡ renumbered numbers (character_properties slot)
 first_characters numbers None = renumbered-empty numbers
 first_characters numbers (Some style) = new_characters numbers style.kind
 
@@ -98,13 +98,13 @@ second_base numbers istd base (Some style) within some =
     ∙ ap (λ b. cond b (Some (base + numbers.before)) None) (lt-ltb base numbers.slots within)
 
 second_paragraphs : (numbers : Renumbering) (istd : ℕ) (slot : Option Style) →
-    paragraph_settings (slot_from_second numbers istd slot) ≡ paragraph_settings slot
+    paragraph_properties (slot_from_second numbers istd slot) ≡ paragraph_properties slot
 second_paragraphs numbers istd None = refl
 second_paragraphs numbers istd (Some style) =
     same_paragraphs style.kind (renumbered numbers (characters_of style.kind))
 
 second_characters : (numbers : Renumbering) (istd : ℕ) (slot : Option Style) →
-    character_settings (slot_from_second numbers istd slot) ≡ renumbered numbers (character_settings slot)
+    character_properties (slot_from_second numbers istd slot) ≡ renumbered numbers (character_properties slot)
 second_characters numbers istd None = renumbered-empty numbers
 second_characters numbers istd (Some style) = new_characters numbers style.kind
 
@@ -113,37 +113,43 @@ second_characters numbers istd (Some style) = new_characters numbers style.kind
 pub first_at : (first second : Sheet) (istd : ℕ) → istd < length first.styles →
     style_at (joined_sheet first second) (istd + 0) ≡ slot_from_first (numbers_of_first first) (style_at first istd)
 first_at first second istd within =
-    let ones = numbers_of_first first in
+    let first_maps = numbers_of_first first in
     let back = slots_from_second (numbers_of_second first second) second (length second.styles) in
     let here : istd + 0 ≡ istd = omega arith in
-    ap (λ n. get_or (slots_from_first ones first ++ back) n None) here
-    ∙ (get_or_append_left (slots_from_first ones first) back None istd (omega (arith, length-first ones first, within))
-    ∙ get_or-map (slot_from_first ones) first.styles istd None None within)
+    ap (λ n. get_or (slots_from_first first_maps first ++ back) n None) here
+    ∙ (get_or_append_left (slots_from_first first_maps first) back None istd (omega (
+      arith,
+      length-first first_maps
+          first,
+      within,
+    ))
+    ∙ get_or-map (slot_from_first first_maps) first.styles istd None None within)
 
 pub second_at : (first second : Sheet) (istd : ℕ) → istd < length second.styles →
     style_at (joined_sheet first second) (istd + length first.styles)
     ≡ slot_from_second (numbers_of_second first second) istd (style_at second istd)
 second_at first second istd within =
-    let ones = numbers_of_first first in
-    let others = numbers_of_second first second in
-    let front = slots_from_first ones first in
-    let back = slots_from_second others second (length second.styles) in
-    let here : istd + length first.styles ≡ length front + istd = omega (arith, length-first ones first) in
+    let first_maps = numbers_of_first first in
+    let second_maps = numbers_of_second first second in
+    let front = slots_from_first first_maps first in
+    let back = slots_from_second second_maps second (length second.styles) in
+    let here : istd + length first.styles ≡ length front + istd = omega (arith, length-first first_maps first) in
     ap (λ n. get_or (front ++ back) n None) here
     ∙ (get_or-append-add front back istd None
-    ∙ get_or-map-range_with_len (λ i. slot_from_second others i (style_at second i)) 0 (length second.styles) istd istd
+    ∙ get_or-map-range_with_len (λ i. slot_from_second second_maps i (style_at second i)) 0 (length second.styles) istd
+    istd
     None within (omega arith))
 
 pub length-joined : (first second : Sheet) →
     length (joined_sheet first second).styles ≡ length first.styles + length second.styles
 length-joined first second =
-    let ones = numbers_of_first first in
-    let others = numbers_of_second first second in
+    let first_maps = numbers_of_first first in
+    let second_maps = numbers_of_second first second in
     omega (
       arith,
-      length-append (slots_from_first ones first) (slots_from_second others second (length second.styles)),
-      length-first ones first,
-      length-second others second (length second.styles),
+      length-append (slots_from_first first_maps first) (slots_from_second second_maps second (length second.styles)),
+      length-first first_maps first,
+      length-second second_maps second (length second.styles),
     )
 
 -- ---- both sheets are parts of it
@@ -151,43 +157,46 @@ length-joined first second =
 pub first_part : (first second : Sheet) → length first.styles + length second.styles ≤ 4094 →
     IsSheetPart (numbers_of_first first) first (joined_sheet first second)
 first_part first second few =
-    let ones = numbers_of_first first in
+    let first_maps = numbers_of_first first in
     record {
       slots = refl;
       few = omega (arith, length-joined first second, few);
-      kinds = λ istd within. ap kind_in (first_at first second istd within) ∙ first_kind ones (style_at first istd);
+      kinds = λ istd within. ap kind_in (first_at first second istd within) ∙ first_kind first_maps (style_at first
+          istd);
       roots = λ istd within none.
-          ap base_in (first_at first second istd within) ∙ (first_base ones (style_at first istd) ∙ none);
+          ap base_in (first_at first second istd within) ∙ (first_base first_maps (style_at first istd) ∙ none);
       bases = λ istd base within base_within some.
           let here : base ≡ base + 0 = omega arith in
           ap base_in (first_at first second istd within)
-          ∙ (first_base ones (style_at first istd) ∙ (some ∙ ap (λ n. Some n) here));
+          ∙ (first_base first_maps (style_at first istd) ∙ (some ∙ ap (λ n. Some n) here));
       paragraphs = λ istd within.
-          ap paragraph_settings (first_at first second istd within) ∙ first_paragraphs ones (style_at first istd);
+          ap paragraph_properties (first_at first second istd within) ∙ first_paragraphs first_maps (style_at first
+          istd);
       characters = λ istd within.
-          ap character_settings (first_at first second istd within) ∙ first_characters ones (style_at first istd);
+          ap character_properties (first_at first second istd within) ∙ first_characters first_maps (style_at first
+          istd);
     }
 
 pub second_part : (first second : Sheet) → length first.styles + length second.styles ≤ 4094 →
     IsSheetPart (numbers_of_second first second) second (joined_sheet first second)
 second_part first second few =
-    let others = numbers_of_second first second in
+    let second_maps = numbers_of_second first second in
     record {
       slots = refl;
       few = omega (arith, length-joined first second, few);
       kinds = λ istd within.
-          ap kind_in (second_at first second istd within) ∙ second_kind others istd (style_at second istd);
+          ap kind_in (second_at first second istd within) ∙ second_kind second_maps istd (style_at second istd);
       roots = λ istd within none.
-          ap base_in (second_at first second istd within) ∙ second_root others istd (style_at second istd) none;
+          ap base_in (second_at first second istd within) ∙ second_root second_maps istd (style_at second istd) none;
       bases = λ istd base within base_within some.
           ap base_in (second_at first second istd within)
-          ∙ second_base others istd base (style_at second istd) base_within some;
+          ∙ second_base second_maps istd base (style_at second istd) base_within some;
       paragraphs = λ istd within.
-          ap paragraph_settings (second_at first second istd within)
-          ∙ second_paragraphs others istd (style_at second istd);
+          ap paragraph_properties (second_at first second istd within)
+          ∙ second_paragraphs second_maps istd (style_at second istd);
       characters = λ istd within.
-          ap character_settings (second_at first second istd within)
-          ∙ second_characters others istd (style_at second istd);
+          ap character_properties (second_at first second istd within)
+          ∙ second_characters second_maps istd (style_at second istd);
     }
 
 -- ---- chains
@@ -198,7 +207,7 @@ pub chain_there : (numbers : Renumbering) (sheet joined : Sheet) (istd : ℕ) (c
     slice_index chain i < numbers.slots
 chain_there numbers sheet joined istd chain part bases i within =
     let kind = bases.kind i within in
-    let some = kind.settings in
+    let some = kind.properties in
     let same = kind.same in
     let here = there sheet (slice_index chain i) (omega (arith, some, same)) in
     omega (arith, here, part.slots)
@@ -238,9 +247,9 @@ chain_moved numbers sheet joined istd chain part bases =
       kind = λ i within.
           let low : i < length chain = omega (arith, long, within) in
           let kind = bases.kind i low in
-          let settings = kind.settings in
+          let properties = kind.properties in
           record {
-            settings = omega (arith, part.kinds istd own, settings);
+            properties = omega (arith, part.kinds istd own, properties);
             same = kind_moved i low ∙ (kind.same ∙ sym (part.kinds istd own));
           };
       once = λ i j before within same.

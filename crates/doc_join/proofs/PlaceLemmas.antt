@@ -129,60 +129,64 @@ ended_end text i item here last =
     (omega (arith, length-set text i made, within)) (sym (get_or-set_same text i made made within))
 
 -- an item of the first main text, and the last one
-pub first_main : (ones others : Renumbering) (first second : List Item) (i : ℕ) (item : Item) →
+pub first_main : (first_maps second_maps : Renumbering) (first second : List Item) (i : ℕ) (item : Item) →
     slice_get first i ≡ Some item → i + 1 < length first →
-    slice_get (joined_main ones first others second) i ≡ Some (renumbered_item ones item)
-first_main ones others first second i item here within =
-    let text = renumbered_text ones first in
-    in_front (section_ended text) (renumbered_text others second) i (renumbered_item ones item)
-    (ended_get text i (renumbered_item ones item) (get-map (renumbered_item ones) first i item here)
-    (omega (arith, length-map first (renumbered_item ones), within)))
+    slice_get (joined_main first_maps first second_maps second) i ≡ Some (renumbered_item first_maps item)
+first_main first_maps second_maps first second i item here within =
+    let text = renumbered_text first_maps first in
+    in_front (section_ended text) (renumbered_text second_maps second) i (renumbered_item first_maps item)
+    (ended_get text i (renumbered_item first_maps item) (get-map (renumbered_item first_maps) first i item here)
+    (omega (arith, length-map first (renumbered_item first_maps), within)))
 
-pub first_main_end : (ones others : Renumbering) (first second : List Item) (i : ℕ) (item : Item) →
+pub first_main_end : (first_maps second_maps : Renumbering) (first second : List Item) (i : ℕ) (item : Item) →
     slice_get first i ≡ Some item → i + 1 ≡ length first →
-    slice_get (joined_main ones first others second) i ≡ Some (ending_section (renumbered_item ones item))
-first_main_end ones others first second i item here last =
-    let text = renumbered_text ones first in
-    in_front (section_ended text) (renumbered_text others second) i (ending_section (renumbered_item ones item))
-    (ended_end text i (renumbered_item ones item) (get-map (renumbered_item ones) first i item here)
-    (last ∙ sym (length-map first (renumbered_item ones))))
+    slice_get (joined_main first_maps first second_maps second) i ≡ Some (ending_section (renumbered_item first_maps
+    item))
+first_main_end first_maps second_maps first second i item here last =
+    let text = renumbered_text first_maps first in
+    in_front (section_ended text) (renumbered_text second_maps second) i (ending_section (renumbered_item first_maps
+    item))
+    (ended_end text i (renumbered_item first_maps item) (get-map (renumbered_item first_maps) first i item here)
+    (last ∙ sym (length-map first (renumbered_item first_maps))))
 
-pub second_main : (ones others : Renumbering) (first second : List Item) (i : ℕ) (item : Item) →
+pub second_main : (first_maps second_maps : Renumbering) (first second : List Item) (i : ℕ) (item : Item) →
     slice_get second i ≡ Some item →
-    slice_get (joined_main ones first others second) (length first + i) ≡ Some (renumbered_item others item)
-second_main ones others first second i item here =
-    let text = renumbered_text ones first in
-    in_back (section_ended text) (renumbered_text others second) i (length first + i) (renumbered_item others item)
-    (get-map (renumbered_item others) second i item here)
-    (omega (arith, length-ended text, length-map first (renumbered_item ones)))
+    slice_get (joined_main first_maps first second_maps second) (length first + i) ≡ Some (renumbered_item second_maps
+    item)
+second_main first_maps second_maps first second i item here =
+    let text = renumbered_text first_maps first in
+    in_back (section_ended text) (renumbered_text second_maps second) i (length first + i) (renumbered_item second_maps
+    item)
+    (get-map (renumbered_item second_maps) second i item here)
+    (omega (arith, length-ended text, length-map first (renumbered_item first_maps)))
 
-pub first_main_stands : (ones others : Renumbering) (first second : List Item) →
-    StandsIn ones 0 first (joined_main ones first others second)
-first_main_stands ones others first second = record {
+pub first_main_stands : (first_maps second_maps : Renumbering) (first second : List Item) →
+    StandsIn first_maps 0 first (joined_main first_maps first second_maps second)
+first_main_stands first_maps second_maps first second = record {
   items = λ i item here.
       let at : i ≡ 0 + i = omega arith in
       let within = slice_get_within first i item here in
-      subst (λ n. HasItemLike ones (joined_main ones first others second) n item) at
+      subst (λ n. HasItemLike first_maps (joined_main first_maps first second_maps second) n item) at
       (elim (cases_lt (i + 1) (length first)) [
         | inl before ↦ record {
-          made = renumbered_item ones item;
-          here = first_main ones others first second i item here before;
+          made = renumbered_item first_maps item;
+          here = first_main first_maps second_maps first second i item here before;
           mark = refl;
         }
         | inr end ↦ record {
-          made = ending_section (renumbered_item ones item);
-          here = first_main_end ones others first second i item here (omega (arith, end, within));
+          made = ending_section (renumbered_item first_maps item);
+          here = first_main_end first_maps second_maps first second i item here (omega (arith, end, within));
           mark = refl;
         }
       ]);
 }
 
-pub second_main_stands : (ones others : Renumbering) (first second : List Item) →
-    StandsIn others (length first) second (joined_main ones first others second)
-second_main_stands ones others first second = record {
+pub second_main_stands : (first_maps second_maps : Renumbering) (first second : List Item) →
+    StandsIn second_maps (length first) second (joined_main first_maps first second_maps second)
+second_main_stands first_maps second_maps first second = record {
   items = λ i item here. record {
-    made = renumbered_item others item;
-    here = second_main ones others first second i item here;
+    made = renumbered_item second_maps item;
+    here = second_main first_maps second_maps first second i item here;
     mark = refl;
   };
 }
@@ -194,21 +198,21 @@ drop_get (suc n) [] k = refl
 drop_get (suc n) (x ∷ xs) k =
     let at : suc (n + k) ≡ suc n + k = omega arith in drop_get n xs k ∙ ap (slice_get (x ∷ xs)) at
 
-pub first_text : (from : ℕ) (ones others : Renumbering) (first second : List (List Item)) (number : ℕ)
+pub first_text : (from : ℕ) (first_maps second_maps : Renumbering) (first second : List (List Item)) (number : ℕ)
     (text : List Item) → slice_get first number ≡ Some text →
-    slice_get (joined_texts from ones first others second) number ≡ Some (renumbered_text ones text)
-first_text from ones others first second number text here =
-    in_front (renumbered_texts ones first) (renumbered_texts others (drop from second)) number
-    (renumbered_text ones text) (get-map (renumbered_text ones) first number text here)
+    slice_get (joined_texts from first_maps first second_maps second) number ≡ Some (renumbered_text first_maps text)
+first_text from first_maps second_maps first second number text here =
+    in_front (renumbered_texts first_maps first) (renumbered_texts second_maps (drop from second)) number
+    (renumbered_text first_maps text) (get-map (renumbered_text first_maps) first number text here)
 
-pub second_text : (from : ℕ) (ones others : Renumbering) (first second : List (List Item)) (number : ℕ)
+pub second_text : (from : ℕ) (first_maps second_maps : Renumbering) (first second : List (List Item)) (number : ℕ)
     (text : List Item) → slice_get second number ≡ Some text → from ≤ number →
-    slice_get (joined_texts from ones first others second) (length first + (number - from))
-    ≡ Some (renumbered_text others text)
-second_text from ones others first second number text here low =
+    slice_get (joined_texts from first_maps first second_maps second) (length first + (number - from))
+    ≡ Some (renumbered_text second_maps text)
+second_text from first_maps second_maps first second number text here low =
     let at : from + (number - from) ≡ number = omega (arith, low) in
-    in_back (renumbered_texts ones first) (renumbered_texts others (drop from second)) (number - from)
-    (length first + (number - from)) (renumbered_text others text)
-    (get-map (renumbered_text others) (drop from second) (number - from) text
+    in_back (renumbered_texts first_maps first) (renumbered_texts second_maps (drop from second)) (number - from)
+    (length first + (number - from)) (renumbered_text second_maps text)
+    (get-map (renumbered_text second_maps) (drop from second) (number - from) text
     (drop_get from second (number - from) ∙ (ap (slice_get second) at ∙ here)))
-    (omega (arith, length-map first (renumbered_text ones)))
+    (omega (arith, length-map first (renumbered_text first_maps)))

@@ -1,15 +1,15 @@
 -- Two right main texts are right one behind the other, where the first one's section is ended.
-use Rattle.std.proofs.Common.{◌≡◌, ◌∙◌, inl, inr, refl, sym, ap, subst, ℕ, suc, ◌+◌, ◌-◌, ◌<◌, ◌≤◌, ◌==◌, Bool, true}
+use Rattle.std.proofs.Common.{◌≡◌, ◌∙◌, inl, inr, refl, sym, ap, subst, ℕ, suc, ◌+◌, ◌-◌, ◌<◌, ◌≤◌, ◌==◌, true}
 use Rattle.std.proofs.Common.{false}
 use Rattle.std.proofs.Common.{cond, not, ◌&&◌, List, [], ◌∷◌, ◌++◌, length, map, take, drop, Option, Some, None}
 use Rattle.std.proofs.Common.{option_map, is_some, arith, length-append}
 use Rattle.std.proofs.Math.Seq.{take-append-add, drop-cons}
 use Rattle.std.specs.Prelude.{slice_get}
-use Rattle.std.specs.List.{filter, flat_map}
+use Rattle.std.specs.List.{flat_map}
 use Rattle.std.proofs.lemmas.Bool.{cases_lt, cases_Bool}
 use Rattle.std.proofs.lemmas.Grind.{flat_map-append}
-use Rattle.std.proofs.lemmas.List.{map-append, take-append-le, take-append-drop, drop_all}
-use Rattle.std.proofs.lemmas.List.Elements.{filter-append, All-append}
+use Rattle.std.proofs.lemmas.List.{take-append-le, take-append-drop, drop_all}
+use Rattle.std.proofs.lemmas.List.Elements.{All-append}
 use Rattle.std.proofs.lemmas.Option.{get_or_from_slice_get, same_Some, slice_get_within, none-some}
 use Rattle.doc_bits.proofs.ListLemmas.{slice_get_before, slice_get_push}
 use Rattle.doc_bits.proofs.TogetherLemmas.{in_front, from_behind}
@@ -20,11 +20,12 @@ use Rattle.style_sheet.specs.Sheet.{Sheet}
 use Rattle.plain_doc.specs.declared.item.Item.{Item}
 use Rattle.plain_doc.specs.Nesting.{field_characters, IsField, AreFields, most_open}
 use Rattle.plain_doc.specs.Rows.{paragraph_value, is_on, is_mark_outside, FitsRow, open_cells, cells_after}
-use Rattle.plain_doc.specs.RulesOfItems.{IsPlacedRight, HasShortSettings}
+use Rattle.plain_doc.specs.RulesOfItems.{IsPlacedRight, HasShortProperties}
 use Rattle.plain_doc.specs.RulesOfTexts.{last_unit, HasParagraphStyle}
-use Rattle.plain_doc.specs.RightDocument.{IsRightText}
+use Rattle.plain_doc.specs.RightDocument.{IsValidText}
 use Rattle.doc_join.specs.Texts.{ending_section, section_ended}
 use Rattle.doc_join.proofs.CellLemmas.{cells_push, cells_behind}
+use Rattle.plain_doc.proofs.FieldLemmas.{characters-append}
 
 -- ---- the items of the joined text
 
@@ -56,13 +57,6 @@ each_item front item other P before here behind i made is =
     ]
 
 -- ---- fields
-
-characters-append : (one other : List Item) →
-    field_characters (one ++ other) ≡ field_characters one ++ field_characters other
-characters-append one other =
-    let p : Item → Bool = λ item. is_some item.fld in
-    ap (map (λ (item : Item). item.unit)) (filter-append p one other)
-    ∙ map-append (λ (item : Item). item.unit) (filter p one) (filter p other)
 
 no_character : (item : Item) → is_some item.fld ≡ false → field_characters (item ∷ []) ≡ []
 no_character item none = ap (λ b. map (λ (x : Item). x.unit) (cond b (item ∷ []) [])) none
@@ -113,7 +107,7 @@ has_last text is =
       unit = found.1.1;
     }
 
-pub main_ends : (sheet : Sheet) (text : List Item) → IsRightText sheet Main text → last_unit text ≡ Some paragraph_mark
+pub main_ends : (sheet : Sheet) (text : List Item) → IsValidText sheet Main text → last_unit text ≡ Some paragraph_mark
 main_ends sheet text right = elim right.ends [
   | inl unit ↦ unit
   | inr head ↦ let same = ap rank head.0.1 in absurd (omega (arith, same))
@@ -156,8 +150,8 @@ row_ended item cells unit fits = record {
 }
 
 pub joined_right : (sheet : Sheet) (front : List Item) (item : Item) (other : List Item) →
-    IsRightText sheet Main (front ++ item ∷ []) → item.unit ≡ paragraph_mark → IsRightText sheet Main other →
-    0 < length other → IsRightText sheet Main ((front ++ ending_section item ∷ []) ++ other)
+    IsValidText sheet Main (front ++ item ∷ []) → item.unit ≡ paragraph_mark → IsValidText sheet Main other →
+    0 < length other → IsValidText sheet Main ((front ++ ending_section item ∷ []) ++ other)
 joined_right sheet front item other one unit two some =
     let made = ending_section item in
     let first = front ++ item ∷ [] in
@@ -256,16 +250,16 @@ joined_right sheet front item other one unit two some =
           (λ i x at. one.styles i x (in_front front (item ∷ []) i x at)) (one.styles (length front) item here)
           (λ j x at. two.styles j x at);
       short =
-          each_item front made other (λ i x. HasShortSettings x)
+          each_item front made other (λ i x. HasShortProperties x)
           (λ i x at. one.short i x (in_front front (item ∷ []) i x at))
           (let old = one.short (length front) item here in record { chp = old.chp; pap = old.pap; sect = old.sect })
           (λ j x at. two.short j x at);
     }
 
-pub main_joined_right : (sheet : Sheet) (one other : List Item) → IsRightText sheet Main one →
-    IsRightText sheet Main other → 0 < length other → IsRightText sheet Main (section_ended one ++ other)
+pub main_joined_right : (sheet : Sheet) (one other : List Item) → IsValidText sheet Main one →
+    IsValidText sheet Main other → 0 < length other → IsValidText sheet Main (section_ended one ++ other)
 main_joined_right sheet one other first second some =
     let last = has_last one (main_ends sheet one first) in
-    subst (λ text. IsRightText sheet Main (text ++ other)) (sym last.ended)
-    (joined_right sheet last.front last.item other (subst (IsRightText sheet Main) last.split first) last.unit second
+    subst (λ text. IsValidText sheet Main (text ++ other)) (sym last.ended)
+    (joined_right sheet last.front last.item other (subst (IsValidText sheet Main) last.split first) last.unit second
     some)

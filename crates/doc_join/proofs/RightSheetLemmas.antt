@@ -1,4 +1,4 @@
--- The sheet of a joined document: its bases, its settings and its STDs.
+-- The sheet of a joined document: its bases, its properties and its STDs.
 use Rattle.std.proofs.Common.{◌≡◌, ◌∙◌, inl, inr, refl, sym, ap, subst, ℕ, ◌+◌, ◌-◌, ◌<◌, ◌≤◌, List, length, map}
 use Rattle.std.proofs.Common.{Option, Some, None, arith, flat_map}
 use Rattle.std.specs.Option.{ForSome}
@@ -54,8 +54,8 @@ pub joined_bases : (first second : Sheet) → length first.styles + length secon
     HasSoundBases first → HasSoundBases second → HasSoundBases (joined_sheet first second)
 joined_bases first second few one other =
     let joined = joined_sheet first second in
-    let ones = numbers_of_first first in
-    let others = numbers_of_second first second in
+    let first_maps = numbers_of_first first in
+    let second_maps = numbers_of_second first second in
     let part = first_part first second few in
     let next = second_part first second few in
     let normal = one.normal in
@@ -66,16 +66,16 @@ joined_bases first second few one other =
           by_sheet first second (λ istd. 0 < kind_at joined istd → (chain : List ℕ) × IsBaseChain joined istd chain)
           (λ istd within some.
           let found = one.chains istd (omega (arith, some, part.kinds istd within)) in
-          (map (λ n. n + 0) found.0, chain_moved ones first joined istd found.0 part found.1))
+          (map (λ n. n + 0) found.0, chain_moved first_maps first joined istd found.0 part found.1))
           (λ istd within some.
           let found = other.chains istd (omega (arith, some, next.kinds istd within)) in (
             map (λ n. n + length first.styles) found.0,
-            chain_moved others second joined istd found.0 next found.1,
+            chain_moved second_maps second joined istd found.0 next found.1,
           ))
           (λ istd past some. let low = there joined istd some in absurd (omega (arith, low, past)));
     }
 
--- ---- settings that are short
+-- ---- properties that are short
 
 kind_short : (numbers : Renumbering) (kind : Kind) → IsFormedKind kind → HasShortKind kind →
     HasShortKind (renumbered_kind numbers kind)
@@ -109,15 +109,15 @@ pub joined_short : (first second : Sheet) → IsFormedSheet first → IsFormedSh
     ((istd : ℕ) → HasShortStyle first istd) → ((istd : ℕ) → HasShortStyle second istd) →
     (istd : ℕ) → HasShortStyle (joined_sheet first second) istd
 joined_short first second formed next_formed one other =
-    let ones = numbers_of_first first in
-    let others = numbers_of_second first second in
+    let first_maps = numbers_of_first first in
+    let second_maps = numbers_of_second first second in
     by_sheet first second (HasShortStyle (joined_sheet first second))
     (λ istd within.
     subst IsShort (sym (first_at first second istd within))
-    (first_short ones (style_at first istd) (formed.styles istd None within) (one istd)))
+    (first_short first_maps (style_at first istd) (formed.styles istd None within) (one istd)))
     (λ istd within.
     subst IsShort (sym (second_at first second istd within))
-    (second_short others istd (style_at second istd) (next_formed.styles istd None within) (other istd)))
+    (second_short second_maps istd (style_at second istd) (next_formed.styles istd None within) (other istd)))
     (beyond_short (joined_sheet first second))
 
 -- ---- STDs
@@ -167,15 +167,15 @@ pub joined_writable : (first second : Sheet) → IsFormedSheet first → IsForme
     IsWritable second → IsWritable (joined_sheet first second)
 joined_writable first second formed next_formed one other =
     let joined = joined_sheet first second in
-    let ones = numbers_of_first first in
-    let others = numbers_of_second first second in
+    let first_maps = numbers_of_first first in
+    let second_maps = numbers_of_second first second in
     by_sheet first second (λ istd. length (written_slot istd (style_at joined istd)) ≤ 32767)
     (λ istd within.
     let short = one istd in
     omega (
       arith,
       ap (λ slot. length (written_slot (istd + 0) slot)) (first_at first second istd within),
-      first_written ones istd (istd + 0) (style_at first istd) (formed.styles istd None within),
+      first_written first_maps istd (istd + 0) (style_at first istd) (formed.styles istd None within),
       short,
     ))
     (λ istd within.
@@ -183,7 +183,7 @@ joined_writable first second formed next_formed one other =
     omega (
       arith,
       ap (λ slot. length (written_slot (istd + length first.styles) slot)) (second_at first second istd within),
-      second_written others istd (istd + length first.styles) (style_at second istd)
+      second_written second_maps istd (istd + length first.styles) (style_at second istd)
           (next_formed.styles istd None within),
       short,
     ))

@@ -20,9 +20,9 @@ use Rattle.plain_doc.specs.Document.{IsFormedText}
 use Rattle.plain_doc.specs.Nesting.{field_characters, AreFields, most_open}
 use Rattle.plain_doc.specs.Rows.{value_in, paragraph_value, is_on, is_row_mark, is_cell_mark, is_mark_outside, HasCells}
 use Rattle.plain_doc.specs.Rows.{FitsRow, open_cells, cells_after}
-use Rattle.plain_doc.specs.RulesOfItems.{HasMarkRight, IsPlacedRight, HasShortSettings, IsShortPap}
+use Rattle.plain_doc.specs.RulesOfItems.{HasMarkRight, IsPlacedRight, HasShortProperties, IsShortPap}
 use Rattle.plain_doc.specs.RulesOfTexts.{IsHead, last_unit, HasParagraphStyle}
-use Rattle.plain_doc.specs.RightDocument.{IsRightText}
+use Rattle.plain_doc.specs.RightDocument.{IsValidText}
 use Rattle.doc_join.specs.declared.renumbering.Renumbering.{Renumbering}
 use Rattle.doc_join.specs.Texts.{renumbered_item, renumbered_mark, renumbered_text}
 use Rattle.doc_join.proofs.SettingLemmas.{renumbered_length}
@@ -109,7 +109,7 @@ style_right numbers sheet joined item part right =
     right
 
 short_right : (numbers : Renumbering) (item : Item) → IsPropertyMap character_groups item.chp →
-    HasShortSettings item → HasShortSettings (renumbered_item numbers item)
+    HasShortProperties item → HasShortProperties (renumbered_item numbers item)
 short_right numbers item formed short = record {
   chp = let few = short.chp in omega (arith, few, renumbered_length numbers item.chp formed);
   pap =
@@ -162,8 +162,8 @@ chp_at text i item formed here =
     (formed.each i item within).maps.chp
 
 pub text_stays_right : (numbers : Renumbering) (sheet joined : Sheet) (part other : Where) (text : List Item) →
-    IsSheetPart numbers sheet joined → IsLikePart part other → IsFormedText text → IsRightText sheet part text →
-    IsRightText joined other (renumbered_text numbers text)
+    IsSheetPart numbers sheet joined → IsLikePart part other → IsFormedText text → IsValidText sheet part text →
+    IsValidText joined other (renumbered_text numbers text)
 text_stays_right numbers sheet joined part other text within like formed right =
     let made = renumbered_text numbers text in
     let long = length-map text (renumbered_item numbers) in
@@ -193,6 +193,6 @@ text_stays_right numbers sheet joined part other text within like formed right =
           each_right numbers text (λ i item. HasParagraphStyle sheet item) (λ i item. HasParagraphStyle joined item)
           (λ i item here. style_right numbers sheet joined item within) right.styles;
       short =
-          each_right numbers text (λ i item. HasShortSettings item) (λ i item. HasShortSettings item)
+          each_right numbers text (λ i item. HasShortProperties item) (λ i item. HasShortProperties item)
           (λ i item here. short_right numbers item (chp_at text i item formed here)) right.short;
     }

@@ -1,4 +1,5 @@
--- Settings whose style has another number: what stands at each code, that they stay what their place may hold, and how
+-- Properties whose style has another number: what stands at each code, that they stay what their place may hold, and
+-- how
 -- long they are printed.
 use Rattle.std.proofs.Common.{◌≡◌, ◌≢◌, ◌∙◌, refl, sym, ap, ℕ, zero, suc, ◌+◌, ◌<◌, ◌==◌, Bool, true, false, cond}
 use Rattle.std.proofs.Common.{List, [], ◌∷◌, length, take, Option, Some, None, option_map, arith}
@@ -11,11 +12,11 @@ use Rattle.std.specs.Cmp.{nat_cmp_total, unsigned_tied}
 use Rattle.std.specs.FinMap.{get, insert, empty, get-empty, get-insert}
 use Rattle.doc_bits.specs.Number.{u16_at, number_bytes, AreBytes}
 use Rattle.std.specs.Int.{bytes_low_first, byte_at}
-use Rattle.doc_bits.proofs.ByteListLemmas.{number_bytes-number_at, no_bytes, joined_bytes, one_byte}
+use Rattle.doc_bits.proofs.ByteListLemmas.{number_bytes-number_at, no_bytes, joined_bytes, one_byte, small_byte}
 use Rattle.doc_bits.proofs.NumberLemmas.{length-number_bytes}
-use Rattle.prop_map.specs.Settings.{Settings}
+use Rattle.prop_map.specs.Settings.{Properties}
 use Rattle.prop_map.specs.Formed.{IsPropertyMap, character_groups}
-use Rattle.prop_map.proofs.MapLemmas.{same_settings}
+use Rattle.prop_map.proofs.MapLemmas.{same_properties}
 use Rattle.prop_map.proofs.LawLemmas.{stay_formed}
 use Rattle.effective_props.specs.Layers.{character_style_code}
 use Rattle.effective_props.proofs.LayerLemmas.{named_bytes}
@@ -42,12 +43,13 @@ renamed numbers value = number_bytes 2 (style_behind numbers (u16_at value 0))
 
 -- ---- what stands at each code
 
--- settings that name no style stay
-pub none_named : (numbers : Renumbering) (map : Settings) → get map character_style_code ≡ None →
+-- properties that name no style stay
+pub none_named : (numbers : Renumbering) (map : Properties) → get map character_style_code ≡ None →
     renumbered numbers map ≡ map
 none_named numbers map none = ap (naming numbers map) none
 
-pub one_named : (numbers : Renumbering) (map : Settings) (value : List ℕ) → get map character_style_code ≡ Some value →
+pub one_named : (numbers : Renumbering) (map : Properties) (value : List ℕ) → get map character_style_code ≡ Some value
+    →
     renumbered numbers map ≡ insert map character_style_code (renamed numbers value)
 one_named numbers map value named = ap (naming numbers map) named
 
@@ -55,59 +57,59 @@ pub renumbered-empty : (numbers : Renumbering) → empty ≡ renumbered numbers 
 renumbered-empty numbers = sym (none_named numbers empty (get-empty nat_cmp character_style_code))
 
 -- what was put at a code, and what stands at another one
-placed : (map : Settings) (code other : ℕ) (value : List ℕ) (same : Bool) → (other == code) ≡ same →
+placed : (map : Properties) (code other : ℕ) (value : List ℕ) (same : Bool) → (other == code) ≡ same →
     get (insert map code value) other ≡ cond same (Some value) (get map other)
 placed map code other value same is =
     get-insert nat_cmp_total map code value other
     ∙ ap (λ b. cond b (Some value) (get map other)) (unsigned_tied other code ∙ is)
 
-at_code : (map : Settings) (code : ℕ) (value : List ℕ) → get (insert map code value) code ≡ Some value
+at_code : (map : Properties) (code : ℕ) (value : List ℕ) → get (insert map code value) code ≡ Some value
 at_code map code value = placed map code code value true (eq-eqb code code refl)
 
-at_other : (map : Settings) (code other : ℕ) (value : List ℕ) → other ≢ code →
+at_other : (map : Properties) (code other : ℕ) (value : List ℕ) → other ≢ code →
     get (insert map code value) other ≡ get map other
 at_other map code other value apart = placed map code other value false (ne_eqb other code apart)
 
 -- at other codes nothing changes
-other_as : (numbers : Renumbering) (map : Settings) (code : ℕ) (named : Option (List ℕ)) →
+other_as : (numbers : Renumbering) (map : Properties) (code : ℕ) (named : Option (List ℕ)) →
     code ≢ character_style_code → get (naming numbers map named) code ≡ get map code
 other_as numbers map code None apart = refl
 other_as numbers map code (Some value) apart = at_other map character_style_code code (renamed numbers value) apart
 
-pub get-renumbered-other : (numbers : Renumbering) (map : Settings) (code : ℕ) → code ≢ character_style_code →
+pub get-renumbered-other : (numbers : Renumbering) (map : Properties) (code : ℕ) → code ≢ character_style_code →
     get (renumbered numbers map) code ≡ get map code
 get-renumbered-other numbers map code apart = other_as numbers map code (get map character_style_code) apart
 
-style_as : (numbers : Renumbering) (map : Settings) (named : Option (List ℕ)) →
+style_as : (numbers : Renumbering) (map : Properties) (named : Option (List ℕ)) →
     get map character_style_code ≡ named →
     get (naming numbers map named) character_style_code ≡ option_map (renamed numbers) named
 style_as numbers map None none = none
 style_as numbers map (Some value) some = at_code map character_style_code (renamed numbers value)
 
 -- the style is renamed
-pub get-renumbered-style : (numbers : Renumbering) (map : Settings) →
+pub get-renumbered-style : (numbers : Renumbering) (map : Properties) →
     get (renumbered numbers map) character_style_code
     ≡ option_map (renamed numbers) (get map character_style_code)
 get-renumbered-style numbers map = style_as numbers map (get map character_style_code) refl
 
 -- ---- a style number that stays
 
-two_bytes : (direct : Settings) (value : List ℕ) → IsPropertyMap character_groups direct →
+two_bytes : (direct : Properties) (value : List ℕ) → IsPropertyMap character_groups direct →
     get direct character_style_code ≡ Some value → number_bytes 2 (u16_at value 0) ≡ value
 two_bytes direct value formed named =
     let two : length value ≡ 2 = named_bytes direct value formed named in
     number_bytes-number_at 2 value (formed character_style_code value named).bytes (omega arith)
     ∙ (ap (λ n. take n value) (sym two) ∙ take-length value)
 
-put_again : (map : Settings) (code : ℕ) (value : List ℕ) → get map code ≡ Some value → insert map code value ≡ map
+put_again : (map : Properties) (code : ℕ) (value : List ℕ) → get map code ≡ Some value → insert map code value ≡ map
 put_again map code value here =
-    same_settings (insert map code value) map (λ other. elim (cases_Bool (other == code)) [
+    same_properties (insert map code value) map (λ other. elim (cases_Bool (other == code)) [
       | inl same ↦
           placed map code other value true same ∙ (sym here ∙ ap (get map) (sym (eqb-true other code same)))
       | inr apart ↦ placed map code other value false apart
     ])
 
-pub same_style : (numbers : Renumbering) (map : Settings) (value : List ℕ) → IsPropertyMap character_groups map →
+pub same_style : (numbers : Renumbering) (map : Properties) (value : List ℕ) → IsPropertyMap character_groups map →
     get map character_style_code ≡ Some value → style_behind numbers (u16_at value 0) ≡ u16_at value 0 →
     renumbered numbers map ≡ map
 same_style numbers map value formed named same =
@@ -116,10 +118,6 @@ same_style numbers map value formed named same =
     ∙ put_again map character_style_code value named)
 
 -- ---- what a place may hold
-
-small_byte : (i x : ℕ) → byte_at i x < 256
-small_byte zero x = omega arith
-small_byte (suc i) x = omega arith
 
 low_bytes : (i k x : ℕ) → AreBytes (bytes_low_first i k x)
 low_bytes i zero x = no_bytes
@@ -131,15 +129,15 @@ number_are_bytes : (x : ℕ) → AreBytes (number_bytes 2 x)
 unfolding number_bytes
 number_are_bytes x = low_bytes 0 2 x
 
-named_formed : (numbers : Renumbering) (map : Settings) (named : Option (List ℕ)) →
+named_formed : (numbers : Renumbering) (map : Properties) (named : Option (List ℕ)) →
     get map character_style_code ≡ named → IsPropertyMap character_groups map →
     IsPropertyMap character_groups (naming numbers map named)
 named_formed numbers map None none formed = formed
 named_formed numbers map (Some value) some formed =
     let entry = formed character_style_code value some in
-    let old = entry.setting in
+    let old = entry.property in
     stay_formed character_groups map (character_style_code, renamed numbers value) formed (record {
-      setting = record {
+      property = record {
         entry = record {
           some = old.entry.some;
           word = old.entry.word;
@@ -151,7 +149,7 @@ named_formed numbers map (Some value) some formed =
       bytes = number_are_bytes (style_behind numbers (u16_at value 0));
     })
 
-pub renumbered_formed : (numbers : Renumbering) (map : Settings) → IsPropertyMap character_groups map →
+pub renumbered_formed : (numbers : Renumbering) (map : Properties) → IsPropertyMap character_groups map →
     IsPropertyMap character_groups (renumbered numbers map)
 renumbered_formed numbers map formed = named_formed numbers map (get map character_style_code) refl formed
 
@@ -223,7 +221,7 @@ put_length code value old (e ∷ es) sorted here same =
           )
     ] refl here
 
-named_length : (numbers : Renumbering) (map : Settings) (named : Option (List ℕ)) →
+named_length : (numbers : Renumbering) (map : Properties) (named : Option (List ℕ)) →
     get map character_style_code ≡ named → IsPropertyMap character_groups map →
     length (printed_list (naming numbers map named)) ≡ length (printed_list map)
 named_length numbers map None none formed = refl
@@ -233,7 +231,7 @@ named_length numbers map (Some value) some formed =
     ∙ put_length character_style_code (renamed numbers value) value (entries map) (entries_sorted map)
     (sym (get-entries map character_style_code) ∙ some) (size ∙ sym (named_bytes map value formed some))
 
--- renumbered settings are printed in as many bytes
-pub renumbered_length : (numbers : Renumbering) (map : Settings) → IsPropertyMap character_groups map →
+-- renumbered properties are printed in as many bytes
+pub renumbered_length : (numbers : Renumbering) (map : Properties) → IsPropertyMap character_groups map →
     length (printed_list (renumbered numbers map)) ≡ length (printed_list map)
 renumbered_length numbers map formed = named_length numbers map (get map character_style_code) refl formed

@@ -17,10 +17,10 @@ use Rattle.plain_doc.specs.declared.document.Document.{Document}
 use Rattle.doc_parts.specs.declared.bookmark_order.Bookmark.{Bookmark}
 use Rattle.doc_parts.specs.Bookmarks.{IsFormedBookmark, AreFormedBookmarks}
 use Rattle.plain_doc.specs.Marks.{HasFormedBookmarks}
-use Rattle.plain_doc.specs.RightDocument.{IsRightDocument}
+use Rattle.plain_doc.specs.RightDocument.{IsValidDocument}
 use Rattle.plain_doc.specs.RulesOfTexts.{text_of, last_unit}
 use Rattle.plain_doc.specs.Sound.{IsSound, NamesFirstRule, document_rules}
-use Rattle.plain_doc.proofs.RightLemmas.{sound_is_right}
+use Rattle.plain_doc.proofs.RightLemmas.{sound_is_valid}
 use Rattle.doc_join.specs.declared.renumbering.Renumbering.{Renumbering}
 use Rattle.doc_join.specs.Texts.{renumbered_item, renumbered_text, ending_section, section_ended, joined_main}
 use Rattle.doc_join.specs.Texts.{HaveOwnStyles, AllHaveOwnStyles}
@@ -33,7 +33,7 @@ use Rattle.doc_join.proofs.BookmarkLemmas.{joined_form}
 -- ---- marks have styles of the sheet
 
 own_styles : (document : Document) (numbers : Renumbering) (part : Where) (text : List Item) →
-    IsRightDocument document → numbers.slots ≡ length document.sheet.styles → text_of document part ≡ Some text →
+    IsValidDocument document → numbers.slots ≡ length document.sheet.styles → text_of document part ≡ Some text →
     HaveOwnStyles numbers text
 own_styles document numbers part text right slots is k d within mark marked =
     let para =
@@ -44,18 +44,18 @@ own_styles document numbers part text right slots is k d within mark marked =
 pub main_styles : (document : Document) (numbers : Renumbering) → IsSound document →
     numbers.slots ≡ length document.sheet.styles → HaveOwnStyles numbers document.main
 main_styles document numbers sound slots =
-    own_styles document numbers Main document.main (sound_is_right document sound) slots refl
+    own_styles document numbers Main document.main (sound_is_valid document sound) slots refl
 
 pub note_styles : (document : Document) (numbers : Renumbering) → IsSound document →
     numbers.slots ≡ length document.sheet.styles → AllHaveOwnStyles numbers document.notes
 note_styles document numbers sound slots k d within =
-    own_styles document numbers (Note k) (get_or document.notes k d) (sound_is_right document sound) slots
+    own_styles document numbers (Note k) (get_or document.notes k d) (sound_is_valid document sound) slots
     (slice_get-get_or document.notes k d within)
 
 pub head_styles : (document : Document) (numbers : Renumbering) → IsSound document →
     numbers.slots ≡ length document.sheet.styles → AllHaveOwnStyles numbers document.heads
 head_styles document numbers sound slots k d within =
-    own_styles document numbers (Head k) (get_or document.heads k d) (sound_is_right document sound) slots
+    own_styles document numbers (Head k) (get_or document.heads k d) (sound_is_valid document sound) slots
     (slice_get-get_or document.heads k d within)
 
 -- ---- how many there are
@@ -68,7 +68,7 @@ pub record AreFew (document : Document) : Type 0 where
   pub separators : 6 ≤ length document.heads
   pub bookmarks : length document.bookmarks ≤ 16000
 
-some_item : (document : Document) → IsRightDocument document → 0 < length document.main
+some_item : (document : Document) → IsValidDocument document → 0 < length document.main
 some_item document right = elim (right.texts Main document.main refl).ends [
   | inl unit ↦ has_items document.main unit
   | inr head ↦ let same = ap rank head.0.1 in absurd (omega (arith, same))
@@ -80,7 +80,7 @@ some_item document right = elim (right.texts Main document.main refl).ends [
 
 pub are_few : (document : Document) → IsSound document → AreFew document
 are_few document sound =
-    let right = sound_is_right document sound in
+    let right = sound_is_valid document sound in
     let few = right.few in
     let notes = count_by-le-length (λ (item : Item). is_some item.note) document.main in
     let sections = count_by-le-length (λ (item : Item). is_some item.sect) document.main in
@@ -127,15 +127,15 @@ length-ended text =
       length-drop last text,
     )
 
-pub length-main : (ones others : Renumbering) (first second : List Item) →
-    length (joined_main ones first others second) ≡ length first + length second
-length-main ones others first second =
+pub length-main : (first_maps second_maps : Renumbering) (first second : List Item) →
+    length (joined_main first_maps first second_maps second) ≡ length first + length second
+length-main first_maps second_maps first second =
     omega (
       arith,
-      length-append (section_ended (renumbered_text ones first)) (renumbered_text others second),
-      length-ended (renumbered_text ones first),
-      length-map first (renumbered_item ones),
-      length-map second (renumbered_item others),
+      length-append (section_ended (renumbered_text first_maps first)) (renumbered_text second_maps second),
+      length-ended (renumbered_text first_maps first),
+      length-map first (renumbered_item first_maps),
+      length-map second (renumbered_item second_maps),
     )
 
 pub joined_bookmarks_formed : (first second : Document) → IsSound first → IsSound second →

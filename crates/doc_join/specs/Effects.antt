@@ -1,7 +1,7 @@
 -- What stands at a place of a document, and what is in effect there.
 use Rattle.std.specs.Prelude.{◌≡◌, ℕ, List, Some, slice_get}
 use Rattle.doc_bits.specs.Places.{Place}
-use Rattle.prop_map.specs.Settings.{Settings}
+use Rattle.prop_map.specs.Settings.{Properties}
 use Rattle.effective_props.specs.declared.effective.ParaEffect.{ParaEffect}
 use Rattle.effective_props.specs.Effective.{IsEffectiveCharacter, IsEffectiveParagraph}
 use Rattle.plain_doc.specs.declared.item.Item.{Item}
@@ -25,7 +25,7 @@ pub record IsMarkFrom (text : List Item) (from : ℕ) (mark : Mark) : Type 0 whe
 pub record Effects : Type 0 where
   pub item : Item
   pub mark : Mark
-  pub characters : Settings
+  pub characters : Properties
   pub paragraph : ParaEffect
 
 -- they are those of this place
@@ -37,7 +37,7 @@ pub record AreEffectsAt (document : Document) (place : Place) (found : Effects) 
   pub characters : IsEffectiveCharacter document.sheet found.mark.istd found.item.chp found.characters
   pub paragraph : IsEffectiveParagraph document.sheet found.mark.istd found.mark.pap found.paragraph
 
--- the same with the styles renumbered: the paragraph's settings and stops name no style
+-- the same with the styles renumbered: the paragraph's properties and stops name no style
 abbrev pub renumbered_effects : Renumbering → Effects → Effects
 renumbered_effects numbers found = record {
   item = renumbered_item numbers found.item;

@@ -21,12 +21,12 @@ separators = 6
 -- the first document and then the second, with all that is carried unread as the first has it
 abbrev pub document_join : Document → Document → Document
 document_join first second =
-    let ones = first_numbers first in
-    let others = second_numbers first second in
+    let first_maps = first_numbers first in
+    let second_maps = second_numbers first second in
     record {
-      main = joined_main ones first.main others second.main;
-      notes = joined_texts 0 ones first.notes others second.notes;
-      heads = joined_texts separators ones first.heads others second.heads;
+      main = joined_main first_maps first.main second_maps second.main;
+      notes = joined_texts 0 first_maps first.notes second_maps second.notes;
+      heads = joined_texts separators first_maps first.heads second_maps second.heads;
       sheet = joined_sheet first.sheet second.sheet;
       carried = first.carried;
       bookmarks = joined_bookmarks (length first.main) first.bookmarks second.bookmarks;

@@ -40,7 +40,7 @@ IsNoSeparator part = (number : ℕ) → part ≡ Head number → separators ≤ 
 abbrev pub with_section_ended : Effects → Effects
 with_section_ended found = record found { item = ending_section found.item }
 
--- each item has its unit, its own settings and those in effect, and the mark of its paragraph has its own, those in
+-- each item has its unit, its own properties and those in effect, and the mark of its paragraph has its own, those in
 -- effect and its stops, with the styles renumbered; but the last item of the first main text has another unit
 pub record KeepsEffects (first second : Document) : Type 0 where
   pub of_first :

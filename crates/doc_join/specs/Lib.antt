@@ -2,7 +2,7 @@ pub mod Numbers
 pub mod Settings
 pub mod Styles
 pub mod Texts
-pub mod Columns
+pub mod JoinedColumns
 pub mod Bookmarks
 pub mod Join
 pub mod Faults

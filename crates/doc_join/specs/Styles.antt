@@ -9,7 +9,7 @@ use Rattle.doc_join.specs.declared.renumbering.Renumbering.{Renumbering}
 use Rattle.doc_join.specs.Numbers.{base_behind, next_behind, numbers_of_first, numbers_of_second}
 use Rattle.doc_join.specs.Settings.{renumbered}
 
--- the settings of a style
+-- the properties of a style
 abbrev pub renumbered_kind : Renumbering → Kind → Kind
 renumbered_kind numbers kind = with_characters kind (renumbered numbers (characters_of kind))
 

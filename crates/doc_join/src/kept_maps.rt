@@ -1,4 +1,4 @@
-// Settings of characters whose style has another number. Equal maps one behind the other stay one map.
+// Properties of characters whose style has another number. Equal maps one behind the other stay one map.
 ghost use Rattle.std.specs.Prelude.{◌≡◌, ◌+◌, ◌≤◌, IfOk, MatchOption};
 ghost use Rattle.std.specs.FinMap.{insert};
 ghost use Rattle.doc_bits.specs.Number.{number_bytes};
@@ -9,11 +9,8 @@ ghost use Rattle.doc_join.specs.Settings.{renumbered};
 use crate::renumbering::Renumbering;
 use doc_bits::{Bytes, Memory, get16};
 use prop_map::PropMap;
-use sprm_table::Code;
+use sprm_table::SPRM_C_ISTD;
 use std::alloc::Global;
-
-/// [MS-DOC] sprmCIstd names the style of a character.
-const SPRM_C_ISTD: Code = Code(0x4A30);
 
 /// The maps of a document with their styles renumbered. The last one that changed is kept, with what it became.
 #[derive(Drop)]
@@ -41,7 +38,7 @@ impl KeptMaps {
         }
     }
 
-    /// The number of the style that the settings name afterwards, where it is another one.
+    /// The number of the style that the properties name afterwards, where it is another one.
     fn other_style(&self, map: &PropMap) -> Option<u16>
         requires { IsPropertyMap character_groups map.now }
         ensures { MatchOption result
@@ -54,7 +51,7 @@ impl KeptMaps {
         if istd == named { None } else { Some(istd) }
     }
 
-    /// The same settings with the style renumbered. Their entries are shared where they can be.
+    /// The properties with the style renumbered. Their entries are shared where they can be.
     pub(crate) fn map(&mut self, map: &PropMap) -> Result<PropMap, Memory>
         requires { IsPropertyMap character_groups map.now }
         ensures map { IfOk result (λ made. made ≡ renumbered self.old.numbers map.now) }
@@ -75,7 +72,7 @@ impl KeptMaps {
     }
 }
 
-/// The settings with this style number.
+/// The properties with this style number.
 fn naming(alloc: Global, map: &PropMap, istd: u16) -> Result<PropMap, Memory>
     ensures { IfOk result (λ made. made ≡ insert map.now character_style_code (number_bytes 2 istd)) }
 {

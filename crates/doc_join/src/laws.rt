@@ -2,7 +2,7 @@
 ghost use Rattle.doc_join.specs.Laws.{JoinsKeepEffects, JoinsBreakCountsAlone};
 
 /// What a join keeps of each item of both documents: its unit, but for the last one of the first main text, its
-/// settings and those in effect, with the styles renumbered.
+/// properties and those in effect, with the styles renumbered.
 pub fn joins_keep_effects()
     ensures { JoinsKeepEffects }
 {}

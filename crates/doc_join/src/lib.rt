@@ -13,5 +13,5 @@ mod style_numbers;
 mod texts;
 
 pub use fault::JoinFault;
-pub use joining::{columns_join, join};
+pub use joining::{join, join_of_columns};
 pub use laws::{joins_break_counts_alone, joins_keep_effects};

@@ -30,7 +30,7 @@ pub(crate) fn join_bookmarks(
     for i in 0..second.len() {
         let bookmark = second.get(i);
         if !has_name(&names, bookmark.name.as_slice()) {
-            made.add(moved(bookmark, before)?)?;
+            made.add(move_by(bookmark, before)?)?;
         }
     }
     made.arrange();
@@ -39,7 +39,7 @@ pub(crate) fn join_bookmarks(
 
 /// The bookmarks in the order of their names. The names are shared.
 fn by_name(alloc: Global, list: &Bookmarks) -> Result<Vec<Bookmark>, Memory>
-    ensures moved { IfOk result (λ named. IsPermutation list.now named.items) }
+    ensures move_by { IfOk result (λ named. IsPermutation list.now named.items) }
     ensures sorted { IfOk result (λ named. IsSorted name_cmp named.items) }
 {
     let mut named = copies(alloc, list)?;
@@ -73,7 +73,7 @@ fn has_name(named: &[Bookmark], name: &[u16]) -> bool
 }
 
 /// A bookmark of a text that stands behind so many items.
-fn moved(bookmark: &Bookmark, before: usize) -> Result<Bookmark, Memory>
+fn move_by(bookmark: &Bookmark, before: usize) -> Result<Bookmark, Memory>
     requires from { bookmark.now.from + before < 2 ^ 32 }
     requires to { bookmark.now.to + before < 2 ^ 32 }
     ensures { IfOk result (λ made. made ≡ bookmark_behind before bookmark.now) }

@@ -15,29 +15,29 @@ use crate::kept_maps::KeptMaps;
 use doc_bits::{Memory, Units};
 use prop_map::PropMap;
 use std::alloc::Global;
-use style_sheet::{Kind, Style, StyleSheet, UpxList};
+use style_sheet::{Kind, Style, StyleSheet, copy_other_kind};
 
 /// The slots of the first sheet, and then those of the second. The maps of each sheet are renumbered by its own.
 pub(crate) fn join_sheets(
     alloc: Global,
     first: &StyleSheet,
-    ones: &mut KeptMaps,
+    first_maps: &mut KeptMaps,
     second: &StyleSheet,
-    others: &mut KeptMaps,
+    second_maps: &mut KeptMaps,
 ) -> Result<StyleSheet, Memory>
     requires fits { length first.now.styles + length second.now.styles ≤ 4094 }
-    requires ones { ones.old.numbers ≡ numbers_of_first first.now }
-    requires others { others.old.numbers ≡ numbers_of_second first.now second.now }
+    requires first_maps { first_maps.old.numbers ≡ numbers_of_first first.now }
+    requires second_maps { second_maps.old.numbers ≡ numbers_of_second first.now second.now }
     ensures made { IfOk result (λ made. made ≡ joined_sheet first.now second.now) }
-    ensures ones { ones.new.numbers ≡ ones.old.numbers }
-    ensures others { others.new.numbers ≡ others.old.numbers }
+    ensures first_maps { first_maps.new.numbers ≡ first_maps.old.numbers }
+    ensures second_maps { second_maps.new.numbers ≡ second_maps.old.numbers }
 {
-    let mut sheet = copy_first(alloc, first, ones)?;
-    add_second(&mut sheet, second, others)?;
+    let mut sheet = copy_first(alloc, first, first_maps)?;
+    add_second(&mut sheet, second, second_maps)?;
     Ok(sheet)
 }
 
-/// The first sheet, with the styles renumbered that its settings name.
+/// The first sheet, with the styles renumbered that its properties name.
 fn copy_first(alloc: Global, first: &StyleSheet, maps: &mut KeptMaps) -> Result<StyleSheet, Memory>
     requires { maps.old.numbers ≡ numbers_of_first first.now }
     ensures made { IfOk result (λ made. made ≡ record {
@@ -108,7 +108,7 @@ impl KeptMaps {
         }
     }
 
-    /// A style with another base and next one, and with its settings renumbered.
+    /// A style with another base and next one, and with its properties renumbered.
     fn style(&mut self, style: &Style, base: Option<u16>, next: u16) -> Result<Style, Memory>
         requires formed { IsFormedStyle style.now }
         ensures made { IfOk result (λ made. made ≡ record style.now {
@@ -130,7 +130,7 @@ impl KeptMaps {
         })
     }
 
-    /// The settings of a style.
+    /// The properties of a style.
     fn kind(&mut self, kind: &Kind) -> Result<Kind, Memory>
         requires { IsFormedKind kind.now }
         ensures made { IfOk result (λ made. made ≡ renumbered_kind self.old.numbers kind.now) }
@@ -139,11 +139,11 @@ impl KeptMaps {
         match kind {
             Kind::Para { pap, chp } => self.paragraph_kind(pap, chp),
             Kind::Char { chp } => self.character_kind(chp),
-            Kind::Other { stk, upxes } => other_kind(self.alloc, *stk, upxes),
+            Kind::Other { stk, upxes } => copy_other_kind(self.alloc, *stk, upxes),
         }
     }
 
-    /// The settings of a style of paragraphs.
+    /// The properties of a style of paragraphs.
     fn paragraph_kind(&mut self, pap: &PropMap, chp: &PropMap) -> Result<Kind, Memory>
         requires { IsPropertyMap character_groups chp.now }
         ensures made { IfOk result (λ made. made ≡ Para pap.now (renumbered self.old.numbers chp.now)) }
@@ -154,7 +154,7 @@ impl KeptMaps {
         Ok(Kind::Para { pap, chp })
     }
 
-    /// The settings of a style of characters.
+    /// The properties of a style of characters.
     fn character_kind(&mut self, chp: &PropMap) -> Result<Kind, Memory>
         requires { IsPropertyMap character_groups chp.now }
         ensures made { IfOk result (λ made. made ≡ Char (renumbered self.old.numbers chp.now)) }
@@ -163,12 +163,4 @@ impl KeptMaps {
         let chp = self.map(chp)?;
         Ok(Kind::Char { chp })
     }
-}
-
-/// A style of another kind, which is as it was.
-fn other_kind(alloc: Global, stk: u8, upxes: &UpxList) -> Result<Kind, Memory>
-    ensures { IfOk result (λ made. made ≡ Other stk upxes.now) }
-{
-    let upxes = upxes.copy(alloc)?;
-    Ok(Kind::Other { stk, upxes })
 }

@@ -3,16 +3,16 @@ ghost use Rattle.std.specs.Prelude.{◌≡◌, ◌+◌, ◌^◌, ◌<◌, ◌≤
 ghost use Rattle.std.specs.Prelude.{IfOk, OnOk};
 ghost use Rattle.std.specs.Option.{ForSome};
 ghost use Rattle.prop_map.specs.Formed.{IsPropertyMap, character_groups};
-ghost use Rattle.run_lists.specs.Spread.{spread, extent};
+ghost use Rattle.run_lists.specs.Spread.{expanded, total_len};
 ghost use Rattle.doc_join.specs.Settings.{renumbered};
 ghost use Rattle.doc_join.specs.Texts.{renumbered_mark, renumbered_text, renumbered_texts};
 ghost use Rattle.doc_join.specs.Texts.{section_ended, joined_main, joined_texts, HaveOwnStyles, AllHaveOwnStyles};
-ghost use Rattle.doc_join.specs.Columns.{renumbered_beside, HasOwnMark};
+ghost use Rattle.doc_join.specs.JoinedColumns.{renumbered_attached, HasOwnMark};
 
 use crate::kept_maps::KeptMaps;
 use doc_bits::Memory;
-use doc_columns::{Beside, ColumnTexts, Columns};
-use plain_doc::Mark;
+use doc_columns::{Attached, ColumnTexts, Columns};
+use plain_doc::{Mark, copy_section};
 use prop_map::PropMap;
 use run_lists::{Run, Runs};
 use std::alloc::Global;
@@ -22,22 +22,22 @@ use text_codes::SECTION_MARK;
 pub(crate) fn join_main(
     alloc: Global,
     first: &Columns,
-    ones: &mut KeptMaps,
+    first_maps: &mut KeptMaps,
     second: &Columns,
-    others: &mut KeptMaps,
+    second_maps: &mut KeptMaps,
 ) -> Result<Columns, Memory>
     requires some { 0 < length first.now }
     requires few { length first.now + length second.now < 2 ^ 32 }
-    requires of_first { HaveOwnStyles ones.old.numbers first.now }
-    requires of_second { HaveOwnStyles others.old.numbers second.now }
+    requires of_first { HaveOwnStyles first_maps.old.numbers first.now }
+    requires of_second { HaveOwnStyles second_maps.old.numbers second.now }
     ensures made { IfOk result
-        (λ made. made ≡ joined_main ones.old.numbers first.now others.old.numbers second.now) }
-    ensures ones { ones.new.numbers ≡ ones.old.numbers }
-    ensures others { others.new.numbers ≡ others.old.numbers }
+        (λ made. made ≡ joined_main first_maps.old.numbers first.now second_maps.old.numbers second.now) }
+    ensures first_maps { first_maps.new.numbers ≡ first_maps.old.numbers }
+    ensures second_maps { second_maps.new.numbers ≡ second_maps.old.numbers }
 {
-    let front = ones.text(first)?;
+    let front = first_maps.text(first)?;
     let ended = end_section(alloc, front)?;
-    let back = others.text(second)?;
+    let back = second_maps.text(second)?;
     let len = ended.len();
     let made = ended.splice(alloc, len, len, back)?;
     Ok(made)
@@ -61,22 +61,22 @@ pub(crate) fn join_texts(
     alloc: Global,
     from: usize,
     first: &ColumnTexts,
-    ones: &mut KeptMaps,
+    first_maps: &mut KeptMaps,
     second: &ColumnTexts,
-    others: &mut KeptMaps,
+    second_maps: &mut KeptMaps,
 ) -> Result<ColumnTexts, Memory>
     requires few { length first.now + length second.now < 2 ^ 32 }
     requires from { from ≤ length second.now }
-    requires of_first { AllHaveOwnStyles ones.old.numbers first.now }
-    requires of_second { AllHaveOwnStyles others.old.numbers second.now }
+    requires of_first { AllHaveOwnStyles first_maps.old.numbers first.now }
+    requires of_second { AllHaveOwnStyles second_maps.old.numbers second.now }
     ensures made { IfOk result
-        (λ made. made ≡ joined_texts from ones.old.numbers first.now others.old.numbers second.now) }
-    ensures ones { ones.new.numbers ≡ ones.old.numbers }
-    ensures others { others.new.numbers ≡ others.old.numbers }
+        (λ made. made ≡ joined_texts from first_maps.old.numbers first.now second_maps.old.numbers second.now) }
+    ensures first_maps { first_maps.new.numbers ≡ first_maps.old.numbers }
+    ensures second_maps { second_maps.new.numbers ≡ second_maps.old.numbers }
 {
     let mut made = ColumnTexts::new(alloc);
-    ones.add_texts(first, 0, &mut made)?;
-    others.add_texts(second, from, &mut made)?;
+    first_maps.add_texts(first, 0, &mut made)?;
+    second_maps.add_texts(second, from, &mut made)?;
     Ok(made)
 }
 
@@ -100,7 +100,7 @@ impl KeptMaps {
         Ok(())
     }
 
-    /// The same text, with its styles renumbered. It goes over the runs, and its units are copied.
+    /// The text with its styles renumbered. It goes over the runs, and its units are copied.
     fn text(&mut self, text: &Columns) -> Result<Columns, Memory>
         requires { HaveOwnStyles self.old.numbers text.now }
         ensures made { IfOk result (λ made. made ≡ renumbered_text self.old.numbers text.now) }
@@ -110,16 +110,16 @@ impl KeptMaps {
         let units = Vec::from_slice(self.alloc, text.units())?;
         let chp_runs = text.chps();
         let chps = self.chps(chp_runs)?;
-        let beside_runs = text.besides();
-        let besides = self.besides(beside_runs)?;
-        Ok(Columns::from_parts(units, chps, besides))
+        let attached_runs = text.attachments();
+        let attachments = self.attachments(attached_runs)?;
+        Ok(Columns::from_parts(units, chps, attachments))
     }
 
-    /// The settings of characters, with the styles renumbered that they name.
+    /// The properties of characters, with the styles renumbered that they name.
     fn chps(&mut self, runs: &[Run<PropMap>]) -> Result<Runs<PropMap>, Memory>
-        requires few { extent runs.now < 2 ^ 32 }
-        requires maps { All (IsPropertyMap character_groups) (spread runs.now) }
-        ensures made { IfOk result (λ made. made ≡ map (renumbered self.old.numbers) (spread runs.now)) }
+        requires few { total_len runs.now < 2 ^ 32 }
+        requires maps { All (IsPropertyMap character_groups) (expanded runs.now) }
+        ensures made { IfOk result (λ made. made ≡ map (renumbered self.old.numbers) (expanded runs.now)) }
         ensures numbers { self.new.numbers ≡ self.old.numbers }
     {
         let mut made = Runs::new(self.alloc);
@@ -129,7 +129,7 @@ impl KeptMaps {
         Ok(made)
     }
 
-    /// The same of one run.
+    /// Adds the properties of a run of characters, with the styles renumbered that they name.
     fn add_chps(&mut self, run: &Run<PropMap>, made: &mut Runs<PropMap>) -> Result<(), Memory>
         requires few { length made.old + run.now.count < 2 ^ 32 }
         requires map { 0 < run.now.count → IsPropertyMap character_groups run.now.value }
@@ -145,46 +145,46 @@ impl KeptMaps {
     }
 
     /// What stands beside units, with the styles of marks renumbered.
-    fn besides(&self, runs: &[Run<Beside>]) -> Result<Runs<Beside>, Memory>
-        requires few { extent runs.now < 2 ^ 32 }
-        requires styles { All (HasOwnMark self.now.numbers) (spread runs.now) }
-        ensures { IfOk result (λ made. made ≡ map (renumbered_beside self.now.numbers) (spread runs.now)) }
+    fn attachments(&self, runs: &[Run<Attached>]) -> Result<Runs<Attached>, Memory>
+        requires few { total_len runs.now < 2 ^ 32 }
+        requires styles { All (HasOwnMark self.now.numbers) (expanded runs.now) }
+        ensures { IfOk result (λ made. made ≡ map (renumbered_attached self.now.numbers) (expanded runs.now)) }
     {
         let mut made = Runs::new(self.alloc);
         for run in runs {
-            self.add_besides(run, &mut made)?;
+            self.add_attachments(run, &mut made)?;
         }
         Ok(made)
     }
 
-    /// The same of one run.
-    fn add_besides(&self, run: &Run<Beside>, made: &mut Runs<Beside>) -> Result<(), Memory>
+    /// Adds what is attached to the units of a run, with the styles of marks renumbered.
+    fn add_attachments(&self, run: &Run<Attached>, made: &mut Runs<Attached>) -> Result<(), Memory>
         requires few { length made.old + run.now.count < 2 ^ 32 }
         requires style { 0 < run.now.count → HasOwnMark self.now.numbers run.now.value }
         ensures { OnOk result
-            (made.new ≡ made.old ++ replicate run.now.count (renumbered_beside self.now.numbers run.now.value)) }
+            (made.new ≡ made.old ++ replicate run.now.count (renumbered_attached self.now.numbers run.now.value)) }
     {
         if run.count == 0 {
             return Ok(());
         }
-        made.add(run.count, self.beside(&run.value)?)?;
+        made.add(run.count, self.attached(&run.value)?)?;
         Ok(())
     }
 
     /// What stands beside a unit, with the style of its mark renumbered.
-    fn beside(&self, beside: &Beside) -> Result<Beside, Memory>
-        requires { HasOwnMark self.now.numbers beside.now }
-        ensures { IfOk result (λ made. made ≡ renumbered_beside self.now.numbers beside.now) }
+    fn attached(&self, attached: &Attached) -> Result<Attached, Memory>
+        requires { HasOwnMark self.now.numbers attached.now }
+        ensures { IfOk result (λ made. made ≡ renumbered_attached self.now.numbers attached.now) }
     {
-        Ok(Beside {
-            fld: beside.fld,
-            note: beside.note,
-            mark: self.mark(&beside.mark)?,
-            sect: copy_section(self.alloc, &beside.sect)?,
+        Ok(Attached {
+            fld: attached.fld,
+            note: attached.note,
+            mark: self.mark(&attached.mark)?,
+            sect: copy_section(self.alloc, &attached.sect)?,
         })
     }
 
-    /// The same mark, where there is one, with its style renumbered.
+    /// The mark, where there is one, with its style renumbered.
     fn mark(&self, mark: &Option<Mark>) -> Result<Option<Mark>, Memory>
         requires { ForSome mark.now (λ mark. mark.istd < self.now.numbers.slots) }
         ensures { IfOk result (λ made. made ≡ option_map (renumbered_mark self.now.numbers) mark.now) }
@@ -196,15 +196,5 @@ impl KeptMaps {
                 pap: mark.pap.copy(self.alloc)?,
             })),
         }
-    }
-}
-
-/// The same settings of a section, where there are some.
-fn copy_section(alloc: Global, sect: &Option<PropMap>) -> Result<Option<PropMap>, Memory>
-    ensures { IfOk result (λ copy. copy ≡ sect.now) }
-{
-    match sect {
-        None => Ok(None),
-        Some(map) => Ok(Some(map.copy(alloc)?)),
     }
 }

@@ -9,8 +9,8 @@ use Rattle.fib_form.specs.TableParts.{pair_of}
 use Rattle.fib_form.specs.declared.table_parts.TablePart.{TablePart}
 use Rattle.fib_form.specs.declared.table_parts.TablePart.TheVariants.{PlcfBteChpx, PlcfBtePapx}
 use Rattle.fib_versions.specs.Early.{early_pairs, early_fields}
-use Rattle.doc_load.specs.Source.{DocSource, part_place, part_bytes}
-use Rattle.doc_load.specs.BinRules.{BreaksBinTable, rules_of_bins}
+use Rattle.file_rules.specs.Source.{DocSource, part_place, part_bytes}
+use Rattle.file_rules.specs.BinRules.{BreaksBinTable, rules_of_bins}
 use Rattle.doc_meaning.specs.Lifted.{IsReadPart}
 use Rattle.doc_meaning.specs.Apart.{ReadsClx}
 use Rattle.doc_meaning.proofs.ApartLemmas.{apart_part}

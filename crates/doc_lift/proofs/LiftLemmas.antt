@@ -16,8 +16,8 @@ use Rattle.fib_versions.specs.Versions.{all_text_length}
 use Rattle.fib_versions.specs.VersionRules.{version_rules}
 use Rattle.plain_doc.specs.declared.document.Document.{Document}
 use Rattle.plain_doc.specs.Marks.{HasFormedBookmarks}
-use Rattle.doc_load.specs.PartRules.{part_rules}
-use Rattle.doc_load.specs.FileRules.{FileText, IsFrontOf, source_of, rules_of_pieces, table_stream_name}
+use Rattle.file_rules.specs.PartRules.{part_rules}
+use Rattle.file_rules.specs.FileRules.{FileText, IsFrontOf, source_of, rules_of_pieces, table_stream_name}
 use Rattle.cfb_sectors.proofs.OpeningLemmas.{whole_length}
 use Rattle.cfb_directory.specs.Reach.{BreaksName}
 use Rattle.cfb_streams.specs.Container.{outer_rules, HasContents}
@@ -30,13 +30,13 @@ use Rattle.doc_read.proofs.FormedBookmarks.{parts-formed}
 use Rattle.doc_meaning.specs.Meaning.{MeansFrom}
 use Rattle.doc_meaning.specs.Apart.{IsReadTable}
 use Rattle.doc_meaning.proofs.ApartLemmas.{clx_table_len}
-use Rattle.doc_meaning.proofs.EarlyLemmas.{early_count}
 use Rattle.doc_meaning.proofs.FrontLemmas.{HasFront, whole_text, front_text}
 use Rattle.doc_meaning.proofs.LoadedLemmas.{loaded_is_meant}
 use Rattle.doc_lift.specs.declared.text_lifting.LiftedText.{LiftedText}
 use Rattle.doc_lift.specs.LiftedRules.{lifted_wd, IsReadFor}
 use Rattle.doc_lift.specs.LiftedTexts.{IsLiftedBy}
 use Rattle.doc_lift.proofs.SkipLemmas.{read_table_len, read_loaded_for}
+use Rattle.fib_versions.proofs.EarlyLemmas.{length-early_pairs}
 
 -- a FIB that is long enough for the rules is as long as the early form
 pub early_long : (wd : List ℕ) → Hold (version_rules wd) → form_size Early ≤ length wd
@@ -53,7 +53,7 @@ length-lifted_wd wd long =
       arith,
       long,
       length-append (written_fib fib) (drop (form_size Early) wd),
-      length-written_fib fib (early_count wd),
+      length-written_fib fib (length-early_pairs wd),
       length-drop (form_size Early) wd,
     )
 

@@ -13,12 +13,12 @@ use Rattle.fib_versions.specs.Versions.{all_text_length}
 use Rattle.fib_versions.specs.VersionRules.{version_rules}
 use Rattle.fib_versions.proofs.VersionLemmas.{version_rules-IsSingle, version_rules-Ascends}
 use Rattle.piece_table.specs.Piece.{UnitPlace, flat_pieces}
-use Rattle.doc_load.specs.Units.{unit_at}
-use Rattle.doc_load.specs.Source.{DocSource}
-use Rattle.doc_load.specs.FileRules.{FileText, IsFrontOf, source_of, clx_of, table_stream_name}
-use Rattle.doc_load.proofs.FileLemmas.{ascends_in, part_single, part_ascends, pieces_single, pieces_ascend}
-use Rattle.doc_load.proofs.NameLemmas.{named_one}
-use Rattle.doc_load.proofs.RefusalLemmas.{single_in}
+use Rattle.file_rules.specs.Units.{unit_at}
+use Rattle.file_rules.specs.Source.{DocSource}
+use Rattle.file_rules.specs.FileRules.{FileText, IsFrontOf, source_of, clx_of, table_stream_name}
+use Rattle.file_rules.proofs.FileLemmas.{ascends_in, part_single, part_ascends, pieces_single, pieces_ascend}
+use Rattle.file_rules.proofs.NameLemmas.{named_one}
+use Rattle.file_rules.proofs.RefusalLemmas.{single_in}
 use Rattle.doc_lift.specs.LiftedRules.{IsSkippedText, IsReadFor, IsLiftedSource, lifted_wd, lifted_table_rules}
 use Rattle.doc_lift.specs.LiftedRules.{read_table_rules}
 use Rattle.fib_versions.specs.Early.{early_pairs}

@@ -2,7 +2,7 @@
 use Rattle.std.specs.Prelude.{slice_range, IsTrue, Bool}
 use Rattle.std.proofs.Common.{◌≡◌, ◌∙◌, ◌↔◌, ◌+◌, ◌≤◌, sym, ap, ℕ, List, length}
 use Rattle.doc_bits.specs.Number.{u16_at}
-use Rattle.doc_load.specs.SectionRules.{sepx_list}
+use Rattle.file_rules.specs.SectionRules.{sepx_list}
 use Rattle.doc_meaning.specs.Skipped.{KeepsSepx}
 
 pub sepx_same : (old new : List ℕ) (fc count : ℕ) (a b : List ℕ) (same : Bool) → u16_at new fc ≡ count →

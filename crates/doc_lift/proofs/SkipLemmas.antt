@@ -25,20 +25,21 @@ use Rattle.piece_table.proofs.UniqueLemmas.{clx_pieces_one}
 use Rattle.page_copies.specs.Pages.{BinTables, SkipsPages}
 use Rattle.page_copies.proofs.OneLemmas.{pages_one}
 use Rattle.part_skips.proofs.OneLemmas.{puts_sheet_one}
-use Rattle.doc_load.specs.declared.fault.ReadFault.{ReadFault}
-use Rattle.doc_load.specs.declared.fault.ReadFault.TheVariants.{Refused}
-use Rattle.doc_load.specs.Faults.{IsReadFault}
-use Rattle.doc_load.specs.Units.{unit_at, text_units}
-use Rattle.doc_load.specs.Source.{part_place, part_bytes}
-use Rattle.doc_load.specs.FormatRules.{text_count}
-use Rattle.doc_load.specs.FileRules.{FileText, IsFrontOf, source_of, clx_of, rules_of_pieces}
+use Rattle.file_rules.specs.declared.fault.ReadFault.{ReadFault}
+use Rattle.file_rules.specs.declared.fault.ReadFault.TheVariants.{Refused}
+use Rattle.file_rules.specs.Faults.{IsReadFault}
+use Rattle.file_rules.specs.Units.{unit_at, text_units}
+use Rattle.file_rules.specs.Source.{part_place, part_bytes}
+use Rattle.file_rules.specs.FormatRules.{text_count}
+use Rattle.file_rules.specs.FileRules.{FileText, IsFrontOf, source_of, clx_of, rules_of_pieces}
 use Rattle.doc_meaning.specs.Skipped.{SkipsTable, KeepsSepxs, bins_of, sections_of, sheet_from, sheet_to}
 use Rattle.doc_meaning.specs.Lifted.{IsOther}
 use Rattle.doc_meaning.specs.Loaded.{KeepsTable, IsLoadedFor}
-use Rattle.doc_meaning.proofs.EarlyLemmas.{early_count, pair_same}
+use Rattle.doc_meaning.proofs.EarlyLemmas.{pair_same}
 use Rattle.doc_meaning.proofs.LoadedLemmas.{table_part_kept}
 use Rattle.doc_meaning.proofs.FrontLemmas.{HasFront, whole_text, front_get, front_loaded, front_units}
 use Rattle.doc_lift.specs.LiftedRules.{lifted_wd, SkipsStreams, IsSkippedText, IsReadFor}
+use Rattle.fib_versions.proofs.EarlyLemmas.{length-early_pairs}
 
 -- ---- one way to skip
 
@@ -75,7 +76,7 @@ skipped_len wd table new_wd new_table skips long =
       long,
       ap length skips.front,
       length-append (written_fib fib) (drop (form_size Early) skips.pages),
-      length-written_fib fib (early_count wd),
+      length-written_fib fib (length-early_pairs wd),
       length-drop (form_size Early) skips.pages,
       skips.skips.len,
     )
@@ -175,7 +176,7 @@ skipped_loaded wd table text_len text units read has front is =
       kept_pages = inl streams.skips;
       behind = ap (drop (form_size Early)) streams.front
           ∙ drop_front (written_fib early) (drop (form_size Early) streams.pages) (form_size Early)
-          (length-written_fib early (early_count wd));
+          (length-written_fib early (length-early_pairs wd));
       fields = streams.fields;
       table = kept_table wd table read.table front.all streams.table_is;
       places = λ cp below.

@@ -7,8 +7,8 @@ use Rattle.doc_bits.specs.Places.{Place, Upto, IsFirstPlace, rules_in}
 use Rattle.cfb_streams.specs.Container.{outer_rules, HasContents, ListsStorages}
 use Rattle.fib_versions.specs.VersionRules.{version_rules}
 use Rattle.plain_doc.specs.Marks.{HasFormedBookmarks}
-use Rattle.doc_load.specs.Units.{text_units}
-use Rattle.doc_load.specs.FileRules.{FileText, HasText}
+use Rattle.file_rules.specs.Units.{text_units}
+use Rattle.file_rules.specs.FileRules.{FileText, HasText}
 use Rattle.doc_meaning.specs.Meaning.{MeansDocument}
 use Rattle.doc_lift.specs.declared.lifting.Lifted.{Lifted}
 use Rattle.doc_lift.specs.LiftedRules.{lifted_contents_rules}

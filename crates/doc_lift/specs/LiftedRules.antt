@@ -15,9 +15,9 @@ use Rattle.fib_versions.specs.Early.{early_pairs, early_fields, early_wd}
 use Rattle.fib_versions.specs.Versions.{all_text_length}
 use Rattle.fib_versions.specs.VersionRules.{version_rules}
 use Rattle.page_copies.specs.Pages.{SkipsPages}
-use Rattle.doc_load.specs.Source.{DocSource}
-use Rattle.doc_load.specs.PartRules.{part_rules}
-use Rattle.doc_load.specs.FileRules.{FileText, HasNoStream, IsFrontOf, source_of, table_stream_name, rules_of_pieces}
+use Rattle.file_rules.specs.Source.{DocSource}
+use Rattle.file_rules.specs.PartRules.{part_rules}
+use Rattle.file_rules.specs.FileRules.{FileText, HasNoStream, IsFrontOf, source_of, table_stream_name, rules_of_pieces}
 use Rattle.doc_meaning.specs.Skipped.{bins_of, sections_of, SkipsTable, KeepsSepxs}
 use Rattle.doc_meaning.specs.Apart.{ReadsClx}
 

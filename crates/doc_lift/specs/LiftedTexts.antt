@@ -5,8 +5,8 @@ use Rattle.doc_bits.specs.Places.{Place}
 use Rattle.cfb_streams.specs.Contents.{Contents}
 use Rattle.fib_versions.specs.VersionRules.{version_rules}
 use Rattle.plain_doc.specs.Marks.{HasFormedBookmarks}
-use Rattle.doc_load.specs.Units.{text_units}
-use Rattle.doc_load.specs.FileRules.{FileText, HasText}
+use Rattle.file_rules.specs.Units.{text_units}
+use Rattle.file_rules.specs.FileRules.{FileText, HasText}
 use Rattle.doc_meaning.specs.Meaning.{MeansFrom}
 use Rattle.doc_lift.specs.declared.text_lifting.LiftedText.{LiftedText}
 

@@ -5,7 +5,7 @@ ghost use Rattle.fib_form.specs.Fib.{kept_pairs};
 ghost use Rattle.doc_meaning.specs.Apart.{ReadsClx, IsClxApart, IsApart, StandsApart, LevelsStandApart, EndBefore};
 ghost use Rattle.doc_meaning.specs.Apart.{clx_from, clx_to};
 
-use crate::skipping::copied;
+use crate::skipping::copy_stream;
 use doc_bits::Memory;
 use doc_parts::levels_len;
 use fib_form::{Fib, PAIR_COUNT};
@@ -22,7 +22,7 @@ pub(crate) fn clx_skipped(alloc: Global, early: &Fib, table: &[u8]) -> Result<Ve
     requires { length table.now < 2 ^ 32 }
     ensures { IfOk result (λ copy. ReadsClx early.now.pairs table.now copy.items) }
 {
-    let mut copy = copied(alloc, table)?;
+    let mut copy = copy_stream(alloc, table)?;
     skip_clx(early, &mut copy);
     Ok(copy)
 }

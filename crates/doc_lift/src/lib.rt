@@ -8,6 +8,7 @@ mod lifting;
 mod skipping;
 mod text_lifting;
 
-pub use doc_load::ReadFault;
+pub use file_rules::ReadFault;
 pub use laws::first_lifted_fault_is_least;
 pub use lifting::{Lifted, lift};
+pub use skipping::{PLCF_BTE_CHPX, PLCF_BTE_PAPX};

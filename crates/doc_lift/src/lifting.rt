@@ -2,7 +2,7 @@
 ghost use Rattle.std.specs.Prelude.{◌≡◌, MatchResult};
 ghost use Rattle.cfb_streams.specs.Contents.{HasNamed};
 ghost use Rattle.cfb_streams.specs.Names.{wd_name};
-ghost use Rattle.doc_load.specs.Faults.{IsReadFault};
+ghost use Rattle.file_rules.specs.Faults.{IsReadFault};
 ghost use Rattle.doc_read.specs.CarriedParts.{AreWithinBounds};
 ghost use Rattle.doc_lift.specs.LiftedRules.{lifted_wd_rules, lifted_contents_rules};
 ghost use Rattle.doc_lift.specs.LiftedTexts.{IsLiftedBy};
@@ -10,15 +10,11 @@ ghost use Rattle.doc_lift.specs.LiftedFiles.{IsLifted, lifted_rules};
 
 use crate::text_lifting::{LiftedText, lift_text};
 use cfb_streams::{Container, OuterContainer, WORD_DOCUMENT, table_name};
-use doc_bits::Where;
+use doc_bits::{Where, drop_then};
 use doc_columns::ColumnDocument;
-use doc_load::{ReadFault, refused_container};
 use fib_versions::AnyFib;
+use file_rules::{RULE_TABLE, RULE_WORD_DOCUMENT, ReadFault, refused_container};
 use std::alloc::Global;
-
-const RULE_WORD_DOCUMENT: u8 = 15;
-
-const RULE_TABLE: u8 = 25;
 
 /// Where the flags of the FIB stand, which name the table stream.
 const FLAGS: u32 = 10;
@@ -42,7 +38,7 @@ pub fn lift(alloc: Global, file: &[u8]) -> Result<Lifted, ReadFault>
     };
     match lift_contents(alloc, outer.container()) {
         Ok(found) => Ok(lifted_of(outer, found)),
-        Err(fault) => let_go(outer, Err(fault)),
+        Err(fault) => drop_then(outer, Err(fault)),
     }
 }
 
@@ -56,14 +52,6 @@ fn lifted_of(outer: OuterContainer, found: LiftedText) -> Lifted
         outer,
         units,
     }
-}
-
-/// An answer, once a value is let go.
-fn let_go<T: Drop, A>(value: T, answer: A) -> A
-    ensures { result ≡ answer }
-{
-    drop(value);
-    answer
 }
 
 /// Lifts the document of streams.

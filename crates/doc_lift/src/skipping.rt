@@ -15,6 +15,7 @@ ghost use Rattle.doc_meaning.specs.Skipped.{KeepsSepxs, bins_of, fc_sepx, sheet_
 ghost use Rattle.doc_lift.specs.LiftedRules.{SkipsStreams};
 
 use doc_bits::{Memory, get16, get32};
+use doc_parts::{FC_SEPX, SED_LEN};
 use fib_form::{Fib, PAIR_COUNT};
 use fib_versions::AnyFib;
 use page_copies::skip_pages;
@@ -24,14 +25,9 @@ use std::alloc::Global;
 /// The pairs of the style sheet, and of the bin tables of the characters and of the paragraphs.
 const STSHF: usize = 1;
 
-const PLCF_BTE_CHPX: u16 = 12;
+pub const PLCF_BTE_CHPX: u16 = 12;
 
-const PLCF_BTE_PAPX: u16 = 13;
-
-/// The bytes of a Sed, and where fcSepx stands in it.
-const SED_LEN: usize = 12;
-
-const FC_SEPX: usize = 2;
+pub const PLCF_BTE_PAPX: u16 = 13;
 
 /// Where the pages begin that do not lie over the FIB.
 const PAGES: usize = 1024;
@@ -77,7 +73,7 @@ pub(crate) fn skipped_streams(
 }
 
 /// A copy of a stream.
-pub(crate) fn copied(alloc: Global, bytes: &[u8]) -> Result<Vec<u8>, Memory>
+pub(crate) fn copy_stream(alloc: Global, bytes: &[u8]) -> Result<Vec<u8>, Memory>
     ensures { IfOk result (λ copy. copy.items ≡ bytes.now) }
 {
     let mut copy = Vec::with_capacity(alloc, bytes.len())?;
@@ -108,7 +104,7 @@ fn skipped_pages(
     requires same { fib.now ≡ wd.now }
     ensures { IfOk result (λ pages. SkipsPages (bins_of wd.now table.now) wd.now pages.items) }
 {
-    let mut pages = copied(alloc, wd)?;
+    let mut pages = copy_stream(alloc, wd)?;
     let characters = fib.part(table, PLCF_BTE_CHPX);
     let paragraphs = fib.part(table, PLCF_BTE_PAPX);
     skip_pages(alloc, &mut pages, characters, paragraphs)?;
@@ -122,7 +118,7 @@ fn stands_from(place: usize, pair: (u32, u32)) -> bool
     pair.1 == 0 || place <= pair.0 as usize
 }
 
-/// The same of pair `n`, if it is not that of the style sheet.
+/// Whether the part of pair `n`, if it is not the style sheet, has no bytes, or begins at this place or behind it.
 fn stands_behind(early: &Fib, place: usize, n: usize) -> bool
     requires { n < kept_pairs }
     ensures { IsTrue result ↔ StandsBehind early.now.pairs place n }
@@ -180,7 +176,7 @@ fn skipped_table(alloc: Global, early: &Fib, table: &[u8]) -> Result<Vec<u8>, Me
     requires { length table.now < 2 ^ 32 }
     ensures { IfOk result (λ copy. SkipsTable early.now.pairs table.now copy.items) }
 {
-    let mut copy = copied(alloc, table)?;
+    let mut copy = copy_stream(alloc, table)?;
     skip_first(early, &mut copy);
     Ok(copy)
 }

@@ -7,8 +7,8 @@ ghost use Rattle.doc_bits.specs.Rules.{Hold};
 ghost use Rattle.cfb_streams.specs.Contents.{HasNamed};
 ghost use Rattle.cfb_streams.specs.Names.{wd_name};
 ghost use Rattle.fib_versions.specs.VersionRules.{version_rules};
-ghost use Rattle.doc_load.specs.Faults.{IsReadFault};
-ghost use Rattle.doc_load.specs.FileRules.{FileText, table_stream_name};
+ghost use Rattle.file_rules.specs.Faults.{IsReadFault};
+ghost use Rattle.file_rules.specs.FileRules.{FileText, table_stream_name};
 ghost use Rattle.doc_read.specs.CarriedParts.{AreWithinBounds};
 ghost use Rattle.doc_meaning.specs.Skipped.{KeepsSepxs};
 ghost use Rattle.doc_meaning.specs.Apart.{IsReadTable};
@@ -20,9 +20,9 @@ use crate::skipping::{SkippedStreams, early_fib, keeps_sepxs, skipped_streams, w
 use cfb_streams::Container;
 use doc_bits::Memory;
 use doc_columns::ColumnDocument;
-use doc_load::{LoadedText, ReadFault, load_front};
 use doc_read::read_loaded;
 use fib_versions::AnyFib;
+use file_rules::{LoadedText, ReadFault, load_front};
 use std::alloc::Global;
 
 /// The pair of the sections.

@@ -20,7 +20,7 @@ use Rattle.fib_versions.specs.Versions.{further_count}
 use Rattle.doc_parts.specs.Tabulated.{tabulate}
 use Rattle.plain_doc.specs.declared.item.Item.{Item}
 use Rattle.plain_doc.specs.declared.document.Document.{Document}
-use Rattle.doc_columns.specs.Beside.{beside_of, has_something}
+use Rattle.doc_columns.specs.Attached.{attached_of, has_something}
 use Rattle.text_losses.specs.declared.features.Reference.{Reference}
 use Rattle.doc_losses.specs.References.{Names, names_of, mark_cps, mark_pair, mark_size, table_cps, where_named, mark_of}
 use Rattle.doc_losses.specs.References.{mark_of_unit, mark_at, text_marks, reference_at}
@@ -89,7 +89,7 @@ by_item : (names : Names) (story : Story) (cp : ℕ) (o : Option Item) →
     ((to : Further) → names to cp ≡ false) → option_and_then (mark_of names story cp) o ≡ None
 by_item names story cp None none = refl
 by_item names story cp (Some item) none =
-    if_none (has_something (beside_of item)) (where_named names cp (mark_of_unit story item.unit))
+    if_none (has_something (attached_of item)) (where_named names cp (mark_of_unit story item.unit))
     (nowhere_named names cp (mark_of_unit story item.unit) none)
 
 all_none : (f : ℕ → Option Further) (n : ℕ) → ((k : ℕ) → f k ≡ None) → All (λ o. o ≡ None) (tabulate f n)

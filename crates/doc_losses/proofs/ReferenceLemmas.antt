@@ -18,8 +18,8 @@ use Rattle.doc_parts.specs.Tabulated.{tabulate}
 use Rattle.doc_parts.proofs.BookmarkPartLemmas.{tabulate-next}
 use Rattle.plain_doc.specs.declared.item.Item.{Item}
 use Rattle.plain_doc.specs.declared.document.Document.{Document}
-use Rattle.doc_columns.specs.declared.beside.Beside.{Beside}
-use Rattle.doc_columns.specs.Beside.{beside_of, has_something}
+use Rattle.doc_columns.specs.declared.attached.Attached.{Attached}
+use Rattle.doc_columns.specs.Attached.{attached_of, has_something}
 use Rattle.text_losses.specs.declared.features.Reference.{Reference}
 use Rattle.doc_losses.specs.References.{Names, mark_of, mark_at, mark_of_unit, where_named, text_marks, reference_at}
 use Rattle.doc_losses.specs.References.{names_of, mark_cps}
@@ -28,18 +28,18 @@ use Rattle.doc_losses.specs.Marks.{named_by, AreMarksOf}
 
 -- ---- the mark at a place
 
-pub mark_is : (names : Names) (story : Story) (begin at unit : ℕ) (text : List Item) (beside : Beside) →
-    slice_get (map (λ item. item.unit) text) at ≡ Some unit → slice_get (map beside_of text) at ≡ Some beside →
-    mark_at names story begin text at ≡ (if has_something beside then None else where_named names (begin + at)
+pub mark_is : (names : Names) (story : Story) (begin at unit : ℕ) (text : List Item) (attached : Attached) →
+    slice_get (map (λ item. item.unit) text) at ≡ Some unit → slice_get (map attached_of text) at ≡ Some attached →
+    mark_at names story begin text at ≡ (if has_something attached then None else where_named names (begin + at)
     (mark_of_unit story unit))
-mark_is names story begin at unit text beside unit_is beside_is =
+mark_is names story begin at unit text attached unit_is attached_is =
     let item = from_map (λ (item : Item). item.unit) text at unit unit_is in
-    let same : beside_of item.0 ≡ beside =
-    same_Some (beside_of item.0) beside (sym (get-map beside_of text at item.0 item.1.0) ∙ beside_is) in
+    let same : attached_of item.0 ≡ attached =
+    same_Some (attached_of item.0) attached (sym (get-map attached_of text at item.0 item.1.0) ∙ attached_is) in
     ap (option_and_then (mark_of names story (begin + at))) item.1.0
-    ∙ (ap (λ (b : Beside). if has_something b then None else where_named names (begin + at) (mark_of_unit story
+    ∙ (ap (λ (b : Attached). if has_something b then None else where_named names (begin + at) (mark_of_unit story
     (item.0).unit)) same
-    ∙ ap (λ (u : ℕ). if has_something beside then None else where_named names (begin + at) (mark_of_unit story u))
+    ∙ ap (λ (u : ℕ). if has_something attached then None else where_named names (begin + at) (mark_of_unit story u))
     item.1.1)
 
 -- ---- the CPs of a file

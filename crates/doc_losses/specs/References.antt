@@ -15,7 +15,7 @@ use Rattle.doc_parts.specs.Table.{plc_part}
 use Rattle.doc_parts.specs.Tabulated.{tabulate}
 use Rattle.plain_doc.specs.declared.item.Item.{Item}
 use Rattle.plain_doc.specs.declared.document.Document.{Document}
-use Rattle.doc_columns.specs.Beside.{beside_of, has_something}
+use Rattle.doc_columns.specs.Attached.{attached_of, has_something}
 use Rattle.text_losses.specs.declared.features.Reference.{Reference}
 
 -- ---- where marks are said to stand
@@ -82,7 +82,7 @@ where_named names cp (Some to) = if names to cp then Some to else None
 -- the story whose mark an item at a CP is
 abbrev pub mark_of : Names → Story → ℕ → Item → Option Further
 mark_of names story cp item =
-    if has_something (beside_of item) then None else where_named names cp (mark_of_unit story item.unit)
+    if has_something (attached_of item) then None else where_named names cp (mark_of_unit story item.unit)
 
 -- the same of an item of a text that begins at a CP
 abbrev pub mark_at : Names → Story → ℕ → List Item → ℕ → Option Further

@@ -10,11 +10,9 @@ ghost use Rattle.doc_losses.specs.Losses.{left_out};
 
 use crate::bytes::{long_at, word_at};
 use doc_bits::{Memory, Units};
+use doc_parts::STTBF_HEAD_LEN;
 use std::alloc::Global;
 use text_losses::TextFeature;
-
-/// The bytes before the first name: `FFFF`, the count and 0.
-const NAMES_FRONT: usize = 6;
 
 /// SttbfBkmk, PlcfBkf and PlcfBkl.
 #[derive(Clone, Copy)]
@@ -34,11 +32,11 @@ pub(crate) fn add_bookmarks(
     ensures { OnOk result (list.new.items ≡ list.old.items ++ left_out main_len
         (bookmark_features (parts_at parts.entry.names.now parts.entry.starts.now parts.entry.ends.now []))) }
 {
-    if parts.names.len() <= NAMES_FRONT {
+    if parts.names.len() <= STTBF_HEAD_LEN {
         return Ok(());
     }
     let count = word_at(parts.names, 2) as usize;
-    let mut place = NAMES_FRONT;
+    let mut place = STTBF_HEAD_LEN;
     for k in 0..count {
         add_bookmark(alloc, parts, k, place, main_len, list)?;
         place += 2 + 2 * word_at(parts.names, place) as usize;

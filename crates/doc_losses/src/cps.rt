@@ -2,14 +2,14 @@
 ghost use Rattle.std.specs.Prelude.{◌≡◌, ◌==◌, ◌≤◌, if◌then◌else◌, Some, None, IfOk};
 ghost use Rattle.std.specs.List.{list_any};
 ghost use Rattle.std.specs.List.Sorted.{IsPermutation};
-ghost use Rattle.doc_columns.specs.Beside.{has_something};
+ghost use Rattle.doc_columns.specs.Attached.{has_something};
 ghost use Rattle.doc_losses.specs.References.{table_cps, mark_cps, main_mark as main_mark_of, head_mark as head_mark_of};
 ghost use Rattle.doc_losses.specs.References.{mark_of_unit as mark_by_unit, where_named, mark_pair, mark_size};
 ghost use Rattle.doc_losses.specs.References.{has_no_marks as no_marks_of};
 ghost use Rattle.doc_losses.specs.Marks.{named_by, AreMarksOf};
 
 use doc_bits::{Memory, Story, get32};
-use doc_columns::Beside;
+use doc_columns::Attached;
 use fib_versions::{AnyFib, Further};
 use std::alloc::Global;
 use std::marker::Model;
@@ -105,12 +105,12 @@ impl Marks {
         story: Story,
         cp: usize,
         unit: u16,
-        beside: &Beside,
+        attached: &Attached,
     ) -> Option<Further>
-        ensures { result ≡ (if has_something beside.now then None else
+        ensures { result ≡ (if has_something attached.now then None else
             where_named (named_by self.now) cp (mark_by_unit story unit)) }
     {
-        if beside.is_something() {
+        if attached.is_something() {
             return None;
         }
         match mark_of_unit(story, unit) {

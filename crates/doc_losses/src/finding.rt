@@ -25,12 +25,12 @@ pub fn text_marks(
     ensures { IfOk result (λ list. list.items ≡ marks_of_text (named_by marks.now) story begin text.now) }
 {
     let units = text.units();
-    let besides = text.besides();
+    let attachments = text.attachments();
     let mut cursor = Cursor::new();
     let mut list = Vec::with_capacity(alloc, units.len())?;
     for at in 0..units.len() {
-        let beside = seek(besides, &mut cursor, at);
-        list.push(marks.mark_of(story, begin + at, units[at], beside))?;
+        let attached = seek(attachments, &mut cursor, at);
+        list.push(marks.mark_of(story, begin + at, units[at], attached))?;
     }
     Ok(list)
 }

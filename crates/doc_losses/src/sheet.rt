@@ -36,7 +36,7 @@ fn sheet_beyond(part: &[u8]) -> u64
     let mut styles = 0;
     for _istd in 0..word_at(part, 2) {
         let len = word_at(part, place);
-        styles += filled(len);
+        styles += count_if_filled(len);
         place = even_up(place + 2 + len as usize);
     }
     let behind = part.len().saturating_sub(place) as u64;
@@ -44,7 +44,7 @@ fn sheet_beyond(part: &[u8]) -> u64
 }
 
 /// One where a slot has bytes.
-fn filled(len: u16) -> u64
+fn count_if_filled(len: u16) -> u64
     ensures count { result ≡ count_by (nat_lt 0) (len ∷ []) }
     ensures few { result ≤ 1 }
 {

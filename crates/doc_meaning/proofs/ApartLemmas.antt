@@ -28,8 +28,8 @@ use Rattle.fkp_pages.specs.declared.kind.PageKind.TheVariants.{Chpx, Papx}
 use Rattle.page_copies.specs.Pages.{bin_of}
 use Rattle.page_copies.specs.Laws.{HasListBefore}
 use Rattle.style_sheet.specs.Stsh.{HasStyleSheet}
-use Rattle.doc_load.specs.Source.{story_length}
-use Rattle.doc_load.specs.FileRules.{FileText, source_of, clx_of}
+use Rattle.file_rules.specs.Source.{story_length}
+use Rattle.file_rules.specs.FileRules.{FileText, source_of, clx_of}
 use Rattle.doc_meaning.specs.Skipped.{bins_of}
 use Rattle.doc_meaning.specs.Lifted.{ReadsTheSame}
 use Rattle.doc_meaning.specs.Apart.{clx_from, clx_to, StandsApart, EndBefore, LevelsStandApart, SkipsClx, ReadsClx}

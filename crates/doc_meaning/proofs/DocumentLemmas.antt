@@ -2,16 +2,16 @@
 use Rattle.std.specs.Prelude.{slice_index}
 use Rattle.std.proofs.Common.{◌≡◌, ◌∙◌, refl, ◌+◌, ◌-◌, ◌<◌, ◌≤◌, ap, subst, ℕ, List, length, arith}
 use Rattle.std.proofs.lemmas.Option.{slice_get_within}
-use Rattle.prop_map.specs.Settings.{Settings}
+use Rattle.prop_map.specs.Settings.{Properties}
 use Rattle.cfb_streams.specs.Contents.{Contents}
 use Rattle.fib_form.specs.declared.table_parts.TablePart.TheVariants.{SttbfFfn, Dop, SttbfAssoc, PlfLst, PlfLfo}
 use Rattle.fib_form.specs.declared.stories.StoryKind.TheVariants.{Main, Notes, Heads}
 use Rattle.plain_doc.specs.declared.carried.Carried.{Carried}
 use Rattle.plain_doc.specs.declared.document.Document.{Document}
 use Rattle.plain_doc.specs.declared.item.Item.{Item}
-use Rattle.doc_load.specs.Source.{story_length, story_begin}
-use Rattle.doc_load.specs.FormatRules.{text_count}
-use Rattle.doc_load.specs.FileRules.{FileText, HasText, source_of}
+use Rattle.file_rules.specs.Source.{story_length, story_begin}
+use Rattle.file_rules.specs.FormatRules.{text_count}
+use Rattle.file_rules.specs.FileRules.{FileText, HasText, source_of}
 use Rattle.doc_read.specs.CarriedParts.{HoldsCarried}
 use Rattle.doc_read.specs.Items.{HoldsItems, HoldsTexts}
 use Rattle.doc_read.specs.Texts.{AreCutsWithin}
@@ -25,7 +25,7 @@ use Rattle.doc_meaning.proofs.ListLemmas.{lists_same, read_of}
 use Rattle.doc_meaning.proofs.ItemLemmas.{begin_same, item_same, maps_same}
 
 -- a stretch of the three stories
-items_same : (old : FileText) (r : RightText) (maps : List Settings) (from to : ℕ) (items : List Item) →
+items_same : (old : FileText) (r : RightText) (maps : List Properties) (from to : ℕ) (items : List Item) →
     ReadsTheSame old r.text → from ≤ to → to ≤ text_count (source_of r.text) →
     HoldsItems (parts_of r.text r.lists maps) from to items → HoldsItems (parts_of old r.lists maps) from to items
 items_same old r maps from to items same order within holds = record {
@@ -37,7 +37,7 @@ items_same old r maps from to items same order within holds = record {
 }
 
 -- texts that are cut out of them
-texts_same : (old : FileText) (r : RightText) (maps : List Settings) (begin : ℕ) (cuts : List ℕ) (count : ℕ)
+texts_same : (old : FileText) (r : RightText) (maps : List Properties) (begin : ℕ) (cuts : List ℕ) (count : ℕ)
     (texts : List (List Item)) → ReadsTheSame old r.text →
     AreCutsWithin begin cuts (text_count (source_of r.text)) →
     HoldsTexts (parts_of r.text r.lists maps) begin cuts count texts →

@@ -1,6 +1,5 @@
 -- The counts and the pairs of a stream with a FIB of the early form in front are those of the stream.
-use Rattle.std.proofs.Common.{◌≡◌, ◌∙◌, ◌<◌, refl, sym, ap, ℕ, List, length, drop, lit<, zero-add}
-use Rattle.std.proofs.lemmas.List.FromFn.{get_or-map-range_with_len, length-map-range_with_len}
+use Rattle.std.proofs.Common.{◌≡◌, ◌∙◌, ◌<◌, refl, sym, ap, ℕ, List, length, drop, lit<}
 use Rattle.fib_form.specs.declared.form.Form.TheVariants.{Early}
 use Rattle.fib_form.specs.declared.stories.StoryKind.{StoryKind}
 use Rattle.fib_form.specs.declared.table_parts.TablePart.{TablePart}
@@ -16,23 +15,15 @@ use Rattle.fib_form.specs.TableParts.{pair_of}
 use Rattle.fib_form.proofs.PairLemmas.{pair_at-fib_pairs}
 use Rattle.fib_form.proofs.WriteLemmas.{length-written_fib, drop_front}
 use Rattle.fib_versions.specs.Early.{early_pair, early_pairs, early_fields, early_wd}
-use Rattle.doc_load.specs.Source.{DocSource, story_length}
-use Rattle.doc_load.proofs.StoryLemmas.{story_count}
-
--- what stands behind it
-pub early_count : (wd : List ℕ) → length (early_pairs wd) ≡ kept_pairs
-unfolding early_pairs
-early_count wd = length-map-range_with_len (early_pair wd) 0 kept_pairs
+use Rattle.file_rules.specs.Source.{DocSource, story_length}
+use Rattle.file_rules.proofs.StoryLemmas.{story_count}
+use Rattle.fib_versions.proofs.EarlyLemmas.{length-early_pairs, pair_at-early_pairs}
 
 pub early_behind : (wd : List ℕ) → drop (form_size Early) (early_wd wd (early_pairs wd)) ≡ drop (form_size Early) wd
 early_behind wd =
     let fib = early_fields wd (early_pairs wd) in
-    drop_front (written_fib fib) (drop (form_size Early) wd) (form_size Early) (length-written_fib fib (early_count wd))
-
--- the pairs of the parts
-early_at : (wd : List ℕ) (n : ℕ) → n < kept_pairs → pair_at (early_pairs wd) n ≡ early_pair wd n
-unfolding early_pairs
-early_at wd n below = get_or-map-range_with_len (early_pair wd) 0 kept_pairs n n (0, 0) below (zero-add n)
+    drop_front (written_fib fib) (drop (form_size Early) wd) (form_size Early) (length-written_fib fib
+    (length-early_pairs wd))
 
 pub part_below : (part : TablePart) → pair_of part < kept_pairs
 part_below Stshf = lit< tt
@@ -78,7 +69,7 @@ part_stays wd PlfLfo = refl
 
 -- so the pair of a part is that of the stream
 pub early_part : (wd : List ℕ) (part : TablePart) → pair_at (early_pairs wd) (pair_of part) ≡ fib_pair wd (pair_of part)
-early_part wd part = early_at wd (pair_of part) (part_below part) ∙ part_stays wd part
+early_part wd part = pair_at-early_pairs wd (pair_of part) (part_below part) ∙ part_stays wd part
 
 -- the pair of a part, where a FIB has these fields
 pub pair_same : (old new : List ℕ) (part : TablePart) → fib_fields new ≡ early_fields old (early_pairs old) →

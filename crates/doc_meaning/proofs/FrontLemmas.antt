@@ -19,10 +19,10 @@ use Rattle.text_codes.specs.Compressed.{unit_of}
 use Rattle.piece_table.specs.Piece.{TextPiece, UnitPlace, flat_pieces, place_of_cp}
 use Rattle.piece_table.specs.Clx.{IsClx}
 use Rattle.piece_table.specs.ClxRules.{text_bounds}
-use Rattle.doc_load.specs.Units.{unit_at, text_units}
-use Rattle.doc_load.specs.FormatRules.{text_count}
-use Rattle.doc_load.specs.FileRules.{FileText, HasText, IsFrontOf, source_of, clx_of, rules_of_pieces}
-use Rattle.doc_load.proofs.StandLemmas.{StandsBy, place_stands, places_stand}
+use Rattle.file_rules.specs.Units.{unit_at, text_units}
+use Rattle.file_rules.specs.FormatRules.{text_count}
+use Rattle.file_rules.specs.FileRules.{FileText, HasText, IsFrontOf, source_of, clx_of, rules_of_pieces}
+use Rattle.file_rules.proofs.StandLemmas.{StandsBy, place_stands, places_stand}
 use Rattle.doc_meaning.specs.Skipped.{sections_of, fc_sepx, KeepsSepx}
 use Rattle.doc_meaning.specs.Loaded.{IsLoadedFor}
 use Rattle.doc_meaning.specs.Apart.{IsReadTable}

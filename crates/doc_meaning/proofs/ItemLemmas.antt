@@ -9,9 +9,9 @@ use Rattle.std.specs.FinMap.{empty}
 use Rattle.doc_bits.specs.Number.{u16_at}
 use Rattle.doc_bits.proofs.NumberLemmas.{number_at-take}
 use Rattle.sprm_table.proofs.SprmLemmas.{spelt_unique}
-use Rattle.prop_map.specs.Settings.{Settings}
+use Rattle.prop_map.specs.Settings.{Properties}
 use Rattle.prop_map.specs.Formed.{character_groups, paragraph_groups, section_groups}
-use Rattle.prop_map.specs.Acting.{ArePropertiesAfter, style_of}
+use Rattle.prop_map.specs.Acting.{ArePropertiesAfter, style_named}
 use Rattle.prop_map.specs.Modifiers.{mark_style}
 use Rattle.prop_map.specs.declared.modifiers.Modifier.{Modifier}
 use Rattle.prl_skips.specs.Skips.{skipped, SkipsOrStays, HoldsNoPictures}
@@ -25,19 +25,19 @@ use Rattle.fkp_pages.specs.Properties.{HasListAt}
 use Rattle.page_copies.specs.Pages.{bin_of}
 use Rattle.page_copies.specs.Laws.{IsListCopy, HasListBefore}
 use Rattle.page_copies.proofs.ListLemmas.{copy_acts}
-use Rattle.direct_props.specs.Direct.{MakesSettings, IsDirectCharacter}
-use Rattle.direct_props.specs.PageRules.{IsRightPlace}
+use Rattle.direct_props.specs.Direct.{MakesProperties, IsDirectCharacter}
+use Rattle.direct_props.specs.PageRules.{IsValidPlace}
 use Rattle.direct_props.proofs.RightLemmas.{right_places_have_lists}
 use Rattle.doc_parts.specs.Sections.{HasSepx}
 use Rattle.plain_doc.specs.declared.item.Item.{Item}
 use Rattle.plain_doc.specs.declared.item.Mark.{Mark}
 use Rattle.plain_doc.specs.Entries.{entry_at}
-use Rattle.doc_load.specs.Source.{part_bytes, story_begin}
-use Rattle.doc_load.specs.SectionRules.{LacksSepx, sepx_list, section_fc}
-use Rattle.doc_load.specs.FormatRules.{text_count}
-use Rattle.doc_load.specs.PartRules.{PartLists}
-use Rattle.doc_load.specs.FileRules.{FileText, source_of}
-use Rattle.doc_read.specs.Sections.{IsSectionSettings, HaveSettings, section_marks}
+use Rattle.file_rules.specs.Source.{part_bytes, story_begin}
+use Rattle.file_rules.specs.SectionRules.{LacksSepx, sepx_list, section_fc}
+use Rattle.file_rules.specs.FormatRules.{text_count}
+use Rattle.file_rules.specs.PartRules.{PartLists}
+use Rattle.file_rules.specs.FileRules.{FileText, source_of}
+use Rattle.doc_read.specs.Sections.{IsSectionProperties, HaveProperties, section_marks}
 use Rattle.doc_read.specs.Items.{IsMarkAt, IsItemAt}
 use Rattle.doc_read.specs.Marked.{story_bytes, field_bytes}
 use Rattle.doc_read.proofs.ExistItems.{parts_of}
@@ -49,10 +49,10 @@ use Rattle.doc_meaning.specs.Lifted.{KeepsLists, ReadsTheSame}
 -- ---- what lists make
 
 -- what a list makes once its codes are skipped it makes before
-makes_before : (old new : List ℕ) (groups : ℕ) (made : Settings) (style : Option ℕ) → HoldsNoPictures groups →
-    SkipsOrStays old new → MakesSettings new groups made style → MakesSettings old groups made style
+makes_before : (old new : List ℕ) (groups : ℕ) (made : Properties) (style : Option ℕ) → HoldsNoPictures groups →
+    SkipsOrStays old new → MakesProperties new groups made style → MakesProperties old groups made style
 makes_before old new groups made style none (inr stays) makes =
-    subst (λ l. MakesSettings l groups made style) stays.1 makes
+    subst (λ l. MakesProperties l groups made style) stays.1 makes
 makes_before old new groups made style none (inl skips) makes =
     let same = spelt_unique new makes.prls (map skipped skips.prls) makes.spelt skips.skips in
     record {
@@ -61,23 +61,23 @@ makes_before old new groups made style none (inl skips) makes =
       map = (make_skips skips.prls groups empty made none).0
           (subst (λ l. ArePropertiesAfter l groups empty made) same makes.map);
       style_is = makes.style_is
-          ∙ (ap (λ l. style_of l groups) same ∙ style_skips skips.prls groups none);
+          ∙ (ap (λ l. style_named l groups) same ∙ style_skips skips.prls groups none);
     }
 
-characters_before : (list made : List ℕ) (settings : Settings) (style : Option ℕ) → IsListCopy Chpx list made →
-    MakesSettings made character_groups settings style → MakesSettings list character_groups settings style
-characters_before list made settings style (inr same) makes =
-    subst (λ l. MakesSettings l character_groups settings style) same makes
-characters_before list made settings style (inl skips) makes =
-    makes_before list made character_groups settings style refl skips.sprms makes
+characters_before : (list made : List ℕ) (properties : Properties) (style : Option ℕ) → IsListCopy Chpx list made →
+    MakesProperties made character_groups properties style → MakesProperties list character_groups properties style
+characters_before list made properties style (inr same) makes =
+    subst (λ l. MakesProperties l character_groups properties style) same makes
+characters_before list made properties style (inl skips) makes =
+    makes_before list made character_groups properties style refl skips.sprms makes
 
-paragraphs_before : (list made : List ℕ) (settings : Settings) (style : Option ℕ) → IsListCopy Papx list made →
-    MakesSettings (drop 2 made) paragraph_groups settings style →
-    MakesSettings (drop 2 list) paragraph_groups settings style
-paragraphs_before list made settings style (inr same) makes =
-    subst (λ l. MakesSettings (drop 2 l) paragraph_groups settings style) same makes
-paragraphs_before list made settings style (inl skips) makes =
-    makes_before (drop 2 list) (drop 2 made) paragraph_groups settings style refl skips.sprms makes
+paragraphs_before : (list made : List ℕ) (properties : Properties) (style : Option ℕ) → IsListCopy Papx list made →
+    MakesProperties (drop 2 made) paragraph_groups properties style →
+    MakesProperties (drop 2 list) paragraph_groups properties style
+paragraphs_before list made properties style (inr same) makes =
+    subst (λ l. MakesProperties (drop 2 l) paragraph_groups properties style) same makes
+paragraphs_before list made properties style (inl skips) makes =
+    makes_before (drop 2 list) (drop 2 made) paragraph_groups properties style refl skips.sprms makes
 
 -- the style number in front of a paragraph's list
 istd_before : (list made : List ℕ) → IsListCopy Papx list made → u16_at made 0 ≡ u16_at list 0
@@ -90,7 +90,7 @@ istd_before list made copy =
 
 -- the list of a place whose page is right
 list_right : (kind : PageKind) (old new : FileText) (fc : ℕ) (made : List ℕ) → KeepsLists kind old new →
-    IsRightPlace kind new.wd (bin_of kind (bins_of new.wd new.table)) fc →
+    IsValidPlace kind new.wd (bin_of kind (bins_of new.wd new.table)) fc →
     HasListAt kind (bin_of kind (bins_of new.wd new.table)) new.wd fc made →
     HasListBefore kind (bin_of kind (bins_of old.wd old.table)) old.wd fc made
 list_right kind old new fc made keeps right has =
@@ -104,8 +104,8 @@ list_right kind old new fc made keeps right has =
       answered = is.answered;
     }) is.low
 
-character_same : (old new : FileText) (fc : ℕ) (modifier : Modifier) (chp : Settings) → KeepsLists Chpx old new →
-    IsRightPlace Chpx new.wd (part_bytes (source_of new) PlcfBteChpx) fc →
+character_same : (old new : FileText) (fc : ℕ) (modifier : Modifier) (chp : Properties) → KeepsLists Chpx old new →
+    IsValidPlace Chpx new.wd (part_bytes (source_of new) PlcfBteChpx) fc →
     IsDirectCharacter new.wd (part_bytes (source_of new) PlcfBteChpx) fc modifier chp →
     IsDirectCharacter old.wd (part_bytes (source_of old) PlcfBteChpx) fc modifier chp
 character_same old new fc modifier chp keeps right is =
@@ -121,7 +121,7 @@ character_same old new fc modifier chp keeps right is =
 
 mark_same : (ends : Bool) (old new : FileText) (fc : ℕ) (modifier : Modifier) (mark : Option Mark) →
     KeepsLists Papx old new →
-    (ends ≡ true → IsRightPlace Papx new.wd (part_bytes (source_of new) PlcfBtePapx) fc) →
+    (ends ≡ true → IsValidPlace Papx new.wd (part_bytes (source_of new) PlcfBtePapx) fc) →
     IsMarkAt ends new.wd (part_bytes (source_of new) PlcfBtePapx) fc modifier mark →
     IsMarkAt ends old.wd (part_bytes (source_of old) PlcfBtePapx) fc modifier mark
 mark_same true old new fc modifier None keeps right is = is
@@ -165,7 +165,7 @@ fields_at old new lists same =
     ++ (story_bytes (notes i) lists.note_fields ++ story_bytes (heads i) lists.head_fields)
 
 -- an item of a CP of the three stories
-pub item_same : (old : FileText) (r : RightText) (maps : List Settings) (cp : ℕ) (item : Item) →
+pub item_same : (old : FileText) (r : RightText) (maps : List Properties) (cp : ℕ) (item : Item) →
     ReadsTheSame old r.text → cp < text_count (source_of r.text) → IsItemAt (parts_of r.text r.lists maps) cp item →
     IsItemAt (parts_of old r.lists maps) cp item
 item_same old r maps cp item same below is =
@@ -188,34 +188,34 @@ item_same old r maps cp item same below is =
 
 -- ---- sections
 
-settings_same : (old new : List ℕ) (fc : ℕ) (settings : Settings) →
-    (fc ≢ 0xFFFFFFFF → sepx_list new fc ≡ sepx_list old fc) → IsSectionSettings new fc settings →
-    IsSectionSettings old fc settings
-settings_same old new fc settings same (inl none) = inl none
-settings_same old new fc settings same (inr made) = inr (record {
+properties_same : (old new : List ℕ) (fc : ℕ) (properties : Properties) →
+    (fc ≢ 0xFFFFFFFF → sepx_list new fc ≡ sepx_list old fc) → IsSectionProperties new fc properties →
+    IsSectionProperties old fc properties
+properties_same old new fc properties same (inl none) = inl none
+properties_same old new fc properties same (inr made) = inr (record {
   there = made.there;
   style = made.style;
-  makes = subst (λ list. MakesSettings list section_groups settings made.style) (same made.there) made.makes;
+  makes = subst (λ list. MakesProperties list section_groups properties made.style) (same made.there) made.makes;
 })
 
 -- a Sepx that does not lack is there
 sepx_found : (wd : List ℕ) (fc : ℕ) → ¬ (LacksSepx wd fc) → fc ≢ 0xFFFFFFFF → HasSepx wd fc
-sepx_found wd fc none settings = elim (cases_lt fc 1024) [
+sepx_found wd fc none properties = elim (cases_lt fc 1024) [
   | inl low ↦ absurd (none (record {
-    settings = settings;
+    properties = properties;
     missing = λ has. let after = has.after_fib in omega (arith, after, low);
   }))
   | inr after ↦ elim (cases_lt (length wd) (fc + 2 + u16_at wd fc)) [
     | inl over ↦ absurd (none (record {
-      settings = settings;
+      properties = properties;
       missing = λ has. let within = has.within in omega (arith, within, over);
     }))
     | inr within ↦ record { after_fib = after; within = within }
   ]
 ]
 
-pub maps_same : (old : FileText) (r : RightText) (maps : List Settings) → ReadsTheSame old r.text →
-    HaveSettings r.text.wd r.lists.sections maps → HaveSettings old.wd r.lists.sections maps
+pub maps_same : (old : FileText) (r : RightText) (maps : List Properties) → ReadsTheSame old r.text →
+    HaveProperties r.text.wd r.lists.sections maps → HaveProperties old.wd r.lists.sections maps
 maps_same old r maps same have = record {
   len = have.len;
   each = λ k map here.
@@ -223,7 +223,7 @@ maps_same old r maps same have = record {
       let below : k < length r.lists.sections = omega (arith, inside, have.len) in
       let fc = section_fc r.lists.sections k in
       let lacks = sepx-there (source_of r.text) r.lists.sections k r.hold.0.0 r.has.has_sections below in
-      settings_same old.wd r.text.wd fc map
+      properties_same old.wd r.text.wd fc map
       (λ some. same.sections r.lists.sections k r.has.has_sections below (sepx_found r.text.wd fc lacks some))
       (have.each k map here);
 }

@@ -13,12 +13,12 @@ use Rattle.doc_parts.specs.Sections.{AreSections}
 use Rattle.doc_parts.specs.Fields.{AreFields}
 use Rattle.doc_parts.specs.Stories.{AreRefs, AreCuts}
 use Rattle.doc_parts.specs.BookmarkParts.{parts_at, bookmarks_of}
-use Rattle.doc_load.specs.Source.{DocSource, part_bytes, part_place, story_length}
-use Rattle.doc_load.specs.FieldRules.{HasFields, field_part}
-use Rattle.doc_load.specs.NoteRules.{HasEntries, HasNoteCuts}
-use Rattle.doc_load.specs.BookmarkRules.{HasBookmarks}
-use Rattle.doc_load.specs.PartRules.{PartLists, HasPartLists}
-use Rattle.doc_load.specs.FileRules.{FileText, source_of}
+use Rattle.file_rules.specs.Source.{DocSource, part_bytes, part_place, story_length}
+use Rattle.file_rules.specs.FieldRules.{HasFields, field_part}
+use Rattle.file_rules.specs.NoteRules.{HasEntries, HasNoteCuts}
+use Rattle.file_rules.specs.BookmarkRules.{HasBookmarks}
+use Rattle.file_rules.specs.PartRules.{PartLists, HasPartLists}
+use Rattle.file_rules.specs.FileRules.{FileText, source_of}
 use Rattle.doc_meaning.specs.Lifted.{ReadsTheSame, IsReadPart}
 
 -- the parts of two sources, and how long their stories are

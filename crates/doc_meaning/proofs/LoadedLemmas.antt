@@ -21,12 +21,12 @@ use Rattle.style_sheet.specs.Sheet.{Sheet}
 use Rattle.style_sheet.specs.Stsh.{HasStyleSheet}
 use Rattle.doc_parts.specs.declared.lists.Sed.{Sed}
 use Rattle.doc_parts.specs.Sections.{AreSections}
-use Rattle.doc_load.specs.Source.{part_bytes, story_length}
-use Rattle.doc_load.specs.SheetRules.{HasSheet}
-use Rattle.doc_load.specs.SectionRules.{section_fc, sepx_list}
-use Rattle.doc_load.specs.ListRules.{HasLevels}
-use Rattle.doc_load.specs.FileRules.{FileText, source_of}
-use Rattle.doc_load.proofs.RowLemmas.{index_of_get}
+use Rattle.file_rules.specs.Source.{part_bytes, story_length}
+use Rattle.file_rules.specs.SheetRules.{HasSheet}
+use Rattle.file_rules.specs.SectionRules.{section_fc, sepx_list}
+use Rattle.file_rules.specs.ListRules.{HasLevels}
+use Rattle.file_rules.specs.FileRules.{FileText, source_of}
+use Rattle.file_rules.proofs.RowLemmas.{index_of_get}
 use Rattle.doc_meaning.specs.Skipped.{bins_of, sections_of, fc_sepx}
 use Rattle.doc_meaning.specs.Lifted.{KeepsLists, KeepsSections, IsOther, ReadsTheSame}
 use Rattle.doc_meaning.specs.Loaded.{KeepsPages, KeepsTable, IsLoadedFor, LoadedIsMeant}

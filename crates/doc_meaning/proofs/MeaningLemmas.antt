@@ -3,8 +3,8 @@ use Rattle.std.proofs.Common.{◌≡◌, subst, ℕ, List}
 use Rattle.cfb_streams.specs.Contents.{Contents}
 use Rattle.cfb_streams.specs.Container.{HasContents}
 use Rattle.plain_doc.specs.declared.document.Document.{Document}
-use Rattle.doc_load.specs.FileRules.{source_of}
-use Rattle.doc_load.proofs.RightPlaces.{bin_tables}
+use Rattle.file_rules.specs.FileRules.{source_of}
+use Rattle.file_rules.proofs.RightPlaces.{bin_tables}
 use Rattle.doc_read.specs.Holds.{FileParts, IsDocumentOf}
 use Rattle.doc_read.proofs.OneItem.{HaveBins}
 use Rattle.doc_read.proofs.OneDocument.{parts_make_one, held_parts}

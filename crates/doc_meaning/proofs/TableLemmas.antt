@@ -16,7 +16,7 @@ use Rattle.style_sheet.specs.Sheet.{Sheet}
 use Rattle.style_sheet.specs.Stsh.{HasStyleSheet}
 use Rattle.part_skips.proofs.SheetLemmas.{sheet_skips}
 use Rattle.doc_parts.specs.Levels.{level_end, level_start, level_count, list_part, HaveLength}
-use Rattle.doc_load.proofs.ListLemmas.{levels_empty}
+use Rattle.file_rules.proofs.ListLemmas.{levels_empty}
 use Rattle.doc_meaning.specs.Skipped.{sheet_from, sheet_to, StandsFrom, SkipsFirst}
 use Rattle.doc_meaning.specs.Lifted.{IsOther}
 use Rattle.doc_meaning.proofs.BehindLemmas.{drop_behind, range_behind, byte_behind, number_behind}

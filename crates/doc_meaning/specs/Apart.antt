@@ -11,7 +11,7 @@ use Rattle.part_skips.specs.Prcs.{PutsPrcs}
 use Rattle.cfb_streams.specs.Contents.{Contents, HasNamed}
 use Rattle.cfb_streams.specs.Names.{wd_name}
 use Rattle.fib_versions.specs.Early.{early_pairs}
-use Rattle.doc_load.specs.FileRules.{table_stream_name}
+use Rattle.file_rules.specs.FileRules.{table_stream_name}
 
 -- where the Clx begins and ends, by the pairs of a FIB
 abbrev pub clx_from : List (ℕ × ℕ) → ℕ

@@ -15,13 +15,13 @@ use Rattle.piece_table.specs.Piece.{TextPiece, UnitPlace, place_of_cp}
 use Rattle.style_sheet.specs.Sheet.{Sheet}
 use Rattle.doc_parts.specs.declared.lists.Sed.{Sed}
 use Rattle.doc_parts.specs.Sections.{HasSepx}
-use Rattle.doc_load.specs.Units.{unit_at}
-use Rattle.doc_load.specs.Source.{story_length, part_bytes}
-use Rattle.doc_load.specs.SectionRules.{HasSections, section_fc, sepx_list}
-use Rattle.doc_load.specs.SheetRules.{HasSheet}
-use Rattle.doc_load.specs.ListRules.{HasLevels}
-use Rattle.doc_load.specs.FormatRules.{text_count}
-use Rattle.doc_load.specs.FileRules.{FileText, source_of}
+use Rattle.file_rules.specs.Units.{unit_at}
+use Rattle.file_rules.specs.Source.{story_length, part_bytes}
+use Rattle.file_rules.specs.SectionRules.{HasSections, section_fc, sepx_list}
+use Rattle.file_rules.specs.SheetRules.{HasSheet}
+use Rattle.file_rules.specs.ListRules.{HasLevels}
+use Rattle.file_rules.specs.FormatRules.{text_count}
+use Rattle.file_rules.specs.FileRules.{FileText, source_of}
 use Rattle.doc_meaning.specs.Skipped.{bins_of}
 
 -- the first CPs have the same places

@@ -9,9 +9,9 @@ use Rattle.fib_form.specs.declared.form.Form.TheVariants.{Early}
 use Rattle.fib_versions.specs.Early.{early_pairs, early_fields}
 use Rattle.page_copies.specs.Pages.{SkipsPages}
 use Rattle.plain_doc.specs.declared.document.Document.{Document}
-use Rattle.doc_load.specs.FormatRules.{text_count}
-use Rattle.doc_load.specs.PartRules.{PartLists, HasPartLists, part_rules}
-use Rattle.doc_load.specs.FileRules.{FileText, HasText, source_of}
+use Rattle.file_rules.specs.FormatRules.{text_count}
+use Rattle.file_rules.specs.PartRules.{PartLists, HasPartLists, part_rules}
+use Rattle.file_rules.specs.FileRules.{FileText, HasText, source_of}
 use Rattle.doc_read.specs.Holds.{IsDocumentFrom}
 use Rattle.doc_meaning.specs.Meaning.{MeansFrom}
 use Rattle.doc_meaning.specs.Skipped.{bins_of, sections_of, SkipsFirst, KeepsSepxs}

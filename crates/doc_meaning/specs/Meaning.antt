@@ -4,9 +4,9 @@ use Rattle.std.specs.Prelude.{◌≡◌, ℕ, List}
 use Rattle.doc_bits.specs.Rules.{Hold}
 use Rattle.cfb_streams.specs.Contents.{Contents}
 use Rattle.plain_doc.specs.declared.document.Document.{Document}
-use Rattle.doc_load.specs.BinRules.{rules_of_bins}
-use Rattle.doc_load.specs.PartRules.{PartLists, HasPartLists}
-use Rattle.doc_load.specs.FileRules.{FileText, HasText, source_of}
+use Rattle.file_rules.specs.BinRules.{rules_of_bins}
+use Rattle.file_rules.specs.PartRules.{PartLists, HasPartLists}
+use Rattle.file_rules.specs.FileRules.{FileText, HasText, source_of}
 use Rattle.doc_read.specs.Holds.{FileParts, HasFileParts, IsDocumentOf, IsDocumentFrom, HoldsDocument}
 
 -- streams mean it

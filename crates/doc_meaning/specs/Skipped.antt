@@ -10,7 +10,7 @@ use Rattle.fib_form.specs.declared.table_parts.TablePart.TheVariants.{Stshf, Plc
 use Rattle.page_copies.specs.Pages.{BinTables}
 use Rattle.part_skips.specs.Sheets.{PutsSheet}
 use Rattle.doc_parts.specs.Table.{plc_part}
-use Rattle.doc_load.specs.SectionRules.{sepx_list}
+use Rattle.file_rules.specs.SectionRules.{sepx_list}
 
 -- the bin tables of a file
 abbrev pub bins_of : (wd table : List ℕ) → BinTables

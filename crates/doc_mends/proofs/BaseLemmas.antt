@@ -1,5 +1,5 @@
 -- Bases that are taken away, one after the other.
-use Rattle.std.proofs.Common.{◌≡◌, ◌∙◌, ap, sym, refl, subst, ℕ, zero, suc, ◌+◌, ◌<◌, ◌≤◌, inl, inr}
+use Rattle.std.proofs.Common.{◌≡◌, ◌∙◌, ap, sym, refl, subst, ℕ, ◌+◌, ◌<◌, inl, inr}
 use Rattle.std.proofs.Common.{Bool, true, false, List, [], ◌∷◌, ◌++◌, length, length-set, slice_set, arith, Option, Some, None}
 use Rattle.std.proofs.Common.{slice_get, get_or, take}
 use Rattle.std.specs.Prelude.{All, IsTrue, ◌↔◌, slice_index_or, if◌then◌else◌, filter}
@@ -18,19 +18,15 @@ use Rattle.style_sheet.specs.Sheet.{Sheet, style_at}
 use Rattle.style_sheet.specs.Chain.{kind_at, kind_in, HasNoChain}
 use Rattle.style_sheet.specs.Changes.{as_root, put_as_root, base_dropped, with_style}
 use Rattle.doc_mends.specs.Bases.{has_other_base, bases_dropped, AreEndless}
+use Rattle.doc_bits.proofs.ListLemmas.{get_or-behind}
 
 -- ---- kinds and numbers of slots stay
-
-past : {A : Type 0} (xs : List A) (n : ℕ) (d : A) → length xs ≤ n → get_or xs n d ≡ d
-past [] n d low = refl
-past (x ∷ xs) zero d low = absurd (omega (arith, low))
-past (x ∷ xs) (suc n) d low = past xs n d (omega (arith, low))
 
 within : (styles : List (Option Style)) (istd : ℕ) (style : Style) → slice_index_or styles istd None ≡ Some style →
     istd < length styles
 within styles istd style is = elim (cases_lt istd (length styles)) [
   | inl low ↦ low
-  | inr behind ↦ absurd (cc (sym (past styles istd None behind) ∙ is))
+  | inr behind ↦ absurd (cc (sym (get_or-behind styles istd None behind) ∙ is))
 ]
 
 kind_stays : (sheet : Sheet) (istd other : ℕ) (style : Style) → style_at sheet istd ≡ Some style →

@@ -11,14 +11,14 @@ use Rattle.std.proofs.lemmas.List.{take_all, take_min, take_more, length-take-le
 use Rattle.std.proofs.lemmas.List.Edits.{length-between}
 use Rattle.std.proofs.lemmas.List.Elements.{All-head, All-tail, All-cons, All-weaker}
 use Rattle.std.proofs.lemmas.List.Sums.{sum_by-cons, sum_by_more}
-use Rattle.prop_map.specs.Settings.{Settings}
+use Rattle.prop_map.specs.Settings.{Properties}
 use Rattle.run_lists.specs.declared.runs.Run.{Run}
-use Rattle.run_lists.specs.Spread.{spread, extent}
+use Rattle.run_lists.specs.Spread.{expanded, total_len}
 use Rattle.run_lists.proofs.SpreadLemmas.{spread_push, length-spread, extent-take, extent_more}
 use Rattle.plain_doc.specs.declared.item.Item.{Item}
 use Rattle.plain_doc.specs.Document.{HasPropertyMaps, IsFormedItem, IsFormedText}
-use Rattle.doc_columns.specs.declared.beside.Beside.{Beside}
-use Rattle.doc_columns.specs.Beside.{beside_of}
+use Rattle.doc_columns.specs.declared.attached.Attached.{Attached}
+use Rattle.doc_columns.specs.Attached.{attached_of}
 use Rattle.doc_columns.specs.Columns.{item_of, items_of}
 use Rattle.doc_columns.proofs.ItemsOfLemmas.{items_of-maps}
 use Rattle.doc_bits.specs.declared.places.Story.{Story}
@@ -143,20 +143,20 @@ All-unflagged P (false ∷ flags) (x ∷ xs) all =
 
 -- ---- items of three columns
 
-pub items_unflagged : (flags : List Bool) (units : List ℕ) (chps : List Settings) (besides : List Beside) →
-    length chps ≡ length units → length besides ≡ length units →
-    items_of (unflagged flags units) (unflagged flags chps) (unflagged flags besides)
-    ≡ unflagged flags (items_of units chps besides)
+pub items_unflagged : (flags : List Bool) (units : List ℕ) (chps : List Properties) (attachments : List Attached) →
+    length chps ≡ length units → length attachments ≡ length units →
+    items_of (unflagged flags units) (unflagged flags chps) (unflagged flags attachments)
+    ≡ unflagged flags (items_of units chps attachments)
 unfolding unflagged
-items_unflagged flags [] chps besides a b = refl
-items_unflagged flags (u ∷ units) [] besides a b = absurd (omega (arith, a))
+items_unflagged flags [] chps attachments a b = refl
+items_unflagged flags (u ∷ units) [] attachments a b = absurd (omega (arith, a))
 items_unflagged flags (u ∷ units) (c ∷ chps) [] a b = absurd (omega (arith, b))
-items_unflagged [] (u ∷ units) (c ∷ chps) (w ∷ besides) a b = refl
-items_unflagged (true ∷ flags) (u ∷ units) (c ∷ chps) (w ∷ besides) a b =
-    items_unflagged flags units chps besides (omega (arith, a)) (omega (arith, b))
-items_unflagged (false ∷ flags) (u ∷ units) (c ∷ chps) (w ∷ besides) a b =
+items_unflagged [] (u ∷ units) (c ∷ chps) (w ∷ attachments) a b = refl
+items_unflagged (true ∷ flags) (u ∷ units) (c ∷ chps) (w ∷ attachments) a b =
+    items_unflagged flags units chps attachments (omega (arith, a)) (omega (arith, b))
+items_unflagged (false ∷ flags) (u ∷ units) (c ∷ chps) (w ∷ attachments) a b =
     ap (λ (t : List Item). item_of u c w ∷ t)
-    (items_unflagged flags units chps besides (omega (arith, a)) (omega (arith, b)))
+    (items_unflagged flags units chps attachments (omega (arith, a)) (omega (arith, b)))
 
 -- ---- nothing is flagged
 
@@ -226,19 +226,19 @@ unflagged_all {A = A} flags xs k len past =
 -- ---- one run more
 
 pub run_unflagged : {T : Type 0} (runs : List (Run T)) (flags : List Bool) (k begin end left : ℕ) (run : Run T)
-    (value : T) (made : List T) → slice_get runs k ≡ Some run → length flags ≡ extent runs →
-    begin ≡ extent (take k runs) → end ≡ begin + run.count →
-    made ≡ unflagged (take begin flags) (spread (take k runs)) → left ≡ count_by not (slice_range flags begin end) →
+    (value : T) (made : List T) → slice_get runs k ≡ Some run → length flags ≡ total_len runs →
+    begin ≡ total_len (take k runs) → end ≡ begin + run.count →
+    made ≡ unflagged (take begin flags) (expanded (take k runs)) → left ≡ count_by not (slice_range flags begin end) →
     value ≡ run.value →
-    made ++ replicate left value ≡ unflagged (take end flags) (spread (take (k + 1) runs))
+    made ++ replicate left value ≡ unflagged (take end flags) (expanded (take (k + 1) runs))
 run_unflagged {T = T} runs flags k begin end left run value made is len begins ends so_far count same =
     let low = slice_get_within runs k run is in
     let here = get_or_from_slice_get runs k run run is in
     let front : List Bool = take begin flags in
     let part : List Bool = slice_range flags begin end in
-    let values : List T = spread (take k runs) in
-    let more : extent (take (k + 1) runs) ≡ extent (take k runs) + run.count =
-    extent_more runs k run low ∙ ap (λ (r : Run T). extent (take k runs) + r.count) here in
+    let values : List T = expanded (take k runs) in
+    let more : total_len (take (k + 1) runs) ≡ total_len (take k runs) + run.count =
+    extent_more runs k run low ∙ ap (λ (r : Run T). total_len (take k runs) + r.count) here in
     let whole = extent-take runs (k + 1) in
     let within : end ≤ length flags = omega (arith, len, begins, ends, more, whole) in
     let long : length part ≡ run.count = length-between flags begin end within ∙ omega (arith, ends) in
@@ -249,8 +249,8 @@ run_unflagged {T = T} runs flags k begin end left run value made is len begins e
     ap (λ (n : ℕ). take n flags) (sym turned) ∙ take-add begin (end - begin) flags in
     let runs_are : take (k + 1) runs ≡ take k runs ++ run ∷ [] =
     take_more runs k run low ∙ ap (λ (r : Run T). take k runs ++ r ∷ []) here in
-    let values_are : spread (take (k + 1) runs) ≡ values ++ replicate run.count run.value =
-    ap (λ (l : List (Run T)). spread l) runs_are ∙ spread_push (take k runs) run in
+    let values_are : expanded (take (k + 1) runs) ≡ values ++ replicate run.count run.value =
+    ap (λ (l : List (Run T)). expanded l) runs_are ∙ spread_push (take k runs) run in
     let one : unflagged part (replicate run.count run.value) ≡ replicate left value =
     ap (λ (n : ℕ). unflagged part (replicate n run.value)) (sym long)
     ∙ (unflagged-same part run.value
@@ -263,19 +263,21 @@ run_unflagged {T = T} runs flags k begin end left run value made is len begins e
 
 -- ---- a text
 
-pub cut_items : (flags : List Bool) (text : List Item) (units : List ℕ) (chps : List Settings) (besides : List Beside) →
+pub cut_items : (flags : List Bool) (text : List Item) (units : List ℕ) (chps : List Properties) (attachments : List
+    Attached) →
     units ≡ unflagged flags (map (λ item. item.unit) text) → chps ≡ unflagged flags (map (λ item. item.chp) text) →
-    besides ≡ unflagged flags (map beside_of text) → items_of units chps besides ≡ unflagged flags text
-cut_items flags text units chps besides a b c =
+    attachments ≡ unflagged flags (map attached_of text) → items_of units chps attachments ≡ unflagged flags text
+cut_items flags text units chps attachments a b c =
     let us : List ℕ = map (λ (item : Item). item.unit) text in
-    let cs : List Settings = map (λ (item : Item). item.chp) text in
-    let bs : List Beside = map beside_of text in
+    let cs : List Properties = map (λ (item : Item). item.chp) text in
+    let bs : List Attached = map attached_of text in
     let long : length cs ≡ length us =
     length-map text (λ (item : Item). item.chp) ∙ sym (length-map text (λ (item : Item). item.unit)) in
-    let wide : length bs ≡ length us = length-map text beside_of ∙ sym (length-map text (λ (item : Item). item.unit)) in
-    ap (λ (l : List ℕ). items_of l chps besides) a
-    ∙ (ap (λ (l : List Settings). items_of (unflagged flags us) l besides) b
-    ∙ (ap (λ (l : List Beside). items_of (unflagged flags us) (unflagged flags cs) l) c
+    let wide : length bs ≡ length us = length-map text attached_of ∙ sym (length-map text (λ (item : Item). item.unit))
+    in
+    ap (λ (l : List ℕ). items_of l chps attachments) a
+    ∙ (ap (λ (l : List Properties). items_of (unflagged flags us) l attachments) b
+    ∙ (ap (λ (l : List Attached). items_of (unflagged flags us) (unflagged flags cs) l) c
     ∙ (items_unflagged flags us cs bs long wide ∙ ap (unflagged flags) (items_of-maps text))))
 
 -- a column of what is left is as long as what is left

@@ -4,7 +4,7 @@ use Rattle.std.proofs.Common.{List, [], ◌∷◌, ◌++◌, length, take, drop,
 use Rattle.std.specs.Prelude.{if◌then◌else◌}
 use Rattle.std.specs.Option.{ForSome}
 use Rattle.std.specs.FinMap.{empty}
-use Rattle.prop_map.specs.Settings.{Settings}
+use Rattle.prop_map.specs.Settings.{Properties}
 use Rattle.prop_map.specs.Formed.{IsPropertyMap, character_groups, paragraph_groups, section_groups}
 use Rattle.prop_map.proofs.ActingLemmas.{IsPropertyMap-empty}
 use Rattle.plain_doc.specs.declared.item.Mark.{Mark}
@@ -13,7 +13,7 @@ use Rattle.std.specs.List.{splice}
 use Rattle.std.proofs.lemmas.List.{append-nil, drop_all, set-get_or}
 use Rattle.std.proofs.lemmas.Option.{get_or_from_slice_get, same_Some}
 use Rattle.plain_doc.specs.declared.item.Item.{Item}
-use Rattle.edit_changes.specs.Changes.{changed_at, put_changed}
+use Rattle.doc_patch.specs.Changes.{changed_at, put_changed}
 use Rattle.doc_mends.specs.Ends.{is_ended, ended, with_end, last_item, last_left, ending_item}
 
 -- ---- a text that ends right stays
@@ -66,7 +66,7 @@ left_maps item mark is maps = record {
   sect = λ map there. absurd (cc there);
 }
 
-pub ending_maps : (sect : Option Settings) → ForSome sect (IsPropertyMap section_groups) →
+pub ending_maps : (sect : Option Properties) → ForSome sect (IsPropertyMap section_groups) →
     HasPropertyMaps (record {
       unit = 13;
       fld = None;

@@ -18,7 +18,7 @@ use Rattle.plain_doc.specs.declared.rules_texts.Side.{Side}
 use Rattle.plain_doc.specs.declared.rules_texts.Side.TheVariants.{Notes, Heads}
 use Rattle.plain_doc.specs.Rows.{is_row_mark, is_cell_mark, is_mark_outside, is_on, paragraph_value, open_cells}
 use Rattle.plain_doc.specs.Rows.{HasCells, FitsRow}
-use Rattle.plain_doc.specs.RightDocument.{HoldsAtItems, IsRightDocument}
+use Rattle.plain_doc.specs.RightDocument.{HoldsAtItems, IsValidDocument}
 use Rattle.plain_doc.proofs.RowLemmas.{open_cells-nil, open_cells_more}
 use Rattle.doc_losses.proofs.NothingLemmas.{nothing_listed, nothing_joined}
 use Rattle.doc_mends.specs.declared.mends.BrokenRow.{BrokenRow}
@@ -136,7 +136,7 @@ none_in side texts fit none =
     ap (λ (o : Option (List Item)). text_broken_rows (side_name side n) (unwrap_or o [])) it.1
     ∙ none_breaks (side_name side n) it.0 (fit n it.0 it.1) (none n it.0 it.1))
 
-pub no_broken_rows : (document : Document) → IsRightDocument document → broken_rows document ≡ []
+pub no_broken_rows : (document : Document) → IsValidDocument document → broken_rows document ≡ []
 no_broken_rows document right =
     let notes : List BrokenRow = texts_broken_rows Notes document.notes in
     let heads : List BrokenRow = texts_broken_rows Heads document.heads in

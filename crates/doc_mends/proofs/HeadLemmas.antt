@@ -7,12 +7,12 @@ use Rattle.doc_bits.specs.declared.places.Story.TheVariants.{Head}
 use Rattle.doc_parts.specs.Tabulated.{tabulate}
 use Rattle.doc_parts.proofs.BookmarkPartLemmas.{tabulate-next}
 use Rattle.plain_doc.specs.declared.item.Item.{Item}
-use Rattle.edit_changes.specs.Changes.{changed_at, put_changed}
-use Rattle.edit_changes.proofs.MakingLemmas.{drop_step}
+use Rattle.doc_patch.specs.Changes.{changed_at, put_changed}
 use Rattle.doc_losses.specs.References.{Names, head_begin, head_at}
 use Rattle.doc_losses.proofs.ListingLemmas.{length-tabulate}
 use Rattle.doc_mends.specs.Cuts.{cut_text, cut_heads}
 use Rattle.doc_mends.proofs.TextLemmas.{put_next}
+use Rattle.run_lists.proofs.CutLemmas.{run_and_rest}
 
 -- ---- an entry becomes another
 
@@ -53,7 +53,7 @@ pub head_there : (names : Names) (heads : List (List Item)) (number : ℕ) (text
 head_there names heads number text old is there =
     let front : List (List Item) = tabulate (head_cut names heads) number in
     let here : slice_get (cut_to names heads number) number ≡ Some old =
-    ap (λ (l : List (List Item)). slice_get (front ++ l) number) (drop_step heads number old is)
+    ap (λ (l : List (List Item)). slice_get (front ++ l) number) (run_and_rest heads number old is)
     ∙ (ap (slice_get (front ++ old ∷ drop (number + 1) heads)) (sym (length-tabulate (head_cut names heads) number))
     ∙ at_seam front old (drop (number + 1) heads)) in
     is ∙ (sym here ∙ there)

@@ -23,7 +23,7 @@ use Rattle.plain_doc.specs.declared.document.Document.{Document}
 use Rattle.plain_doc.specs.Rows.{is_row_mark, is_cell_mark, is_on, paragraph_value, open_cells, cells_after, FitsRow}
 use Rattle.plain_doc.specs.RulesOfTexts.{text_of}
 use Rattle.plain_doc.proofs.RowLemmas.{open_cells_more}
-use Rattle.doc_columns.specs.Beside.{beside_of, has_something}
+use Rattle.doc_columns.specs.Attached.{attached_of, has_something}
 use Rattle.doc_losses.specs.References.{Names, mark_of_unit, where_named, mark_of, mark_at, head_begin, head_at}
 use Rattle.doc_losses.proofs.ListingLemmas.{length-tabulate}
 use Rattle.doc_mends.specs.Cuts.{unflagged, cut_text, cut_heads, references_cut}
@@ -84,7 +84,7 @@ inert_mark : (names : Names) (story : Story) (cp : ℕ) (item : Item) → is_som
 inert_mark names story cp item is =
     inert_unit item
     (other_unit names story cp item.unit
-    (by_something (has_something (beside_of item)) (where_named names cp (mark_of_unit story item.unit)) is))
+    (by_something (has_something (attached_of item)) (where_named names cp (mark_of_unit story item.unit)) is))
 
 -- ---- references are cut
 

@@ -1,21 +1,21 @@
 -- Ranges that are judged and struck.
-use Rattle.std.proofs.Common.{◌≡◌, ◌≢◌, inl, inr, ℕ, ◌+◌, ◌-◌, ◌<◌, ◌≤◌, Bool, true, false, List, [], ◌∷◌, ◌++◌, length}
+use Rattle.std.proofs.Common.{◌≡◌, inl, inr, ℕ, ◌+◌, ◌-◌, ◌<◌, ◌≤◌, Bool, true, false, List, [], ◌∷◌, ◌++◌, length}
 use Rattle.std.proofs.Common.{map, filter, Option, Some, None, slice_get, slice_set, slice_range, refl, sym, ap, ◌∙◌}
-use Rattle.std.proofs.Common.{subst, arith, length-set, drop, zero, suc, get_or}
+use Rattle.std.proofs.Common.{subst, arith, drop, zero, suc, get_or}
 use Rattle.std.specs.Prelude.{not, option_map, MatchOption, if◌then◌else◌}
 use Rattle.std.specs.List.{list_all}
 use Rattle.std.specs.FinMap.{empty}
 use Rattle.std.proofs.lemmas.List.{get_or-take, get_or-drop}
 use Rattle.std.proofs.lemmas.List.Folds.{list_all_at}
 use Rattle.std.proofs.lemmas.Bool.{cases_lt, cases_eq}
-use Rattle.std.proofs.lemmas.List.{length-map, map-append, get_or-set_same, get_or-set_other}
+use Rattle.std.proofs.lemmas.List.{length-map, map-append}
 use Rattle.std.proofs.lemmas.List.Edits.{length-between}
 use Rattle.std.proofs.lemmas.List.Elements.{All-head, All-tail, All-nil, All-cons, All-filter, filter-append}
-use Rattle.std.proofs.lemmas.Option.{slice_get-get_or, slice_get_past, slice_get_within, get_or_from_slice_get}
+use Rattle.std.proofs.lemmas.Option.{slice_get_within, get_or_from_slice_get}
 use Rattle.doc_bits.specs.declared.places.Story.{Story}
 use Rattle.doc_bits.specs.declared.places.Story.TheVariants.{Main, Note, Head}
 use Rattle.prop_map.specs.Modifiers.{IsFormedModifier}
-use Rattle.prop_map.specs.Settings.{Settings}
+use Rattle.prop_map.specs.Settings.{Properties}
 use Rattle.prop_map.specs.Formed.{IsMapEntry, character_groups, paragraph_groups}
 use Rattle.prop_map.proofs.ActingLemmas.{IsPropertyMap-empty}
 use Rattle.prop_map.proofs.LawLemmas.{stay_formed}
@@ -23,15 +23,16 @@ use Rattle.doc_bits.proofs.ByteListLemmas.{one_byte}
 use Rattle.plain_doc.specs.declared.item.Item.{Item}
 use Rattle.plain_doc.specs.declared.document.Document.{Document}
 use Rattle.plain_doc.proofs.FormedLemmas.{length-splice}
-use Rattle.edit_changes.specs.declared.changes.Change.{Change}
-use Rattle.edit_changes.specs.Changes.{map_range, changed_at, put_changed, modified_item, with_text, changed}
-use Rattle.edit_changes.specs.Places.{text_at, HasText, HasRange}
-use Rattle.edit_changes.specs.Makes.{CanMakeAll}
+use Rattle.doc_patch.specs.declared.changes.Change.{Change}
+use Rattle.doc_patch.specs.Changes.{map_range, changed_at, put_changed, modified_item, with_text, changed}
+use Rattle.doc_patch.specs.Places.{text_at, HasText, HasRange}
+use Rattle.doc_patch.specs.Makes.{CanMakeAll}
 use Rattle.doc_mends.specs.declared.mends.DeletedRange.{DeletedRange}
 use Rattle.doc_mends.specs.declared.mends.Mend.TheVariants.{StrikeDeleted}
 use Rattle.doc_mends.specs.declared.judging.Judged.{Judged}
 use Rattle.doc_mends.specs.Mends.{striking, strike_of, is_short, can_strike, strikes, kept_ranges, AreRanges}
-use Rattle.doc_mends.specs.Judging.{IsJudged, AddsRange}
+use Rattle.doc_mends.specs.Judging.{IsMendVerdict, AddsRange}
+use Rattle.doc_bits.proofs.ListLemmas.{set_here, set_other}
 
 -- ---- texts keep their lengths
 
@@ -47,23 +48,6 @@ length-map_range f text from to range =
     let fresh = length-map (slice_range text from to) f in
     let old = length-between text from to within in
     omega arith
-
-set_entry : {A : Type 0} (entries : List A) (at : ℕ) (x : A) → at < length entries →
-    slice_get (slice_set entries at x) at ≡ Some x
-set_entry entries at x low =
-    let len = length-set entries at x in
-    slice_get-get_or (slice_set entries at x) at x (omega arith) ∙ ap (λ y. Some y) (get_or-set_same entries at x x low)
-
-other_entry : {A : Type 0} (entries : List A) (at other : ℕ) (x : A) → other ≢ at →
-    slice_get (slice_set entries at x) other ≡ slice_get entries other
-other_entry entries at other x apart =
-    let len = length-set entries at x in
-    elim (cases_lt other (length entries)) [
-      | inl low ↦ slice_get-get_or (slice_set entries at x) other x (omega arith)
-          ∙ (ap (λ y. Some y) (get_or-set_other entries at other x x apart)
-          ∙ sym (slice_get-get_or entries other x low))
-      | inr past ↦ slice_get_past (slice_set entries at x) other (omega arith) ∙ sym (slice_get_past entries other past)
-    ]
 
 -- one of several texts is changed
 entries_kept : (entries : List (List Item)) (number other from to : ℕ) (f : Item → Item) →
@@ -82,10 +66,10 @@ entries_kept entries number other from to f there =
         elim (cases_eq other number) [
           | inl same ↦
               ap lengths (ap (slice_get (slice_set entries number (map_range f text from to))) same
-              ∙ set_entry entries number (map_range f text from to) low)
+              ∙ set_here entries number (map_range f text from to) low)
               ∙ (ap Some (length-map_range f text from to range)
               ∙ sym (ap lengths (ap (slice_get entries) same ∙ is)))
-          | inr apart ↦ ap lengths (other_entry entries number other (map_range f text from to) apart)
+          | inr apart ↦ ap lengths (set_other entries number other (map_range f text from to) apart)
         ]
 
 texts_kept : (document : Document) (story other : Story) (from to : ℕ) (f : Item → Item) →
@@ -151,7 +135,7 @@ filtered p document ranges are =
 -- ---- one range after the other
 
 pub judged_none : (document : Document) (judged : Judged) → judged.mends.items ≡ [] → judged.changes ≡ [] →
-    judged.kept.items ≡ [] → IsJudged document [] judged
+    judged.kept.items ≡ [] → IsMendVerdict document [] judged
 judged_none document judged a b c =
     record { mends = a; changes = b; kept = c }
 
@@ -171,8 +155,8 @@ one_change true range p is = rw is refl
 one_change false range p is = rw is refl
 
 pub judged_more : (document : Document) (ranges : List DeletedRange) (range : DeletedRange) (struck : Bool)
-    (old new : Judged) → IsJudged document ranges old → struck ≡ can_strike document range →
-    AddsRange range struck old new → IsJudged document (ranges ++ range ∷ []) new
+    (old new : Judged) → IsMendVerdict document ranges old → struck ≡ can_strike document range →
+    AddsRange range struck old new → IsMendVerdict document (ranges ++ range ∷ []) new
 judged_more document ranges range struck old new was is adds =
     let p = can_strike document in
     let mends = filter-append p ranges (range ∷ []) in
@@ -190,7 +174,7 @@ judged_more document ranges range struck old new was is adds =
           ∙ (ap (λ l. kept_ranges document ranges ++ l) (sym (one_kept struck range p (sym is))) ∙ sym kept));
     }
 
--- ---- settings from a place to another
+-- ---- properties from a place to another
 
 range_at : {X : Type 0} (xs : List X) (from to i : ℕ) (d : X) → i < to - from →
     get_or (slice_range xs from to) i d ≡ get_or xs (from + i) d
@@ -205,14 +189,14 @@ all_pass p (x ∷ xs) d each =
     rw (here, rest) refl
 
 -- those up to a place pass
-pub record PassUpTo (values : List Settings) (from at : ℕ) : Type 0 where
+pub record PassUpTo (values : List Properties) (from at : ℕ) : Type 0 where
   pub from_there : from ≤ at
   pub each : (k : ℕ) → from ≤ k → k < at → is_short (get_or values k empty) ≡ true
 
-pub none_passed : (values : List Settings) (from : ℕ) → PassUpTo values from from
+pub none_passed : (values : List Properties) (from : ℕ) → PassUpTo values from from
 none_passed values from = record { from_there = omega arith; each = λ k low high. absurd (omega arith) }
 
-pub more_pass : (values : List Settings) (from at end : ℕ) (chp : Settings) (short : Bool) →
+pub more_pass : (values : List Properties) (from at end : ℕ) (chp : Properties) (short : Bool) →
     PassUpTo values from at → at < end → ((k : ℕ) → at ≤ k → k < end → slice_get values k ≡ Some chp) →
     short ≡ is_short chp → short ≡ true → PassUpTo values from end
 more_pass values from at end chp short was more same is passes =
@@ -226,7 +210,7 @@ more_pass values from at end chp short was more same is passes =
       ];
     }
 
-pub all_passed : (values : List Settings) (from at to : ℕ) → PassUpTo values from at → to ≤ at → to ≤ length values →
+pub all_passed : (values : List Properties) (from at to : ℕ) → PassUpTo values from at → to ≤ at → to ≤ length values →
     list_all is_short (slice_range values from to) ≡ true
 all_passed values from at to was end within =
     let len = length-between values from to within in
@@ -234,7 +218,7 @@ all_passed values from at to was end within =
     let inside : i < to - from = omega arith in
     ap is_short (range_at values from to i empty inside) ∙ was.each (from + i) (omega arith) (omega arith))
 
-pub one_long : (values : List Settings) (from at to : ℕ) (chp : Settings) (short : Bool) → from ≤ at → at < to →
+pub one_long : (values : List Properties) (from at to : ℕ) (chp : Properties) (short : Bool) → from ≤ at → at < to →
     to ≤ length values → slice_get values at ≡ Some chp → short ≡ is_short chp → short ≡ false →
     list_all is_short (slice_range values from to) ≡ false
 one_long values from at to chp short begin low within there is fails =
@@ -248,7 +232,7 @@ one_long values from at to chp short begin low within there is fails =
 
 strike_entry : IsMapEntry character_groups (0x0837, 1 ∷ [])
 strike_entry = record {
-  setting = record {
+  property = record {
     entry = record { some = omega arith; word = omega arith; size = refl };
     held = refl;
     sets = refl;
@@ -264,7 +248,7 @@ striking_formed = record {
 
 -- the changes of judged ranges can be made
 pub judged_makes : (document : Document) (ranges : List DeletedRange) (judged : Judged) →
-    IsJudged document ranges judged → AreRanges document ranges → CanMakeAll judged.changes document
+    IsMendVerdict document ranges judged → AreRanges document ranges → CanMakeAll judged.changes document
 judged_makes document ranges judged is are =
     subst (λ changes. CanMakeAll changes document) (sym is.changes)
     (can_make (filter (can_strike document) ranges) document striking_formed

@@ -15,15 +15,15 @@ use Rattle.plain_doc.specs.declared.item.Mark.{Mark}
 use Rattle.plain_doc.specs.declared.document.Document.{Document}
 use Rattle.plain_doc.specs.declared.rules_texts.Side.{Side}
 use Rattle.plain_doc.specs.declared.rules_texts.Side.TheVariants.{Notes, Heads}
-use Rattle.doc_columns.specs.declared.beside.Beside.{Beside}
-use Rattle.doc_columns.specs.Beside.{beside_of}
+use Rattle.doc_columns.specs.declared.attached.Attached.{Attached}
+use Rattle.doc_columns.specs.Attached.{attached_of}
 use Rattle.doc_columns.specs.Columns.{item_of}
-use Rattle.doc_columns.specs.Changes.{HasOtherBeside, KeepsMaps}
-use Rattle.edit_changes.proofs.RangeLemmas.{changed_is}
-use Rattle.edit_changes.proofs.MakingLemmas.{whole_range}
+use Rattle.doc_columns.specs.Changes.{HasOtherAttached, KeepsMaps}
+use Rattle.doc_patch.proofs.RangeLemmas.{changed_is}
+use Rattle.doc_patch.proofs.MakingLemmas.{whole_range}
 use Rattle.doc_mends.specs.declared.mends.WrongMark.{WrongMark}
 use Rattle.doc_mends.specs.Sides.{side_name}
-use Rattle.doc_mends.specs.Besides.{BecomesNormal}
+use Rattle.doc_mends.specs.Attachments.{BecomesNormal}
 use Rattle.doc_mends.specs.NormalMarks.{is_wrong_mark, normal_mark, normal_item, normal_text, with_normal_marks}
 use Rattle.doc_mends.specs.NormalMarks.{wrong_mark, wrong_mark_at, text_wrong_marks, texts_wrong_marks, wrong_marks}
 use Rattle.doc_bits.proofs.ListLemmas.{from_map}
@@ -47,22 +47,22 @@ normal_some sheet (Some mark) there made is =
 pub normal_kept : (sheet : Sheet) → KeepsMaps (BecomesNormal sheet)
 normal_kept sheet before after maps becomes = record {
   pap =
-      subst (λ (b : Beside). ForSome b.mark (λ mark. IsPropertyMap paragraph_groups mark.pap)) (sym becomes)
+      subst (λ (b : Attached). ForSome b.mark (λ mark. IsPropertyMap paragraph_groups mark.pap)) (sym becomes)
       (normal_some sheet before.mark maps.pap);
-  sect = subst (λ (b : Beside). ForSome b.sect (IsPropertyMap section_groups)) (sym becomes) maps.sect;
+  sect = subst (λ (b : Attached). ForSome b.sect (IsPropertyMap section_groups)) (sym becomes) maps.sect;
 }
 
 -- ---- a text
 
-made_item : (sheet : Sheet) (before after : Item) → HasOtherBeside (BecomesNormal sheet) before after →
+made_item : (sheet : Sheet) (before after : Item) → HasOtherAttached (BecomesNormal sheet) before after →
     after ≡ normal_item sheet before
 made_item sheet before after other =
-    other.rest ∙ ap (λ (beside : Beside). item_of before.unit before.chp beside) other.beside
+    other.rest ∙ ap (λ (attached : Attached). item_of before.unit before.chp attached) other.attached
 
 pub normal_made : (sheet : Sheet) (len : ℕ) (text made : List Item) → len ≡ length text →
-    IsChanged (HasOtherBeside (BecomesNormal sheet)) 0 len text made → made ≡ normal_text sheet text
+    IsChanged (HasOtherAttached (BecomesNormal sheet)) 0 len text made → made ≡ normal_text sheet text
 normal_made sheet len text made is changes =
-    changed_is (HasOtherBeside (BecomesNormal sheet)) (normal_item sheet) 0 len text made changes (made_item sheet)
+    changed_is (HasOtherAttached (BecomesNormal sheet)) (normal_item sheet) 0 len text made changes (made_item sheet)
     ∙ (ap (λ (t : List Item). map (normal_item sheet) t ++ drop len text) (whole_range text len is)
     ∙ (ap (λ (t : List Item). map (normal_item sheet) text ++ t) (drop_all len text (omega (arith, is)))
     ∙ append-nil (map (normal_item sheet) text)))
@@ -120,10 +120,10 @@ right_document document none =
 
 -- ---- the mark at a place
 
-pub wrong_is : (sheet : Sheet) (story : Story) (text : List Item) (at : ℕ) (beside : Beside) →
-    slice_get (map beside_of text) at ≡ Some beside →
-    wrong_mark_at sheet story text at ≡ option_and_then (wrong_mark sheet story at) beside.mark
-wrong_is sheet story text at beside there =
-    let item = from_map beside_of text at beside there in
+pub wrong_is : (sheet : Sheet) (story : Story) (text : List Item) (at : ℕ) (attached : Attached) →
+    slice_get (map attached_of text) at ≡ Some attached →
+    wrong_mark_at sheet story text at ≡ option_and_then (wrong_mark sheet story at) attached.mark
+wrong_is sheet story text at attached there =
+    let item = from_map attached_of text at attached there in
     ap (option_and_then (λ (it : Item). option_and_then (wrong_mark sheet story at) it.mark)) item.1.0
-    ∙ ap (λ (b : Beside). option_and_then (wrong_mark sheet story at) b.mark) item.1.1
+    ∙ ap (λ (b : Attached). option_and_then (wrong_mark sheet story at) b.mark) item.1.1

@@ -14,8 +14,8 @@ use Rattle.doc_parts.specs.Tabulated.{tabulate}
 use Rattle.plain_doc.specs.declared.item.Item.{Item}
 use Rattle.plain_doc.specs.declared.item.Mark.{Mark}
 use Rattle.plain_doc.specs.Rows.{is_row_mark, is_cell_mark}
-use Rattle.doc_columns.specs.declared.beside.Beside.{Beside}
-use Rattle.doc_columns.specs.Beside.{beside_of}
+use Rattle.doc_columns.specs.declared.attached.Attached.{Attached}
+use Rattle.doc_columns.specs.Attached.{attached_of}
 use Rattle.doc_mends.specs.declared.mends.BrokenRow.{BrokenRow}
 use Rattle.doc_mends.specs.declared.rows.OpenRow.{OpenRow}
 use Rattle.doc_mends.specs.BrokenRows.{parts_rows, open_items, open_length, cells_of_row, mark_length, marked_item}
@@ -84,18 +84,18 @@ pub record IsItemOf (text : List Item) (at unit : ℕ) (mark : Option Mark) : Ty
   pub unit_is : item.unit ≡ unit
   pub mark_is : item.mark ≡ mark
 
-pub item_there : (text : List Item) (at unit : ℕ) (beside : Beside) →
-    slice_get (map (λ item. item.unit) text) at ≡ Some unit → slice_get (map beside_of text) at ≡ Some beside →
-    IsItemOf text at unit beside.mark
-item_there text at unit beside unit_is beside_is =
+pub item_there : (text : List Item) (at unit : ℕ) (attached : Attached) →
+    slice_get (map (λ item. item.unit) text) at ≡ Some unit → slice_get (map attached_of text) at ≡ Some attached →
+    IsItemOf text at unit attached.mark
+item_there text at unit attached unit_is attached_is =
     let it = from_map (λ (item : Item). item.unit) text at unit unit_is in
-    let same : beside_of it.0 ≡ beside =
-    same_Some (beside_of it.0) beside (sym (get-map beside_of text at it.0 it.1.0) ∙ beside_is) in
+    let same : attached_of it.0 ≡ attached =
+    same_Some (attached_of it.0) attached (sym (get-map attached_of text at it.0 it.1.0) ∙ attached_is) in
     record {
       item = it.0;
       there = it.1.0;
       unit_is = it.1.1;
-      mark_is = ap (λ (b : Beside). b.mark) same;
+      mark_is = ap (λ (b : Attached). b.mark) same;
     }
 
 -- ---- the loop over a text

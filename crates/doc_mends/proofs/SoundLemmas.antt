@@ -22,8 +22,8 @@ use Rattle.plain_doc.specs.declared.document.Document.{Document}
 use Rattle.plain_doc.specs.declared.rules_texts.Side.{Side}
 use Rattle.plain_doc.specs.declared.rules_texts.Side.TheVariants.{Notes, Heads}
 use Rattle.plain_doc.specs.RulesOfTexts.{EndsRight, IsHead, HasParagraphStyle}
-use Rattle.plain_doc.specs.RightDocument.{HoldsAtItems, IsRightDocument}
-use Rattle.plain_doc.proofs.RightLemmas.{sound_is_right}
+use Rattle.plain_doc.specs.RightDocument.{HoldsAtItems, IsValidDocument}
+use Rattle.plain_doc.proofs.RightLemmas.{sound_is_valid}
 use Rattle.doc_mends.specs.declared.mends.WrongMark.{WrongMark}
 use Rattle.doc_mends.specs.declared.mends.BrokenRow.{BrokenRow}
 use Rattle.doc_mends.specs.declared.mends.Mend.{Mend}
@@ -49,12 +49,9 @@ use Rattle.doc_mends.proofs.FitRowLemmas.{no_broken_rows}
 use Rattle.doc_mends.proofs.EndLemmas.{stays_ended}
 use Rattle.doc_mends.proofs.OneLemmas.{mends_after}
 use Rattle.doc_mends.proofs.UncutLemmas.{uncut}
+use Rattle.doc_bits.proofs.TestLemmas.{and_false, or_first}
 
 -- ---- bases
-
-and_false : (x : Bool) → (x && false) ≡ false
-and_false true = refl
-and_false false = refl
 
 and_not : (x y : Bool) → y ≡ true → (x && not y) ≡ false
 and_not x true is = and_false x
@@ -85,7 +82,7 @@ no_endless : (sheet : Sheet) (count : ℕ) (istds : List ℕ) → HasSoundBases 
 no_endless sheet count [] sound are = refl
 no_endless sheet count (istd ∷ istds) sound are =
     let none : HasNoChain sheet istd = All-head (HasNoChain sheet) istd istds are.each in
-    let chain = sound.chains istd none.settings in
+    let chain = sound.chains istd none.properties in
     absurd (none.none chain.0 chain.1)
 
 no_drop : (sheet : Sheet) (istds : List ℕ) → HasSoundBases sheet → IsDropOf sheet istds → istds ≡ []
@@ -139,7 +136,7 @@ no_marks_in sheet side texts right =
     ap (λ (o : Option (List Item)). text_wrong_marks sheet (side_name side n) (unwrap_or o [])) it.1
     ∙ no_marks sheet (side_name side n) it.0 (right n it.0 it.1))
 
-no_wrong_marks : (document : Document) → IsRightDocument document → wrong_marks document ≡ []
+no_wrong_marks : (document : Document) → IsValidDocument document → wrong_marks document ≡ []
 no_wrong_marks document right =
     let sheet = document.sheet in
     let notes : List WrongMark = texts_wrong_marks sheet Notes document.notes in
@@ -151,10 +148,6 @@ no_wrong_marks document right =
     ∙ no_marks_in sheet Heads document.heads (λ n text is. (right.texts (places.Head n) text is).styles))
 
 -- ---- ends
-
-or_first : (x y : Bool) → x ≡ true → (x || y) ≡ true
-or_first true y is = refl
-or_first false y is = absurd (cc is)
 
 by_last : (o : Option Item) (rest : Bool) → option_map (λ item. item.unit) o ≡ Some paragraph_mark →
     (is_ending o || rest) ≡ true
@@ -169,22 +162,22 @@ ends_so part is_head text head (inl unit) = by_last (last_item text) (is_head &&
 ends_so part is_head text head (inr none) =
     ap (is_ended is_head) none.1 ∙ ap (λ (b : Bool). is_ended b []) (head none.0)
 
-main_ends : (document : Document) → IsRightDocument document → is_ended false document.main ≡ true
+main_ends : (document : Document) → IsValidDocument document → is_ended false document.main ≡ true
 main_ends document right =
     ends_so places.Main false document.main (λ head. absurd (cc (head.1)))
     (right.texts places.Main document.main refl).ends
 
-note_ends : (document : Document) → IsRightDocument document → (n : ℕ) (text : List Item) →
+note_ends : (document : Document) → IsValidDocument document → (n : ℕ) (text : List Item) →
     slice_get document.notes n ≡ Some text → is_ended (is_heads Notes) text ≡ true
 note_ends document right n text is =
     ends_so (places.Note n) false text (λ head. absurd (cc (head.1))) (right.texts (places.Note n) text is).ends
 
-head_ends : (document : Document) → IsRightDocument document → (n : ℕ) (text : List Item) →
+head_ends : (document : Document) → IsValidDocument document → (n : ℕ) (text : List Item) →
     slice_get document.heads n ≡ Some text → is_ended (is_heads Heads) text ≡ true
 head_ends document right n text is =
     ends_so (places.Head n) true text (λ head. refl) (right.texts (places.Head n) text is).ends
 
-ends_stay : (document : Document) → IsRightDocument document → with_ends document ≡ document
+ends_stay : (document : Document) → IsValidDocument document → with_ends document ≡ document
 ends_stay document right =
     ap (λ (t : List Item). record document {
       main = t;
@@ -214,7 +207,7 @@ none_open side texts right =
     ap (λ (o : Option (List Item)). open_text (is_heads side) (side_name side n) (unwrap_or o [])) it.1
     ∙ if_ended (is_ended (is_heads side) it.0) (side_name side n) (right n it.0 it.1))
 
-no_open_stories : (document : Document) → IsRightDocument document → open_stories document ≡ []
+no_open_stories : (document : Document) → IsValidDocument document → open_stories document ≡ []
 no_open_stories document right =
     let notes : List Story = open_texts Notes document.notes in
     let heads : List Story = open_texts Heads document.heads in
@@ -226,19 +219,19 @@ no_open_stories document right =
 -- ---- all mends
 
 -- items that are right where they stand are not mended
-in_place : (document : Document) → IsRightDocument document → mended_in_place document ≡ document
+in_place : (document : Document) → IsValidDocument document → mended_in_place document ≡ document
 in_place document right =
     ap with_plain_rows (right_document document (no_wrong_marks document right))
     ∙ document_stays document (no_broken_rows document right)
 
-none_in_place : (document : Document) → IsRightDocument document → mends_in_place document ≡ []
+none_in_place : (document : Document) → IsValidDocument document → mends_in_place document ≡ []
 none_in_place document right =
     ap (λ (l : List WrongMark). map NormalMark l ++ map PlainRow (broken_rows (with_normal_marks document)))
     (no_wrong_marks document right)
     ∙ (ap (λ (d : Document). map PlainRow (broken_rows d)) (right_document document (no_wrong_marks document right))
     ∙ ap (λ (l : List BrokenRow). map PlainRow l) (no_broken_rows document right))
 
-none_of_texts : (names : Names) (document : Document) → IsRightDocument document → references names document ≡ [] →
+none_of_texts : (names : Names) (document : Document) → IsValidDocument document → references names document ≡ [] →
     references_cut names document ≡ document → mends_of_texts names document ≡ []
 none_of_texts names document right none cut =
     ap (λ (l : List Reference). map CutReference l ++ map EndText (open_stories (references_cut names document))) none
@@ -247,7 +240,7 @@ none_of_texts names document right none cut =
 
 pub no_mends : SoundHasNoMends
 no_mends names meant mended mends sound none is =
-    let right : IsRightDocument meant = sound_is_right meant sound in
+    let right : IsValidDocument meant = sound_is_valid meant sound in
     let bases = bases_stay meant is.based is.bases right.bases is.drops in
     let same : mended_in_place meant ≡ meant = in_place meant right in
     let cut : references_cut names meant ≡ meant = uncut names meant sound.bookmarks none in

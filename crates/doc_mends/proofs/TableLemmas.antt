@@ -21,7 +21,7 @@ use Rattle.plain_doc.specs.declared.rules_texts.Side.{Side}
 use Rattle.plain_doc.specs.declared.rules_texts.Side.TheVariants.{Notes, Heads}
 use Rattle.plain_doc.specs.Document.{HasPropertyMaps}
 use Rattle.plain_doc.proofs.FormedLemmas.{length-splice}
-use Rattle.edit_changes.specs.Changes.{changed_at, put_changed, map_range}
+use Rattle.doc_patch.specs.Changes.{changed_at, put_changed, map_range}
 use Rattle.doc_losses.proofs.ListingLemmas.{none_listed, none_joined, left_nil, right_nil}
 use Rattle.doc_losses.proofs.NothingLemmas.{nothing_listed}
 use Rattle.doc_mends.specs.declared.mends.BrokenRow.{BrokenRow}

@@ -1,11 +1,12 @@
 -- Texts that become others, one after the other, and what is listed of them.
 use Rattle.std.proofs.Common.{◌≡◌, ◌∙◌, ap, sym, refl, ℕ, zero, suc, ◌+◌}
-use Rattle.std.proofs.Common.{List, [], ◌∷◌, ◌++◌, length, map, take, drop, arith, ◌≤◌, Option, Some, None, slice_get, append_assoc}
+use Rattle.std.proofs.Common.{List, [], ◌∷◌, ◌++◌, length, map, take, drop, arith, ◌≤◌, Some, slice_get, append_assoc}
 use Rattle.std.proofs.lemmas.List.{map-append, take_more, length-map, length-take-le, take_all, drop_all, append-nil}
 use Rattle.std.proofs.lemmas.List.{length-append, take-append-drop}
 use Rattle.std.proofs.lemmas.Option.{get_or_from_slice_get, slice_get_within}
-use Rattle.edit_changes.specs.Changes.{changed_at, put_changed}
-use Rattle.edit_changes.proofs.MakingLemmas.{drop_step}
+use Rattle.doc_patch.specs.Changes.{changed_at}
+use Rattle.run_lists.proofs.CutLemmas.{run_and_rest}
+use Rattle.doc_patch.proofs.RangeLemmas.{put_more}
 
 -- ---- one more
 
@@ -26,16 +27,11 @@ same_map {A = A} f (x ∷ xs) each =
 
 -- ---- one text after the other
 
-put_later : {A : Type 0} (f : A → A) (y : A) (xs : List A) (k : ℕ) (o : Option A) →
-    put_changed (y ∷ xs) (suc k) f o ≡ y ∷ put_changed xs k f o
-put_later f y xs k None = refl
-put_later f y xs k (Some x) = refl
-
 at_seam : {A : Type 0} (f : A → A) (front : List A) (x : A) (rest : List A) →
     changed_at (front ++ x ∷ rest) (length front) f ≡ front ++ f x ∷ rest
 at_seam f [] x rest = refl
 at_seam {A = A} f (y ∷ front) x rest =
-    put_later f y (front ++ x ∷ rest) (length front) (slice_get (front ++ x ∷ rest) (length front))
+    put_more f y (front ++ x ∷ rest) (length front) (slice_get (front ++ x ∷ rest) (length front))
     ∙ ap (λ (t : List A). y ∷ t) (at_seam f front x rest)
 
 -- the entries before a place are others already, and the one there becomes another
@@ -43,7 +39,7 @@ pub put_next : {A : Type 0} (f : A → A) (front xs : List A) (k : ℕ) (x : A) 
     slice_get xs k ≡ Some x →
     changed_at (front ++ drop k xs) k f ≡ (front ++ f x ∷ []) ++ drop (k + 1) xs
 put_next {A = A} f front xs k x len is =
-    ap (λ (t : List A). changed_at (front ++ t) k f) (drop_step xs k x is)
+    ap (λ (t : List A). changed_at (front ++ t) k f) (run_and_rest xs k x is)
     ∙ (ap (λ (n : ℕ). changed_at (front ++ x ∷ drop (k + 1) xs) n f) (sym len)
     ∙ (at_seam f front x (drop (k + 1) xs) ∙ sym (append_assoc front (f x ∷ []) (drop (k + 1) xs))))
 
@@ -70,7 +66,3 @@ mapped_len f xs k =
     length-append (map f (take k xs)) (drop k xs)
     ∙ (ap (λ n. n + length (drop k xs)) (length-map (take k xs) f)
     ∙ (sym (length-append (take k xs) (drop k xs)) ∙ ap length (take-append-drop k xs)))
-
-pub no_entries : {A : Type 0} (xs : List A) → length xs ≡ 0 → xs ≡ []
-no_entries [] none = refl
-no_entries (x ∷ xs) none = absurd (omega (arith, none))

@@ -16,8 +16,7 @@ use Rattle.plain_doc.specs.declared.item.Item.{Item}
 use Rattle.plain_doc.specs.Rows.{is_row_mark, is_cell_mark, is_mark_outside, paragraph_value, FitsRow}
 use Rattle.plain_doc.specs.Rows.{BreaksRows}
 use Rattle.plain_doc.proofs.RowLemmas.{open_cells-nil}
-use Rattle.edit_changes.specs.Changes.{map_range}
-use Rattle.edit_changes.proofs.MakingLemmas.{drop_step}
+use Rattle.doc_patch.specs.Changes.{map_range}
 use Rattle.doc_losses.proofs.ListingLemmas.{listed_more}
 use Rattle.doc_mends.specs.declared.mends.BrokenRow.{BrokenRow}
 use Rattle.doc_mends.specs.BrokenRows.{parts_rows, open_length, cells_of_row, names_cells, fits_row}
@@ -25,6 +24,7 @@ use Rattle.doc_mends.specs.BrokenRows.{fits_behind, mark_length, broken_row_at}
 use Rattle.doc_mends.specs.PlainRows.{plain_item, row_plain, rows_plain, plain_text}
 use Rattle.doc_mends.proofs.RowLemmas.{open_items-nil, length_more, cells_more, past}
 use Rattle.doc_mends.proofs.WholeRowLemmas.{IsInside, FitsAndHas, inside_row, plain_row, fits_rule, parted, after_where}
+use Rattle.run_lists.proofs.CutLemmas.{run_and_rest}
 
 -- ---- rows found so far
 
@@ -116,7 +116,7 @@ breaks_there text at is =
 cut_at : (text : List Item) (at : ℕ) (item : Item) (done : IsDone text at) → slice_get text at ≡ Some item →
     rows_plain (found text at) text ≡ done.front ++ (done.row ++ item ∷ drop (at + 1) text)
 cut_at text at item done is =
-    done.same ∙ ap (λ (t : List Item). done.front ++ (done.row ++ t)) (drop_step text at item is)
+    done.same ∙ ap (λ (t : List Item). done.front ++ (done.row ++ t)) (run_and_rest text at item is)
 
 if_true : {A : Type 0} (b : Bool) (x y : A) → b ≡ true → (if b then x else y) ≡ x
 if_true true x y is = refl

@@ -6,7 +6,7 @@ use Rattle.doc_mends.specs.declared.judging.Judged.{Judged}
 use Rattle.doc_mends.specs.declared.mends.Mend.TheVariants.{StrikeDeleted}
 use Rattle.doc_mends.specs.Mends.{strike_of, struck_ranges, strikes, kept_ranges}
 
-pub record IsJudged (document : Document) (ranges : List DeletedRange) (judged : Judged) : Type 0 where
+pub record IsMendVerdict (document : Document) (ranges : List DeletedRange) (judged : Judged) : Type 0 where
   pub mends : judged.mends.items ≡ strikes document ranges
   pub changes : judged.changes ≡ map strike_of (struck_ranges document ranges)
   pub kept : judged.kept.items ≡ kept_ranges document ranges

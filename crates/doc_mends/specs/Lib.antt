@@ -4,7 +4,7 @@ pub mod Kept
 pub mod Sides
 pub mod Bases
 pub mod NormalMarks
-pub mod Besides
+pub mod Attachments
 pub mod BrokenRows
 pub mod OpenRows
 pub mod PlainRows

@@ -3,25 +3,25 @@ use Rattle.std.specs.Prelude.{Bool, not, List, [], ◌∷◌, length, map, filte
 use Rattle.std.specs.List.{list_all}
 use Rattle.std.specs.FinMap.{empty, insert}
 use Rattle.prop_map.specs.declared.modifiers.Modifier.{Modifier}
-use Rattle.prop_map.specs.Settings.{Settings}
+use Rattle.prop_map.specs.Settings.{Properties}
 use Rattle.prop_map.specs.Overlay.{modified_characters}
 use Rattle.prop_map.specs.Printing.{printed_list}
 use Rattle.plain_doc.specs.declared.document.Document.{Document}
-use Rattle.edit_changes.specs.declared.changes.Change.{Change}
-use Rattle.edit_changes.specs.declared.changes.Change.TheVariants.{ModifyItems}
-use Rattle.edit_changes.specs.Changes.{all_changed}
-use Rattle.edit_changes.specs.Modifiers.{setting_characters}
-use Rattle.edit_changes.specs.Places.{HasText, HasRange, items_at}
+use Rattle.doc_patch.specs.declared.changes.Change.{Change}
+use Rattle.doc_patch.specs.declared.changes.Change.TheVariants.{ModifyItems}
+use Rattle.doc_patch.specs.Changes.{all_changed}
+use Rattle.doc_patch.specs.Modifiers.{property_characters}
+use Rattle.doc_patch.specs.Places.{HasText, HasRange, items_at}
 use Rattle.doc_mends.specs.declared.mends.DeletedRange.{DeletedRange}
 use Rattle.doc_mends.specs.declared.mends.Mend.{Mend}
 use Rattle.doc_mends.specs.declared.mends.Mend.TheVariants.{StrikeDeleted}
 
 -- [MS-DOC] sprmCFStrike: struck through
-abbrev pub strike : Settings
+abbrev pub strike : Properties
 strike = insert empty 0x0837 (1 ∷ [])
 
 abbrev pub striking : Modifier
-striking = setting_characters strike
+striking = property_characters strike
 
 -- what striking a range changes
 abbrev pub strike_of : DeletedRange → Change
@@ -31,12 +31,12 @@ strike_of range = ModifyItems range.story range.from range.to striking
 abbrev pub all_struck : List DeletedRange → Document → Document
 all_struck ranges document = all_changed (map strike_of ranges) document
 
--- the settings of a character fit a page once it is struck
-abbrev pub is_short : Settings → Bool
+-- the properties of a character fit a page once it is struck
+abbrev pub is_short : Properties → Bool
 is_short chp = nat_le (length (printed_list (modified_characters striking chp))) 255
 
--- the settings of the items of a range
-abbrev pub range_chps : Document → DeletedRange → List Settings
+-- the properties of the items of a range
+abbrev pub range_chps : Document → DeletedRange → List Properties
 range_chps document range =
     slice_range (map (λ item. item.chp) (items_at document range.story)) range.from range.to
 

@@ -1,4 +1,4 @@
--- Marks of paragraphs that get style 0: rule 64. Their settings stay.
+-- Marks of paragraphs that get style 0: rule 64. Their properties stay.
 use Rattle.std.specs.Prelude.{ℕ, ◌==◌, Bool, not, List, [], ◌++◌, length, map, Option, Some, None, slice_get, option_map}
 use Rattle.std.specs.Prelude.{if◌then◌else◌}
 use Rattle.std.specs.Option.{option_and_then, unwrap_or}

@@ -6,12 +6,12 @@ use Rattle.std.specs.FinMap.{entries}
 use Rattle.doc_bits.specs.declared.places.Story.TheVariants.{Main}
 use Rattle.text_codes.specs.Paragraph.{paragraph_mark, cell_mark}
 use Rattle.sprm_table.specs.Codes.{sgc, is_among}
-use Rattle.prop_map.specs.Settings.{Settings}
+use Rattle.prop_map.specs.Settings.{Properties}
 use Rattle.prop_map.specs.Overlay.{without}
 use Rattle.plain_doc.specs.declared.item.Item.{Item}
 use Rattle.plain_doc.specs.declared.item.Mark.{Mark}
 use Rattle.plain_doc.specs.declared.document.Document.{Document}
-use Rattle.edit_changes.specs.Changes.{map_range}
+use Rattle.doc_patch.specs.Changes.{map_range}
 use Rattle.doc_mends.specs.declared.mends.BrokenRow.{BrokenRow}
 use Rattle.doc_mends.specs.BrokenRows.{text_broken_rows}
 
@@ -24,11 +24,11 @@ abbrev pub is_table_code : ℕ → Bool
 is_table_code code = sgc code == 5 || is_among code paragraph_codes
 
 -- those of a map
-abbrev pub table_codes : Settings → List ℕ
+abbrev pub table_codes : Properties → List ℕ
 table_codes pap = filter is_table_code (map (λ prl. prl.0) (entries pap))
 
 -- the map without them
-abbrev pub plain_pap : Settings → Settings
+abbrev pub plain_pap : Properties → Properties
 plain_pap pap = without (table_codes pap) pap
 
 abbrev pub plain_mark : Mark → Mark

@@ -96,7 +96,7 @@ fn endless_bases(alloc: Global, sheet: &StyleSheet) -> Result<Vec<u16>, Memory>
 fn is_endless(sheet: &StyleSheet, istd: u16) -> bool
     ensures { IsTrue result ↔ HasNoChain sheet.now istd }
 {
-    sheet.has_settings(istd) && !sheet.has_chain(istd)
+    sheet.has_properties(istd) && !sheet.has_chain(istd)
 }
 
 /// Takes the bases of these styles away.

@@ -2,13 +2,13 @@
 ghost use Rattle.std.specs.Prelude.{◌≡◌, ◌+◌, ◌^◌, ◌<◌, ◌≤◌, [], ◌∷◌, ◌++◌, not, length, map};
 ghost use Rattle.std.specs.Prelude.{if◌then◌else◌, IfOk, OnOk, OnErr};
 ghost use Rattle.std.specs.List.{count_by};
-ghost use Rattle.run_lists.specs.Spread.{spread, extent};
+ghost use Rattle.run_lists.specs.Spread.{expanded, total_len};
 ghost use Rattle.doc_losses.specs.References.{references as references_of};
 ghost use Rattle.doc_losses.specs.Marks.{named_by};
 ghost use Rattle.plain_doc.specs.Marks.{HasFormedBookmarks};
 ghost use Rattle.doc_mends.specs.declared.mends.Mend.TheVariants.{CutReference};
 ghost use Rattle.doc_bits.specs.declared.places.Story.TheVariants as stories;
-ghost use Rattle.edit_changes.specs.Changes.{changed_at};
+ghost use Rattle.doc_patch.specs.Changes.{changed_at};
 ghost use Rattle.doc_mends.specs.Cuts.{reference_flags as flags_of, unflagged, cut_text as text_after};
 ghost use Rattle.doc_mends.specs.Cuts.{cut_heads as heads_after, bookmark_left, bookmarks_left, end_left};
 ghost use Rattle.doc_mends.specs.Cuts.{AreCounts, references_cut};
@@ -151,8 +151,8 @@ fn cut_text(alloc: Global, text: &Columns, flags: &[bool]) -> Result<Columns, Me
     let _len = text.len();
     let units = cut_units(alloc, text.units(), flags)?;
     let chps = cut_runs(alloc, text.chps(), flags)?;
-    let besides = cut_runs(alloc, text.besides(), flags)?;
-    Ok(Columns::from_parts(units, chps, besides))
+    let attachments = cut_runs(alloc, text.attachments(), flags)?;
+    Ok(Columns::from_parts(units, chps, attachments))
 }
 
 /// The units that have no flag.
@@ -179,9 +179,9 @@ fn push_unflagged(unit: u16, flag: bool, made: &mut Vec<u16>) -> Result<(), Memo
 
 /// The values of runs that have no flag, as runs.
 fn cut_runs<T: Shared>(alloc: Global, runs: &[Run<T>], flags: &[bool]) -> Result<Runs<T>, Memory>
-    requires len { length flags.now ≡ extent runs.now }
-    requires few { extent runs.now < 2 ^ 32 }
-    ensures { IfOk result (λ made. made ≡ unflagged flags.now (spread runs.now)) }
+    requires len { length flags.now ≡ total_len runs.now }
+    requires few { total_len runs.now < 2 ^ 32 }
+    ensures { IfOk result (λ made. made ≡ unflagged flags.now (expanded runs.now)) }
 {
     let mut made = Runs::new(alloc);
     let mut begin = 0;

@@ -3,7 +3,7 @@ ghost use Rattle.std.specs.Prelude.{◌≡◌, ◌<◌, false, [], ◌∷◌, �
 ghost use Rattle.std.specs.Prelude.{Some, None, IfOk, OnOk, OnErr};
 ghost use Rattle.std.specs.Option.{ForSome};
 ghost use Rattle.std.specs.FinMap.{empty};
-ghost use Rattle.edit_changes.specs.Changes.{changed_at};
+ghost use Rattle.doc_patch.specs.Changes.{changed_at};
 ghost use Rattle.plain_doc.specs.Document.{HasPropertyMaps};
 ghost use Rattle.doc_mends.specs.declared.mends.Mend.TheVariants.{EndText};
 ghost use Rattle.doc_mends.specs.Ends.{is_ended as is_ended_right, without_section as left_of_section};
@@ -20,12 +20,7 @@ use plain_doc::{Item, Mark, Side};
 use prop_map::PropMap;
 use std::alloc::Global;
 use std::mem;
-
-/// The end of a paragraph.
-const PARAGRAPH_MARK: u16 = 0x0D;
-
-/// The end of a cell or of a row.
-const CELL_MARK: u16 = 0x07;
+use text_codes::{CELL_MARK, PARAGRAPH_MARK};
 
 /// Puts an end of a paragraph, of style 0, behind each text that does not end with one, but for header texts of no
 /// items. A section that ended with the text ends there.
@@ -119,7 +114,7 @@ fn end_main(alloc: Global, main: &mut Columns) -> Result<(), Memory>
         return Ok(());
     }
     let text = mem::replace(main, Columns::new(alloc));
-    *main = ended(alloc, text)?;
+    *main = with_end(alloc, text)?;
     Ok(())
 }
 
@@ -142,13 +137,13 @@ fn end_at(alloc: Global, is_head: bool, texts: &mut ColumnTexts, k: usize) -> Re
         return Ok(());
     }
     let text = texts.replace(k, Columns::new(alloc));
-    let made = ended(alloc, text)?;
+    let made = with_end(alloc, text)?;
     texts.replace(k, made);
     Ok(())
 }
 
 /// A text with the end of a paragraph behind it. A text that has no room for one is no less than memory can hold.
-fn ended(alloc: Global, text: Columns) -> Result<Columns, Memory>
+fn with_end(alloc: Global, text: Columns) -> Result<Columns, Memory>
     ensures { IfOk result (λ made. made ≡ text_ended text) }
 {
     let len = text.len();
@@ -181,12 +176,12 @@ fn fresh_end(alloc: Global, last: Option<Item>) -> Result<Columns, Memory>
 {
     match last {
         None => Columns::new(alloc).add(ending_item(alloc, None)),
-        Some(item) => parted(alloc, item),
+        Some(item) => split_last(alloc, item),
     }
 }
 
 /// The two items in place of a last one.
-fn parted(alloc: Global, item: Item) -> Result<Columns, Memory>
+fn split_last(alloc: Global, item: Item) -> Result<Columns, Memory>
     requires { HasPropertyMaps item }
     ensures { IfOk result (λ made. made ≡ left_of_section item ∷ item_that_ends (Some item) ∷ []) }
 {

@@ -1,18 +1,18 @@
 // Which ranges can be struck.
 ghost use Rattle.std.specs.Prelude.{◌≡◌, ◌^◌, ◌<◌, ◌≤◌, IfOk, OnOk, All, map, slice_range};
 ghost use Rattle.std.specs.List.{list_all};
-ghost use Rattle.run_lists.specs.Spread.{spread, extent};
+ghost use Rattle.run_lists.specs.Spread.{expanded, total_len};
 ghost use Rattle.prop_map.specs.Modifiers.{IsFormedModifier};
 ghost use Rattle.prop_map.specs.Formed.{IsPropertyMap, character_groups};
-ghost use Rattle.edit_changes.specs.Places.{HasText, HasRange};
+ghost use Rattle.doc_patch.specs.Places.{HasText, HasRange};
 ghost use Rattle.doc_mends.specs.Mends.{strike as settings_of_strike, striking as modifier_of_strike, is_short};
 ghost use Rattle.doc_mends.specs.Mends.{can_strike, strike_of, AreRanges};
-ghost use Rattle.doc_mends.specs.Judging.{IsJudged, AddsRange};
+ghost use Rattle.doc_mends.specs.Judging.{IsMendVerdict, AddsRange};
 
 use crate::mends::{DeletedRange, Mend};
 use doc_bits::Memory;
 use doc_columns::{ColumnDocument, Columns};
-use edit_changes::{Change, Changes, find_text, setting_characters};
+use doc_patch::{Change, Changes, find_text, property_characters};
 use prop_map::{Modifier, PropMap};
 use run_lists::{Cursor, Run, value_until};
 use sprm_table::Code;
@@ -21,8 +21,8 @@ use std::alloc::Global;
 /// [MS-DOC] sprmCFStrike.
 const STRIKE: Code = Code(0x0837);
 
-/// The most bytes of the settings of characters, as they are printed.
-const MOST_CHP: u64 = 255;
+/// The most bytes of the properties of characters, as they are printed.
+const MAX_CHP: u64 = 255;
 
 /// Ranges that are struck, as mends and as changes, and ranges that stay as they are.
 #[derive(Drop)]
@@ -32,7 +32,7 @@ pub(crate) struct Judged {
     pub(crate) kept: Vec<DeletedRange>,
 }
 
-/// The settings of a struck character.
+/// The properties of a struck character.
 fn strike(alloc: Global) -> Result<PropMap, Memory>
     ensures { IfOk result (λ set. set ≡ settings_of_strike) }
 {
@@ -47,11 +47,11 @@ fn striking(alloc: Global) -> Result<Modifier, Memory>
     ensures formed { IfOk result (λ modifier. IsFormedModifier modifier) }
 {
     let set = strike(alloc)?;
-    let modifier = setting_characters(alloc, &set)?;
+    let modifier = property_characters(alloc, &set)?;
     Ok(modifier)
 }
 
-/// Whether the settings of a character fit a page once it is struck.
+/// Whether the properties of a character fit a page once it is struck.
 fn stays_short(alloc: Global, chp: &PropMap, striking: &Modifier) -> Result<bool, Memory>
     requires striking { striking.now ≡ modifier_of_strike }
     requires formed { IsFormedModifier striking.now }
@@ -59,10 +59,10 @@ fn stays_short(alloc: Global, chp: &PropMap, striking: &Modifier) -> Result<bool
     ensures { IfOk result (λ short. short ≡ is_short chp.now) }
 {
     let struck = striking.on_char(alloc, chp)?;
-    Ok(struck.printed_len() <= MOST_CHP)
+    Ok(struck.printed_len() <= MAX_CHP)
 }
 
-/// Whether all settings from a place to before another do.
+/// Whether all properties from a place to before another do.
 fn runs_stay_short(
     alloc: Global,
     runs: &[Run<PropMap>],
@@ -71,12 +71,12 @@ fn runs_stay_short(
     striking: &Modifier,
 ) -> Result<bool, Memory>
     requires ordered { from ≤ to }
-    requires within { to ≤ extent runs.now }
-    requires few { extent runs.now < 2 ^ 32 }
-    requires maps { All (IsPropertyMap character_groups) (spread runs.now) }
+    requires within { to ≤ total_len runs.now }
+    requires few { total_len runs.now < 2 ^ 32 }
+    requires maps { All (IsPropertyMap character_groups) (expanded runs.now) }
     requires striking { striking.now ≡ modifier_of_strike }
     requires formed { IsFormedModifier striking.now }
-    ensures { IfOk result (λ short. short ≡ list_all is_short (slice_range (spread runs.now) from to)) }
+    ensures { IfOk result (λ short. short ≡ list_all is_short (slice_range (expanded runs.now) from to)) }
 {
     let mut cursor = Cursor::new();
     let mut at = from;
@@ -90,7 +90,7 @@ fn runs_stay_short(
     Ok(true)
 }
 
-/// Whether the settings of all items of a range do.
+/// Whether the properties of all items of a range do.
 fn range_stays_short(
     alloc: Global,
     text: &Columns,
@@ -137,13 +137,13 @@ fn strike_change(alloc: Global, range: DeletedRange) -> Result<Change, Memory>
 }
 
 /// Judges the ranges of a document that a reviser deleted.
-pub(crate) fn judge(
+pub(crate) fn check(
     alloc: Global,
     document: &ColumnDocument,
     ranges: &[DeletedRange],
 ) -> Result<Judged, Memory>
     requires { AreRanges document.now ranges.now }
-    ensures { IfOk result (IsJudged document.now ranges.now) }
+    ensures { IfOk result (IsMendVerdict document.now ranges.now) }
 {
     let striking = striking(alloc)?;
     let mut judged = Judged {

@@ -1,26 +1,26 @@
 // Marks of paragraphs whose style is no style of paragraphs.
 ghost use Rattle.std.specs.Prelude.{◌≡◌, ◌<◌, [], ◌∷◌, ◌++◌, length, map, option_map, IfOk, OnOk, OnErr};
 ghost use Rattle.std.specs.List.{filter_map};
-ghost use Rattle.edit_changes.specs.Changes.{changed_at};
+ghost use Rattle.doc_patch.specs.Changes.{changed_at};
 ghost use Rattle.std.specs.Option.{option_and_then};
 ghost use Rattle.doc_mends.specs.declared.mends.Mend.TheVariants.{NormalMark};
 ghost use Rattle.doc_mends.specs.NormalMarks.{is_wrong_mark as has_wrong_style, normal_mark as mark_after};
 ghost use Rattle.doc_mends.specs.NormalMarks.{normal_text as text_after, wrong_mark as wrong_by_style};
 ghost use Rattle.doc_mends.specs.NormalMarks.{with_normal_marks, text_wrong_marks, texts_wrong_marks, wrong_marks};
-ghost use Rattle.doc_mends.specs.Besides.{BecomesNormal};
+ghost use Rattle.doc_mends.specs.Attachments.{BecomesNormal};
 ghost use Rattle.doc_mends.specs.Kept.{KeepsAllButTexts};
 
 use crate::mends::{Mend, WrongMark};
 use crate::sides::side_name;
 use doc_bits::{Memory, Story};
-use doc_columns::{Beside, ColumnDocument, ColumnTexts, Columns};
+use doc_columns::{Attached, ColumnDocument, ColumnTexts, Columns};
 use plain_doc::{Mark, Side};
 use run_lists::{Change, Cursor, Shared, seek};
 use std::alloc::Global;
 use std::mem;
 use style_sheet::StyleSheet;
 
-/// Gives style 0 to each mark whose style is no style of paragraphs. Its settings stay.
+/// Gives style 0 to each mark whose style is no style of paragraphs. Its properties stay.
 pub fn normal_marks(alloc: Global, document: &mut ColumnDocument) -> Result<Vec<Mend>, Memory>
     ensures document { OnOk result (document.new ≡ with_normal_marks document.old) }
     ensures mends { IfOk result (λ mends. mends.items ≡ map NormalMark (wrong_marks document.old)) }
@@ -95,11 +95,11 @@ fn add_text(
 ) -> Result<(), Memory>
     ensures { OnOk result (list.new.items ≡ list.old.items ++ text_wrong_marks sheet.now story text.now) }
 {
-    let besides = text.besides();
+    let attachments = text.attachments();
     let mut cursor = Cursor::new();
     for at in 0..text.len() {
-        let beside = seek(besides, &mut cursor, at);
-        add_found(wrong_in(sheet, story, at, beside), list)?;
+        let attached = seek(attachments, &mut cursor, at);
+        add_found(wrong_in(sheet, story, at, attached), list)?;
     }
     Ok(())
 }
@@ -115,10 +115,10 @@ fn add_found(found: Option<WrongMark>, list: &mut Vec<WrongMark>) -> Result<(), 
 }
 
 /// The mark beside a unit, where it is such a one.
-fn wrong_in(sheet: &StyleSheet, story: Story, at: usize, beside: &Beside) -> Option<WrongMark>
-    ensures { result ≡ option_and_then (wrong_by_style sheet.now story at) beside.now.mark }
+fn wrong_in(sheet: &StyleSheet, story: Story, at: usize, attached: &Attached) -> Option<WrongMark>
+    ensures { result ≡ option_and_then (wrong_by_style sheet.now story at) attached.now.mark }
 {
-    match &beside.mark {
+    match &attached.mark {
         None => None,
         Some(mark) => wrong_mark(sheet, story, at, mark),
     }
@@ -189,7 +189,7 @@ fn normal_text(alloc: Global, text: Columns, sheet: &StyleSheet) -> Result<Colum
     ensures { IfOk result (λ made. made ≡ text_after sheet.now text) }
 {
     let len = text.len();
-    let made = text.change_besides(alloc, 0, len, &NormalMarks { sheet })?;
+    let made = text.change_attachments(alloc, 0, len, &NormalMarks { sheet })?;
     Ok(made)
 }
 
@@ -199,21 +199,25 @@ struct NormalMarks<'a> {
     sheet: &'a StyleSheet,
 }
 
-impl<'a> Change<Beside> for NormalMarks<'a> {
+impl<'a> Change<Attached> for NormalMarks<'a> {
     ghost becomes = { λ by before after. BecomesNormal by.sheet.now before after };
 
-    fn change(&self, alloc: Global, value: &Beside) -> Result<Beside, Memory> {
-        let made = normal_beside(alloc, value, self.sheet)?;
+    fn change(&self, alloc: Global, value: &Attached) -> Result<Attached, Memory> {
+        let made = normal_attached(alloc, value, self.sheet)?;
         Ok(made)
     }
 }
 
 /// What stands beside a unit, with style 0 at such a mark.
-fn normal_beside(alloc: Global, beside: &Beside, sheet: &StyleSheet) -> Result<Beside, Memory>
-    ensures { IfOk result (BecomesNormal sheet.now beside.now) }
+fn normal_attached(
+    alloc: Global,
+    attached: &Attached,
+    sheet: &StyleSheet,
+) -> Result<Attached, Memory>
+    ensures { IfOk result (BecomesNormal sheet.now attached.now) }
 {
-    let mut made = beside.copy(alloc)?;
-    made.mark = normal_end(alloc, &beside.mark, sheet)?;
+    let mut made = attached.copy(alloc)?;
+    made.mark = normal_end(alloc, &attached.mark, sheet)?;
     Ok(made)
 }
 

@@ -10,7 +10,7 @@ ghost use Rattle.doc_mends.specs.OpenRows.{IsOpenBefore, FindsBefore};
 use crate::mends::BrokenRow;
 use crate::sides::side_name;
 use doc_bits::{Memory, Story};
-use doc_columns::{Beside, ColumnDocument, ColumnTexts, Columns};
+use doc_columns::{Attached, ColumnDocument, ColumnTexts, Columns};
 use plain_doc::{Mark, Side};
 use run_lists::{Cursor, seek};
 use sprm_table::Code;
@@ -76,13 +76,13 @@ fn add_rows(story: Story, text: &Columns, list: &mut Vec<BrokenRow>) -> Result<O
 {
     let _len = text.len();
     let units = text.units();
-    let besides = text.besides();
+    let attachments = text.attachments();
     let mut cursor = Cursor::new();
     let mut row = OpenRow { len: 0, cells: 0 };
     for at in 0..units.len() {
-        let beside = seek(besides, &mut cursor, at);
-        add_found(broken_at(story, at, row, units[at], beside), list)?;
-        row = row.after(units[at], beside);
+        let attached = seek(attachments, &mut cursor, at);
+        add_found(broken_at(story, at, row, units[at], attached), list)?;
+        row = row.after(units[at], attached);
     }
     Ok(row)
 }
@@ -98,18 +98,24 @@ fn add_found(found: Option<BrokenRow>, list: &mut Vec<BrokenRow>) -> Result<(), 
 }
 
 /// The open row, where an item that stands behind it breaks the rule.
-fn broken_at(story: Story, at: usize, row: OpenRow, unit: u16, beside: &Beside) -> Option<BrokenRow>
+fn broken_at(
+    story: Story,
+    at: usize,
+    row: OpenRow,
+    unit: u16,
+    attached: &Attached,
+) -> Option<BrokenRow>
     requires within { row.len ≤ at }
     requires few { at < 2 ^ 32 }
-    ensures { result ≡ row_broken story at row.len row.cells (Some (marked_item unit beside.now.mark)) }
+    ensures { result ≡ row_broken story at row.len row.cells (Some (marked_item unit attached.now.mark)) }
 {
-    if fits(row.cells, unit, &beside.mark) {
+    if fits(row.cells, unit, &attached.mark) {
         return None;
     }
     Some(BrokenRow {
         story,
         from: at - row.len,
-        len: row.len + own_mark(unit, &beside.mark),
+        len: row.len + own_mark(unit, &attached.mark),
         cells: row.cells,
     })
 }
@@ -150,19 +156,19 @@ fn fits(cells: usize, unit: u16, mark: &Option<Mark>) -> bool
 
 impl OpenRow {
     /// The row that is open behind one item more.
-    fn after(self, unit: u16, beside: &Beside) -> OpenRow
+    fn after(self, unit: u16, attached: &Attached) -> OpenRow
         requires len { self.len < 2 ^ 32 }
         requires cells { self.cells < 2 ^ 32 }
-        ensures len { result.len ≡ (if parts_rows (marked_item unit beside.now.mark) then 0 else self.len + 1) }
-        ensures cells { result.cells ≡ (if parts_rows (marked_item unit beside.now.mark) then 0
-            else if is_cell_mark (marked_item unit beside.now.mark) then self.cells + 1 else self.cells) }
+        ensures len { result.len ≡ (if parts_rows (marked_item unit attached.now.mark) then 0 else self.len + 1) }
+        ensures cells { result.cells ≡ (if parts_rows (marked_item unit attached.now.mark) then 0
+            else if is_cell_mark (marked_item unit attached.now.mark) then self.cells + 1 else self.cells) }
     {
-        if parts(unit, &beside.mark) {
+        if parts(unit, &attached.mark) {
             return OpenRow { len: 0, cells: 0 };
         }
         OpenRow {
             len: self.len + 1,
-            cells: cells_behind(self.cells, unit, &beside.mark),
+            cells: cells_behind(self.cells, unit, &attached.mark),
         }
     }
 }

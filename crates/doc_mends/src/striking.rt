@@ -2,14 +2,14 @@
 ghost use Rattle.std.specs.Prelude.{◌≡◌, IfOk};
 ghost use Rattle.doc_mends.specs.Mends.{all_struck, struck_ranges, strikes, kept_ranges, AreRanges};
 
-use crate::judging::judge;
+use crate::judging::check;
 use crate::mends::{DeletedRange, Mended};
-use doc_bits::Memory;
+use doc_bits::{Memory, drop_then};
 use doc_columns::ColumnDocument;
-use edit_changes::make_all;
+use doc_patch::make_all;
 use std::alloc::Global;
 
-/// Strikes the ranges of a document that a reviser deleted. A range stays as it is where the settings of one of its
+/// Strikes the ranges of a document that a reviser deleted. A range stays as it is where the properties of one of its
 /// items would be printed in more than 255 bytes then. The ranges are those of the document that is given.
 pub fn strike_deleted(
     alloc: Global,
@@ -22,9 +22,9 @@ pub fn strike_deleted(
     ensures mends { IfOk result (λ mended. mended.mends.items ≡ strikes document ranges.now) }
     ensures kept { IfOk result (λ mended. mended.kept.items ≡ kept_ranges document ranges.now) }
 {
-    let judged = match judge(alloc, &document, ranges) {
+    let judged = match check(alloc, &document, ranges) {
         Ok(judged) => judged,
-        Err(fault) => return let_go(document, Err(fault)),
+        Err(fault) => return drop_then(document, Err(fault)),
     };
     let document = make_all(alloc, document, &judged.changes)?;
     Ok(Mended {
@@ -32,12 +32,4 @@ pub fn strike_deleted(
         mends: judged.mends,
         kept: judged.kept,
     })
-}
-
-/// An answer, once a value is let go.
-fn let_go<T: Drop, A>(value: T, answer: A) -> A
-    ensures { result ≡ answer }
-{
-    drop(value);
-    answer
 }

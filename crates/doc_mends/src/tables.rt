@@ -1,7 +1,7 @@
 // Rows of tables that break rule 63 and become paragraphs.
 ghost use Rattle.std.specs.Prelude.{◌≡◌, ◌+◌, ◌<◌, ◌≤◌, [], length, map, All, Some, slice_get};
 ghost use Rattle.std.specs.Prelude.{IfOk, OnOk, OnErr};
-ghost use Rattle.edit_changes.specs.Changes.{changed_at};
+ghost use Rattle.doc_patch.specs.Changes.{changed_at};
 ghost use Rattle.doc_mends.specs.declared.mends.Mend.TheVariants.{PlainRow};
 ghost use Rattle.doc_bits.specs.declared.places.Story.TheVariants.{Main};
 ghost use Rattle.doc_mends.specs.BrokenRows.{text_broken_rows, broken_rows};

@@ -9,7 +9,7 @@ use std::rt::Files;
 use std::{fs, io};
 
 /// How many names are tried for the file that is made beside another.
-const MOST_NAMES: u32 = 1_000;
+const MAX_NAMES: u32 = 1_000;
 
 /// Who may read and write a file while it is written that is to have the permissions of another.
 const OWNER_ONLY: u32 = 0o600;
@@ -61,7 +61,7 @@ fn old_place<R: Files>(alloc: Global, files: &R, name: &str) -> io::Result<Optio
     let old = OpenOptions::new().write(true).open(files, name)?;
     let permissions = Some(old.metadata()?.permissions());
     let path = if files.symlink_metadata(name)?.is_symlink() {
-        granted(files.canonicalize(alloc, name))?
+        if_granted(files.canonicalize(alloc, name))?
     } else {
         Some(PathBuf::from_str(alloc, name)?)
     };
@@ -81,7 +81,7 @@ fn new_place<R: Files>(alloc: Global, files: &R, name: &str) -> io::Result<Optio
 }
 
 /// Nothing where the system does not grant it. A want of memory and a full disk stay errors.
-fn granted<T: Drop>(answer: io::Result<T>) -> io::Result<Option<T>> {
+fn if_granted<T: Drop>(answer: io::Result<T>) -> io::Result<Option<T>> {
     match answer {
         Ok(value) => Ok(Some(value)),
         Err(error) => match error.kind() {
@@ -104,12 +104,12 @@ fn new_beside<R: Files>(
     if place.permissions.is_some() {
         options.mode(OWNER_ONLY);
     }
-    for number in 0..MOST_NAMES {
+    for number in 0..MAX_NAMES {
         let name = format!(in alloc; ".docbin-{number}.tmp")?;
         let path = place.path.as_path().with_file_name(alloc, name.as_str())?;
         match options.open(files, path.as_path()) {
             Err(error) if error.kind() == ErrorKind::AlreadyExists => {}
-            answer => return Ok(granted(answer)?.map(|file| NewFile { path, file })),
+            answer => return Ok(if_granted(answer)?.map(|file| NewFile { path, file })),
         }
     }
     Ok(None)

@@ -51,7 +51,7 @@ impl OutBlock {
         Ok(())
     }
 
-    /// The same for bytes that the block has no room for beside what waits.
+    /// Puts bytes behind those that wait, where the block has no room for them.
     fn push_past<K: Sink>(&mut self, out: &mut K, bytes: &[u8]) -> Result<(), SinkFailed>
         ensures ok { OnOk result (Sends (K.written out.old) (K.written out.new) self.old bytes.now self.new) }
         ensures err { OnErr result (AppendsPrefix (K.written out.old) (K.written out.new) (self.old ++ bytes.now)) }

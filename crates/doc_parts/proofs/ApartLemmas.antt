@@ -75,7 +75,7 @@ first_apart x y ys name false is upto differ none few =
     let own : one_named name x ≡ 0 = ap (λ (b : Bool). cond b 1 0) is in
     omega (arith, sum_by-cons (one_named name) x (y ∷ ys), own, few)
 
-one_at_most : (b : Bool) → cond b 1 0 ≤ 1
+pub one_at_most : (b : Bool) → cond b 1 0 ≤ 1
 one_at_most true = omega arith
 one_at_most false = omega arith
 

@@ -17,7 +17,7 @@ use Rattle.doc_parts.specs.BookmarkParts.{bookmark_count, name_place, HasNameFro
 use Rattle.doc_parts.specs.BookmarkParts.{IsWrongCount}
 use Rattle.doc_parts.specs.BookmarkParts.{FillNames, HasWrongCount, AreWrongNames, BreaksNames, end_index, start_entry}
 use Rattle.doc_parts.specs.BookmarkParts.{BreaksStarts, BookmarkParts, bookmark_at, is_kept}
-use Rattle.doc_parts.specs.BookmarkParts.{kept_bookmarks, bookmarks_of, name_of, HasNames, BreaksParts, AreRightParts}
+use Rattle.doc_parts.specs.BookmarkParts.{kept_bookmarks, bookmarks_of, name_of, HasNames, BreaksParts, AreValidParts}
 use Rattle.doc_parts.specs.BookmarkParts.{parts_at}
 use Rattle.doc_parts.specs.declared.bookmark_order.Bookmark.{Bookmark}
 use Rattle.doc_parts.specs.Order.{in_order}
@@ -268,7 +268,7 @@ moved_count names at p w = record {
 
 -- parts that break no rule are right
 pub right_from_none : (parts : BookmarkParts) → HasNames parts.names →
-    Nowhere (λ place. HasNames parts.names × BreaksParts parts place) → AreRightParts parts
+    Nowhere (λ place. HasNames parts.names × BreaksParts parts place) → AreValidParts parts
 right_from_none parts some none =
     let count : ℕ = bookmark_count parts.names in
     let front : (¬ (HasNameFront parts.names)) → ⊥ = λ no. none parts.names_at (some, inl (inl (refl, inl no))) in
@@ -315,8 +315,8 @@ right_from_none parts some none =
     }
 
 -- the same parts at other places
-pub right_elsewhere : (names starts ends at other : List ℕ) → AreRightParts (parts_at names starts ends at) →
-    AreRightParts (parts_at names starts ends other)
+pub right_elsewhere : (names starts ends at other : List ℕ) → AreValidParts (parts_at names starts ends at) →
+    AreValidParts (parts_at names starts ends other)
 right_elsewhere names starts ends at other right = record {
   front = right.front;
   filled = right.filled;

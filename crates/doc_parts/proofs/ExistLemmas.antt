@@ -11,7 +11,7 @@ use Rattle.doc_parts.specs.declared.cps.CpForm.{CpForm}
 use Rattle.doc_parts.specs.declared.cps.CpOrder.{CpOrder}
 use Rattle.doc_parts.specs.declared.cps.CpOrder.TheVariants.{Ascend, NeverFall}
 use Rattle.doc_parts.specs.Cps.{ComesBefore, IsCpInOrder}
-use Rattle.doc_parts.specs.Table.{EntryForm, KeepsCp, entry_at, IsRightEntry, AreEntries}
+use Rattle.doc_parts.specs.Table.{EntryForm, KeepsCp, entry_at, IsValidEntry, AreEntries}
 use Rattle.doc_parts.proofs.TableLemmas.{slice_get_push, slice_get_before, leading_of_right}
 
 -- ---- a list of what stands at each place
@@ -70,7 +70,7 @@ is_some_of : {E : Type 0} (o : Option E) (x : E) → o ≡ Some x → IsSome o
 is_some_of o x e = subst IsSome (sym e) refl
 
 right_entry : {E : Type 0} (form : EntryForm E) (cps : CpForm) (table : PlcPart) (k : ℕ) →
-    ¬ ¬ (IsRightEntry form cps table k) → IsRightEntry form cps table k
+    ¬ ¬ (IsValidEntry form cps table k) → IsValidEntry form cps table k
 right_entry form cps table k twice =
     let there = some_or_not (entry_at form table k) (λ no. twice (λ is. no is.spelled)) in
     record {
@@ -80,7 +80,7 @@ right_entry form cps table k twice =
 
 -- a table without a wrong entry has its entries
 pub entries_there : {E : Type 0} (form : EntryForm E) (cps : CpForm) (table : PlcPart) → KeepsCp form →
-    ((k : ℕ) → k < table.count → ¬ ¬ (IsRightEntry form cps table k)) → (list : List E) × AreEntries form cps table list
+    ((k : ℕ) → k < table.count → ¬ ¬ (IsValidEntry form cps table k)) → (list : List E) × AreEntries form cps table list
 entries_there {E = E} form cps table keeps right =
     let found = list_of table.count (λ (k : ℕ) (x : E). entry_at form table k ≡ Some x) (λ k below. some_or_not
     (entry_at form table k) (λ no. right k below (λ is. no is.spelled))) in

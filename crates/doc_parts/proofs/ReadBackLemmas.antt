@@ -13,7 +13,7 @@ use Rattle.doc_parts.specs.declared.cps.CpForm.{CpForm}
 use Rattle.doc_parts.specs.declared.cps.CpOrder.{CpOrder}
 use Rattle.doc_parts.specs.declared.cps.CpOrder.TheVariants.{Ascend, NeverFall}
 use Rattle.doc_parts.specs.Cps.{ComesBefore, AreCpsInOrder}
-use Rattle.doc_parts.specs.Table.{EntryForm, plc_part, IsEmptyOrWhole, entry_at, IsRightEntry, BreaksTable}
+use Rattle.doc_parts.specs.Table.{EntryForm, plc_part, IsEmptyOrWhole, entry_at, IsValidEntry, BreaksTable}
 use Rattle.doc_parts.specs.Table.{AreEntries, HasPlc, printed_entries}
 use Rattle.doc_parts.proofs.TableLemmas.{in_order_same, count_of_whole, none_wrong}
 use Rattle.doc_parts.proofs.PrintLemmas.{printed-HasPlc}
@@ -26,7 +26,7 @@ pub record IsSpelled {E : Type 0} (form : EntryForm E) (entry : E) : Type 0 wher
 -- a table that breaks no rule, and has the entries of the list
 pub record IsPrinted {E : Type 0} (form : EntryForm E) (cps : CpForm) (bytes : List ℕ) (list : List E) : Type 0 where
   pub formed : IsEmptyOrWhole (plc_part form.size bytes)
-  pub right : (k : ℕ) → k < (plc_part form.size bytes).count → IsRightEntry form cps (plc_part form.size bytes) k
+  pub right : (k : ℕ) → k < (plc_part form.size bytes).count → IsValidEntry form cps (plc_part form.size bytes) k
   pub entries : AreEntries form cps (plc_part form.size bytes) list
 
 -- lists with equal elements are equal

@@ -12,7 +12,7 @@ use Rattle.doc_bits.proofs.RuleLemmas.{first_among}
 pub use Rattle.doc_bits.proofs.ListLemmas.{slice_get_push, slice_get_before}
 use Rattle.doc_parts.specs.declared.cps.CpForm.{CpForm}
 use Rattle.doc_parts.specs.Cps.{ComesBefore, IsCpInOrder}
-use Rattle.doc_parts.specs.Table.{KeepsCp, EntryForm, plc_part, IsWholePlc, IsEmptyOrWhole, entry_at, IsRightEntry}
+use Rattle.doc_parts.specs.Table.{KeepsCp, EntryForm, plc_part, IsWholePlc, IsEmptyOrWhole, entry_at, IsValidEntry}
 use Rattle.doc_parts.specs.Table.{IsWrongEntry, HasWrongEntry, BreaksTable, AreLeading, StopsAtWrong, IsReadOf}
 
 -- a whole table has as many entries as its length says
@@ -75,8 +75,8 @@ wrong_later form cps table at j k a b h first second = let e = first.here in let
 
 -- the first wrong entry has the least place
 pub least_wrong : {E : Type 0} (form : EntryForm E) (cps : CpForm) (bytes : List ℕ) (at i : ℕ) → let table = plc_part
-    form.size bytes in IsWholePlc table → i < table.count → ((k : ℕ) → k < i → IsRightEntry form cps table k) →
-    ¬ (IsRightEntry form cps table i) → IsLeast (λ a b. a ≤ b) (BreaksTable form cps bytes at) (at + 4 * i)
+    form.size bytes in IsWholePlc table → i < table.count → ((k : ℕ) → k < i → IsValidEntry form cps table k) →
+    ¬ (IsValidEntry form cps table i) → IsLeast (λ a b. a ≤ b) (BreaksTable form cps bytes at) (at + 4 * i)
 least_wrong form cps bytes at i whole below right wrong =
     let table : PlcPart = plc_part form.size bytes in
     let first : IsLeast (λ a b. a ≤ b) (HasWrongEntry form cps table at) (at + 4 * i) =
@@ -95,7 +95,7 @@ least_wrong form cps bytes at i whole below right wrong =
 
 -- a table of right entries breaks no rule
 pub none_wrong : {E : Type 0} (form : EntryForm E) (cps : CpForm) (bytes : List ℕ) (at : ℕ) → let table = plc_part
-    form.size bytes in IsEmptyOrWhole table → ((k : ℕ) → k < table.count → IsRightEntry form cps table k) →
+    form.size bytes in IsEmptyOrWhole table → ((k : ℕ) → k < table.count → IsValidEntry form cps table k) →
     Nowhere (BreaksTable form cps bytes at)
 none_wrong form cps bytes at whole right = λ p w. elim w [
   | inl x ↦ x.1 whole

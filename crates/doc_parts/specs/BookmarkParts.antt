@@ -135,7 +135,7 @@ BreaksParts parts place =
     ⊎ IsWrongPart (IsPlcOf parts.ends 0 count) parts.ends_at place)
 
 -- parts with names that break no rule
-pub record AreRightParts (parts : BookmarkParts) : Type 0 where
+pub record AreValidParts (parts : BookmarkParts) : Type 0 where
   pub front : HasNameFront parts.names
   pub filled : FillNames parts.names
   pub starts : IsPlcOf parts.starts 4 (bookmark_count parts.names)

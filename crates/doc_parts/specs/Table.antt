@@ -38,7 +38,7 @@ abbrev pub entry_at : {E : Type 0} → EntryForm E → PlcPart → ℕ → Optio
 entry_at form table k = form.read_from (plc_cp table.bytes k) (plc_entry table k)
 
 -- an entry has its CP in order, and spells something
-pub record IsRightEntry {E : Type 0} (form : EntryForm E) (cps : CpForm) (table : PlcPart) (k : ℕ) : Type 0 where
+pub record IsValidEntry {E : Type 0} (form : EntryForm E) (cps : CpForm) (table : PlcPart) (k : ℕ) : Type 0 where
   pub in_order : IsCpInOrder cps (plc_cp table.bytes) k
   pub spelled : IsSome (entry_at form table k)
 
@@ -46,7 +46,7 @@ pub record IsRightEntry {E : Type 0} (form : EntryForm E) (cps : CpForm) (table 
 pub record IsWrongEntry {E : Type 0} (form : EntryForm E) (cps : CpForm) (table : PlcPart) (at k place : ℕ) : Type 0
   where
     pub here : place ≡ at + 4 * k
-    pub broken : ¬ (IsRightEntry form cps table k)
+    pub broken : ¬ (IsValidEntry form cps table k)
 
 -- the part has not the length that it has to have
 abbrev pub IsWrongPart : Type 0 → ℕ → ℕ → Type 0
@@ -73,8 +73,8 @@ pub record StopsAtWrong {E : Type 0} (form : EntryForm E) (cps : CpForm) (table 
   where
     pub within : length list ≤ table.count
     pub each : (k : ℕ) → k < length list → slice_get list k ≡ entry_at form table k
-    pub right : (k : ℕ) → k < length list → IsRightEntry form cps table k
-    pub stop : length list < table.count → ¬ (IsRightEntry form cps table (length list))
+    pub right : (k : ℕ) → k < length list → IsValidEntry form cps table k
+    pub stop : length list < table.count → ¬ (IsValidEntry form cps table (length list))
 
 -- the list has all entries of a table
 pub record AreEntries {E : Type 0} (form : EntryForm E) (cps : CpForm) (table : PlcPart) (list : List E) : Type 0 where

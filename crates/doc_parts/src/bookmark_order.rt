@@ -22,7 +22,7 @@ pub struct Bookmark {
 }
 
 impl Bookmark {
-    /// The same bookmark. Its name is shared.
+    /// A copy of the bookmark, which shares its name.
     pub fn copy(&self) -> Result<Bookmark, Memory>
         ensures { IfOk result (λ copy. copy ≡ self.now) }
     {

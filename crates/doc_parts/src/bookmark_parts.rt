@@ -9,7 +9,7 @@ ghost use Rattle.doc_parts.specs.Table.{IsPartFault, IsWrongPart};
 ghost use Rattle.doc_parts.specs.Tabulated.{tabulate};
 ghost use Rattle.doc_parts.specs.BookmarkParts.{BookmarkParts, parts_at, bookmark_count, start_entry, end_index};
 ghost use Rattle.doc_parts.specs.BookmarkParts.{is_kept, kept_bookmarks, bookmarks_of, BreaksNames, BreaksStarts};
-ghost use Rattle.doc_parts.specs.BookmarkParts.{AreRightParts, bookmark_rules};
+ghost use Rattle.doc_parts.specs.BookmarkParts.{AreValidParts, bookmark_rules};
 
 use crate::PartFault;
 use crate::bookmark_list::Bookmarks;
@@ -24,7 +24,7 @@ const RULE_BOOKMARKS: u8 = 57;
 pub(crate) const WIDE: u16 = 0xFFFF;
 
 /// The bytes of `WIDE`, the count and 0.
-const NAMES_FRONT: usize = 6;
+pub const STTBF_HEAD_LEN: usize = 6;
 
 /// The most units of a name.
 const NAME_MAX: usize = 255;
@@ -46,7 +46,7 @@ pub fn bookmarks(
         (λ list. Hold (bookmark_rules parts) × (list ≡ bookmarks_of parts main_len))
         (IsPartFault (bookmark_rules parts)) }
 {
-    if names.len() <= NAMES_FRONT {
+    if names.len() <= STTBF_HEAD_LEN {
         return Ok(Bookmarks::new(alloc));
     }
     let count = get16(names, 2) as usize;
@@ -61,7 +61,7 @@ pub fn bookmarks(
             offset,
         });
     }
-    let kept = kept(alloc, names, starts, ends, main_len)?;
+    let kept = keep_bookmarks(alloc, names, starts, ends, main_len)?;
     Ok(Bookmarks::of(kept))
 }
 
@@ -74,7 +74,7 @@ fn names_fault(names: &[u8], at: u32) -> Option<u32>
     if get16(names, 0) != WIDE || get16(names, 4) != 0 {
         return Some(at);
     }
-    let mut place = NAMES_FRONT;
+    let mut place = STTBF_HEAD_LEN;
     for _k in 0..get16(names, 2) {
         if names.len() < place + 2 {
             return Some(at);
@@ -122,7 +122,7 @@ fn ends_fault(ends: &[u8], at: u32, count: usize) -> Option<u32>
 }
 
 /// The bookmarks that are kept, in the order of the parts.
-fn kept(
+fn keep_bookmarks(
     alloc: Global,
     names: &[u8],
     starts: &[u8],
@@ -130,13 +130,13 @@ fn kept(
     main_len: u32,
 ) -> Result<Vec<Bookmark>, Memory>
     requires some { 6 < length names.now }
-    requires right { AreRightParts (parts_at names.now starts.now ends.now []) }
+    requires right { AreValidParts (parts_at names.now starts.now ends.now []) }
     ensures { IfOk result (λ list. list.items ≡
         kept_bookmarks (parts_at names.now starts.now ends.now []) main_len) }
 {
     let count = get16(names, 2) as usize;
     let mut list = Vec::new(alloc);
-    let mut place = NAMES_FRONT;
+    let mut place = STTBF_HEAD_LEN;
     for k in 0..count {
         let units = get16(names, place) as usize;
         let name = name_at(alloc, names, place + 2, units)?;

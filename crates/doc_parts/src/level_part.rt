@@ -9,18 +9,18 @@ ghost use Rattle.doc_parts.specs.Levels.{HaveLength};
 use doc_bits::get16;
 use thiserror::Error;
 
-const LSTF_LEN: usize = 28;
+pub const LSTF_LEN: usize = 28;
 
 /// The place in an LSTF of the byte whose bit 0 says that the list is simple.
-const LSTF_FLAGS: usize = 26;
+pub const LSTF_FLAGS: usize = 26;
 
-const LVLF_LEN: usize = 28;
+pub const LVLF_LEN: usize = 28;
 
 /// The place in an LVLF of the length of the character properties.
-const CB_GRPPRL_CHPX: usize = 24;
+pub const CB_GRPPRL_CHPX: usize = 24;
 
 /// The place in an LVLF of the length of the paragraph properties.
-const CB_GRPPRL_PAPX: usize = 25;
+pub const CB_GRPPRL_PAPX: usize = 25;
 
 /// Rule 56 is broken at this offset of the table stream: at the part, or at the first level that is
 /// not whole.

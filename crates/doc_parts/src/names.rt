@@ -37,7 +37,7 @@ impl Name {
         Name::of(Vec::from_slice(alloc, units)?)
     }
 
-    /// The same name. Its units are not copied.
+    /// A copy of the name, which shares its units.
     pub fn copy(&self) -> Result<Name, Memory>
         ensures { IfOk result (λ copy. copy ≡ self.now) }
     {

@@ -16,16 +16,16 @@ use std::alloc::Global;
 
 const RULE_SECTIONS: u8 = 33;
 
-/// A section has this fcSepx where it has no settings.
+/// A section has this fcSepx where it has no properties.
 pub const NO_SEPX: u32 = 0xFFFF_FFFF;
 
 /// A Sepx stands nowhere before it in `WordDocument`.
 const SEPX_FROM: usize = 1024;
 
 /// The place of fcSepx in a Sed.
-const FC_SEPX: usize = 2;
+pub const FC_SEPX: usize = 2;
 
-const SED_LEN: usize = 12;
+pub const SED_LEN: usize = 12;
 
 impl TableEntry for Sed {
     ghost form = { sed_form };
@@ -99,7 +99,7 @@ pub fn print_sections(alloc: Global, list: &Seds, end: u32) -> Result<Bytes, Mem
 
 /// The range in `WordDocument` of the property list of the Sepx at `fc`.
 pub fn sepx(wd: &[u8], fc: u32) -> Option<(usize, usize)>
-    requires settings { fc ≢ NO_SEPX }
+    requires properties { fc ≢ NO_SEPX }
     ensures { MatchOption result (¬ (HasSepx wd.now fc))
         (λ range. HasSepx wd.now fc × (range.0 ≡ fc + 2) × (range.1 ≡ fc + 2 + u16_at wd.now fc)) }
 {

@@ -3,7 +3,7 @@ use Rattle.std.specs.Prelude.{ℕ, ◌==◌, List, ◌++◌, length, Option, Som
 use Rattle.std.specs.List.{filter_map, flat_map}
 use Rattle.std.specs.FinMap.{get}
 use Rattle.doc_bits.specs.Number.{u32_at}
-use Rattle.prop_map.specs.Settings.{Settings}
+use Rattle.prop_map.specs.Settings.{Properties}
 use Rattle.plain_doc.specs.declared.item.Item.{Item}
 use Rattle.plain_doc.specs.declared.document.Document.{Document}
 
@@ -13,7 +13,7 @@ location_of None = None
 location_of (Some value) = if length value == 4 then Some (u32_at value 0) else None
 
 -- Profile: of the properties of the character itself; styles name no place
-abbrev pub location_in : Settings → Option ℕ
+abbrev pub location_in : Properties → Option ℕ
 location_in chp = location_of (get chp 0x6A03)
 
 -- [MS-DOC] the character of a picture is 0x01

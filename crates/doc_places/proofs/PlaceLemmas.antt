@@ -1,5 +1,5 @@
 -- Places of items one after another, and what they show.
-use Rattle.std.proofs.Common.{◌≡◌, ℕ, ◌+◌, Bool, true, false, ◌||◌, ◌&&◌, List, [], ◌∷◌, ◌++◌, Option, Some, None, refl, true≢false}
+use Rattle.std.proofs.Common.{◌≡◌, ℕ, ◌+◌, Bool, true, false, ◌||◌, ◌&&◌, List, [], ◌∷◌, ◌++◌, Option, Some, None, refl}
 use Rattle.std.proofs.Common.{sym, ap, ◌∙◌}
 use Rattle.std.proofs.Common.{append_assoc, append-nil, arith, length, map}
 use Rattle.std.specs.Prelude.{if◌then◌else◌}
@@ -24,6 +24,7 @@ use Rattle.doc_places.specs.Laws.{EachGlyphHasAPlace, spoken, spoken_label}
 use Rattle.doc_places.specs.Looks.{units_of_label}
 use Rattle.doc_view.specs.Labels.{label_glyphs}
 use Rattle.view_places.specs.declared.element.Element.TheVariants.{Label}
+use Rattle.doc_bits.proofs.TestLemmas.{neither}
 
 -- one more reference, or none
 length-cons_option : (reference : Option Reference) (more : List Reference) → length (cons_option reference more) ≡
@@ -71,10 +72,6 @@ pub hidden_item : (block : List Element) (link : Option Link) (count : ℕ) (see
 hidden_item block link count seen hidden =
     let none : Places = [] in
     ap (λ (b : Bool). if b then place_of block link count seen seen.glyph ∷ [] else none) hidden
-
-neither : (a b : Bool) → (a || b) ≡ false → (a ≡ false) × (b ≡ false)
-neither true b e = absurd (true≢false e)
-neither false b e = (refl, e)
 
 -- where nothing is shown there is no place
 pub items_places-hidden : (links : ℕ → Option Link) (block : List Element) (count place : ℕ) (seen : List Seen) →

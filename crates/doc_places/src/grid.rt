@@ -58,7 +58,7 @@ impl Grid {
             table: if in_table { self.table } else { next },
             row: if keeps { self.row } else { next },
             cell: if keeps {
-                self.cell + ended(standing)
+                self.cell + count_ended(standing)
             } else {
                 0
             },
@@ -72,7 +72,7 @@ impl Grid {
 }
 
 /// How many cells end.
-fn ended(standing: Standing) -> usize
+fn count_ended(standing: Standing) -> usize
     ensures is { result ≡ (if ends_cell standing then 1 else 0) }
     ensures few { result ≤ 1 }
 {

@@ -9,8 +9,8 @@ use Rattle.doc_parts.specs.declared.lists.Fld.{Fld}
 use Rattle.doc_parts.specs.Cps.{AreCpsInOrder}
 use Rattle.doc_parts.specs.Fields.{fld_cps}
 use Rattle.fib_form.specs.declared.stories.StoryKind.TheVariants.{Main, Notes}
-use Rattle.doc_load.specs.Source.{DocSource, story_length}
-use Rattle.doc_load.specs.PartRules.{PartLists}
+use Rattle.file_rules.specs.Source.{DocSource, story_length}
+use Rattle.file_rules.specs.PartRules.{PartLists}
 use Rattle.doc_read.specs.Sections.{section_lasts}
 use Rattle.doc_read.specs.Marked.{story_bytes, field_bytes}
 use Rattle.doc_bits.proofs.ListLemmas.{map-map}

@@ -1,15 +1,15 @@
 -- What is read from the parts of a file makes its document.
 use Rattle.std.proofs.Common.{◌≡◌, sym, subst, ℕ, ◌-◌, List, length, take, arith}
-use Rattle.prop_map.specs.Settings.{Settings}
+use Rattle.prop_map.specs.Settings.{Properties}
 use Rattle.cfb_streams.specs.Contents.{Contents}
 use Rattle.plain_doc.specs.declared.item.Item.{Item}
 use Rattle.plain_doc.specs.declared.document.Document.{Document}
 use Rattle.fib_form.specs.declared.stories.StoryKind.TheVariants.{Main, Notes, Heads}
 use Rattle.fib_form.specs.declared.table_parts.TablePart.TheVariants.{PlcfHdd}
-use Rattle.doc_load.specs.Source.{DocSource, part_bytes, story_length, story_begin}
-use Rattle.doc_load.specs.FormatRules.{text_count}
-use Rattle.doc_load.specs.PartRules.{PartLists, HasPartLists}
-use Rattle.doc_load.specs.FileRules.{FileText, source_of}
+use Rattle.file_rules.specs.Source.{DocSource, part_bytes, story_length, story_begin}
+use Rattle.file_rules.specs.FormatRules.{text_count}
+use Rattle.file_rules.specs.PartRules.{PartLists, HasPartLists}
+use Rattle.file_rules.specs.FileRules.{FileText, source_of}
 use Rattle.doc_read.specs.Sections.{AreSectionMaps}
 use Rattle.doc_read.specs.Items.{TextParts, HoldsItems}
 use Rattle.doc_read.specs.Texts.{AreCutsWithin, AreCutFrom}
@@ -31,7 +31,7 @@ heads_within source lists len has e =
     has.has_heads (omega arith)
 
 -- the main text begins the text, and the others are cut out of it
-pub document-from : (contents : Contents) (text : FileText) (lists : PartLists) (sections : List Settings)
+pub document-from : (contents : Contents) (text : FileText) (lists : PartLists) (sections : List Properties)
     (items : List Item) (document : Document) →
     HasPartLists (source_of text) lists → AreSectionMaps text.wd lists.sections sections →
     HoldsItems (record { source = source_of text; pieces = text.pieces; lists = lists; sections = sections }) 0

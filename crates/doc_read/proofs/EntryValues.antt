@@ -19,9 +19,9 @@ use Rattle.doc_parts.specs.declared.lists.Fld.{Fld}
 use Rattle.doc_parts.specs.Table.{plc_part}
 use Rattle.doc_parts.specs.Fields.{AreFields}
 use Rattle.fib_form.specs.declared.stories.StoryKind.TheVariants.{Main, Notes, Heads}
-use Rattle.doc_load.specs.Units.{unit_at}
-use Rattle.doc_load.specs.Source.{DocSource, story_begin}
-use Rattle.doc_load.specs.PartRules.{PartLists}
+use Rattle.file_rules.specs.Units.{unit_at}
+use Rattle.file_rules.specs.Source.{DocSource, story_begin}
+use Rattle.file_rules.specs.PartRules.{PartLists}
 use Rattle.plain_doc.specs.Entries.{entry_at}
 use Rattle.doc_read.specs.Marked.{story_bytes, field_bytes}
 use Rattle.doc_read.proofs.ExistTables.{fld_byte}

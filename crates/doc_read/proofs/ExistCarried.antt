@@ -20,9 +20,9 @@ use Rattle.plain_doc.specs.Carried.{ArePartsShort, AreListsWithLevels}
 use Rattle.plain_doc.specs.Formed.{IsFormedCarried}
 use Rattle.fib_form.specs.declared.table_parts.TablePart.{TablePart}
 use Rattle.fib_form.specs.declared.table_parts.TablePart.TheVariants.{SttbfFfn, Dop, SttbfAssoc, PlfLst, PlfLfo}
-use Rattle.doc_load.specs.Source.{DocSource, part_bytes, part_place}
-use Rattle.doc_load.specs.ListRules.{HasLevels}
-use Rattle.doc_load.specs.FileRules.{FileText, HasText, source_of}
+use Rattle.file_rules.specs.Source.{DocSource, part_bytes, part_place}
+use Rattle.file_rules.specs.ListRules.{HasLevels}
+use Rattle.file_rules.specs.FileRules.{FileText, HasText, source_of}
 use Rattle.doc_read.specs.CarriedParts.{carried_streams, AreWithinBounds, HoldsCarried}
 use Rattle.doc_bits.proofs.ByteListLemmas.{AreBytes-range}
 use Rattle.doc_read.proofs.ExistParts.{part_bytes_are}

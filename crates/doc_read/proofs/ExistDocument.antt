@@ -6,7 +6,7 @@ use Rattle.std.proofs.lemmas.List.Elements.{All-take}
 use Rattle.doc_bits.specs.declared.places.Where.TheVariants.{File, Wd}
 use Rattle.doc_bits.specs.Rules.{Hold}
 use Rattle.doc_bits.specs.Number.{AreBytes}
-use Rattle.prop_map.specs.Settings.{Settings}
+use Rattle.prop_map.specs.Settings.{Properties}
 use Rattle.cfb_streams.specs.Contents.{Contents}
 use Rattle.cfb_streams.specs.Container.{container_rules, HasContents}
 use Rattle.fkp_pages.specs.declared.kind.PageKind.TheVariants.{Chpx, Papx}
@@ -18,15 +18,15 @@ use Rattle.plain_doc.specs.Document.{IsFormedItem}
 use Rattle.plain_doc.specs.Formed.{IsFormed}
 use Rattle.fib_form.specs.declared.table_parts.TablePart.TheVariants.{Clx, PlcfBteChpx, PlcfBtePapx}
 use Rattle.fib_form.specs.declared.stories.StoryKind.TheVariants.{Main, Notes, Heads}
-use Rattle.doc_load.specs.Units.{unit_at}
-use Rattle.doc_load.specs.Source.{part_bytes, story_length, story_begin}
-use Rattle.doc_load.specs.FormatRules.{text_count, judged_places, paragraph_places, format_rules}
-use Rattle.doc_load.specs.SectionRules.{sed_rules}
-use Rattle.doc_load.specs.PartRules.{PartLists, HasPartLists, part_rules}
-use Rattle.doc_load.specs.FileRules.{FileText, HasText, source_of, table_stream_name, clx_of, loading_rules}
+use Rattle.file_rules.specs.Units.{unit_at}
+use Rattle.file_rules.specs.Source.{part_bytes, story_length, story_begin}
+use Rattle.file_rules.specs.FormatRules.{text_count, judged_places, paragraph_places, format_rules}
+use Rattle.file_rules.specs.SectionRules.{sed_rules}
+use Rattle.file_rules.specs.PartRules.{PartLists, HasPartLists, part_rules}
+use Rattle.file_rules.specs.FileRules.{FileText, HasText, source_of, table_stream_name, clx_of, loading_rules}
 use Rattle.cfb_streams.specs.Names.{wd_name}
-use Rattle.doc_load.proofs.OneLemmas.{sections_one}
-use Rattle.doc_load.proofs.RightPlaces.{hold_out}
+use Rattle.file_rules.proofs.OneLemmas.{sections_one}
+use Rattle.file_rules.proofs.RightPlaces.{hold_out}
 use Rattle.style_sheet.specs.Formed.{IsFormedSheet}
 use Rattle.doc_read.specs.Sections.{AreSectionMaps}
 use Rattle.doc_read.specs.Holds.{head_texts, IsDocumentFrom}
@@ -54,7 +54,7 @@ record HasFormedDocument (contents : Contents) (text : FileText) (lists : PartLi
   formed : IsFormed document
 
 -- the parts of a document, put together
-document_of : (contents : Contents) (text : FileText) (lists : PartLists) (maps : List Settings) →
+document_of : (contents : Contents) (text : FileText) (lists : PartLists) (maps : List Properties) →
     HasPartLists (source_of text) lists → AreSectionMaps text.wd lists.sections maps → IsFormedSheet lists.sheet →
     length text.table ≤ 7143936 → text_count (source_of text) < 2 ^ 32 → HasItems text lists maps →
     HasFormedCarried contents (source_of text) lists.levels → All HasFileNumbers lists.bookmarks →
@@ -98,7 +98,7 @@ document_of contents text lists maps has made sheet short few items carried numb
     }
 
 -- what the items are read from
-pub ready : (file : List ℕ) (contents : Contents) (text : FileText) (lists : PartLists) (maps : List Settings) →
+pub ready : (file : List ℕ) (contents : Contents) (text : FileText) (lists : PartLists) (maps : List Properties) →
     AreBytes text.wd → AreBytes text.table → TextFits text.wd text.pieces → HasText contents text →
     Hold (part_rules (source_of text)) → HasPartLists (source_of text) lists → AreByteFields lists →
     AreSectionMaps text.wd lists.sections maps → AreReady text lists maps

@@ -16,10 +16,11 @@ use Rattle.piece_table.proofs.ClxRuleLemmas.{ascends_of}
 use Rattle.piece_table.proofs.PieceLemmas.{total_of_pieces, length-flat_pieces}
 use Rattle.fib_form.specs.declared.table_parts.TablePart.TheVariants.{Clx}
 use Rattle.fib_form.specs.TableParts.{pair_of}
-use Rattle.doc_load.specs.FileRules.{FileText, HasText, table_stream_name, clx_of, table_rules, wd_rules, loading_rules}
+use Rattle.file_rules.specs.FileRules.{FileText, HasText, table_stream_name, clx_of, table_rules, wd_rules}
+use Rattle.file_rules.specs.FileRules.{loading_rules}
 use Rattle.cfb_streams.specs.Names.{wd_name}
-use Rattle.doc_load.proofs.NameLemmas.{named_one}
-use Rattle.doc_load.proofs.RightPlaces.{hold_out}
+use Rattle.file_rules.proofs.NameLemmas.{named_one}
+use Rattle.file_rules.proofs.RightPlaces.{hold_out}
 use Rattle.doc_read.proofs.ExistText.{plc_bytes}
 
 -- the rules on the pieces hold of the text that the file has

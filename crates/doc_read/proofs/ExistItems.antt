@@ -8,7 +8,7 @@ use Rattle.std.proofs.lemmas.List.{length-map}
 use Rattle.std.proofs.lemmas.Option.{same_Some}
 use Rattle.doc_bits.proofs.ListLemmas.{there_is}
 use Rattle.doc_bits.specs.Number.{AreBytes}
-use Rattle.prop_map.specs.Settings.{Settings}
+use Rattle.prop_map.specs.Settings.{Properties}
 use Rattle.prop_map.specs.Formed.{IsPropertyMap, paragraph_groups, section_groups}
 use Rattle.fkp_pages.specs.declared.kind.PageKind.TheVariants.{Chpx, Papx}
 use Rattle.piece_table.specs.Piece.{UnitPlace, flat_pieces, place_of_cp}
@@ -18,13 +18,13 @@ use Rattle.plain_doc.specs.declared.item.Mark.{Mark}
 use Rattle.plain_doc.specs.Document.{IsFormedItem}
 use Rattle.fib_form.specs.declared.table_parts.TablePart.TheVariants.{PlcfBteChpx, PlcfBtePapx}
 use Rattle.fib_form.specs.declared.stories.StoryKind.TheVariants.{Main}
-use Rattle.doc_load.specs.Units.{unit_at}
-use Rattle.doc_load.specs.Source.{DocSource, part_bytes, story_length}
-use Rattle.doc_load.specs.FormatRules.{text_count, judged_units, judged_places, section_ends, ends_section}
-use Rattle.doc_load.specs.FormatRules.{ends_paragraph, paragraph_places}
+use Rattle.file_rules.specs.Units.{unit_at}
+use Rattle.file_rules.specs.Source.{DocSource, part_bytes, story_length}
+use Rattle.file_rules.specs.FormatRules.{text_count, judged_units, judged_places, section_ends, ends_section}
+use Rattle.file_rules.specs.FormatRules.{ends_paragraph, paragraph_places}
 use Rattle.text_codes.specs.Paragraph.{is_paragraph_end}
-use Rattle.doc_load.specs.PartRules.{PartLists}
-use Rattle.doc_load.specs.FileRules.{FileText, source_of}
+use Rattle.file_rules.specs.PartRules.{PartLists}
+use Rattle.file_rules.specs.FileRules.{FileText, source_of}
 use Rattle.plain_doc.specs.Entries.{entry_at}
 use Rattle.doc_read.specs.Sections.{section_lasts, section_marks}
 use Rattle.doc_read.specs.Marked.{field_bytes, note_kinds}
@@ -32,22 +32,22 @@ use Rattle.doc_read.specs.Items.{TextParts, IsMarkAt, IsItemAt, HoldsItems}
 use Rattle.doc_read.proofs.PlaceLemmas.{read_at_place}
 use Rattle.doc_read.proofs.UpLemmas.{IsUpWithin}
 use Rattle.doc_read.proofs.RightLemmas.{section_ends_there, ends_more}
-use Rattle.direct_props.proofs.ExistLists.{IsRight}
-use Rattle.direct_props.specs.Laws.{IsRightModifier}
+use Rattle.direct_props.proofs.ExistLists.{IsValid}
+use Rattle.direct_props.specs.Laws.{IsValidModifier}
 use Rattle.direct_props.proofs.ExistDirect.{character_there, mark_there}
 use Rattle.doc_parts.proofs.ExistLemmas.{list_of}
 use Rattle.doc_read.proofs.EntryValues.{entry_has, zipped_has, AreByteFields, all_bytes, place_unit_small}
 use Rattle.doc_read.proofs.KeptPlaces.{paragraph_place}
 
 -- what a text without a broken rule has
-pub record AreReady (text : FileText) (lists : PartLists) (maps : List Settings) : Type 0 where
+pub record AreReady (text : FileText) (lists : PartLists) (maps : List Properties) : Type 0 where
   pub bytes : AreBytes text.wd
   pub long : text_count (source_of text) ≤ length (flat_pieces text.pieces)
-  pub modifiers : (cp : ℕ) (place : UnitPlace) → place_of_cp text.pieces cp ≡ Some place → IsRightModifier
+  pub modifiers : (cp : ℕ) (place : UnitPlace) → place_of_cp text.pieces cp ≡ Some place → IsValidModifier
       place.modifier
-  pub characters : (k : ℕ) → k < length (judged_places (source_of text)) → IsRight Chpx text.wd
+  pub characters : (k : ℕ) → k < length (judged_places (source_of text)) → IsValid Chpx text.wd
       (part_bytes (source_of text) PlcfBteChpx) (slice_index (judged_places (source_of text)) k)
-  pub paragraphs : (k : ℕ) → k < length (paragraph_places (source_of text) lists.sections) → IsRight Papx text.wd
+  pub paragraphs : (k : ℕ) → k < length (paragraph_places (source_of text) lists.sections) → IsValid Papx text.wd
       (part_bytes (source_of text) PlcfBtePapx) (slice_index (paragraph_places (source_of text) lists.sections) k)
   pub ends : IsUpWithin 1 (story_length (source_of text) Main + 1) (section_ends lists.sections (story_length
       (source_of text) Main))
@@ -61,7 +61,7 @@ record HasMarkOf (end : Bool) (source : DocSource) (place : UnitPlace) : Type 0 
   small : ForSome mark (λ mark. mark.istd < 2 ^ 16)
 
 mark_of : (end : Bool) (source : DocSource) (place : UnitPlace) → AreBytes source.wd →
-    (end ≡ true → IsRight Papx source.wd (part_bytes source PlcfBtePapx) place.at) → IsRightModifier place.modifier →
+    (end ≡ true → IsValid Papx source.wd (part_bytes source PlcfBtePapx) place.at) → IsValidModifier place.modifier →
     HasMarkOf end source place
 mark_of false source place bytes right modifier = record {
   mark = None;
@@ -72,7 +72,7 @@ mark_of false source place bytes right modifier = record {
 mark_of true source place bytes right modifier =
     let has =
     mark_there source.wd (part_bytes source PlcfBtePapx) place.at place.modifier bytes (right refl) modifier in
-    let here : Mark = record { istd = has.istd; pap = has.settings } in
+    let here : Mark = record { istd = has.istd; pap = has.properties } in
     record {
       mark = Some here;
       is = has.is;
@@ -80,15 +80,15 @@ mark_of true source place bytes right modifier =
       small = λ m e. subst (λ (x : Mark). x.istd < 2 ^ 16) (same_Some here m e) has.small;
     }
 
-pub record IsRightItem (parts : TextParts) (cp : ℕ) (item : Item) : Type 0 where
+pub record IsValidItem (parts : TextParts) (cp : ℕ) (item : Item) : Type 0 where
   pub is : IsItemAt parts cp item
   pub formed : IsFormedItem item
 
-abbrev pub parts_of : FileText → PartLists → List Settings → TextParts
+abbrev pub parts_of : FileText → PartLists → List Properties → TextParts
 parts_of text lists maps = record { source = source_of text; pieces = text.pieces; lists = lists; sections = maps }
 
-item_there : (text : FileText) (lists : PartLists) (maps : List Settings) → AreReady text lists maps → (cp : ℕ) →
-    cp < text_count (source_of text) → (item : Item) × IsRightItem (parts_of text lists maps) cp item
+item_there : (text : FileText) (lists : PartLists) (maps : List Properties) → AreReady text lists maps → (cp : ℕ) →
+    cp < text_count (source_of text) → (item : Item) × IsValidItem (parts_of text lists maps) cp item
 item_there text lists maps ready cp below =
     let source = source_of text in
     let main_len = story_length source Main in
@@ -113,21 +113,21 @@ item_there text lists maps ready cp below =
     let in_places : cp < length (judged_places source) = omega arith in
     let in_units : cp < length (judged_units source) = omega arith in
     let chp = character_there text.wd (part_bytes source PlcfBteChpx) place.at place.modifier ready.bytes
-    (subst (IsRight Chpx text.wd (part_bytes source PlcfBteChpx)) place_is (ready.characters cp in_places))
+    (subst (IsValid Chpx text.wd (part_bytes source PlcfBteChpx)) place_is (ready.characters cp in_places))
     modifier in
     let ends : is_paragraph_end unit (is_some sect) ≡ true → ends_paragraph source lists.sections cp ≡ true = λ e.
     ends_more (slice_index (judged_units source) cp) (is_some sect) (ends_section lists.sections main_len cp)
     (section_ends_there lists.sections main_len maps cp ready.ends)
     (ap (λ u. is_paragraph_end u (is_some sect)) unit_is ∙ e) in
-    let right : is_paragraph_end unit (is_some sect) ≡ true → IsRight Papx text.wd (part_bytes source PlcfBtePapx)
+    let right : is_paragraph_end unit (is_some sect) ≡ true → IsValid Papx text.wd (part_bytes source PlcfBtePapx)
     place.at = λ e.
     let at = paragraph_place source lists.sections cp in_units (ends e) in
-    subst (IsRight Papx text.wd (part_bytes source PlcfBtePapx)) (at.1.1 ∙ place_is) (ready.paragraphs at.0 at.1.0) in
+    subst (IsValid Papx text.wd (part_bytes source PlcfBtePapx)) (at.1.1 ∙ place_is) (ready.paragraphs at.0 at.1.0) in
     let mark = mark_of (is_paragraph_end unit (is_some sect)) source place ready.bytes right modifier in
     let fld = entry_at (field_bytes source lists) cp in (
       record {
         unit = unit;
-        chp = chp.settings;
+        chp = chp.properties;
         mark = mark.mark;
         sect = sect;
         fld = fld;
@@ -162,16 +162,16 @@ item_there text lists maps ready cp below =
     )
 
 -- the items of the whole text
-pub record HasItems (text : FileText) (lists : PartLists) (maps : List Settings) : Type 0 where
+pub record HasItems (text : FileText) (lists : PartLists) (maps : List Properties) : Type 0 where
   pub items : List Item
   pub holds : HoldsItems (parts_of text lists maps) 0 (text_count (source_of text)) items
   pub formed : All IsFormedItem items
 
-pub items_there : (text : FileText) (lists : PartLists) (maps : List Settings) → AreReady text lists maps →
+pub items_there : (text : FileText) (lists : PartLists) (maps : List Properties) → AreReady text lists maps →
     HasItems text lists maps
 items_there text lists maps ready =
     let count = text_count (source_of text) in
-    let found = list_of count (IsRightItem (parts_of text lists maps)) (item_there text lists maps ready) in
+    let found = list_of count (IsValidItem (parts_of text lists maps)) (item_there text lists maps ready) in
     let from_start : (i : ℕ) → i ≡ 0 + i = λ i. omega arith in
     record {
       items = found.list;

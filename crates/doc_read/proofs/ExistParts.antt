@@ -8,7 +8,7 @@ use Rattle.doc_bits.specs.Number.{AreBytes}
 use Rattle.style_sheet.specs.Formed.{IsFormedSheet}
 use Rattle.style_sheet.specs.Stsh.{stsh_rules}
 use Rattle.doc_parts.specs.declared.lists.Fld.{Fld}
-use Rattle.doc_parts.specs.Table.{plc_part, IsRightEntry}
+use Rattle.doc_parts.specs.Table.{plc_part, IsValidEntry}
 use Rattle.doc_parts.specs.Fields.{fld_form, fld_cps}
 use Rattle.doc_parts.specs.Levels.{level_start, level_count, list_part}
 use Rattle.doc_parts.specs.Bookmarks.{HasFileNumbers}
@@ -19,15 +19,15 @@ use Rattle.fib_form.specs.declared.table_parts.TablePart.TheVariants.{Stshf, Plc
 use Rattle.fib_form.specs.declared.table_parts.TablePart.TheVariants.{SttbfBkmk, PlcfBkf, PlcfBkl}
 use Rattle.fib_form.specs.declared.stories.StoryKind.{StoryKind}
 use Rattle.fib_form.specs.declared.stories.StoryKind.TheVariants.{Main, Notes, Heads}
-use Rattle.doc_load.specs.Source.{DocSource, part_bytes, part_place, story_begin, story_length, story_units}
-use Rattle.doc_load.specs.FormatRules.{text_count}
+use Rattle.file_rules.specs.Source.{DocSource, part_bytes, part_place, story_begin, story_length, story_units}
+use Rattle.file_rules.specs.FormatRules.{text_count}
 use Rattle.fib_form.specs.Fib.{fib_pair}
 use Rattle.fib_form.specs.TableParts.{pair_of}
-use Rattle.doc_load.specs.FieldRules.{BreaksAllFields, BreaksStoryFields, field_part, HasFields}
-use Rattle.doc_load.specs.ListRules.{HasLevels}
-use Rattle.doc_load.specs.BookmarkRules.{bookmark_parts}
-use Rattle.doc_load.specs.PartRules.{PartLists, HasPartLists, part_rules}
-use Rattle.doc_load.proofs.RightPlaces.{hold_out}
+use Rattle.file_rules.specs.FieldRules.{BreaksAllFields, BreaksStoryFields, field_part, HasFields}
+use Rattle.file_rules.specs.ListRules.{HasLevels}
+use Rattle.file_rules.specs.BookmarkRules.{bookmark_parts}
+use Rattle.file_rules.specs.PartRules.{PartLists, HasPartLists, part_rules}
+use Rattle.file_rules.proofs.RightPlaces.{hold_out}
 use Rattle.doc_read.proofs.BookmarkLemmas.{bookmarks-numbers}
 use Rattle.doc_read.proofs.ExistTables.{refs_there, fields_there}
 use Rattle.style_sheet.proofs.ExistSheet.{sheet_there}
@@ -76,7 +76,7 @@ story_fields source story are long none =
       broken = record {
         here = refl;
         broken = λ there.
-            no (subst (λ len. IsRightEntry fld_form (fld_cps len) (plc_part 2 bytes) k) (story_fits source story long)
+            no (subst (λ len. IsValidEntry fld_form (fld_cps len) (plc_part 2 bytes) k) (story_fits source story long)
             there.right);
       };
     }))) in

@@ -1,29 +1,29 @@
--- Each section has its settings.
+-- Each section has its properties.
 use Rattle.std.proofs.Common.{inl, inr, refl, ℕ, ◌+◌, ◌<◌, List, length}
 use Rattle.std.specs.FinMap.{empty}
 use Rattle.std.proofs.lemmas.Bool.{cases_eq}
 use Rattle.doc_bits.specs.Number.{u16_at}
 use Rattle.doc_bits.specs.Rules.{Nowhere}
 use Rattle.doc_bits.specs.Number.{AreBytes}
-use Rattle.prop_map.specs.Settings.{Settings}
+use Rattle.prop_map.specs.Settings.{Properties}
 use Rattle.prop_map.specs.Formed.{IsPropertyMap, section_groups}
 use Rattle.prop_map.proofs.ActingLemmas.{IsPropertyMap-empty}
 use Rattle.piece_table.proofs.NumberingLemmas.{All-from_slice_get}
 use Rattle.doc_parts.specs.declared.lists.Sed.{Sed}
-use Rattle.doc_load.specs.SectionRules.{section_fc, sepx_list, BreaksSepxLists}
-use Rattle.doc_read.specs.Sections.{IsSectionSettings, AreSectionMaps}
+use Rattle.file_rules.specs.SectionRules.{section_fc, sepx_list, BreaksSepxLists}
+use Rattle.doc_read.specs.Sections.{IsSectionProperties, AreSectionMaps}
 use Rattle.doc_bits.proofs.ByteListLemmas.{AreBytes-range}
 use Rattle.prop_map.proofs.AcceptedLemmas.{accepted_of}
-use Rattle.direct_props.proofs.ExistDirect.{settings_there}
+use Rattle.direct_props.proofs.ExistDirect.{properties_there}
 use Rattle.doc_parts.proofs.ExistLemmas.{list_of}
 
 -- a right map of a section
-record IsRightSection (wd : List ℕ) (fc : ℕ) (map : Settings) : Type 0 where
-  is : IsSectionSettings wd fc map
+record IsValidSection (wd : List ℕ) (fc : ℕ) (map : Properties) : Type 0 where
+  is : IsSectionProperties wd fc map
   formed : IsPropertyMap section_groups map
 
 section_there : (wd : List ℕ) (list : List Sed) (k : ℕ) → AreBytes wd → Nowhere (BreaksSepxLists wd list) →
-    k < length list → (map : Settings) × IsRightSection wd (section_fc list k) map
+    k < length list → (map : Properties) × IsValidSection wd (section_fc list k) map
 section_there wd list k bytes none below =
     let fc = section_fc list k in
     elim (cases_eq fc 0xFFFFFFFF) [
@@ -35,11 +35,11 @@ section_there wd list k bytes none below =
             entry = k;
             below = below;
             broken = record {
-              settings = there;
+              properties = there;
               fault = record { offset = p; here = refl; broken = fault };
             };
           })) in
-          let made = settings_there (sepx_list wd fc) section_groups list_bytes accepted in (
+          let made = properties_there (sepx_list wd fc) section_groups list_bytes accepted in (
             made.made,
             record {
               is = inr (record { there = there; style = made.style; makes = made.makes });
@@ -49,9 +49,9 @@ section_there wd list k bytes none below =
     ]
 
 pub section_maps_there : (wd : List ℕ) (list : List Sed) → AreBytes wd → Nowhere (BreaksSepxLists wd list) →
-    (maps : List Settings) × AreSectionMaps wd list maps
+    (maps : List Properties) × AreSectionMaps wd list maps
 section_maps_there wd list bytes none =
-    let found = list_of (length list) (λ k map. IsRightSection wd (section_fc list k) map) (λ k below. section_there
+    let found = list_of (length list) (λ k map. IsValidSection wd (section_fc list k) map) (λ k below. section_there
     wd list k bytes none below) in (
       found.list,
       record {

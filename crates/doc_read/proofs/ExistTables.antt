@@ -8,7 +8,7 @@ use Rattle.doc_bits.specs.Plc.{plc_cp, plc_entry}
 use Rattle.doc_bits.specs.Rules.{Nowhere}
 use Rattle.doc_parts.specs.declared.lists.Fld.{Fld}
 use Rattle.doc_parts.specs.declared.lists.NoteRef.{NoteRef}
-use Rattle.doc_parts.specs.Table.{plc_part, entry_at, IsRightEntry, BreaksTable}
+use Rattle.doc_parts.specs.Table.{plc_part, entry_at, IsValidEntry, BreaksTable}
 use Rattle.doc_parts.specs.Fields.{is_field_unit, fld_form, fld_cps, AreFields}
 use Rattle.doc_parts.specs.Stories.{ref_form, ref_cps, AreRefs}
 use Rattle.doc_parts.proofs.ExistLemmas.{entries_there}
@@ -35,7 +35,7 @@ fld_is true cp unit byte fld e = (ap (λ o. (unwrap_or o fld).cp) (sym e), ap (�
 fld_is false cp unit byte fld e = absurd (cc)
 
 pub fields_there : (bytes : List ℕ) (story_len : ℕ) →
-    ((k : ℕ) → k < (plc_part 2 bytes).count → ¬ ¬ (IsRightEntry fld_form (fld_cps story_len) (plc_part 2 bytes) k)) →
+    ((k : ℕ) → k < (plc_part 2 bytes).count → ¬ ¬ (IsValidEntry fld_form (fld_cps story_len) (plc_part 2 bytes) k)) →
     (list : List Fld) × AreFields bytes story_len list
 fields_there bytes story_len right =
     entries_there fld_form (fld_cps story_len) (plc_part 2 bytes)

@@ -24,7 +24,7 @@ use Rattle.piece_table.specs.PrmLists.{NamesSprms}
 use Rattle.piece_table.proofs.NumberingLemmas.{All-from_slice_get}
 use Rattle.prop_map.proofs.ActingLemmas.{HasByteValue}
 use Rattle.prop_map.proofs.ByteLemmas.{list_bytes, style_small}
-use Rattle.direct_props.specs.Laws.{IsRightModifier}
+use Rattle.direct_props.specs.Laws.{IsValidModifier}
 use Rattle.doc_bits.proofs.ByteListLemmas.{AreBytes-take, AreBytes-range, front_bytes, back_bytes, no_bytes}
 use Rattle.doc_bits.proofs.ByteListLemmas.{joined_bytes, one_byte}
 use Rattle.doc_read.proofs.PrmEntries.{named_entries}
@@ -97,7 +97,7 @@ plc_bytes clx parts are is =
     is.more) (subst AreBytes is.spelt are))
 
 pub right_modifiers : (clx : List ℕ) (pieces : List TextPiece) → AreBytes clx → IsClx clx pieces →
-    All (λ piece. IsRightModifier piece.modifier) pieces
+    All (λ piece. IsValidModifier piece.modifier) pieces
 right_modifiers clx pieces are is =
     let prcs = is.parts.prcs in
     let plc = is.parts.plc in
@@ -105,7 +105,7 @@ right_modifiers clx pieces are is =
     let prc_are : (k : ℕ) (g : List ℕ) → slice_get prcs k ≡ Some g → AreBytes g =
     prcs_bytes prcs (pcdt_bytes plc.bytes ++ is.spelt.more) spelt in
     let plc_are : AreBytes plc.bytes = plc_bytes clx is.parts are is.spelt in
-    All-from_slice_get (λ (piece : TextPiece). IsRightModifier piece.modifier) pieces (λ k piece here.
+    All-from_slice_get (λ (piece : TextPiece). IsValidModifier piece.modifier) pieces (λ k piece here.
     let names = is.modifiers k piece here in
     let word = prm_word plc k in
     let small : word < 65536 = number_at-bound plc.bytes _ 2 plc_are in
@@ -128,20 +128,20 @@ has_modifier : (P : Modifier → Type 0) (f : ℕ → UnitPlace) → ((j : ℕ) 
     All (λ (place : UnitPlace). P place.modifier) (map f js)
 has_modifier P f each js = All-map (λ (place : UnitPlace). P place.modifier) f js (λ k d below. each (get_or js k d))
 
-places_right : (pieces : List TextPiece) → All (λ (piece : TextPiece). IsRightModifier piece.modifier) pieces →
-    All (λ (place : UnitPlace). IsRightModifier place.modifier) (flat_map unit_places pieces)
-places_right [] all = All-nil (λ (place : UnitPlace). IsRightModifier place.modifier)
+places_right : (pieces : List TextPiece) → All (λ (piece : TextPiece). IsValidModifier piece.modifier) pieces →
+    All (λ (place : UnitPlace). IsValidModifier place.modifier) (flat_map unit_places pieces)
+places_right [] all = All-nil (λ (place : UnitPlace). IsValidModifier place.modifier)
 places_right (p ∷ ps) all =
-    let P : TextPiece → Type 0 = λ piece. IsRightModifier piece.modifier in
-    let first : IsRightModifier p.modifier = All-head P p ps all in
-    All-append (λ (place : UnitPlace). IsRightModifier place.modifier) (unit_places p) (flat_map unit_places ps)
-    (has_modifier IsRightModifier _ (λ j. first) (range_with_len 0 p.len)) (places_right ps (All-tail P p ps all))
+    let P : TextPiece → Type 0 = λ piece. IsValidModifier piece.modifier in
+    let first : IsValidModifier p.modifier = All-head P p ps all in
+    All-append (λ (place : UnitPlace). IsValidModifier place.modifier) (unit_places p) (flat_map unit_places ps)
+    (has_modifier IsValidModifier _ (λ j. first) (range_with_len 0 p.len)) (places_right ps (All-tail P p ps all))
 
-pub place_right : (pieces : List TextPiece) → All (λ (piece : TextPiece). IsRightModifier piece.modifier) pieces →
-    (cp : ℕ) (place : UnitPlace) → place_of_cp pieces cp ≡ Some place → IsRightModifier place.modifier
+pub place_right : (pieces : List TextPiece) → All (λ (piece : TextPiece). IsValidModifier piece.modifier) pieces →
+    (cp : ℕ) (place : UnitPlace) → place_of_cp pieces cp ≡ Some place → IsValidModifier place.modifier
 unfolding flat_pieces
 place_right pieces all cp place here =
     let flat = flat_map unit_places pieces in
     let within = slice_get_within flat cp place here in
-    subst (λ (p : UnitPlace). IsRightModifier p.modifier) (get_or_from_slice_get flat cp place place here)
+    subst (λ (p : UnitPlace). IsValidModifier p.modifier) (get_or_from_slice_get flat cp place place here)
     (places_right pieces all cp place within)

@@ -4,10 +4,10 @@ use Rattle.cfb_streams.specs.Contents.{Contents}
 use Rattle.doc_parts.specs.declared.lists.Sed.{Sed}
 use Rattle.fib_form.specs.declared.table_parts.TablePart.{TablePart}
 use Rattle.fib_form.specs.declared.table_parts.TablePart.TheVariants.{PlcfSed, PlcffndTxt}
-use Rattle.doc_load.specs.Source.{DocSource, part_bytes}
-use Rattle.doc_load.specs.SectionRules.{HasSections}
-use Rattle.doc_load.specs.NoteRules.{HasNoteCuts}
-use Rattle.doc_load.specs.FileRules.{FileText, AreSmall, HasText}
+use Rattle.file_rules.specs.Source.{DocSource, part_bytes}
+use Rattle.file_rules.specs.SectionRules.{HasSections}
+use Rattle.file_rules.specs.NoteRules.{HasNoteCuts}
+use Rattle.file_rules.specs.FileRules.{FileText, AreSmall, HasText}
 use Rattle.doc_read.specs.CarriedParts.{AreWithinBounds, LeavesRoom}
 use Rattle.doc_read.proofs.StreamLemmas.{carried-few}
 

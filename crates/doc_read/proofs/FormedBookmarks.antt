@@ -5,10 +5,10 @@ use Rattle.fib_form.specs.declared.stories.StoryKind.TheVariants.{Main}
 use Rattle.doc_parts.specs.Bookmarks.{AreFormedBookmarks}
 use Rattle.plain_doc.specs.declared.document.Document.{Document}
 use Rattle.plain_doc.specs.Marks.{HasFormedBookmarks}
-use Rattle.doc_load.specs.Source.{DocSource, story_length}
-use Rattle.doc_load.specs.PartRules.{HasPartLists, part_rules}
-use Rattle.doc_load.specs.FileRules.{source_of}
-use Rattle.doc_load.proofs.KeptLemmas.{bookmarks-formed}
+use Rattle.file_rules.specs.Source.{DocSource, story_length}
+use Rattle.file_rules.specs.PartRules.{HasPartLists, part_rules}
+use Rattle.file_rules.specs.FileRules.{source_of}
+use Rattle.file_rules.proofs.KeptLemmas.{bookmarks-formed}
 use Rattle.doc_read.specs.Holds.{FileParts, IsDocumentOf}
 use Rattle.doc_read.specs.Laws.{HeldBookmarksAreFormed}
 use Rattle.doc_read.proofs.OneDocument.{held_parts}

@@ -4,21 +4,21 @@ use Rattle.std.proofs.Common.{◌≡◌, ◌∙◌, ◌<◌, sym, ap, subst, tru
 use Rattle.std.proofs.lemmas.Option.{slice_get_within}
 use Rattle.std.proofs.lemmas.List.{length-map, length-take}
 use Rattle.doc_bits.specs.Rules.{Hold}
-use Rattle.prop_map.specs.Settings.{Settings}
+use Rattle.prop_map.specs.Settings.{Properties}
 use Rattle.fib_form.specs.declared.table_parts.TablePart.TheVariants.{PlcfBteChpx, PlcfBtePapx}
 use Rattle.fib_form.specs.declared.stories.StoryKind.TheVariants.{Main}
 use Rattle.fkp_pages.specs.declared.kind.PageKind.TheVariants.{Chpx, Papx}
-use Rattle.direct_props.specs.PageRules.{IsRightPlace}
+use Rattle.direct_props.specs.PageRules.{IsValidPlace}
 use Rattle.piece_table.specs.Piece.{UnitPlace, flat_pieces, place_of_cp}
 use Rattle.text_codes.specs.Paragraph.{is_paragraph_end}
 use Rattle.plain_doc.specs.declared.item.Item.{Item}
 use Rattle.plain_doc.specs.Entries.{entry_at}
-use Rattle.doc_load.specs.Source.{part_bytes, story_length}
-use Rattle.doc_load.specs.Units.{unit_at}
-use Rattle.doc_load.specs.FormatRules.{text_count, judged_units, ends_section, ends_paragraph}
-use Rattle.doc_load.specs.PartRules.{PartLists, HasPartLists, part_rules}
-use Rattle.doc_load.specs.FileRules.{FileText, source_of}
-use Rattle.doc_load.proofs.RightPlaces.{right_characters, right_paragraphs}
+use Rattle.file_rules.specs.Source.{part_bytes, story_length}
+use Rattle.file_rules.specs.Units.{unit_at}
+use Rattle.file_rules.specs.FormatRules.{text_count, judged_units, ends_section, ends_paragraph}
+use Rattle.file_rules.specs.PartRules.{PartLists, HasPartLists, part_rules}
+use Rattle.file_rules.specs.FileRules.{FileText, source_of}
+use Rattle.file_rules.proofs.RightPlaces.{right_characters, right_paragraphs}
 use Rattle.doc_read.specs.Sections.{section_marks}
 use Rattle.doc_read.proofs.MarkListLemmas.{some_section, ends_up}
 use Rattle.doc_read.proofs.PlaceLemmas.{read_at_place}
@@ -34,7 +34,7 @@ pub record RightText : Type 0 where
 -- the page of the characters of a CP
 pub character_place : (r : RightText) (cp : ℕ) (place : UnitPlace) → cp < text_count (source_of r.text) →
     place_of_cp r.text.pieces cp ≡ Some place →
-    IsRightPlace Chpx r.text.wd (part_bytes (source_of r.text) PlcfBteChpx) place.at
+    IsValidPlace Chpx r.text.wd (part_bytes (source_of r.text) PlcfBteChpx) place.at
 character_place r cp place below here =
     let source = source_of r.text in
     let right = right_characters source r.lists.sections r.hold.1.0 r.has.has_sections in
@@ -42,16 +42,17 @@ character_place r cp place below here =
     let inside = slice_get_within (flat_pieces r.text.pieces) cp place here in
     let len = length-take (text_count source) source.text.places in
     let all = length-map (flat_pieces r.text.pieces) (λ (p : UnitPlace). p.at) in
-    subst (IsRightPlace Chpx r.text.wd (part_bytes source PlcfBteChpx)) at
+    subst (IsValidPlace Chpx r.text.wd (part_bytes source PlcfBteChpx)) at
     (right cp (omega (arith, below, inside, len, all)))
 
--- the page of the mark of a CP, where an item ends a paragraph that has the unit and the settings of a section of the CP
-pub mark_place : (r : RightText) (maps : List Settings) (cp : ℕ) (place : UnitPlace) (item : Item) →
+-- the page of the mark of a CP, where an item ends a paragraph that has the unit and the properties of a section of the
+-- CP
+pub mark_place : (r : RightText) (maps : List Properties) (cp : ℕ) (place : UnitPlace) (item : Item) →
     cp < text_count (source_of r.text) → place_of_cp r.text.pieces cp ≡ Some place →
     item.unit ≡ unit_at r.text.wd place →
     item.sect ≡ entry_at (section_marks r.lists.sections (story_length (source_of r.text) Main) maps) cp →
     is_paragraph_end item.unit (is_some item.sect) ≡ true →
-    IsRightPlace Papx r.text.wd (part_bytes (source_of r.text) PlcfBtePapx) place.at
+    IsValidPlace Papx r.text.wd (part_bytes (source_of r.text) PlcfBtePapx) place.at
 mark_place r maps cp place item below here unit sect ends =
     let source = source_of r.text in
     let paragraphs = part_bytes source PlcfBtePapx in
@@ -72,6 +73,6 @@ mark_place r maps cp place item below here unit sect ends =
     let paragraph : ends_paragraph source sections cp ≡ true =
     ends_more (slice_index (judged_units source) cp) (is_some item.sect) (ends_section sections main_len cp) there
     (ap (λ u. is_paragraph_end u (is_some item.sect)) same ∙ ends) in
-    subst (IsRightPlace Papx r.text.wd paragraphs) at
+    subst (IsValidPlace Papx r.text.wd paragraphs) at
     (paragraph_right r.text.wd paragraphs source sections right cp
     (omega (arith, below, inside, len, all)) paragraph)

@@ -6,8 +6,8 @@ use Rattle.std.specs.List.{range_with_len}
 use Rattle.std.proofs.lemmas.List.{length-map, get_or-map}
 use Rattle.std.proofs.lemmas.List.FromFn.{length-range_with_len, get_or-range_with_len}
 use Rattle.doc_parts.specs.declared.lists.Sed.{Sed}
-use Rattle.doc_load.specs.Source.{DocSource}
-use Rattle.doc_load.specs.FormatRules.{judged_units, judged_places, ends_paragraph, paragraph_ends, paragraph_places}
+use Rattle.file_rules.specs.Source.{DocSource}
+use Rattle.file_rules.specs.FormatRules.{judged_units, judged_places, ends_paragraph, paragraph_ends, paragraph_places}
 
 -- where a kept number stands among those that are kept
 IsKeptAt : (ℕ → Bool) → List ℕ → ℕ → ℕ → Type 0

@@ -13,9 +13,9 @@ use Rattle.doc_parts.proofs.LevelLemmas.{level_start-zero, level_start-more, lev
 use Rattle.doc_parts.proofs.LevelLemmas.{levels-none}
 use Rattle.plain_doc.specs.Carried.{AreListsWithLevels}
 use Rattle.fib_form.specs.declared.table_parts.TablePart.TheVariants.{PlfLst}
-use Rattle.doc_load.specs.Source.{DocSource, part_place, part_bytes}
-use Rattle.doc_load.specs.ListRules.{rules_of_lists, HasLevels}
-use Rattle.doc_load.proofs.ListLemmas.{levels_within}
+use Rattle.file_rules.specs.Source.{DocSource, part_place, part_bytes}
+use Rattle.file_rules.specs.ListRules.{rules_of_lists, HasLevels}
+use Rattle.file_rules.proofs.ListLemmas.{levels_within}
 
 -- a byte of a range
 byte-range : (bytes : List ℕ) (from to i : ℕ) → from + i < to →

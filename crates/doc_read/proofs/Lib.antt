@@ -38,7 +38,7 @@ pub mod KeptPlaces
 pub mod ExistFits
 pub mod ExistCuts
 pub mod ExistCarried
-pub mod BesideLemmas
+pub mod AttachedLemmas
 pub mod MeetLemmas
 mod PartsLemmas
 pub mod ShortStreams

@@ -15,11 +15,11 @@ use Rattle.doc_parts.specs.Fields.{fld_cps}
 use Rattle.doc_parts.specs.Sections.{sed_cps, section_rules}
 use Rattle.fib_form.specs.declared.table_parts.TablePart.TheVariants.{PlcfSed}
 use Rattle.fib_form.specs.declared.stories.StoryKind.TheVariants.{Main, Notes, Heads}
-use Rattle.doc_load.specs.Source.{DocSource, part_bytes, part_place, story_length}
-use Rattle.doc_load.specs.SectionRules.{HasSections, rules_of_sections}
-use Rattle.doc_load.specs.FormatRules.{section_ends}
-use Rattle.doc_load.specs.PartRules.{PartLists, HasPartLists}
-use Rattle.doc_load.proofs.RightPlaces.{hold_out}
+use Rattle.file_rules.specs.Source.{DocSource, part_bytes, part_place, story_length}
+use Rattle.file_rules.specs.SectionRules.{HasSections, rules_of_sections}
+use Rattle.file_rules.specs.FormatRules.{section_ends}
+use Rattle.file_rules.specs.PartRules.{PartLists, HasPartLists}
+use Rattle.file_rules.proofs.RightPlaces.{hold_out}
 use Rattle.doc_read.specs.Sections.{section_lasts}
 use Rattle.doc_read.specs.Marked.{story_bytes, field_bytes, note_kind, note_kinds}
 use Rattle.doc_read.specs.Passing.{AreUp}

@@ -1,4 +1,4 @@
--- The settings of the units and what stands beside them meet in the items.
+-- The properties of the units and what stands beside them meet in the items.
 use Rattle.std.proofs.Common.{◌≡◌, ◌∙◌, sym, ap, subst, ℕ, zero, suc, ◌<◌, ◌≤◌, ◌+◌, ◌-◌, List, [], ◌∷◌, ◌++◌}
 use Rattle.std.proofs.Common.{length, get_or, Some, is_some, arith, length-append}
 use Rattle.std.specs.Prelude.{slice_get, slice_index, slice_range}
@@ -6,7 +6,7 @@ use Rattle.std.specs.List.{All}
 use Rattle.std.proofs.lemmas.Option.{slice_get_within, slice_get-get_or, get_or_from_slice_get}
 use Rattle.doc_bits.proofs.ListLemmas.{slice_get_before, All_at, length-range, there_is}
 use Rattle.doc_bits.proofs.TogetherLemmas.{from_behind}
-use Rattle.prop_map.specs.Settings.{Settings}
+use Rattle.prop_map.specs.Settings.{Properties}
 use Rattle.prop_map.specs.declared.modifiers.Modifier.{Modifier}
 use Rattle.prop_map.specs.Modifiers.{IsFormedModifier}
 use Rattle.prop_map.specs.Formed.{IsPropertyMap, character_groups}
@@ -16,8 +16,8 @@ use Rattle.text_codes.specs.Paragraph.{is_paragraph_end}
 use Rattle.piece_table.specs.Piece.{TextPiece}
 use Rattle.plain_doc.specs.declared.item.Item.{Item}
 use Rattle.plain_doc.specs.Document.{HasPropertyMaps}
-use Rattle.doc_columns.specs.declared.beside.Beside.{Beside}
-use Rattle.doc_columns.specs.Beside.{beside_of}
+use Rattle.doc_columns.specs.declared.attached.Attached.{Attached}
+use Rattle.doc_columns.specs.Attached.{attached_of}
 use Rattle.doc_columns.specs.Columns.{items_of}
 use Rattle.doc_columns.proofs.ItemsOfLemmas.{item_at}
 use Rattle.doc_columns.proofs.ChangesLemmas.{has_parts}
@@ -25,12 +25,12 @@ use Rattle.doc_read.specs.Items.{IsMarkAt}
 use Rattle.doc_read.specs.Passing.{AddsEach}
 use Rattle.doc_read.specs.Reading.{TextView, IsReadAt, IsReadCharacter, ArePlacedItems}
 use Rattle.doc_read.proofs.PlaceLemmas.{range_at}
-use Rattle.doc_read.specs.Beside.{IsBesideAt}
+use Rattle.doc_read.specs.Attached.{IsAttachedAt}
 
--- ---- the settings of a piece
+-- ---- the properties of a piece
 
 -- those of the places of a stretch are those of its CPs
-pub adds_characters : (view : TextView) (modifier : Modifier) (from to : ℕ) (old new : List Settings) →
+pub adds_characters : (view : TextView) (modifier : Modifier) (from to : ℕ) (old new : List Properties) →
     length old ≡ from → from ≤ to → to ≤ length view.places → IsFormedModifier modifier
     → AddsCharacters view.wd view.characters (slice_range view.places from to) modifier old new
     → AddsEach (IsReadCharacter view modifier) (to - from) old new
@@ -41,10 +41,11 @@ adds_characters view modifier from to old new here ordered within formed adds =
     let range_long = length-range places from to within in
     record {
       len = omega (arith, ap length adds.joined, long, added_long, range_long);
-      kept = λ k lower. ap (λ (l : List Settings). slice_get l k) adds.joined ∙ slice_get_before old adds.added k lower;
+      kept = λ k lower. ap (λ (l : List Properties). slice_get l k) adds.joined ∙ slice_get_before old adds.added k
+          lower;
       each = λ k chp upper at.
           let there : slice_get (old ++ adds.added) k ≡ Some chp =
-          ap (λ (l : List Settings). slice_get l k) (sym adds.joined) ∙ at in
+          ap (λ (l : List Properties). slice_get l k) (sym adds.joined) ∙ at in
           let inside = slice_get_within (old ++ adds.added) k chp there in
           let j : ℕ = k - from in
           let place : length old + j ≡ k = omega (arith, here, upper) in
@@ -67,7 +68,7 @@ adds_characters view modifier from to old new here ordered within formed adds =
 
 -- by its three parts
 read_of : (view : TextView) (modifier : Modifier) (cp : ℕ) (item : Item) → item.unit ≡ slice_index view.units cp →
-    IsReadCharacter view modifier cp item.chp → IsBesideAt view modifier cp (beside_of item)
+    IsReadCharacter view modifier cp item.chp → IsAttachedAt view modifier cp (attached_of item)
     → IsReadAt view modifier cp item
 read_of view modifier cp item unit_is characters stands = record {
   unit_is = unit_is;
@@ -85,48 +86,49 @@ read_of view modifier cp item unit_is characters stands = record {
 
 -- ---- the items of columns that grow
 
--- as many as there are settings, where there are more units
-pub length-read : (units : List ℕ) (chps : List Settings) (besides : List Beside) (n : ℕ) → length chps ≡ n →
-    length besides ≡ n → n ≤ length units → length (items_of units chps besides) ≡ n
-length-read [] chps besides n c b le = omega (arith, le)
-length-read (unit ∷ units) [] besides n c b le = c
+-- as many as there are properties, where there are more units
+pub length-read : (units : List ℕ) (chps : List Properties) (attachments : List Attached) (n : ℕ) → length chps ≡ n →
+    length attachments ≡ n → n ≤ length units → length (items_of units chps attachments) ≡ n
+length-read [] chps attachments n c b le = omega (arith, le)
+length-read (unit ∷ units) [] attachments n c b le = c
 length-read (unit ∷ units) (chp ∷ chps) [] n c b le = b
-length-read (unit ∷ units) (chp ∷ chps) (beside ∷ besides) zero c b le = absurd (omega (arith, c))
-length-read (unit ∷ units) (chp ∷ chps) (beside ∷ besides) (suc n) c b le =
-    ap suc (length-read units chps besides n (omega (arith, c)) (omega (arith, b)) (omega (arith, le)))
+length-read (unit ∷ units) (chp ∷ chps) (attached ∷ attachments) zero c b le = absurd (omega (arith, c))
+length-read (unit ∷ units) (chp ∷ chps) (attached ∷ attachments) (suc n) c b le =
+    ap suc (length-read units chps attachments n (omega (arith, c)) (omega (arith, b)) (omega (arith, le)))
 
--- settings and what stands beside came, so items came
-pub adds_items : (view : TextView) (modifier : Modifier) (cp count : ℕ) (chps more_chps : List Settings)
-    (besides more_besides : List Beside) → length chps ≡ cp → length besides ≡ cp → cp + count ≤ length view.units
+-- properties and what stands beside came, so items came
+pub adds_items : (view : TextView) (modifier : Modifier) (cp count : ℕ) (chps more_chps : List Properties)
+    (attachments more_attachments : List Attached) → length chps ≡ cp → length attachments ≡ cp → cp + count ≤ length
+    view.units
     → AddsEach (IsReadCharacter view modifier) count chps more_chps
-    → AddsEach (IsBesideAt view modifier) count besides more_besides
-    → AddsEach (IsReadAt view modifier) count (items_of view.units chps besides)
-    (items_of view.units more_chps more_besides)
-adds_items view modifier cp count chps more_chps besides more_besides cs bs within characters stands =
+    → AddsEach (IsAttachedAt view modifier) count attachments more_attachments
+    → AddsEach (IsReadAt view modifier) count (items_of view.units chps attachments)
+    (items_of view.units more_chps more_attachments)
+adds_items view modifier cp count chps more_chps attachments more_attachments cs bs within characters stands =
     let units = view.units in
-    let old = items_of units chps besides in
-    let new = items_of units more_chps more_besides in
-    let old_long : length old ≡ cp = length-read units chps besides cp cs bs (omega (arith, within)) in
+    let old = items_of units chps attachments in
+    let new = items_of units more_chps more_attachments in
+    let old_long : length old ≡ cp = length-read units chps attachments cp cs bs (omega (arith, within)) in
     let new_long : length new ≡ cp + count =
-    length-read units more_chps more_besides (cp + count) (omega (arith, characters.len, cs))
+    length-read units more_chps more_attachments (cp + count) (omega (arith, characters.len, cs))
     (omega (arith, stands.len, bs)) within in
     record {
       len = omega (arith, old_long, new_long);
       kept = λ k lower.
           let there = there_is old k lower in
           let item = there.0 in
-          let parts = has_parts units chps besides k item there.1 in
+          let parts = has_parts units chps attachments k item there.1 in
           let chp_at : slice_get more_chps k ≡ Some item.chp =
           characters.kept k (omega (arith, lower, old_long, cs)) ∙ parts.chp in
-          let beside_at : slice_get more_besides k ≡ Some (beside_of item) =
-          stands.kept k (omega (arith, lower, old_long, bs)) ∙ parts.beside in
-          item_at units more_chps more_besides k item.unit item.chp (beside_of item) parts.unit chp_at beside_at
+          let attached_at : slice_get more_attachments k ≡ Some (attached_of item) =
+          stands.kept k (omega (arith, lower, old_long, bs)) ∙ parts.attached in
+          item_at units more_chps more_attachments k item.unit item.chp (attached_of item) parts.unit chp_at attached_at
           ∙ sym there.1;
       each = λ k item upper here.
-          let parts = has_parts units more_chps more_besides k item here in
+          let parts = has_parts units more_chps more_attachments k item here in
           read_of view modifier k item (sym (get_or_from_slice_get units k item.unit 0 parts.unit))
           (characters.each k item.chp (omega (arith, upper, old_long, cs)) parts.chp)
-          (stands.each k (beside_of item) (omega (arith, upper, old_long, bs)) parts.beside);
+          (stands.each k (attached_of item) (omega (arith, upper, old_long, bs)) parts.attached);
     }
 
 -- no items are placed right

@@ -11,13 +11,13 @@ use Rattle.plain_doc.specs.Carried.{ArePartsShort, AreListsWithLevels, AreCarrie
 use Rattle.plain_doc.specs.Sound.{document_rules}
 use Rattle.plain_doc.proofs.SoundLemmas.{document_rules-IsSingle, document_rules-Ascends}
 use Rattle.fib_form.specs.declared.stories.StoryKind.TheVariants.{Main, Notes, Heads}
-use Rattle.doc_load.specs.Source.{DocSource, story_length, story_begin}
-use Rattle.doc_load.specs.PartRules.{part_rules}
-use Rattle.doc_load.specs.FileRules.{HasText, source_of, file_rules}
-use Rattle.doc_load.proofs.TextLemmas.{text_one}
+use Rattle.file_rules.specs.Source.{DocSource, story_length, story_begin}
+use Rattle.file_rules.specs.PartRules.{part_rules}
+use Rattle.file_rules.specs.FileRules.{HasText, source_of, file_rules}
+use Rattle.file_rules.proofs.TextLemmas.{text_one}
 use Rattle.cfb_streams.proofs.UniqueLemmas.{contents_unique}
-use Rattle.doc_load.proofs.RightPlaces.{bin_tables}
-use Rattle.doc_load.proofs.FileLemmas.{file_single, file_ascends}
+use Rattle.file_rules.proofs.RightPlaces.{bin_tables}
+use Rattle.file_rules.proofs.FileLemmas.{file_single, file_ascends}
 use Rattle.doc_read.specs.CarriedParts.{HoldsCarried}
 use Rattle.doc_read.specs.Holds.{FileParts, HasFileParts, IsDocumentOf, text_parts, head_texts, all_rules}
 use Rattle.doc_read.specs.Laws.{DocumentIsOne}

@@ -10,8 +10,8 @@ use Rattle.direct_props.proofs.LawLemmas.{character_one, mark_one}
 use Rattle.plain_doc.specs.declared.item.Item.{Item}
 use Rattle.plain_doc.specs.declared.item.Mark.{Mark}
 use Rattle.fib_form.specs.declared.table_parts.TablePart.TheVariants.{PlcfBteChpx, PlcfBtePapx}
-use Rattle.doc_load.specs.Units.{unit_at}
-use Rattle.doc_load.specs.Source.{DocSource, part_bytes}
+use Rattle.file_rules.specs.Units.{unit_at}
+use Rattle.file_rules.specs.Source.{DocSource, part_bytes}
 use Rattle.text_codes.specs.Paragraph.{is_paragraph_end}
 use Rattle.doc_read.specs.Items.{TextParts, IsMarkAt, IsItemAt, HoldsItems, HoldsTexts}
 use Rattle.doc_read.proofs.PartsOfOneFile.{same_lists}

@@ -9,10 +9,10 @@ use Rattle.fib_form.specs.FibFields.{FibFields}
 use Rattle.piece_table.specs.Piece.{TextPiece}
 use Rattle.plain_doc.specs.declared.document.Document.{Document}
 use Rattle.plain_doc.specs.Sound.{IsSound, document_rules}
-use Rattle.doc_load.specs.declared.fault.ReadFault.{ReadFault}
-use Rattle.doc_load.specs.Faults.{IsReadFault}
-use Rattle.doc_load.specs.FileRules.{contents_rules, file_rules}
-use Rattle.doc_load.proofs.RefusalLemmas.{refused-first, refused-next, refused-given}
+use Rattle.file_rules.specs.declared.fault.ReadFault.{ReadFault}
+use Rattle.file_rules.specs.Faults.{IsReadFault}
+use Rattle.file_rules.specs.FileRules.{contents_rules, file_rules}
+use Rattle.file_rules.proofs.RefusalLemmas.{refused-first, refused-next, refused-given}
 use Rattle.doc_read.specs.Holds.{HoldsDocument, all_rules}
 use Rattle.doc_read.specs.Opened.{IsFoundIn, OpenedFile, IsOpened}
 

@@ -4,10 +4,10 @@ use Rattle.cfb_streams.specs.Contents.{Contents}
 use Rattle.plain_doc.specs.declared.document.Document.{Document}
 use Rattle.fib_form.specs.declared.stories.StoryKind.TheVariants.{Main, Notes, Heads}
 use Rattle.fib_form.specs.FibFields.{fib_fields}
-use Rattle.doc_load.specs.FormatRules.{judged_units, text_count}
-use Rattle.doc_load.specs.PartRules.{PartLists, HasPartLists}
-use Rattle.doc_load.specs.FileRules.{FileText, source_of}
-use Rattle.doc_load.proofs.StoryLemmas.{story_count, story_front}
+use Rattle.file_rules.specs.FormatRules.{judged_units, text_count}
+use Rattle.file_rules.specs.PartRules.{PartLists, HasPartLists}
+use Rattle.file_rules.specs.FileRules.{FileText, source_of}
+use Rattle.file_rules.proofs.StoryLemmas.{story_count, story_front}
 use Rattle.doc_columns.specs.Columns.{items_of}
 use Rattle.doc_read.specs.Texts.{AreCutsWithin, AreCutFrom}
 use Rattle.doc_read.specs.CarriedParts.{LeavesRoom}
@@ -27,7 +27,8 @@ units_long : (parts : TextParts) (read : ReadColumns) → AreColumnsOf parts rea
     length (judged_units parts.source) ≡ text_count parts.source
 units_long parts read are =
     let units = judged_units parts.source in
-    let long = length-read units read.chps read.besides (length units) are.fit.chps are.fit.besides (omega arith) in
+    let long = length-read units read.chps read.attachments (length units) are.fit.chps are.fit.attachments (omega
+    arith) in
     omega (arith, long, are.holds.len)
 
 -- the cuts of a file are within its text
@@ -61,7 +62,7 @@ pub made_from : (contents : Contents) (text : FileText) (lists : PartLists) (par
     IsDocumentFrom contents text lists document
 made_from contents text lists parts document has are made =
     let source = source_of text in
-    let items = items_of (judged_units source) parts.columns.chps parts.columns.besides in
+    let items = items_of (judged_units source) parts.columns.chps parts.columns.attachments in
     let texts = made.texts in
     let cut = subst (λ (cuts : StoryCuts). AreTextsOf (fib_fields text.wd) cuts items texts) are.cuts_are
     made.texts_are in

@@ -5,19 +5,19 @@ use Rattle.std.specs.FinMap.{empty}
 use Rattle.std.proofs.lemmas.List.{ext_get_or, nil_from_length}
 use Rattle.std.proofs.lemmas.Option.{slice_get-get_or}
 use Rattle.sprm_table.proofs.SprmLemmas.{spelt_unique}
-use Rattle.prop_map.specs.Settings.{Settings}
+use Rattle.prop_map.specs.Settings.{Properties}
 use Rattle.prop_map.specs.Acting.{ArePropertiesAfter}
 use Rattle.prop_map.proofs.LawLemmas.{acting_one}
-use Rattle.direct_props.specs.Direct.{MakesSettings}
+use Rattle.direct_props.specs.Direct.{MakesProperties}
 use Rattle.cfb_streams.proofs.UniqueLemmas.{contents_unique}
 use Rattle.doc_parts.specs.declared.lists.Sed.{Sed}
-use Rattle.doc_load.specs.SectionRules.{section_fc, sepx_list}
+use Rattle.file_rules.specs.SectionRules.{section_fc, sepx_list}
 use Rattle.prop_map.specs.Formed.{section_groups}
-use Rattle.doc_load.specs.PartRules.{HasPartLists}
-use Rattle.doc_load.specs.FileRules.{HasText, source_of}
-use Rattle.doc_load.proofs.OneLemmas.{parts_one}
-use Rattle.doc_load.proofs.TextLemmas.{text_one}
-use Rattle.doc_read.specs.Sections.{IsSectionSettings, HaveSettings}
+use Rattle.file_rules.specs.PartRules.{HasPartLists}
+use Rattle.file_rules.specs.FileRules.{HasText, source_of}
+use Rattle.file_rules.proofs.OneLemmas.{parts_one}
+use Rattle.file_rules.proofs.TextLemmas.{text_one}
+use Rattle.doc_read.specs.Sections.{IsSectionProperties, HaveProperties}
 use Rattle.doc_read.specs.Holds.{FileParts, HasFileParts}
 
 -- lists of one length, each of whose elements is the only one at its place, are the same
@@ -33,26 +33,27 @@ same_lists Is one (x ∷ xs) ys len ha hb =
     (hb i (get_or ys i x) (slice_get-get_or ys i x (omega (arith, len, below)))))
 
 -- a list of sprms makes one map
-pub settings_one : (list : List ℕ) (groups : ℕ) (one other : Settings) (style named : Option ℕ) →
-    MakesSettings list groups one style → MakesSettings list groups other named → one ≡ other
-settings_one list groups one other style named a b =
+pub properties_one : (list : List ℕ) (groups : ℕ) (one other : Properties) (style named : Option ℕ) →
+    MakesProperties list groups one style → MakesProperties list groups other named → one ≡ other
+properties_one list groups one other style named a b =
     let prls = spelt_unique list a.prls b.prls a.spelt b.spelt in
     acting_one a.prls groups empty one other a.map (subst (λ ps. ArePropertiesAfter ps groups empty other) (sym prls)
     b.map)
 
--- a section has one map of settings
-section_one : (wd : List ℕ) (fc : ℕ) (one other : Settings) → IsSectionSettings wd fc one →
-    IsSectionSettings wd fc other → one ≡ other
+-- a section has one map of properties
+section_one : (wd : List ℕ) (fc : ℕ) (one other : Properties) → IsSectionProperties wd fc one →
+    IsSectionProperties wd fc other → one ≡ other
 section_one wd fc one other (inl a) (inl b) = a.1 ∙ sym b.1
 section_one wd fc one other (inl a) (inr b) = absurd (b.there a.0)
 section_one wd fc one other (inr a) (inl b) = absurd (a.there b.0)
 section_one wd fc one other (inr a) (inr b) =
-    settings_one (sepx_list wd fc) section_groups one other a.style b.style a.makes b.makes
+    properties_one (sepx_list wd fc) section_groups one other a.style b.style a.makes b.makes
 
-pub section_maps_one : (wd : List ℕ) (sections : List Sed) (one other : List Settings) → HaveSettings wd sections one →
-    HaveSettings wd sections other → one ≡ other
+pub section_maps_one : (wd : List ℕ) (sections : List Sed) (one other : List Properties) → HaveProperties wd sections
+    one →
+    HaveProperties wd sections other → one ≡ other
 section_maps_one wd sections one other a b =
-    same_lists (λ k. IsSectionSettings wd (section_fc sections k)) (λ k. section_one wd (section_fc sections k)) one
+    same_lists (λ k. IsSectionProperties wd (section_fc sections k)) (λ k. section_one wd (section_fc sections k)) one
     other (a.len ∙ sym b.len) a.each b.each
 
 -- what a file has is the same where each part of it is
@@ -70,9 +71,9 @@ file_parts_one file a b ha hb =
     let lists_there : HasPartLists (source_of b.text) a.lists =
     subst (λ t. HasPartLists (source_of t) a.lists) text ha.has_lists in
     let lists : a.lists ≡ b.lists = parts_one (source_of b.text) a.lists b.lists lists_there hb.has_lists in
-    let near : HaveSettings b.text.wd a.lists.sections a.sections =
-    subst (λ t. HaveSettings t.wd a.lists.sections a.sections) text ha.has_sections in
-    let there : HaveSettings b.text.wd b.lists.sections a.sections =
-    subst (λ l. HaveSettings b.text.wd l.sections a.sections) lists near in
+    let near : HaveProperties b.text.wd a.lists.sections a.sections =
+    subst (λ t. HaveProperties t.wd a.lists.sections a.sections) text ha.has_sections in
+    let there : HaveProperties b.text.wd b.lists.sections a.sections =
+    subst (λ l. HaveProperties b.text.wd l.sections a.sections) lists near in
     same_parts a b contents text lists (section_maps_one b.text.wd b.lists.sections a.sections b.sections there
     hb.has_sections)

@@ -8,7 +8,7 @@ use Rattle.std.proofs.lemmas.List.Concat.{get_or-flat_map}
 use Rattle.piece_table.specs.Piece.{TextPiece, UnitPlace, unit_bytes, unit_places, flat_pieces, place_of_cp}
 use Rattle.piece_table.specs.Piece.{total_length}
 use Rattle.piece_table.proofs.PieceLemmas.{length-unit_places, length-flat_pieces, get_or-unit_places}
-use Rattle.doc_load.proofs.UnitLemmas.{total-within}
+use Rattle.file_rules.proofs.UnitLemmas.{total-within}
 
 -- the place of unit j of a piece
 abbrev pub place_at : TextPiece → ℕ → UnitPlace

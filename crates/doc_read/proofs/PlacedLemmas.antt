@@ -5,18 +5,18 @@ use Rattle.std.specs.Prelude.{slice_index, is_some}
 use Rattle.std.proofs.lemmas.Bool.{cases_lt}
 use Rattle.std.proofs.lemmas.List.{length-take}
 use Rattle.std.proofs.lemmas.Option.{slice_get_within}
-use Rattle.prop_map.specs.Settings.{Settings}
+use Rattle.prop_map.specs.Settings.{Properties}
 use Rattle.direct_props.specs.Direct.{IsDirectCharacter}
 use Rattle.piece_table.specs.Piece.{TextPiece, UnitPlace, flat_pieces, total_length}
 use Rattle.plain_doc.specs.declared.item.Item.{Item}
 use Rattle.fib_form.specs.declared.table_parts.TablePart.TheVariants.{PlcfBteChpx, PlcfBtePapx}
-use Rattle.doc_load.specs.Units.{unit_at}
-use Rattle.doc_load.specs.Source.{DocSource, part_bytes}
-use Rattle.doc_load.specs.FileRules.{FileText, source_of}
-use Rattle.doc_load.specs.FormatRules.{text_count, judged_units, judged_places}
+use Rattle.file_rules.specs.Units.{unit_at}
+use Rattle.file_rules.specs.Source.{DocSource, part_bytes}
+use Rattle.file_rules.specs.FileRules.{FileText, source_of}
+use Rattle.file_rules.specs.FormatRules.{text_count, judged_units, judged_places}
 use Rattle.text_codes.specs.Paragraph.{is_paragraph_end}
-use Rattle.doc_load.specs.PartRules.{PartLists}
-use Rattle.doc_load.proofs.UnitLemmas.{total-more, length-text_units}
+use Rattle.file_rules.specs.PartRules.{PartLists}
+use Rattle.file_rules.proofs.UnitLemmas.{total-more, length-text_units}
 use Rattle.doc_read.specs.Marked.{field_bytes, note_kinds}
 use Rattle.doc_read.specs.Items.{TextParts, IsItemAt, HoldsItems, IsMarkAt}
 use Rattle.doc_read.specs.Passing.{AddsEach}
@@ -26,7 +26,7 @@ use Rattle.doc_read.proofs.PlaceLemmas.{place_at, place_in_piece, read_at_place}
 use Rattle.doc_read.proofs.ReadableLemmas.{view_of}
 
 -- the item of a CP
-pub item_of : (text : FileText) (source : DocSource) (lists : PartLists) (marks : MarkLists) (maps : List Settings)
+pub item_of : (text : FileText) (source : DocSource) (lists : PartLists) (marks : MarkLists) (maps : List Properties)
     (cp : ℕ) (item : Item) →
     source ≡ source_of text → AreMarksOf source lists marks → cp < text_count source →
     IsPlacedItem (view_of source marks maps) text.pieces cp item →
@@ -105,7 +105,7 @@ enough_units text source units pieces units_are same pieces_are =
     omega (arith, some, one, two, three)
 
 -- all items
-pub held : (text : FileText) (source : DocSource) (lists : PartLists) (marks : MarkLists) (maps : List Settings)
+pub held : (text : FileText) (source : DocSource) (lists : PartLists) (marks : MarkLists) (maps : List Properties)
     (items : List Item) →
     source ≡ source_of text → AreMarksOf source lists marks → length items ≡ text_count source →
     ArePlacedItems (view_of source marks maps) text.pieces items

@@ -2,26 +2,26 @@
 use Rattle.std.proofs.Common.{◌≡◌, ◌∙◌, sym, ap, subst, ℕ, ◌<◌, ◌≤◌, ◌^◌, ◌+◌, List, length, arith}
 use Rattle.std.specs.Prelude.{slice_index, is_some}
 use Rattle.std.proofs.lemmas.List.{length-map}
-use Rattle.prop_map.specs.Settings.{Settings}
+use Rattle.prop_map.specs.Settings.{Properties}
 use Rattle.fib_form.specs.declared.table_parts.TablePart.TheVariants.{PlcfBteChpx, PlcfBtePapx}
 use Rattle.fib_form.specs.declared.stories.StoryKind.TheVariants.{Main}
 use Rattle.text_codes.specs.Paragraph.{is_paragraph_end}
 use Rattle.doc_bits.specs.Rules.{Hold}
-use Rattle.doc_load.specs.Source.{DocSource, part_bytes, story_length}
-use Rattle.doc_load.specs.FormatRules.{judged_units, judged_places, section_ends, ends_paragraph, rules_of_formats}
-use Rattle.doc_load.specs.PartRules.{PartLists, HasPartLists, HoldButFormats}
-use Rattle.doc_load.proofs.PageLemmas.{formats_hold}
-use Rattle.doc_load.proofs.RightPlaces.{bin_tables, right_characters, right_paragraphs}
+use Rattle.file_rules.specs.Source.{DocSource, part_bytes, story_length}
+use Rattle.file_rules.specs.FormatRules.{judged_units, judged_places, section_ends, ends_paragraph, rules_of_formats}
+use Rattle.file_rules.specs.PartRules.{PartLists, HasPartLists, HoldButFormats}
+use Rattle.file_rules.proofs.PageLemmas.{formats_hold}
+use Rattle.file_rules.proofs.RightPlaces.{bin_tables, right_characters, right_paragraphs}
 use Rattle.doc_read.specs.Sections.{AreSectionMaps, section_lasts}
 use Rattle.doc_read.specs.Marked.{field_bytes, note_kinds}
 use Rattle.doc_read.specs.Passing.{AreUp}
-use Rattle.doc_read.specs.Reading.{MarkLists, AreMarksOf, TextView, IsReadable, HaveRightPages, ends_at, section_at}
+use Rattle.doc_read.specs.Reading.{MarkLists, AreMarksOf, TextView, IsReadable, HaveValidPages, ends_at, section_at}
 use Rattle.doc_read.proofs.UpLemmas.{IsUpWithin, up_less}
 use Rattle.doc_read.proofs.MarkListLemmas.{fields_up, notes_up, some_section, ends_up, length-section_lasts}
 use Rattle.doc_read.proofs.RightLemmas.{paragraph_right, paragraphs_right, section_same}
 
 -- what the items of a document are read from
-abbrev pub view_of : DocSource → MarkLists → List Settings → TextView
+abbrev pub view_of : DocSource → MarkLists → List Properties → TextView
 view_of source marks maps = record {
   wd = source.wd;
   characters = part_bytes source PlcfBteChpx;
@@ -32,8 +32,8 @@ view_of source marks maps = record {
   maps = maps;
 }
 
--- the last CPs of sections ascend, and stand beside the settings of each
-ends_ready : (source : DocSource) (lists : PartLists) (maps : List Settings) → HoldButFormats source →
+-- the last CPs of sections ascend, and stand beside the properties of each
+ends_ready : (source : DocSource) (lists : PartLists) (maps : List Properties) → HoldButFormats source →
     HasPartLists source lists → AreSectionMaps source.wd lists.sections maps →
     IsUpWithin 1 (story_length source Main + 1) (section_ends lists.sections (story_length source Main)) ×
     (length maps ≡ length (section_lasts lists.sections (story_length source Main)))
@@ -44,7 +44,7 @@ ends_ready source lists maps rules has are =
     )
 
 -- a unit that is read ends a paragraph exactly where it ends one of the document
-ends_same : (source : DocSource) (lists : PartLists) (marks : MarkLists) (maps : List Settings) (cp : ℕ) →
+ends_same : (source : DocSource) (lists : PartLists) (marks : MarkLists) (maps : List Properties) (cp : ℕ) →
     HoldButFormats source → HasPartLists source lists → AreSectionMaps source.wd lists.sections maps →
     AreMarksOf source lists marks →
     ends_at (view_of source marks maps) cp ≡ ends_paragraph source lists.sections cp
@@ -56,10 +56,10 @@ ends_same source lists marks maps cp rules has are is =
     (section_same lists.sections (story_length source Main) maps cp ready.0 ready.1)
 
 -- where the rules on pages hold each unit has its pages
-pub pages_right : (source : DocSource) (lists : PartLists) (marks : MarkLists) (maps : List Settings) →
+pub pages_right : (source : DocSource) (lists : PartLists) (marks : MarkLists) (maps : List Properties) →
     HoldButFormats source → HasPartLists source lists → AreSectionMaps source.wd lists.sections maps →
     AreMarksOf source lists marks → length (judged_places source) ≡ length (judged_units source) →
-    Hold (rules_of_formats source) → HaveRightPages (view_of source marks maps) 0 (length (judged_units source))
+    Hold (rules_of_formats source) → HaveValidPages (view_of source marks maps) 0 (length (judged_units source))
 pages_right source lists marks maps rules has are is same holds = record {
   characters = λ cp _ below. right_characters source lists.sections holds has.has_sections cp
       (omega (arith, below, same));
@@ -69,10 +69,10 @@ pages_right source lists marks maps rules has are is same holds = record {
 }
 
 -- and the other way round
-pub pages_hold : (source : DocSource) (lists : PartLists) (marks : MarkLists) (maps : List Settings) →
+pub pages_hold : (source : DocSource) (lists : PartLists) (marks : MarkLists) (maps : List Properties) →
     HoldButFormats source → HasPartLists source lists → AreSectionMaps source.wd lists.sections maps →
     AreMarksOf source lists marks → length (judged_places source) ≡ length (judged_units source) →
-    HaveRightPages (view_of source marks maps) 0 (length (judged_units source)) → Hold (rules_of_formats source)
+    HaveValidPages (view_of source marks maps) 0 (length (judged_units source)) → Hold (rules_of_formats source)
 pages_hold source lists marks maps rules has are is same right =
     formats_hold source lists.sections has.has_sections
     (λ k below. right.characters k (omega arith) (omega (arith, below, same)))
@@ -80,7 +80,7 @@ pages_hold source lists marks maps rules has are is same right =
     (λ cp below ends. right.marks cp (omega arith) below
     (ends_same source lists marks maps cp rules has are is ∙ ends)))
 
-pub readable_of : (source : DocSource) (lists : PartLists) (marks : MarkLists) (maps : List Settings) →
+pub readable_of : (source : DocSource) (lists : PartLists) (marks : MarkLists) (maps : List Properties) →
     HoldButFormats source → HasPartLists source lists → AreSectionMaps source.wd lists.sections maps →
     AreMarksOf source lists marks → length source.wd < 2 ^ 32 → length (judged_units source) ≤ 500000 →
     length (judged_places source) ≡ length (judged_units source) → IsReadable (view_of source marks maps)
@@ -123,7 +123,7 @@ readable_of source lists marks maps rules has are is small few same =
     }
 
 -- the same by its lists
-pub view_same : (source : DocSource) (marks : MarkLists) (maps : List Settings) (wd characters paragraphs units places
+pub view_same : (source : DocSource) (marks : MarkLists) (maps : List Properties) (wd characters paragraphs units places
     : List ℕ) →
     wd ≡ source.wd → characters ≡ part_bytes source PlcfBteChpx → paragraphs ≡ part_bytes source PlcfBtePapx →
     units ≡ judged_units source → places ≡ judged_places source

@@ -7,7 +7,7 @@ use Rattle.std.proofs.Math.ListN.{set}
 use Rattle.doc_bits.proofs.ListLemmas.{All_at, slice_get_push}
 use Rattle.prop_map.specs.declared.modifiers.Modifier.{Modifier}
 use Rattle.fkp_pages.specs.declared.kind.PageKind.{PageKind}
-use Rattle.direct_props.specs.Kept.{PlaceSource}
+use Rattle.direct_props.specs.GrpprlCache.{PlaceSource}
 use Rattle.doc_read.specs.declared.reading.PieceReader.{PieceReader}
 use Rattle.doc_read.specs.Reading.{TextView, IsPieceReader, ArePieceReaders, HasReaderFor}
 

@@ -10,14 +10,14 @@ use Rattle.std.proofs.lemmas.List.Folds.{list_any_at}
 use Rattle.std.proofs.lemmas.List.FromFn.{get_or-range_with_len, length-range_with_len}
 use Rattle.doc_bits.proofs.ListLemmas.{there_is, All_at}
 use Rattle.doc_bits.proofs.TestLemmas.{both_true}
-use Rattle.prop_map.specs.Settings.{Settings}
+use Rattle.prop_map.specs.Settings.{Properties}
 use Rattle.doc_parts.specs.declared.lists.Sed.{Sed}
 use Rattle.fkp_pages.specs.declared.kind.PageKind.TheVariants.{Papx}
-use Rattle.direct_props.specs.PageRules.{AreRightPlaces, IsRightPlace}
-use Rattle.doc_load.specs.Source.{DocSource}
-use Rattle.doc_load.specs.FormatRules.{judged_units, judged_places, section_ends, is_end, ends_section}
-use Rattle.doc_load.specs.FormatRules.{ends_paragraph, paragraph_ends, paragraph_places}
-use Rattle.doc_load.proofs.RowLemmas.{index_of_get}
+use Rattle.direct_props.specs.PageRules.{AreValidPlaces, IsValidPlace}
+use Rattle.file_rules.specs.Source.{DocSource}
+use Rattle.file_rules.specs.FormatRules.{judged_units, judged_places, section_ends, is_end, ends_section}
+use Rattle.file_rules.specs.FormatRules.{ends_paragraph, paragraph_ends, paragraph_places}
+use Rattle.file_rules.proofs.RowLemmas.{index_of_get}
 use Rattle.text_codes.specs.Paragraph.{is_paragraph_end}
 use Rattle.plain_doc.specs.Entries.{entry_at}
 use Rattle.doc_read.specs.Sections.{section_lasts}
@@ -42,8 +42,8 @@ all_below n = λ k d below.
 -- where the place of each such unit is right their places are
 pub paragraphs_right : (wd bin : List ℕ) (source : DocSource) (sections : List Sed) →
     ((cp : ℕ) → cp < length (judged_units source) → ends_paragraph source sections cp ≡ true →
-    IsRightPlace Papx wd bin (slice_index (judged_places source) cp)) →
-    AreRightPlaces Papx wd bin (paragraph_places source sections)
+    IsValidPlace Papx wd bin (slice_index (judged_places source) cp)) →
+    AreValidPlaces Papx wd bin (paragraph_places source sections)
 paragraphs_right wd bin source sections each k below =
     let test = ends_paragraph source sections in
     let ends = paragraph_ends source sections in
@@ -53,19 +53,19 @@ paragraphs_right wd bin source sections each k below =
     let passes = All_at (λ x. test x ≡ true) ends k found.0 (kept_true test (range_with_len 0 n)) found.1 in
     let within =
     All_at (λ c. c < n) ends k found.0 (All-filter test (λ c. c < n) (range_with_len 0 n) (all_below n)) found.1 in
-    subst (IsRightPlace Papx wd bin)
+    subst (IsValidPlace Papx wd bin)
     (sym (index_of_get (slice_index (judged_places source)) ends k found.0 found.1)) (each found.0 within passes)
 
 -- the place of such a unit
 pub paragraph_right : (wd bin : List ℕ) (source : DocSource) (sections : List Sed) →
-    AreRightPlaces Papx wd bin (paragraph_places source sections) → (cp : ℕ) → cp < length (judged_units source) →
-    ends_paragraph source sections cp ≡ true → IsRightPlace Papx wd bin (slice_index (judged_places source) cp)
+    AreValidPlaces Papx wd bin (paragraph_places source sections) → (cp : ℕ) → cp < length (judged_units source) →
+    ends_paragraph source sections cp ≡ true → IsValidPlace Papx wd bin (slice_index (judged_places source) cp)
 paragraph_right wd bin source sections right cp below ends =
     let found = paragraph_place source sections cp below ends in
-    subst (λ fc. IsRightPlace Papx wd bin fc) found.1.1 (right found.0 found.1.0)
+    subst (λ fc. IsValidPlace Papx wd bin fc) found.1.1 (right found.0 found.1.0)
 
--- a section ends with the CP at which settings stand
-pub section_ends_there : (sections : List Sed) (main_len : ℕ) (maps : List Settings) (cp : ℕ) →
+-- a section ends with the CP at which properties stand
+pub section_ends_there : (sections : List Sed) (main_len : ℕ) (maps : List Properties) (cp : ℕ) →
     IsUpWithin 1 (main_len + 1) (section_ends sections main_len) →
     is_some (entry_at (zip (section_lasts sections main_len) maps) cp) ≡ true → ends_section sections main_len cp ≡ true
 section_ends_there sections main_len maps cp is some =
@@ -97,12 +97,12 @@ any_index test (x ∷ xs) any = elim (cases_Bool (test x)) [
       (suc later.0, (omega arith, later.1.1))
 ]
 
--- settings stand at the CP with which a section ends
-settings_there : (sections : List Sed) (main_len : ℕ) (maps : List Settings) (cp : ℕ) →
+-- properties stand at the CP with which a section ends
+properties_there : (sections : List Sed) (main_len : ℕ) (maps : List Properties) (cp : ℕ) →
     IsUpWithin 1 (main_len + 1) (section_ends sections main_len) →
     length maps ≡ length (section_lasts sections main_len) →
     ends_section sections main_len cp ≡ true → is_some (entry_at (zip (section_lasts sections main_len) maps) cp) ≡ true
-settings_there sections main_len maps cp up many here =
+properties_there sections main_len maps cp up many here =
     let ends = section_ends sections main_len in
     let lasts = section_lasts sections main_len in
     let found = any_index (λ end. end == (cp + 1)) ends (both_true (nat_lt cp main_len) (is_end ends (cp + 1)) here).1
@@ -115,15 +115,15 @@ settings_there sections main_len maps cp up many here =
     let its = there_is maps k (omega (arith, below, many)) in
     ap is_some (entry_found lasts maps cp k its.0 (up_less (main_len + 1) ends up) below last its.1)
 
--- settings stand at a CP exactly where a section ends with it
-pub section_same : (sections : List Sed) (main_len : ℕ) (maps : List Settings) (cp : ℕ) →
+-- properties stand at a CP exactly where a section ends with it
+pub section_same : (sections : List Sed) (main_len : ℕ) (maps : List Properties) (cp : ℕ) →
     IsUpWithin 1 (main_len + 1) (section_ends sections main_len) →
     length maps ≡ length (section_lasts sections main_len) →
     is_some (entry_at (zip (section_lasts sections main_len) maps) cp) ≡ ends_section sections main_len cp
 section_same sections main_len maps cp up many =
     let some = is_some (entry_at (zip (section_lasts sections main_len) maps) cp) in
     elim (cases_Bool (ends_section sections main_len cp)) [
-      | inl here ↦ settings_there sections main_len maps cp up many here ∙ sym here
+      | inl here ↦ properties_there sections main_len maps cp up many here ∙ sym here
       | inr not_here ↦ elim (cases_Bool some) [
         | inl there ↦
             absurd (true≢false (sym (section_ends_there sections main_len maps cp up there) ∙ not_here))

@@ -1,4 +1,4 @@
--- The settings of the sections, read one after the other.
+-- The properties of the sections, read one after the other.
 use Rattle.std.proofs.Common.{◌≡◌, ◌≢◌, ◌⊎◌, ◌∙◌, inl, inr, refl, sym, subst, ℕ, ◌+◌, ◌<◌, List, [], ◌∷◌, ◌++◌}
 use Rattle.std.proofs.Common.{length, Some, slice_get, get_or, arith, length-append}
 use Rattle.std.specs.Prelude.{All, slice_range}
@@ -10,26 +10,26 @@ use Rattle.doc_bits.specs.declared.places.Where.TheVariants.{Wd, Table}
 use Rattle.doc_bits.specs.Number.{u16_at}
 use Rattle.doc_bits.specs.Rules.{Hold, Nowhere}
 use Rattle.sprm_table.specs.Sprm.{HasSprmFaultAt, IsAcceptedList, SpellsSprmList}
-use Rattle.prop_map.specs.Settings.{Settings}
+use Rattle.prop_map.specs.Settings.{Properties}
 use Rattle.prop_map.specs.Formed.{IsPropertyMap}
 use Rattle.prop_map.specs.declared.acting.Acted.{Acted}
-use Rattle.prop_map.specs.Acting.{IsActedBy, style_of}
-use Rattle.list_walks.specs.declared.ranges.ListRange.{ListRange}
-use Rattle.list_walks.specs.Walks.{list_at}
-use Rattle.list_walks.specs.Keeping.{IsMadeBy}
-use Rattle.direct_props.proofs.CharacterLemmas.{makes_settings}
+use Rattle.prop_map.specs.Acting.{IsActedBy, style_named}
+use Rattle.overlapping_grpprls.specs.declared.ranges.ListRange.{ListRange}
+use Rattle.overlapping_grpprls.specs.Walks.{list_at}
+use Rattle.overlapping_grpprls.specs.Keeping.{IsMadeBy}
+use Rattle.direct_props.proofs.CharacterLemmas.{makes_properties}
 use Rattle.doc_parts.specs.declared.lists.Sed.{Sed}
 use Rattle.doc_parts.specs.Sections.{place_of_fc_sepx}
 use Rattle.doc_parts.proofs.TableLemmas.{slice_get_before, slice_get_push}
 use Rattle.fib_form.specs.declared.table_parts.TablePart.TheVariants.{PlcfSed}
-use Rattle.doc_load.specs.Source.{DocSource, part_place}
-use Rattle.doc_load.specs.SectionRules.{section_fc, sepx_list, LacksSepx, HasSepxFault, HasSections, sed_rules}
-use Rattle.doc_load.specs.SectionRules.{rules_of_sections, IsSepxPlace}
+use Rattle.file_rules.specs.Source.{DocSource, part_place}
+use Rattle.file_rules.specs.SectionRules.{section_fc, sepx_list, LacksSepx, HasSepxFault, HasSections, sed_rules}
+use Rattle.file_rules.specs.SectionRules.{rules_of_sections, IsSepxPlace}
 use Rattle.prop_map.specs.Formed.{section_groups}
-use Rattle.doc_load.proofs.OneLemmas.{sections_one}
+use Rattle.file_rules.proofs.OneLemmas.{sections_one}
 use Rattle.doc_bits.proofs.TogetherLemmas.{together_joined}
 use Rattle.direct_props.proofs.KeptLemmas.{together_one}
-use Rattle.doc_read.specs.Sections.{AreMetSections, IsMetSection, IsSectionSettings, IsMadeBySepx}
+use Rattle.doc_read.specs.Sections.{AreMetSections, IsMetSection, IsSectionProperties, IsMadeBySepx}
 
 -- the rules on each section hold of those that the document has
 held_sections : (source : DocSource) (list : List Sed) → Hold (rules_of_sections source) → HasSections source list →
@@ -37,7 +37,7 @@ held_sections : (source : DocSource) (list : List Sed) → Hold (rules_of_sectio
 held_sections source list h has =
     subst (λ sections. Hold (sed_rules source sections)) (sections_one source h.1.0 list h.1.1.0 has) h.1.1.1
 
--- so the settings of each are there
+-- so the properties of each are there
 pub sepx-there : (source : DocSource) (list : List Sed) (k : ℕ) → Hold (rules_of_sections source) →
     HasSections source list → k < length list → ¬ (LacksSepx source.wd (section_fc list k))
 sepx-there source list k h has below lacks =
@@ -53,9 +53,9 @@ sepx-right source list k h has below = λ place fault.
 -- the list of a Sepx without a fault has none
 pub list-right : (wd : List ℕ) (fc from to : ℕ) → fc ≢ 0xFFFFFFFF → from ≡ fc + 2 → to ≡ fc + 2 + u16_at wd fc →
     Nowhere (HasSepxFault wd fc) → Nowhere (HasSprmFaultAt (slice_range wd from to) section_groups)
-list-right wd fc from to settings begins ends right = λ offset fault.
+list-right wd fc from to properties begins ends right = λ offset fault.
     right (fc + 2 + offset) (record {
-      settings = settings;
+      properties = properties;
       fault = record {
         offset = offset;
         here = refl;
@@ -63,27 +63,28 @@ list-right wd fc from to settings begins ends right = λ offset fault.
       };
     })
 
--- an accepted list makes the settings of its section
-pub is-made : (wd list : List ℕ) (fc : ℕ) (none : Settings) (acted : Acted) → fc ≢ 0xFFFFFFFF → list ≡ sepx_list wd fc →
+-- an accepted list makes the properties of its section
+pub is-made : (wd list : List ℕ) (fc : ℕ) (none : Properties) (acted : Acted) → fc ≢ 0xFFFFFFFF → list ≡ sepx_list wd fc
+    →
     IsAcceptedList list section_groups → none ≡ empty → IsActedBy list section_groups none acted →
     IsMadeBySepx wd fc acted.map
-is-made wd list fc none acted settings e accepted bare act = record {
-  there = settings;
+is-made wd list fc none acted properties e accepted bare act = record {
+  there = properties;
   style = acted.istd;
   makes =
-      makes_settings list (sepx_list wd fc) section_groups section_groups none acted e refl bare
+      makes_properties list (sepx_list wd fc) section_groups section_groups none acted e refl bare
       (subst (λ bytes. IsAcceptedList bytes section_groups) e accepted) act;
 }
 
--- the settings that were made in a walk
-pub walked_section : (wd : List ℕ) (range : ListRange) (fc : ℕ) (made : Settings) → fc ≢ 0xFFFFFFFF →
+-- the properties that were made in a walk
+pub walked_section : (wd : List ℕ) (range : ListRange) (fc : ℕ) (made : Properties) → fc ≢ 0xFFFFFFFF →
     IsSepxPlace wd range fc → IsMadeBy (list_at wd range) section_groups made → IsMetSection wd (fc, fc) made
 walked_section wd range fc made there place is =
     let list : list_at wd range ≡ sepx_list wd fc = cc (place.from, place.to) in
     record {
       is = inr (record {
         there = there;
-        style = style_of is.prls section_groups;
+        style = style_named is.prls section_groups;
         makes = record {
           prls = is.prls;
           spelt = subst (λ (l : List ℕ). SpellsSprmList l is.prls) list is.spelt;
@@ -111,10 +112,10 @@ pushed xs x y j e =
           inr (last, same)
     ]
 
--- the settings of the first k sections
-pub record AreMapsUpTo (wd : List ℕ) (list : List Sed) (k : ℕ) (maps : List Settings) : Type 0 where
+-- the properties of the first k sections
+pub record AreMapsUpTo (wd : List ℕ) (list : List Sed) (k : ℕ) (maps : List Properties) : Type 0 where
   pub len : length maps ≡ k
-  pub each : (j : ℕ) (map : Settings) → slice_get maps j ≡ Some map → IsSectionSettings wd (section_fc list j) map
+  pub each : (j : ℕ) (map : Properties) → slice_get maps j ≡ Some map → IsSectionProperties wd (section_fc list j) map
   pub formed : All (IsPropertyMap section_groups) maps
 
 pub maps_none : (wd : List ℕ) (list : List Sed) → AreMapsUpTo wd list 0 []
@@ -125,18 +126,18 @@ maps_none wd list = record {
 }
 
 -- one more
-pub maps_more : (wd : List ℕ) (list : List Sed) (k fc : ℕ) (maps : List Settings) (map : Settings) →
-    AreMapsUpTo wd list k maps → section_fc list k ≡ fc → IsSectionSettings wd fc map →
+pub maps_more : (wd : List ℕ) (list : List Sed) (k fc : ℕ) (maps : List Properties) (map : Properties) →
+    AreMapsUpTo wd list k maps → section_fc list k ≡ fc → IsSectionProperties wd fc map →
     IsPropertyMap section_groups map → AreMapsUpTo wd list (k + 1) (maps ++ map ∷ [])
-maps_more wd list k fc maps map are e settings formed = record {
+maps_more wd list k fc maps map are e properties formed = record {
   len = omega (arith, are.len, length-append maps (map ∷ []));
   each = λ j other g. elim (pushed maps map other j g) [
     | inl before ↦ are.each j other before
     | inr last ↦
         let same : j ≡ k = last.0 ∙ are.len in
-        let here : IsSectionSettings wd (section_fc list k) map =
-        subst (λ n. IsSectionSettings wd n map) (sym e) settings in
-        subst (λ m. IsSectionSettings wd (section_fc list j) m) (sym last.1) (subst (λ n. IsSectionSettings wd
+        let here : IsSectionProperties wd (section_fc list k) map =
+        subst (λ n. IsSectionProperties wd n map) (sym e) properties in
+        subst (λ m. IsSectionProperties wd (section_fc list j) m) (sym last.1) (subst (λ n. IsSectionProperties wd
         (section_fc list n) map) (sym same) here)
   ];
   formed = All-push (IsPropertyMap section_groups) maps map are.formed formed;
@@ -147,8 +148,8 @@ maps_more wd list k fc maps map are e settings formed = record {
 pub no_sections : (wd : List ℕ) → AreMetSections wd [] []
 no_sections wd = record { len = refl; each = λ k place map p q. absurd (none-some place p) }
 
--- the settings that are kept at a number
-pub met_before : (wd : List ℕ) (places : List (ℕ × ℕ)) (maps : List Settings) (k fc : ℕ) (map : Settings) →
+-- the properties that are kept at a number
+pub met_before : (wd : List ℕ) (places : List (ℕ × ℕ)) (maps : List Properties) (k fc : ℕ) (map : Properties) →
     AreMetSections wd places maps →
     slice_get places k ≡ Some (fc, fc) → map ≡ get_or maps k map → IsMetSection wd (fc, fc) map
 met_before wd places maps k fc map are there here =
@@ -157,7 +158,7 @@ met_before wd places maps k fc map are there here =
     are.each k (fc, fc) map there (slice_get_read maps (length maps) k map refl (omega arith) here)
 
 -- one section more
-pub one_met : (wd : List ℕ) (places : List (ℕ × ℕ)) (maps : List Settings) (fc : ℕ) (map : Settings) →
+pub one_met : (wd : List ℕ) (places : List (ℕ × ℕ)) (maps : List Properties) (fc : ℕ) (map : Properties) →
     AreMetSections wd places maps → IsMetSection wd (fc, fc) map →
     AreMetSections wd (places ++ (fc, fc) ∷ []) (maps ++ map ∷ [])
 one_met wd places maps fc map are is =

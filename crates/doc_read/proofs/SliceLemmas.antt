@@ -10,11 +10,12 @@ use Rattle.plain_doc.specs.declared.item.Item.{Item}
 use Rattle.doc_bits.proofs.ListLemmas.{slice_get-take}
 use Rattle.fib_form.specs.declared.table_parts.TablePart.TheVariants.{PlcffndTxt}
 use Rattle.fib_form.specs.declared.stories.StoryKind.TheVariants.{Notes}
-use Rattle.doc_load.specs.Source.{DocSource, part_bytes, story_length}
-use Rattle.doc_load.specs.NoteRules.{HasNoteCuts}
+use Rattle.file_rules.specs.Source.{DocSource, part_bytes, story_length}
+use Rattle.file_rules.specs.NoteRules.{HasNoteCuts}
 use Rattle.doc_read.specs.Items.{TextParts, IsItemAt, HoldsItems, HoldsTexts}
 use Rattle.doc_read.specs.Texts.{AreCutsWithin, AreCutFrom}
 use Rattle.doc_read.proofs.SettingsLemmas.{pushed}
+use Rattle.doc_bits.proofs.NumberLemmas.{zero_more}
 
 -- what stands in a range of a list stands there in the list
 slice_get-range : {X : Type 0} (xs : List X) (from to i : ℕ) (x : X) → slice_get (slice_range xs from to) i ≡ Some x →
@@ -26,16 +27,12 @@ slice_get-range xs from to i x e =
     slice_get-get_or xs (from + i) x (omega (arith, length-drop from xs)) ∙ ap Some (sym (get_or-drop from xs i x) ∙
     value)
 
--- a CP counted from the start
-from_start : (cp : ℕ) → 0 + cp ≡ cp
-from_start cp = omega arith
-
 -- a part of the text has the items of its CPs
 pub holds_range : (parts : TextParts) (total from to : ℕ) (text : List Item) → from ≤ to → to ≤ length text →
     HoldsItems parts 0 total text → HoldsItems parts from to (slice_range text from to)
 holds_range parts total from to text order within holds = record {
   len = simp (length-take, length-drop) (omega arith);
-  each = λ i item e. subst (λ cp. IsItemAt parts cp item) (from_start (from + i)) (holds.each (from + i) item
+  each = λ i item e. subst (λ cp. IsItemAt parts cp item) (zero_more (from + i)) (holds.each (from + i) item
       (slice_get-range text from to i item e));
 }
 

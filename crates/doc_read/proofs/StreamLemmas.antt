@@ -14,7 +14,7 @@ use Rattle.fib_form.specs.Fib.{fib_which_table}
 use Rattle.cfb_streams.specs.Contents.{Stream, Contents, NamedBytes, AreStreams, IsStored, AreStored}
 use Rattle.plain_doc.specs.Carried.{IsCarriedName, AreCarriedStreams}
 use Rattle.doc_bits.proofs.ListLemmas.{slice_get-take}
-use Rattle.doc_load.specs.FileRules.{FileText, HasText}
+use Rattle.file_rules.specs.FileRules.{FileText, HasText}
 use Rattle.doc_read.specs.CarriedParts.{is_carried, carried_streams, AreWithinBounds, LeavesRoom}
 use Rattle.doc_read.proofs.CarriedLemmas.{without_chain, carried-from, carried-order, carried-count, left_out-two}
 use Rattle.doc_read.proofs.NameLemmas.{carried_name, wd-not_carried, table-not_carried}

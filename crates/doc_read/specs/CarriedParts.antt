@@ -6,7 +6,7 @@ use Rattle.cfb_streams.specs.Names.{wd_name, first_table_name, second_table_name
 use Rattle.fib_form.specs.FibFields.{fib_fields}
 use Rattle.plain_doc.specs.declared.carried.Carried.{Carried}
 use Rattle.fib_form.specs.declared.table_parts.TablePart.TheVariants.{SttbfFfn, Dop, SttbfAssoc, PlfLst, PlfLfo}
-use Rattle.doc_load.specs.Source.{DocSource, part_bytes}
+use Rattle.file_rules.specs.Source.{DocSource, part_bytes}
 
 -- a stream that no save makes
 abbrev pub is_carried : List ℕ → Bool

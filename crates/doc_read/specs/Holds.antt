@@ -2,17 +2,17 @@
 use Rattle.std.specs.Prelude.{◌≡◌, ℕ, ◌-◌, List, length}
 use Rattle.doc_bits.specs.Rules.{Rules, ◌then◌, given, Hold}
 use Rattle.doc_bits.specs.Places.{Place}
-use Rattle.prop_map.specs.Settings.{Settings}
+use Rattle.prop_map.specs.Settings.{Properties}
 use Rattle.cfb_streams.specs.Contents.{Contents}
 use Rattle.cfb_streams.specs.Container.{HasContents}
 use Rattle.plain_doc.specs.declared.document.Document.{Document}
 use Rattle.plain_doc.specs.RulesOfSheet.{heads_of_sections}
 use Rattle.plain_doc.specs.Sound.{document_rules}
 use Rattle.fib_form.specs.declared.stories.StoryKind.TheVariants.{Main, Notes, Heads}
-use Rattle.doc_load.specs.Source.{story_length, story_begin}
-use Rattle.doc_load.specs.PartRules.{PartLists, HasPartLists}
-use Rattle.doc_load.specs.FileRules.{FileText, HasText, source_of, file_rules}
-use Rattle.doc_read.specs.Sections.{HaveSettings}
+use Rattle.file_rules.specs.Source.{story_length, story_begin}
+use Rattle.file_rules.specs.PartRules.{PartLists, HasPartLists}
+use Rattle.file_rules.specs.FileRules.{FileText, HasText, source_of, file_rules}
+use Rattle.doc_read.specs.Sections.{HaveProperties}
 use Rattle.doc_read.specs.Items.{TextParts, HoldsItems, HoldsTexts}
 use Rattle.doc_read.specs.CarriedParts.{HoldsCarried}
 
@@ -21,13 +21,13 @@ pub record FileParts : Type 0 where
   pub contents : Contents
   pub text : FileText
   pub lists : PartLists
-  pub sections : List Settings
+  pub sections : List Properties
 
 pub record HasFileParts (file : List ℕ) (parts : FileParts) : Type 0 where
   pub has_contents : HasContents file parts.contents
   pub has_text : HasText parts.contents parts.text
   pub has_lists : HasPartLists (source_of parts.text) parts.lists
-  pub has_sections : HaveSettings parts.text.wd parts.lists.sections parts.sections
+  pub has_sections : HaveProperties parts.text.wd parts.lists.sections parts.sections
 
 abbrev pub text_parts : FileParts → TextParts
 text_parts parts = record {
@@ -54,11 +54,11 @@ pub record IsDocumentOf (parts : FileParts) (document : Document) : Type 0 where
   pub carried : HoldsCarried parts.contents (source_of parts.text) parts.lists.levels document.carried
   pub bookmarks : document.bookmarks ≡ parts.lists.bookmarks
 
--- the document of these streams, this text and these lists, with the settings of the sections
+-- the document of these streams, this text and these lists, with the properties of the sections
 pub record IsDocumentFrom (contents : Contents) (text : FileText) (lists : PartLists) (document : Document) :
     Type 0 where
-  pub sections : List Settings
-  pub has_sections : HaveSettings text.wd lists.sections sections
+  pub sections : List Properties
+  pub has_sections : HaveProperties text.wd lists.sections sections
   pub document_is :
       IsDocumentOf (record { contents = contents; text = text; lists = lists; sections = sections }) document
 

@@ -1,7 +1,7 @@
 -- The items of a text, each by its CP. No piece is changed, no page is gone through.
 use Rattle.std.specs.Prelude.{◌≡◌, ℕ, ◌+◌, ◌-◌, ◌<◌, ◌≤◌, Bool, true, false, List, [], length, is_some}
 use Rattle.std.specs.Prelude.{slice_get, slice_index, Option, Some, None, ⊤}
-use Rattle.prop_map.specs.Settings.{Settings}
+use Rattle.prop_map.specs.Settings.{Properties}
 use Rattle.prop_map.specs.declared.modifiers.Modifier.{Modifier}
 use Rattle.piece_table.specs.Piece.{TextPiece, UnitPlace, place_of_cp}
 use Rattle.direct_props.specs.Direct.{IsDirectCharacter, IsDirectMark}
@@ -9,23 +9,23 @@ use Rattle.plain_doc.specs.declared.item.Item.{Item}
 use Rattle.plain_doc.specs.declared.item.Mark.{Mark}
 use Rattle.fib_form.specs.declared.table_parts.TablePart.TheVariants.{PlcfBteChpx, PlcfBtePapx}
 use Rattle.fib_form.specs.declared.stories.StoryKind.TheVariants.{Main}
-use Rattle.doc_load.specs.Units.{unit_at}
-use Rattle.doc_load.specs.Source.{DocSource, part_bytes, story_length}
+use Rattle.file_rules.specs.Units.{unit_at}
+use Rattle.file_rules.specs.Source.{DocSource, part_bytes, story_length}
 use Rattle.text_codes.specs.Paragraph.{is_paragraph_end}
-use Rattle.doc_load.specs.PartRules.{PartLists}
+use Rattle.file_rules.specs.PartRules.{PartLists}
 use Rattle.plain_doc.specs.Entries.{entry_at}
 use Rattle.doc_read.specs.Sections.{section_marks}
 use Rattle.doc_read.specs.Marked.{field_bytes, note_kinds}
 
--- what the items are read from: the streams and the text, the pieces, the lists of the parts, the settings of the
+-- what the items are read from: the streams and the text, the pieces, the lists of the parts, the properties of the
 -- sections
 pub record TextParts : Type 0 where
   pub source : DocSource
   pub pieces : List TextPiece
   pub lists : PartLists
-  pub sections : List Settings
+  pub sections : List Properties
 
--- a mark stands exactly where a paragraph ends, with the style and the settings of its place
+-- a mark stands exactly where a paragraph ends, with the style and the properties of its place
 abbrev pub IsMarkAt : Bool → List ℕ → List ℕ → ℕ → Modifier → Option Mark → Type 0
 IsMarkAt true wd bin fc modifier (Some mark) = IsDirectMark wd bin fc modifier mark.istd mark.pap
 IsMarkAt true wd bin fc modifier None = ⊥

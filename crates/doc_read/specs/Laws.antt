@@ -5,7 +5,7 @@ use Rattle.doc_bits.specs.Places.{Place, Upto, IsFirstPlace}
 use Rattle.plain_doc.specs.declared.document.Document.{Document}
 use Rattle.plain_doc.specs.Formed.{IsFormed}
 use Rattle.plain_doc.specs.Marks.{HasFormedBookmarks}
-use Rattle.doc_load.specs.FileRules.{file_rules}
+use Rattle.file_rules.specs.FileRules.{file_rules}
 use Rattle.doc_read.specs.CarriedParts.{AreShortStreams}
 use Rattle.doc_read.specs.Holds.{HoldsDocument, all_rules}
 

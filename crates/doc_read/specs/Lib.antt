@@ -3,7 +3,7 @@ pub mod Marked
 pub mod Passing
 pub mod Reading
 pub mod Items
-pub mod Beside
+pub mod Attached
 pub mod ReadParts
 pub mod ReadTexts
 pub mod Texts

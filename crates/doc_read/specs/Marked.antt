@@ -5,8 +5,8 @@ use Rattle.doc_parts.specs.declared.lists.NoteRef.{NoteRef}
 use Rattle.plain_doc.specs.declared.item.NoteKind.{NoteKind}
 use Rattle.plain_doc.specs.declared.item.NoteKind.TheVariants.{Auto, Custom}
 use Rattle.fib_form.specs.declared.stories.StoryKind.TheVariants.{Main, Notes, Heads}
-use Rattle.doc_load.specs.Source.{DocSource, story_begin}
-use Rattle.doc_load.specs.PartRules.{PartLists}
+use Rattle.file_rules.specs.Source.{DocSource, story_begin}
+use Rattle.file_rules.specs.PartRules.{PartLists}
 
 -- the field bytes of a story that begins at this CP
 abbrev pub story_bytes : ℕ → List Fld → List (ℕ × ℕ)

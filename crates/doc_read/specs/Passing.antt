@@ -20,7 +20,7 @@ pub record AreListed {A : Type 0} (cps : List ℕ) (values : List A) : Type 0 wh
   pub len : length values ≡ length cps
 
 -- so many entries came behind the old ones, each as is said of its number
-pub record AddsEach {A : Type 0} (IsRight : ℕ → A → Type 0) (count : ℕ) (old new : List A) : Type 0 where
+pub record AddsEach {A : Type 0} (IsValid : ℕ → A → Type 0) (count : ℕ) (old new : List A) : Type 0 where
   pub len : length new ≡ length old + count
   pub kept : (k : ℕ) → k < length old → slice_get new k ≡ slice_get old k
-  pub each : (k : ℕ) (entry : A) → length old ≤ k → slice_get new k ≡ Some entry → IsRight k entry
+  pub each : (k : ℕ) (entry : A) → length old ≤ k → slice_get new k ≡ Some entry → IsValid k entry

@@ -30,7 +30,7 @@ pub record AreTextsOf (fib : FibFields) (cuts : StoryCuts) (items : List Item) (
 pub record IsDocumentWith (fib : FibFields) (units : List ℕ) (parts : DocumentParts) (document : Document) :
     Type 0 where
   pub texts : ReadTexts
-  pub texts_are : AreTextsOf fib parts.cuts (items_of units parts.columns.chps parts.columns.besides) texts
+  pub texts_are : AreTextsOf fib parts.cuts (items_of units parts.columns.chps parts.columns.attachments) texts
   pub document_is :
       document
       ≡ (record {

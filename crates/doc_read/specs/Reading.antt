@@ -1,26 +1,26 @@
 -- What the items of a text are read from, as lists by CP, and what is read at each CP.
 use Rattle.std.specs.Prelude.{◌≡◌, ℕ, ◌<◌, ◌≤◌, ◌^◌, Bool, List, length, map, zip, All, is_some, slice_get}
 use Rattle.std.specs.Prelude.{slice_index, Option, Some, IsTrue, drop}
-use Rattle.prop_map.specs.Settings.{Settings}
+use Rattle.prop_map.specs.Settings.{Properties}
 use Rattle.prop_map.specs.declared.modifiers.Modifier.{Modifier}
 use Rattle.prop_map.specs.Formed.{IsPropertyMap, character_groups, section_groups}
 use Rattle.prop_map.specs.Modifiers.{IsFormedModifier}
 use Rattle.fkp_pages.specs.declared.kind.PageKind.TheVariants.{Chpx, Papx}
 use Rattle.fkp_pages.specs.Bin.{IsBinTable}
 use Rattle.direct_props.specs.Direct.{IsDirectCharacter}
-use Rattle.direct_props.specs.PageRules.{IsRightPlace}
+use Rattle.direct_props.specs.PageRules.{IsValidPlace}
 use Rattle.piece_table.specs.Piece.{TextPiece, UnitPlace, place_of_cp}
 use Rattle.plain_doc.specs.declared.item.Item.{Item}
 use Rattle.plain_doc.specs.declared.item.NoteKind.{NoteKind}
 use Rattle.plain_doc.specs.Document.{HasPropertyMaps}
 use Rattle.fib_form.specs.declared.stories.StoryKind.TheVariants.{Main}
-use Rattle.doc_load.specs.Source.{DocSource, story_length}
+use Rattle.file_rules.specs.Source.{DocSource, story_length}
 use Rattle.text_codes.specs.Paragraph.{is_paragraph_end}
-use Rattle.doc_load.specs.PartRules.{PartLists}
+use Rattle.file_rules.specs.PartRules.{PartLists}
 use Rattle.doc_read.specs.declared.marked.TextMarks.{TextMarks}
 use Rattle.doc_read.specs.declared.reading.TextSource.{TextSource}
 use Rattle.doc_read.specs.declared.reading.PieceReader.{PieceReader}
-use Rattle.doc_read.specs.declared.reading.Passed.{Passed}
+use Rattle.doc_read.specs.declared.reading.PlcCursors.{PlcCursors}
 use Rattle.plain_doc.specs.Entries.{entry_at}
 use Rattle.doc_read.specs.Sections.{section_lasts}
 use Rattle.doc_read.specs.Marked.{field_bytes as bytes_of_fields, note_kinds as kinds_of_notes}
@@ -52,7 +52,7 @@ pub record AreMarksOf (source : DocSource) (lists : PartLists) (marks : MarkList
   pub kinds : marks.note_kinds ≡ map (λ entry. entry.1) (kinds_of_notes lists.refs)
   pub sections : marks.section_cps ≡ section_lasts lists.sections (story_length source Main)
 
--- WordDocument, its bin tables, the units and their places, what stands at CPs, and the settings of the sections
+-- WordDocument, its bin tables, the units and their places, what stands at CPs, and the properties of the sections
 pub record TextView : Type 0 where
   pub wd : List ℕ
   pub characters : List ℕ
@@ -60,7 +60,7 @@ pub record TextView : Type 0 where
   pub units : List ℕ
   pub places : List ℕ
   pub marks : MarkLists
-  pub maps : List Settings
+  pub maps : List Properties
 
 abbrev pub text_view : TextSource → TextView
 text_view text = record {
@@ -80,7 +80,7 @@ field_at marks cp = entry_at (zip marks.field_cps marks.field_bytes) cp
 abbrev pub note_at : MarkLists → ℕ → Option NoteKind
 note_at marks cp = entry_at (zip marks.note_cps marks.note_kinds) cp
 
-abbrev pub section_at : List ℕ → List Settings → ℕ → Option Settings
+abbrev pub section_at : List ℕ → List Properties → ℕ → Option Properties
 section_at cps maps cp = entry_at (zip cps maps) cp
 
 -- the unit of a CP ends a paragraph
@@ -89,16 +89,16 @@ ends_at view cp =
     is_paragraph_end (slice_index view.units cp) (is_some (section_at view.marks.section_cps view.maps cp))
 
 -- each unit from one CP to before another that ends a paragraph has its page for a mark
-abbrev pub HaveRightMarks : TextView → ℕ → ℕ → Type 0
-HaveRightMarks view from to =
+abbrev pub HaveValidMarks : TextView → ℕ → ℕ → Type 0
+HaveValidMarks view from to =
     (cp : ℕ) → from ≤ cp → cp < to → IsTrue (ends_at view cp) →
-    IsRightPlace Papx view.wd view.paragraphs (slice_index view.places cp)
+    IsValidPlace Papx view.wd view.paragraphs (slice_index view.places cp)
 
 -- each unit from one CP to before another has its page for characters, and for a mark where it ends a paragraph
-pub record HaveRightPages (view : TextView) (from to : ℕ) : Type 0 where
+pub record HaveValidPages (view : TextView) (from to : ℕ) : Type 0 where
   pub characters :
-      (cp : ℕ) → from ≤ cp → cp < to → IsRightPlace Chpx view.wd view.characters (slice_index view.places cp)
-  pub marks : HaveRightMarks view from to
+      (cp : ℕ) → from ≤ cp → cp < to → IsValidPlace Chpx view.wd view.characters (slice_index view.places cp)
+  pub marks : HaveValidMarks view from to
 
 -- the bin tables are tables, and what stands at CPs ascends
 pub record IsReadable (view : TextView) : Type 0 where
@@ -142,13 +142,13 @@ pub record HasReaderFor (readers : List PieceReader) (number : ℕ) (modifier : 
   pub serves : reader.characters.modifier ≡ modifier
 
 -- what is passed before a CP
-pub record ArePassed (marks : MarkLists) (passed : Passed) (cp : ℕ) : Type 0 where
+pub record ArePassed (marks : MarkLists) (passed : PlcCursors) (cp : ℕ) : Type 0 where
   pub fields : IsPassed marks.field_cps passed.field cp
   pub notes : IsPassed marks.note_cps passed.note cp
   pub sections : IsPassed marks.section_cps passed.section cp
 
--- the settings of the characters of a CP, in a piece with the modifier
-pub record IsReadCharacter (view : TextView) (modifier : Modifier) (cp : ℕ) (chp : Settings) : Type 0 where
+-- the properties of the characters of a CP, in a piece with the modifier
+pub record IsReadCharacter (view : TextView) (modifier : Modifier) (cp : ℕ) (chp : Properties) : Type 0 where
   pub is : IsDirectCharacter view.wd view.characters (slice_index view.places cp) modifier chp
   pub formed : IsPropertyMap character_groups chp
 

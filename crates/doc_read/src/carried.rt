@@ -1,15 +1,15 @@
 // What a document carries along unread.
 ghost use Rattle.std.specs.Prelude.{◌≡◌, ◌<◌, ◌^◌, length, IfOk};
-ghost use Rattle.doc_load.specs.Source.{part_bytes};
-ghost use Rattle.doc_load.specs.PartRules.{HasPartLists, HoldButFormats};
-ghost use Rattle.doc_load.specs.FileRules.{source_of};
+ghost use Rattle.file_rules.specs.Source.{part_bytes};
+ghost use Rattle.file_rules.specs.PartRules.{HasPartLists, HoldButFormats};
+ghost use Rattle.file_rules.specs.FileRules.{source_of};
 ghost use Rattle.doc_read.specs.CarriedParts.{AreWithinBounds, LeavesRoom, HoldsCarried, carried_streams};
 ghost use Rattle.doc_read.specs.CarriedParts.{is_carried as is_other};
 
 use cfb_streams::{Container, Streams, TABLE_0, TABLE_1, WORD_DOCUMENT, equal_names};
 use doc_bits::{Bytes, Memory};
-use doc_load::{DocParts, LoadedText, Source};
 use fib_form::TablePart;
+use file_rules::{DocParts, LoadedText, Source};
 use plain_doc::Carried;
 use std::alloc::Global;
 

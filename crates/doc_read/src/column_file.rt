@@ -7,10 +7,10 @@ ghost use Rattle.cfb_streams.specs.Container.{container_rules, HasContents};
 ghost use Rattle.plain_doc.specs.Marks.{HasFormedBookmarks};
 ghost use Rattle.plain_doc.specs.Sound.{IsSound, document_rules};
 ghost use Rattle.fib_form.specs.FibFields.{fib_fields};
-ghost use Rattle.doc_load.specs.Faults.{IsReadFault};
-ghost use Rattle.doc_load.specs.FormatRules.{judged_units, rules_of_formats};
-ghost use Rattle.doc_load.specs.PartRules.{layout_rules, part_rules};
-ghost use Rattle.doc_load.specs.FileRules.{contents_rules, source_of};
+ghost use Rattle.file_rules.specs.Faults.{IsReadFault};
+ghost use Rattle.file_rules.specs.FormatRules.{judged_units, rules_of_formats};
+ghost use Rattle.file_rules.specs.PartRules.{layout_rules, part_rules};
+ghost use Rattle.file_rules.specs.FileRules.{contents_rules, source_of};
 ghost use Rattle.doc_read.specs.CarriedParts.{AreWithinBounds, LeavesRoom};
 ghost use Rattle.doc_read.specs.Holds.{all_rules};
 ghost use Rattle.doc_read.specs.ReadParts.{FitUnits, IsReadFrom};
@@ -19,12 +19,12 @@ ghost use Rattle.doc_read.specs.Opened.{AreOfFile, IsFoundIn, IsOpened, IsReadOf
 
 use crate::document::{DocumentParts, document_with, read_document_parts};
 use cfb_streams::Container;
-use doc_bits::Memory;
+use doc_bits::{Memory, drop_then};
 use doc_columns::{ColumnDocument, is_sound};
-use doc_load::{
-    LoadedText, ReadFault, Source, judge_formats, load_text, read_unjudged, refused_container,
-};
 use fib_form::Fib;
+use file_rules::{
+    LoadedText, ReadFault, Source, check_formats, load_text, read_unjudged, refused_container,
+};
 use piece_table::PieceList;
 use plain_doc::{Document, check};
 use std::alloc::Global;
@@ -86,7 +86,7 @@ impl ColumnFile {
         &self.pieces
     }
 
-    /// The same four. It takes no memory.
+    /// The document, the FIB, the container and the pieces. It takes no memory.
     pub fn into_parts(self) -> (ColumnDocument, Fib, Container, PieceList)
         ensures document { result.0 ≡ self.document }
         ensures fib { result.1 ≡ self.fib }
@@ -102,7 +102,7 @@ pub fn open(alloc: Global, file: &[u8]) -> Result<ColumnFile, ReadFault>
     ensures { MatchResult result (IsOpened file.now) (IsReadFault (all_rules file.now)) }
 {
     let container = load(alloc, file)?;
-    let found = read_judged(alloc, &container)?;
+    let found = read_and_check(alloc, &container)?;
     Ok(file_of(container, found))
 }
 
@@ -150,7 +150,7 @@ struct Found {
 }
 
 /// Reads the streams of a file, and judges its document.
-fn read_judged(alloc: Global, container: &Container) -> Result<Found, ReadFault>
+fn read_and_check(alloc: Global, container: &Container) -> Result<Found, ReadFault>
     requires bounds { AreWithinBounds container.now }
     requires of_file { AreOfFile container.now }
     ensures { (file : List ℕ) → Hold (rules_in File (container_rules file)) → HasContents file container.now
@@ -164,18 +164,10 @@ fn read_judged(alloc: Global, container: &Container) -> Result<Found, ReadFault>
         (IsReadFault (all_rules file)) }
 {
     let found = read_contents(alloc, container)?;
-    match judge_document(alloc, &found.document) {
+    match check_document(alloc, &found.document) {
         Ok(()) => Ok(found),
-        Err(fault) => let_go(found, Err(fault)),
+        Err(fault) => drop_then(found, Err(fault)),
     }
-}
-
-/// An answer, once a value is let go.
-pub(crate) fn let_go<T: Drop, A>(value: T, answer: A) -> A
-    ensures { result ≡ answer }
-{
-    drop(value);
-    answer
 }
 
 /// Reads the streams of a file.
@@ -255,7 +247,7 @@ fn found_of(alloc: Global, text: LoadedText<'_>, parts: DocumentParts) -> Result
     ensures fib { IfOk result (λ found. found.fib ≡ fib_fields text.entry.wd) }
     ensures pieces { IfOk result (λ found. found.pieces.pieces ≡ text.entry.pieces) }
 {
-    let (fib, pieces, units) = text.into_parts_with_units();
+    let (fib, pieces, units) = text.into_loaded();
     let document = document_with(alloc, &fib, units, parts)?;
     Ok(Found {
         document,
@@ -270,14 +262,14 @@ fn format_fault(alloc: Global, source: &Source<'_>) -> ReadFault
     requires wrong { ¬ (Hold (rules_of_formats source.now)) }
     ensures { IsReadFault (rules_of_formats source.now) result }
 {
-    match judge_formats(alloc, source) {
+    match check_formats(alloc, source) {
         Ok(()) => unreachable!(),
         Err(fault) => fault,
     }
 }
 
 /// Judges a document by the rules on documents. Where its columns do not tell, its items are put one by one.
-pub fn judge_document(alloc: Global, document: &ColumnDocument) -> Result<(), ReadFault>
+pub fn check_document(alloc: Global, document: &ColumnDocument) -> Result<(), ReadFault>
     requires { HasFormedBookmarks document.now }
     ensures { MatchResult result
         (λ _. IsSound document.now)
@@ -287,12 +279,12 @@ pub fn judge_document(alloc: Global, document: &ColumnDocument) -> Result<(), Re
         return Ok(());
     }
     let items = document.expand(alloc)?;
-    let verdict = judge_items(&items);
-    let_go(items, verdict)
+    let verdict = check_items(&items);
+    drop_then(items, verdict)
 }
 
 /// Judges a document, item by item, by the rules on documents.
-fn judge_items(document: &Document) -> Result<(), ReadFault>
+fn check_items(document: &Document) -> Result<(), ReadFault>
     requires { HasFormedBookmarks document.now }
     ensures { MatchResult result
         (λ _. IsSound document.now)

@@ -2,36 +2,36 @@
 ghost use Rattle.std.specs.Prelude.{◌≡◌, ◌↔◌, ◌-◌, ◌≤◌, length, IfOk, IsTrue, MatchOption};
 ghost use Rattle.doc_bits.specs.Rules.{Hold};
 ghost use Rattle.piece_table.specs.Piece.{total_length};
-ghost use Rattle.doc_load.specs.FileRules.{source_of};
-ghost use Rattle.doc_load.specs.FormatRules.{rules_of_formats, text_count};
-ghost use Rattle.doc_load.specs.PartRules.{HasPartLists, HoldButFormats};
+ghost use Rattle.file_rules.specs.FileRules.{source_of};
+ghost use Rattle.file_rules.specs.FormatRules.{rules_of_formats, text_count};
+ghost use Rattle.file_rules.specs.PartRules.{HasPartLists, HoldButFormats};
 ghost use Rattle.doc_read.specs.Sections.{AreSectionMaps};
 ghost use Rattle.doc_read.specs.Passing.{AddsEach};
-ghost use Rattle.doc_read.specs.Reading.{ArePassed, HaveRightPages, IsReadable, IsReadCharacter};
+ghost use Rattle.doc_read.specs.Reading.{ArePassed, HaveValidPages, IsReadable, IsReadCharacter};
 ghost use Rattle.doc_read.specs.Reading.{IsPieceReader, text_view};
-ghost use Rattle.doc_read.specs.Beside.{IsBesideAt};
+ghost use Rattle.doc_read.specs.Attached.{IsAttachedAt};
 ghost use Rattle.doc_read.specs.ReadParts.{AreColumnsOf, AreReadColumns};
 
-use crate::beside::{Left, push_besides};
+use crate::attached::{CpRange, push_attachments};
 use crate::marked::read_marks;
 use crate::part::TextPart;
-use crate::reading::{Passed, PieceReader, TextSource, reader_for};
+use crate::reading::{PieceReader, PlcCursors, TextSource, reader_for};
 use crate::sections::SectionMaps;
 use doc_bits::Memory;
-use doc_columns::Beside;
-use doc_load::{DocParts, LoadedText, Source};
+use doc_columns::Attached;
 use fib_form::{StoryKind, TablePart};
+use file_rules::{DocParts, LoadedText, Source};
 use piece_table::PieceList;
 use prop_map::PropMap;
 use run_lists::Runs;
 use std::alloc::Global;
 use std::collections::BTreeMap;
 
-/// The settings of the units that were read, and what stands beside them.
+/// The properties of the units that were read, and what stands beside them.
 #[derive(Drop)]
 pub(crate) struct ReadColumns {
     pub(crate) chps: Runs<PropMap>,
-    pub(crate) besides: Runs<Beside>,
+    pub(crate) attachments: Runs<Attached>,
 }
 
 /// Reads what stands with the units of the CPs of all three stories, where each has its right pages.
@@ -88,15 +88,15 @@ fn columns_of_pieces(
     requires readable { IsReadable (text_view text.now) }
     requires enough { length text.now.units.now ≤ total_length pieces.now.pieces }
     ensures { IfOk result (λ read. MatchOption read
-        (¬ (HaveRightPages (text_view text.now) 0 (length text.now.units.now)))
+        (¬ (HaveValidPages (text_view text.now) 0 (length text.now.units.now)))
         (AreReadColumns (text_view text.now) pieces.now.pieces)) }
 {
     let count = text.units.len();
     let mut read = ReadColumns {
         chps: Runs::new(alloc),
-        besides: Runs::new(alloc),
+        attachments: Runs::new(alloc),
     };
-    let mut passed = Passed {
+    let mut passed = PlcCursors {
         field: 0,
         note: 0,
         section: 0,
@@ -114,7 +114,7 @@ fn columns_of_pieces(
         let right = push_piece(
             alloc,
             &part,
-            Left { cp, end },
+            CpRange { cp, end },
             &mut readers[number],
             &mut read,
             &mut passed,
@@ -128,33 +128,34 @@ fn columns_of_pieces(
     Ok(Some(read))
 }
 
-/// Appends the settings of the units of a piece, and what stands beside them, and answers whether each of these has its
+/// Appends the properties of the units of a piece, and what stands beside them, and answers whether each of these has
+/// its
 /// right pages.
 fn push_piece(
     alloc: Global,
     part: &TextPart<'_>,
-    piece: Left,
+    piece: CpRange,
     reader: &mut PieceReader<'_>,
     read: &mut ReadColumns,
-    passed: &mut Passed,
+    passed: &mut PlcCursors,
 ) -> Result<bool, Memory>
     requires from { part.now.from ≡ piece.cp }
     requires reader { IsPieceReader part.now.view reader.old }
     requires ordered { piece.cp ≤ piece.end }
     requires within { piece.end ≤ length part.now.view.units }
     requires chps { length read.old.chps ≡ piece.cp }
-    requires besides { length read.old.besides ≡ piece.cp }
+    requires attachments { length read.old.attachments ≡ piece.cp }
     requires passed { ArePassed part.now.view.marks passed.old piece.cp }
     ensures same { reader.new ≡ reader.old }
-    ensures right { IfOk result (λ right. IsTrue right ↔ HaveRightPages part.now.view piece.cp piece.end) }
+    ensures right { IfOk result (λ right. IsTrue right ↔ HaveValidPages part.now.view piece.cp piece.end) }
     ensures passed { IfOk result (λ right. IsTrue right
         → ArePassed part.now.view.marks passed.new piece.end) }
     ensures chps { IfOk result (λ right. IsTrue right
         → AddsEach (IsReadCharacter part.now.view reader.old.characters.modifier)
         (piece.end - piece.cp) read.old.chps read.new.chps) }
-    ensures besides { IfOk result (λ right. IsTrue right
-        → AddsEach (IsBesideAt part.now.view reader.old.characters.modifier)
-        (piece.end - piece.cp) read.old.besides read.new.besides) }
+    ensures attachments { IfOk result (λ right. IsTrue right
+        → AddsEach (IsAttachedAt part.now.view reader.old.characters.modifier)
+        (piece.end - piece.cp) read.old.attachments read.new.attachments) }
 {
     let places = part.front(piece.end - piece.cp);
     let right = reader
@@ -163,5 +164,5 @@ fn push_piece(
     if !right {
         return Ok(false);
     }
-    push_besides(alloc, part, piece, reader, &mut read.besides, passed)
+    push_attachments(alloc, part, piece, reader, &mut read.attachments, passed)
 }

@@ -1,26 +1,25 @@
 // The document of the parts of a file, by columns. What borrows from its text is read before the units are taken over.
 ghost use Rattle.std.specs.Prelude.{◌≡◌, length, IfOk, MatchOption};
 ghost use Rattle.doc_bits.specs.Rules.{Hold};
-ghost use Rattle.doc_load.specs.FormatRules.{rules_of_formats};
-ghost use Rattle.doc_load.specs.PartRules.{HasPartLists, HoldButFormats};
-ghost use Rattle.doc_load.specs.FileRules.{source_of};
+ghost use Rattle.file_rules.specs.FormatRules.{rules_of_formats};
+ghost use Rattle.file_rules.specs.PartRules.{HasPartLists, HoldButFormats};
+ghost use Rattle.file_rules.specs.FileRules.{source_of};
 ghost use Rattle.doc_read.specs.CarriedParts.{AreWithinBounds, LeavesRoom};
 ghost use Rattle.doc_columns.specs.Columns.{items_of};
 ghost use Rattle.doc_read.specs.ReadParts.{AreDocumentParts, FitUnits, IsReadFromText, cuts_of};
 ghost use Rattle.doc_read.specs.ReadTexts.{AreCutsOf, AreTextsOf, IsDocumentWith};
 
 use crate::carried::read_carried;
-use crate::column_file::let_go;
 use crate::columns::{ReadColumns, read_columns};
 use crate::sections::read_section_maps;
 use crate::texts::{cut_columns, push_ends};
 use cfb_streams::Container;
-use doc_bits::Memory;
-use doc_columns::{ColumnDocument, ColumnTexts, Columns, WholeText};
-use doc_load::{DocParts, LoadedText};
+use doc_bits::{Memory, drop_then};
+use doc_columns::{ColumnDocument, ColumnTexts, Columns, SharedText};
 use doc_parts::{Bookmarks, Cuts};
 use fib_form::{Fib, StoryKind};
-use plain_doc::{Carried, HEADS_A_SECTION, SEPARATORS};
+use file_rules::{DocParts, LoadedText};
+use plain_doc::{Carried, HEADERS_PER_SECTION, SEPARATORS};
 use std::alloc::Global;
 use style_sheet::StyleSheet;
 
@@ -69,10 +68,10 @@ pub(crate) fn read_document_parts(
 {
     let found = match read_from_text(alloc, container, text, &parts) {
         Ok(found) => found,
-        Err(fault) => return let_go(parts, Err(fault)),
+        Err(fault) => return drop_then(parts, Err(fault)),
     };
     let Some(read) = found else {
-        return let_go(parts, Ok(None));
+        return drop_then(parts, Ok(None));
     };
     Ok(Some(parts_of(parts, read)))
 }
@@ -118,7 +117,7 @@ fn parts_of(parts: DocParts<'_>, read: ReadFromText) -> DocumentParts
       bookmarks = parts.entry.bookmarks;
     } }
 {
-    let head_count = SEPARATORS + HEADS_A_SECTION * parts.sections.len();
+    let head_count = SEPARATORS + HEADERS_PER_SECTION * parts.sections.len();
     let notes = parts.notes;
     DocumentParts {
         columns: read.columns,
@@ -165,11 +164,11 @@ fn cut_units(
 ) -> Result<ReadTexts, Memory>
     requires units { FitUnits units.items columns }
     requires cuts { AreCutsOf fib.now cuts.now (length units.items) }
-    ensures { IfOk result (AreTextsOf fib.now cuts.now (items_of units.items columns.chps columns.besides)) }
+    ensures { IfOk result (AreTextsOf fib.now cuts.now (items_of units.items columns.chps columns.attachments)) }
 {
-    let all = Columns::from_parts(units, columns.chps, columns.besides);
+    let all = Columns::from_parts(units, columns.chps, columns.attachments);
     let ends = text_ends(alloc, fib, cuts)?;
-    let mut whole = WholeText::new(alloc, all, &ends)?;
+    let mut whole = SharedText::new(alloc, all, &ends)?;
     let texts = read_texts(alloc, fib, &mut whole, cuts);
     drop(whole);
     texts
@@ -187,7 +186,7 @@ fn text_ends(alloc: Global, fib: &Fib, cuts: &StoryCuts) -> Result<Vec<u32>, Mem
 fn read_texts(
     alloc: Global,
     fib: &Fib,
-    whole: &mut WholeText,
+    whole: &mut SharedText,
     cuts: &StoryCuts,
 ) -> Result<ReadTexts, Memory>
     requires { AreCutsOf fib.now cuts.now (length whole.old) }

@@ -1,7 +1,7 @@
 //! Reads a Word document: the document that a file holds, or the first of all rules that it breaks.
 #![tactic(auto)]
 
-mod beside;
+mod attached;
 mod carried;
 mod column_file;
 mod columns;
@@ -15,8 +15,8 @@ mod reading;
 mod sections;
 mod texts;
 
-pub use column_file::{ColumnFile, judge_document, open, read_loaded};
-pub use doc_load::ReadFault;
+pub use column_file::{ColumnFile, check_document, open, read_loaded};
+pub use file_rules::ReadFault;
 pub use laws::{
     carried_streams_are_short, document_is_one, files_hold_documents, first_fault_is_least,
     held_bookmarks_are_formed,

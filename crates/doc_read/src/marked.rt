@@ -4,7 +4,7 @@ ghost use Rattle.std.specs.Prelude.{ℕ, All, Some, map, slice_get, IfOk};
 ghost use Rattle.std.specs.Prelude.{OnOk, IfSome};
 ghost use Rattle.prop_map.specs.Formed.{IsPropertyMap, section_groups};
 ghost use Rattle.doc_parts.specs.declared.lists.Fld.{Fld as FldType};
-ghost use Rattle.doc_load.specs.PartRules.{HasPartLists};
+ghost use Rattle.file_rules.specs.PartRules.{HasPartLists};
 ghost use Rattle.doc_read.specs.Sections.{section_lasts};
 ghost use Rattle.doc_read.specs.Marked.{note_kind};
 ghost use Rattle.doc_read.specs.Passing.{AreListed, IsPassed};
@@ -13,9 +13,9 @@ ghost use Rattle.doc_read.specs.Reading.{AreMarksOf, mark_lists, field_at, note_
 use crate::entries::step;
 use crate::sections::SectionMaps;
 use doc_bits::Memory;
-use doc_load::{DocParts, Source};
 use doc_parts::{Flds, Refs, Seds};
 use fib_form::StoryKind;
+use file_rules::{DocParts, Source};
 use plain_doc::NoteKind;
 use prop_map::PropMap;
 use std::alloc::Global;
@@ -58,7 +58,7 @@ impl TextMarks {
         }
     }
 
-    /// The settings of the section that ends with a CP.
+    /// The properties of the section that ends with a CP.
     pub fn section_at(
         &self,
         alloc: Global,

@@ -1,14 +1,14 @@
 // Reading a whole file into a plain document.
 ghost use Rattle.std.specs.Prelude.{◌≡◌, IfOk, MatchResult};
-ghost use Rattle.doc_load.specs.Faults.{IsReadFault};
+ghost use Rattle.file_rules.specs.Faults.{IsReadFault};
 ghost use Rattle.doc_read.specs.Holds.{all_rules};
 ghost use Rattle.doc_read.specs.Opened.{IsOpened};
 
-use crate::column_file::{ColumnFile, let_go, open};
+use crate::column_file::{ColumnFile, open};
 use cfb_streams::Container;
-use doc_bits::Memory;
-use doc_load::ReadFault;
+use doc_bits::{Memory, drop_then};
 use fib_form::Fib;
+use file_rules::ReadFault;
 use piece_table::PieceList;
 use plain_doc::Document;
 use std::alloc::Global;
@@ -70,7 +70,7 @@ impl Opened {
         &self.pieces
     }
 
-    /// The same four. It takes no memory.
+    /// The document, the FIB, the container and the pieces. It takes no memory.
     pub fn into_parts(self) -> (Document, Fib, Container, PieceList)
         ensures document { result.0 ≡ self.document }
         ensures fib { result.1 ≡ self.fib }
@@ -96,7 +96,7 @@ fn expand(alloc: Global, file: ColumnFile) -> Result<Opened, Memory>
 {
     match file.document().expand(alloc) {
         Ok(document) => Ok(opened_of(document, file)),
-        Err(fault) => let_go(file, Err(fault)),
+        Err(fault) => drop_then(file, Err(fault)),
     }
 }
 

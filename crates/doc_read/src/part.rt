@@ -3,7 +3,7 @@ ghost use Rattle.std.specs.Prelude.{◌≡◌, ◌+◌, ◌<◌, ◌≤◌, ℕ,
 ghost use Rattle.doc_read.specs.Reading.{IsReadable, ArePassed, text_view};
 
 use crate::entries::next_cp;
-use crate::reading::{Passed, TextSource};
+use crate::reading::{PlcCursors, TextSource};
 use direct_props::Places;
 use std::marker::Model;
 
@@ -17,13 +17,13 @@ pub struct TextPart<'a> {
 
 impl<'a> Model for TextPart<'a> {
     ghost use Rattle.std.specs.Coded.{codes};
-    ghost use Rattle.prop_map.specs.Settings.{settings_code};
+    ghost use Rattle.prop_map.specs.Settings.{properties_code};
     ghost use Rattle.plain_doc.specs.contracts.item.NoteKind as note;
     ghost use Rattle.doc_read.specs.Reading.{TextRest, IsTextPart, text_view};
 
     ghost Value = { TextRest };
 
-    ghost coded = { Prim.hlevel (codes, settings_code, note.the_row.coded) };
+    ghost coded = { Prim.hlevel (codes, properties_code, note.the_row.coded) };
 
     ghost view = { λ p. record { view = text_view p.text.now; from = p.from } };
 
@@ -68,7 +68,7 @@ impl<'a> TextPart<'a> {
     }
 
     /// The next CP where something stands, or the greatest number.
-    pub(crate) fn next_marked(&self, passed: &Passed) -> u32
+    pub(crate) fn next_marked(&self, passed: &PlcCursors) -> u32
         ensures { (cp at : ℕ) → ArePassed self.now.view.marks passed.now cp → cp ≤ at → at ≤ result
             → ArePassed self.now.view.marks passed.now at }
     {

@@ -29,7 +29,7 @@ pub struct TextSource<'a> {
     pub maps: &'a SectionMaps,
 }
 
-/// Reads the settings of the pieces with one modifier: those of characters, and those of paragraph marks.
+/// Reads the properties of the pieces with one modifier: those of characters, and those of paragraph marks.
 #[derive(Drop)]
 pub struct PieceReader<'a> {
     pub characters: PlaceReader<'a>,
@@ -131,7 +131,7 @@ fn sum_with_bytes(before: u32, value: &[u8]) -> u32 {
 
 /// How many CPs of each list are passed.
 #[derive(Clone, Copy)]
-pub struct Passed {
+pub struct PlcCursors {
     pub field: usize,
     pub note: usize,
     pub section: usize,

@@ -1,23 +1,23 @@
-// The settings of the sections.
+// The properties of the sections.
 ghost use Rattle.std.specs.Prelude.{◌≡◌, ◌≢◌, ◌<◌, ℕ, List, length, slice_get, Some, IfOk, OnOk};
 ghost use Rattle.doc_bits.specs.Rules.{Hold, Nowhere};
 ghost use Rattle.sprm_table.specs.Sprm.{IsAcceptedList};
 ghost use Rattle.prop_map.specs.Formed.{IsPropertyMap};
-ghost use Rattle.doc_load.specs.FileRules.{source_of};
-ghost use Rattle.doc_load.specs.SectionRules.{HasSections, HasSepxFault, LacksSepx, rules_of_sections, sepx_list};
+ghost use Rattle.file_rules.specs.FileRules.{source_of};
+ghost use Rattle.file_rules.specs.SectionRules.{HasSections, HasSepxFault, LacksSepx, rules_of_sections, sepx_list};
 ghost use Rattle.prop_map.specs.Formed.{section_groups};
-ghost use Rattle.list_walks.specs.Keeping.{IsWalkedMap};
-ghost use Rattle.doc_read.specs.Sections.{AreMetSections, AreSectionMaps, IsSectionSettings};
+ghost use Rattle.overlapping_grpprls.specs.Keeping.{IsWalkedMap};
+ghost use Rattle.doc_read.specs.Sections.{AreMetSections, AreSectionMaps, IsSectionProperties};
 
 use doc_bits::Memory;
-use doc_load::{LoadedText, sepx_place, sepx_ranges};
 use doc_parts::{NO_SEPX, Seds, sepx};
-use list_walks::{WalkedMap, walked_maps};
+use file_rules::{LoadedText, sepx_place, sepx_ranges};
+use overlapping_grpprls::{WalkedMap, walked_maps};
 use prop_map::{ListPlaces, PropMap, SECTION_GROUPS, act};
 use std::alloc::Global;
 use std::marker::Model;
 
-/// The settings of each section. A map may be shared.
+/// The properties of each section. A map may be shared.
 #[derive(Drop)]
 pub struct SectionMaps {
     maps: Vec<PropMap>,
@@ -26,17 +26,17 @@ pub struct SectionMaps {
 impl Model for SectionMaps {
     ghost use Rattle.std.specs.Prelude.{List};
     ghost use Rattle.std.specs.Coded.{coded_list};
-    ghost use Rattle.prop_map.specs.Settings.{Settings, settings_code};
+    ghost use Rattle.prop_map.specs.Settings.{Properties, properties_code};
 
-    ghost Value = { List Settings };
+    ghost Value = { List Properties };
 
-    ghost coded = { coded_list settings_code };
+    ghost coded = { coded_list properties_code };
 
     ghost view = { λ m. m.maps.items };
 }
 
 impl SectionMaps {
-    /// The settings of section `k`.
+    /// The properties of section `k`.
     pub fn get(&self, k: usize) -> &PropMap
         requires { k < length self.now }
         ensures { slice_get self.now k ≡ Some result.now }
@@ -45,7 +45,7 @@ impl SectionMaps {
     }
 }
 
-/// Reads the settings of the sections.
+/// Reads the properties of the sections.
 pub fn read_section_maps(
     alloc: Global,
     text: &LoadedText<'_>,
@@ -61,12 +61,12 @@ pub fn read_section_maps(
     let mut met = walked_sections(alloc, wd, sections)?;
     for k in 0..sections.len() {
         let (_, fc) = sections.get(k);
-        maps.push(met.settings(alloc, wd, fc)?)?;
+        maps.push(met.properties(alloc, wd, fc)?)?;
     }
     Ok(SectionMaps { maps })
 }
 
-/// The settings of sections whose Sepxs lie over one another, so far as few walks make them.
+/// The properties of sections whose Sepxs lie over one another, so far as few walks make them.
 fn walked_sections(alloc: Global, wd: &[u8], sections: &Seds) -> Result<MetSections, Memory>
     ensures { IfOk result (λ met. AreMetSections wd.now met.places met.maps.items) }
 {
@@ -79,7 +79,7 @@ fn walked_sections(alloc: Global, wd: &[u8], sections: &Seds) -> Result<MetSecti
     Ok(met)
 }
 
-/// The settings of sections that were met, by the places of their Sepxs.
+/// The properties of sections that were met, by the places of their Sepxs.
 #[derive(Drop)]
 struct MetSections {
     places: ListPlaces,
@@ -97,7 +97,7 @@ impl MetSections {
         }
     }
 
-    /// Adds the settings that the list of a Sepx makes.
+    /// Adds the properties that the list of a Sepx makes.
     fn add(&mut self, wd: &[u8], walked: WalkedMap) -> Result<(), Memory>
         requires walked { IsWalkedMap wd.now section_groups walked }
         requires met { AreMetSections wd.now self.old.places self.old.maps.items }
@@ -115,13 +115,13 @@ impl MetSections {
         Ok(())
     }
 
-    /// The settings of the section whose Sepx stands at `fc`. A Sepx is read once.
-    fn settings(&mut self, alloc: Global, wd: &[u8], fc: u32) -> Result<PropMap, Memory>
+    /// The properties of the section whose Sepx stands at `fc`. A Sepx is read once.
+    fn properties(&mut self, alloc: Global, wd: &[u8], fc: u32) -> Result<PropMap, Memory>
         requires there { ¬ (LacksSepx wd.now fc) }
         requires right { Nowhere (HasSepxFault wd.now fc) }
         requires met { AreMetSections wd.now self.old.places self.old.maps.items }
         ensures met { OnOk result (AreMetSections wd.now self.new.places self.new.maps.items) }
-        ensures settings { IfOk result (IsSectionSettings wd.now fc) }
+        ensures properties { IfOk result (IsSectionProperties wd.now fc) }
         ensures formed { IfOk result (IsPropertyMap section_groups) }
     {
         if fc == NO_SEPX {
@@ -141,11 +141,11 @@ impl MetSections {
     }
 }
 
-/// Reads the settings of a section whose Sepx stands at `fc`.
+/// Reads the properties of a section whose Sepx stands at `fc`.
 fn read_section(alloc: Global, wd: &[u8], fc: u32) -> Result<PropMap, Memory>
     requires there { ¬ (LacksSepx wd.now fc) }
     requires right { Nowhere (HasSepxFault wd.now fc) }
-    ensures settings { IfOk result (IsSectionSettings wd.now fc) }
+    ensures properties { IfOk result (IsSectionProperties wd.now fc) }
     ensures formed { IfOk result (IsPropertyMap section_groups) }
 {
     let none = PropMap::new(alloc);
@@ -158,7 +158,7 @@ fn read_section(alloc: Global, wd: &[u8], fc: u32) -> Result<PropMap, Memory>
 
 /// The list of the Sepx at `fc`.
 fn section_list(wd: &[u8], fc: u32) -> &[u8]
-    requires settings { fc ≢ NO_SEPX }
+    requires properties { fc ≢ NO_SEPX }
     requires there { ¬ (LacksSepx wd.now fc) }
     requires right { Nowhere (HasSepxFault wd.now fc) }
     ensures list { result.now ≡ sepx_list wd.now fc }

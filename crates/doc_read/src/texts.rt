@@ -4,14 +4,14 @@ ghost use Rattle.std.specs.Prelude.{[], length, slice_index, slice_range, IfOk};
 ghost use Rattle.doc_read.specs.Texts.{AreCutFrom, AreCutsWithin};
 
 use doc_bits::Memory;
-use doc_columns::{ColumnTexts, Columns, WholeText};
+use doc_columns::{ColumnTexts, Columns, SharedText};
 use doc_parts::Cuts;
 use std::alloc::Global;
 
 /// The texts of a story that begins at a CP: so many, of which those without a cut are empty.
 pub(crate) fn cut_columns(
     alloc: Global,
-    whole: &mut WholeText,
+    whole: &mut SharedText,
     begin: u32,
     cuts: &Cuts,
     count: usize,
@@ -31,7 +31,7 @@ pub(crate) fn cut_columns(
 /// Text `k` of the story, which is empty without a cut.
 fn cut_text(
     alloc: Global,
-    whole: &mut WholeText,
+    whole: &mut SharedText,
     begin: u32,
     cuts: &Cuts,
     k: usize,

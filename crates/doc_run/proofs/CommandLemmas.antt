@@ -3,8 +3,8 @@ use Rattle.std.proofs.Common.{◌≡◌, ◌∙◌, sym, ap, ℕ, ◌+◌, ◌*�
 use Rattle.std.proofs.Common.{arith}
 use Rattle.std.specs.Prelude.{slice_index, slice_index_or}
 use Rattle.std.specs.Str.Parse.{digits_value}
-use Rattle.doc_tasks.specs.Tasks.{text_task, check_task, show_task, props_task, outline_task, full_task}
-use Rattle.doc_tasks.specs.Tasks.{title_task, retitle_task, export_task, compare_task, join_task}
+use Rattle.document_commands.specs.Tasks.{text_task, check_task, show_task, props_task, outline_task, full_task}
+use Rattle.document_commands.specs.Tasks.{title_task, retitle_task, export_task, compare_task, join_task}
 use Rattle.doc_run.specs.Commands.{Request, streams, on_document, on_two, edit, from_json, generate, IsCommand}
 
 -- the word that stands there

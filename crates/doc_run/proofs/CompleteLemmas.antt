@@ -9,18 +9,18 @@ use Rattle.cfb_streams.specs.Container.{container_rules}
 use Rattle.doc_read.specs.Holds.{all_rules}
 use Rattle.doc_read.proofs.OneDocument.{all_single}
 use Rattle.edit_guards.specs.Policies.{Policy}
-use Rattle.doc_edit.specs.States.{start_of}
+use Rattle.script_run.specs.States.{start_of}
 use Rattle.run_stages.specs.Outcomes.{Outcome}
-use Rattle.doc_tasks.specs.Replies.{EndsBy}
+use Rattle.document_commands.specs.Replies.{EndsBy}
 use Rattle.run_stages.specs.Judged.{Judges}
-use Rattle.doc_tasks.specs.Judged.{stream_rules}
-use Rattle.doc_tasks.specs.Answers.{ListsStreams, AnswersFile, AnswersTwo}
+use Rattle.document_commands.specs.Judged.{stream_rules}
+use Rattle.document_commands.specs.Answers.{ListsStreams, AnswersFile, AnswersTwo}
 use Rattle.run_stages.proofs.OutcomeLemmas.{status_said}
-use Rattle.doc_tasks.proofs.OutcomeLemmas.{ends_done}
-use Rattle.doc_tasks.proofs.JudgedLemmas.{streams_single}
-use Rattle.doc_tasks.proofs.AnswerLemmas.{file_done, two_done}
-use Rattle.doc_tasks.specs.Imports.{Imports}
-use Rattle.doc_tasks.proofs.ImportLemmas.{import_done}
+use Rattle.document_commands.proofs.OutcomeLemmas.{ends_done}
+use Rattle.document_commands.proofs.JudgedLemmas.{streams_single}
+use Rattle.document_commands.proofs.AnswerLemmas.{file_done, two_done}
+use Rattle.document_commands.specs.Imports.{Imports}
+use Rattle.document_commands.proofs.ImportLemmas.{import_done}
 use Rattle.doc_run.specs.Commands.{Request, streams, on_document, on_two, edit, from_json, generate, IsCommand}
 use Rattle.run_stages.specs.Stages.{longest_file, BreaksLengthRule, ReadsFile}
 use Rattle.doc_run.specs.Edits.{EditsBy, IsOverlongScript, EditsFile}

@@ -7,19 +7,19 @@ use Rattle.edit_script.specs.Json.{list_of}
 use Rattle.edit_script.specs.Shapes.{command_of}
 use Rattle.edit_script.specs.Scripts.{most_commands, EndsWithSave, IsScript}
 use Rattle.edit_script.proofs.ScriptLemmas.{script_one, fault_is_one}
-use Rattle.doc_edit.specs.declared.faults.Stop.{Stop}
-use Rattle.doc_edit.specs.declared.running.Saved.{Saved}
-use Rattle.doc_edit.specs.declared.faults.RunFault.{RunFault}
-use Rattle.doc_edit.specs.declared.faults.RunFault.TheVariants.{Stopped}
-use Rattle.doc_edit.specs.Ends.{IsSavedBy, IsRunFault, IsAcceptedScript}
-use Rattle.doc_edit.specs.States.{RunState}
-use Rattle.doc_edit.specs.Commands.{listed}
-use Rattle.doc_edit.proofs.EndLemmas.{ends_once}
-use Rattle.doc_tasks.specs.declared.reply.Reply.{Reply}
-use Rattle.doc_tasks.specs.declared.reply.Reply.TheVariants.{Made, Refused}
-use Rattle.doc_tasks.specs.declared.reply.Refusal.TheVariants.{Script}
+use Rattle.script_run.specs.declared.faults.Stop.{Stop}
+use Rattle.script_run.specs.declared.running.Saved.{Saved}
+use Rattle.script_run.specs.declared.faults.RunFault.{RunFault}
+use Rattle.script_run.specs.declared.faults.RunFault.TheVariants.{Stopped}
+use Rattle.script_run.specs.Ends.{IsSavedBy, IsRunFault, IsAcceptedScript}
+use Rattle.script_run.specs.States.{RunState}
+use Rattle.script_run.specs.Commands.{listed}
+use Rattle.script_run.proofs.EndLemmas.{ends_once}
+use Rattle.document_commands.specs.declared.reply.Reply.{Reply}
+use Rattle.document_commands.specs.declared.reply.Reply.TheVariants.{Made, Refused}
+use Rattle.document_commands.specs.declared.reply.Refusal.TheVariants.{Script}
 use Rattle.run_stages.specs.Outcomes.{Outcome, puts}
-use Rattle.doc_tasks.specs.Replies.{outcome_of, EndsBy}
+use Rattle.document_commands.specs.Replies.{outcome_of, EndsBy}
 use Rattle.doc_run.specs.EditLines.{script_line, stop_line, edited_line}
 use Rattle.doc_run.specs.Edits.{refusal_of, counts_line, PutsLastSave, SavesLast, Edits, EditsBy}
 use Rattle.doc_run.proofs.AlikeLemmas.{IsOne, one_same, one_when, puts_alike}

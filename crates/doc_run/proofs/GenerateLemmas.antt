@@ -1,15 +1,15 @@
 -- A run that makes a file by the generator has one ending, but for the bytes of a last save that is fast.
 use Rattle.std.proofs.Common.{◌≡◌, ◌≢◌, ◌∙◌, inl, inr, refl, sym, ap, ℕ, zero, suc, ◌≤◌, List, Bool, true, false}
 use Rattle.std.proofs.Common.{Some, arith}
-use Rattle.doc_edit.specs.declared.generating.Generated.{Generated}
-use Rattle.doc_edit.specs.Generated.{generated}
-use Rattle.doc_edit.specs.Ends.{EndsInMode, IsLastSave}
-use Rattle.doc_edit.specs.GeneratedRuns.{most_seed, generator_start, IsGeneratedBy}
-use Rattle.doc_edit.proofs.GeneratedRunLemmas.{last_mode, ends_with_save}
-use Rattle.doc_tasks.specs.declared.reply.Reply.{Reply}
-use Rattle.doc_tasks.specs.declared.reply.Reply.TheVariants.{Made}
+use Rattle.script_run.specs.declared.generating.Generated.{Generated}
+use Rattle.script_run.specs.Generated.{generated}
+use Rattle.script_run.specs.Ends.{EndsInMode, IsLastSave}
+use Rattle.script_run.specs.GeneratedRuns.{most_seed, generator_start, IsGeneratedBy}
+use Rattle.script_run.proofs.GeneratedRunLemmas.{last_mode, ends_with_save}
+use Rattle.document_commands.specs.declared.reply.Reply.{Reply}
+use Rattle.document_commands.specs.declared.reply.Reply.TheVariants.{Made}
 use Rattle.run_stages.specs.Outcomes.{Outcome, puts}
-use Rattle.doc_tasks.specs.Replies.{outcome_of, EndsBy}
+use Rattle.document_commands.specs.Replies.{outcome_of, EndsBy}
 use Rattle.doc_run.specs.Generates.{generated_line, generated_counts_line, Generates, EndsGenerated}
 use Rattle.doc_run.proofs.AlikeLemmas.{IsOne, puts_alike}
 

@@ -8,19 +8,19 @@ use Rattle.doc_read.specs.Holds.{all_rules}
 use Rattle.doc_read.proofs.OneDocument.{all_single}
 use Rattle.fast_save.proofs.OneSession.{session_one}
 use Rattle.edit_guards.specs.Policies.{Policy}
-use Rattle.doc_edit.specs.States.{start_of}
+use Rattle.script_run.specs.States.{start_of}
 use Rattle.run_stages.specs.Outcomes.{Outcome}
-use Rattle.doc_tasks.specs.Replies.{EndsBy}
+use Rattle.document_commands.specs.Replies.{EndsBy}
 use Rattle.run_stages.specs.Judged.{Judges}
-use Rattle.doc_tasks.specs.Judged.{stream_rules}
-use Rattle.doc_tasks.specs.Answers.{ListsStreams, AnswersFile, AnswersTwo}
+use Rattle.document_commands.specs.Judged.{stream_rules}
+use Rattle.document_commands.specs.Answers.{ListsStreams, AnswersFile, AnswersTwo}
 use Rattle.run_stages.proofs.JudgedLemmas.{refused_one}
 use Rattle.run_stages.proofs.SaidLemmas.{reads_one as read_to_one}
-use Rattle.doc_tasks.proofs.JudgedLemmas.{streams_single}
-use Rattle.doc_tasks.proofs.AnswerLemmas.{lists_one, file_one, two_one}
-use Rattle.doc_tasks.specs.Imports.{Imports}
-use Rattle.doc_tasks.proofs.OutcomeLemmas.{ends_one as replied_one}
-use Rattle.doc_tasks.proofs.ImportLemmas.{import_one}
+use Rattle.document_commands.proofs.JudgedLemmas.{streams_single}
+use Rattle.document_commands.proofs.AnswerLemmas.{lists_one, file_one, two_one}
+use Rattle.document_commands.specs.Imports.{Imports}
+use Rattle.document_commands.proofs.OutcomeLemmas.{ends_one as replied_one}
+use Rattle.document_commands.proofs.ImportLemmas.{import_one}
 use Rattle.doc_run.specs.Commands.{Request, streams, on_document, on_two, edit, from_json, generate, IsCommand}
 use Rattle.run_stages.specs.Stages.{BreaksLengthRule, Reads, ReadsFile}
 use Rattle.doc_run.specs.Edits.{EditsBy, IsOverlongScript, EditsFile, ReadsScript}

@@ -6,18 +6,18 @@ use Rattle.doc_bits.specs.Places.{Place}
 use Rattle.doc_outer.specs.Held.{Files, StaysAt, OthersStay}
 use Rattle.doc_read.specs.Holds.{all_rules}
 use Rattle.edit_guards.specs.Policies.{Policy}
-use Rattle.doc_edit.specs.States.{start_of}
-use Rattle.doc_tasks.specs.declared.reply.Reply.{Reply}
+use Rattle.script_run.specs.States.{start_of}
+use Rattle.document_commands.specs.declared.reply.Reply.{Reply}
 use Rattle.run_stages.specs.Lines.{shelf_fault_line}
 use Rattle.run_stages.specs.Outcomes.{Outcome, PutFile, says}
-use Rattle.doc_tasks.specs.Tasks.{out_of, out_of_two}
-use Rattle.doc_tasks.specs.Replies.{EndsBy, Replies, RepliesTwo}
+use Rattle.document_commands.specs.Tasks.{out_of, out_of_two}
+use Rattle.document_commands.specs.Replies.{EndsBy, Replies, RepliesTwo}
 use Rattle.run_stages.specs.Judged.{Judges}
-use Rattle.doc_tasks.specs.Judged.{stream_rules}
-use Rattle.doc_tasks.specs.Answers.{ListsStreams, AnswersFile, AnswersTwo}
+use Rattle.document_commands.specs.Judged.{stream_rules}
+use Rattle.document_commands.specs.Answers.{ListsStreams, AnswersFile, AnswersTwo}
 use Rattle.run_stages.proofs.OutcomeLemmas.{status_said, after_reading_inside}
-use Rattle.doc_tasks.proofs.OutcomeLemmas.{ends_put, ends_inside}
-use Rattle.doc_tasks.specs.Imports.{Imports}
+use Rattle.document_commands.proofs.OutcomeLemmas.{ends_put, ends_inside}
+use Rattle.document_commands.specs.Imports.{Imports}
 use Rattle.doc_run.specs.Commands.{Request, streams, on_document, on_two, edit, from_json, generate, put_under}
 use Rattle.doc_run.specs.Commands.{IsCommand, PutsUnder}
 use Rattle.run_stages.specs.Stages.{BreaksLengthRule, Reads, ReadsFile}

@@ -3,7 +3,7 @@ use Rattle.std.proofs.Common.{sym, subst, ℕ, List, arith}
 use Rattle.doc_read.specs.Holds.{HoldsDocument}
 use Rattle.fast_save.specs.Session.{SessionView}
 use Rattle.fast_save.specs.Started.{IsStarted}
-use Rattle.doc_edit.specs.Ends.{IsUnchanged}
+use Rattle.script_run.specs.Ends.{IsUnchanged}
 use Rattle.run_stages.specs.declared.stage.Stage.{Stage}
 use Rattle.run_stages.specs.declared.stage.Stage.TheVariants.{Go, Stop}
 use Rattle.run_stages.specs.Reading.{IsWholeIn}

@@ -20,18 +20,19 @@ use Rattle.run_stages.specs.Stages.{ReadsFile, BreaksLengthRule}
 use Rattle.run_stages.specs.Reading.{IsTaken, stage_status, Follows, IsWholeIn}
 use Rattle.run_stages.proofs.OutcomeLemmas.{said_inside}
 use Rattle.run_stages.proofs.StageLemmas.{follow_reads, file_map, inside_caused, stopped_caused as caused_as_stopped}
-use Rattle.doc_tasks.specs.Tasks.{PairTask, out_of_two}
-use Rattle.doc_tasks.specs.declared.reply.Reply.{Reply}
-use Rattle.doc_tasks.specs.Replies.{EndsBy, RepliesTwo}
-use Rattle.doc_tasks.specs.Judged.{IsJudged}
-use Rattle.doc_tasks.specs.Answers.{AnswersTwo}
-use Rattle.doc_tasks.proofs.OutcomeLemmas.{ends_inside}
+use Rattle.document_commands.specs.Tasks.{PairTask, out_of_two}
+use Rattle.document_commands.specs.declared.reply.Reply.{Reply}
+use Rattle.document_commands.specs.Replies.{EndsBy, RepliesTwo}
+use Rattle.document_commands.specs.Judged.{IsJudgedFile}
+use Rattle.document_commands.specs.Answers.{AnswersTwo}
+use Rattle.document_commands.proofs.OutcomeLemmas.{ends_inside}
 use Rattle.doc_run.specs.Reading.{IsStoppedBy, IsOpenedAs}
-use Rattle.doc_run.specs.Reading.{IsReached, IsBegun, IsBegunOn, AnswersBeside}
+use Rattle.doc_run.specs.Reading.{IsOpenedStage, IsBegun, IsBegunOn, AnswersBeside}
 use Rattle.doc_run.specs.Endings.{ReadsSecond}
 
 judged_reached :
-    (name bytes : List ℕ) (r : Stage Document) → AreBytes bytes → IsJudged name bytes r → IsReached name (Go bytes) r
+    (name bytes : List ℕ) (r : Stage Document) → AreBytes bytes → IsJudgedFile name bytes r → IsOpenedStage name (Go
+    bytes) r
 judged_reached name bytes (Go document) are j =
     (are, record { accepted = j.0; holds = j.1.0; sound = j.1.1 })
 judged_reached name bytes (Stop ending) are j = (are, j)
@@ -39,12 +40,12 @@ judged_reached name bytes (Stop ending) are j = (are, j)
 -- what judging them came to
 pub whole_reached :
     {E : Type 0} (name : List ℕ) (taken : Stage (List ℕ)) (bytes read : List ℕ) (result : Result (Stage Document) E) →
-    taken ≡ Go bytes → read ≡ bytes → AreBytes read → IfOk result (λ r. IsJudged name read r) →
-    IfOk result (λ r. IsReached name taken r)
+    taken ≡ Go bytes → read ≡ bytes → AreBytes read → IfOk result (λ r. IsJudgedFile name read r) →
+    IfOk result (λ r. IsOpenedStage name taken r)
 whole_reached name taken bytes read result whole same are judged =
-    subst (λ t. IfOk result (λ r. IsReached name t r)) (sym whole)
-    (subst (λ b. IfOk result (λ r. IsReached name (Go b) r)) same
-    (IfOk-weaker result (λ r. IsJudged name read r) (λ r. IsReached name (Go read) r)
+    subst (λ t. IfOk result (λ r. IsOpenedStage name t r)) (sym whole)
+    (subst (λ b. IfOk result (λ r. IsOpenedStage name (Go b) r)) same
+    (IfOk-weaker result (λ r. IsJudgedFile name read r) (λ r. IsOpenedStage name (Go read) r)
     (λ r j. judged_reached name read r are j) judged))
 
 begun_on : (name bytes : List ℕ) (b : Stage SessionView) → AreBytes bytes → IsBegunOn name bytes b → IsBegun name (Go bytes) b

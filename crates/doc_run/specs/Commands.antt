@@ -1,11 +1,12 @@
 -- What the words of a run ask for.
 use Rattle.std.specs.Prelude.{◌≡◌, ◌≤◌, List, [], ◌∷◌, ℕ, length, codes, Option, Some, None}
 use Rattle.std.specs.Str.Parse.{IsNumeral, digits_value}
-use Rattle.doc_edit.specs.GeneratedRuns.{most_seed}
-use Rattle.doc_tasks.specs.Tasks.{FileTask, text_task, check_task, show_task, props_task, outline_task, full_task}
-use Rattle.doc_tasks.specs.Tasks.{title_task, retitle_task, export_task, task_of, out_of}
+use Rattle.script_run.specs.GeneratedRuns.{most_seed}
+use Rattle.document_commands.specs.Tasks.{FileTask, text_task, check_task, show_task, props_task, outline_task}
+use Rattle.document_commands.specs.Tasks.{full_task}
+use Rattle.document_commands.specs.Tasks.{title_task, retitle_task, export_task, task_of, out_of}
 use Rattle.summary_set.specs.Written.{IsTitle}
-use Rattle.doc_tasks.specs.Tasks.{PairTask, compare_task, join_task, pair_of, out_of_two}
+use Rattle.document_commands.specs.Tasks.{PairTask, compare_task, join_task, pair_of, out_of_two}
 use Rattle.doc_run.specs.declared.command.Command as asked
 use Rattle.doc_run.specs.declared.command.Command.TheVariants as asked_for
 

@@ -8,15 +8,15 @@ use Rattle.doc_read.specs.Holds.{HoldsDocument, all_rules}
 use Rattle.edit_script.specs.declared.commands.Command.{Command}
 use Rattle.edit_script.specs.Scripts.{IsScript}
 use Rattle.edit_guards.specs.Policies.{Policy}
-use Rattle.doc_edit.specs.States.{start_of}
+use Rattle.script_run.specs.States.{start_of}
 use Rattle.fast_save.specs.Session.{SessionView}
 use Rattle.fast_save.specs.Started.{IsStarted}
-use Rattle.doc_edit.specs.Ends.{IsAcceptedScript}
-use Rattle.doc_tasks.specs.Tasks.{FileTask, PairTask}
-use Rattle.doc_tasks.specs.Judged.{stream_rules}
-use Rattle.doc_tasks.specs.Replies.{CanReply, CanReplyTwo}
+use Rattle.script_run.specs.Ends.{IsAcceptedScript}
+use Rattle.document_commands.specs.Tasks.{FileTask, PairTask}
+use Rattle.document_commands.specs.Judged.{stream_rules}
+use Rattle.document_commands.specs.Replies.{CanReply, CanReplyTwo}
 use Rattle.run_stages.specs.Stages.{longest_file}
-use Rattle.doc_tasks.specs.Imports.{CanImport}
+use Rattle.document_commands.specs.Imports.{CanImport}
 use Rattle.doc_run.specs.Commands.{Request, streams, on_document, on_two, edit, from_json, generate}
 
 -- the name holds bytes that break none of the rules

@@ -7,8 +7,8 @@ use Rattle.edit_script.specs.declared.faults.ScriptFault.{ScriptFault}
 use Rattle.edit_script.specs.declared.faults.ScriptFault.TheVariants.{Json, Shape, TooLong, Memory}
 use Rattle.edit_ops.specs.declared.faults.EditFault.{EditFault}
 use Rattle.edit_ops.specs.declared.faults.EditFault.TheVariants.{Range, Code, Rule, Limit, Memory as NoMemory}
-use Rattle.doc_edit.specs.declared.faults.Stop.{Stop}
-use Rattle.doc_edit.specs.declared.faults.Stop.TheVariants.{Refused, Guarded, Sixteenth, TooManyPieces, TooLarge}
+use Rattle.script_run.specs.declared.faults.Stop.{Stop}
+use Rattle.script_run.specs.declared.faults.Stop.TheVariants.{Refused, Guarded, Sixteenth, TooManyPieces, TooLarge}
 use Rattle.run_stages.specs.Lines.{place_name}
 
 -- why bytes are no script; want of memory has no line

@@ -9,19 +9,19 @@ use Rattle.edit_script.specs.declared.faults.ScriptFault.{ScriptFault}
 use Rattle.edit_script.specs.declared.faults.ScriptFault.TheVariants.{TooLong}
 use Rattle.edit_script.specs.Scripts.{IsScript, IsScriptFault}
 use Rattle.edit_script.specs.Laws.{IsCause}
-use Rattle.doc_edit.specs.declared.faults.Stop.{Stop}
-use Rattle.doc_edit.specs.declared.faults.Stop.TheVariants.{Refused, Guarded, Sixteenth, TooManyPieces, TooLarge}
+use Rattle.script_run.specs.declared.faults.Stop.{Stop}
+use Rattle.script_run.specs.declared.faults.Stop.TheVariants.{Refused, Guarded, Sixteenth, TooManyPieces, TooLarge}
 use Rattle.edit_guards.specs.Policies.{Policy}
-use Rattle.doc_edit.specs.States.{RunState, start_of}
-use Rattle.doc_edit.specs.Commands.{listed}
-use Rattle.doc_edit.specs.Saves.{save_count}
-use Rattle.doc_edit.specs.Ends.{StopsAt, IsAcceptedScript, IsLastSave}
-use Rattle.doc_tasks.specs.declared.reply.Reply.{Reply}
-use Rattle.doc_tasks.specs.declared.reply.Reply.TheVariants as reply
-use Rattle.doc_tasks.specs.declared.reply.Refusal.{Refusal}
-use Rattle.doc_tasks.specs.declared.reply.Refusal.TheVariants as refusal
+use Rattle.script_run.specs.States.{RunState, start_of}
+use Rattle.script_run.specs.Commands.{listed}
+use Rattle.script_run.specs.Saves.{save_count}
+use Rattle.script_run.specs.Ends.{StopsAt, IsAcceptedScript, IsLastSave}
+use Rattle.document_commands.specs.declared.reply.Reply.{Reply}
+use Rattle.document_commands.specs.declared.reply.Reply.TheVariants as reply
+use Rattle.document_commands.specs.declared.reply.Refusal.{Refusal}
+use Rattle.document_commands.specs.declared.reply.Refusal.TheVariants as refusal
 use Rattle.run_stages.specs.Outcomes.{Outcome, says}
-use Rattle.doc_tasks.specs.Replies.{EndsBy}
+use Rattle.document_commands.specs.Replies.{EndsBy}
 use Rattle.doc_run.specs.EditLines.{script_line, stop_line, edited_line}
 use Rattle.run_stages.specs.Stages.{Reads}
 

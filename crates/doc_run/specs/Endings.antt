@@ -5,14 +5,14 @@ use Rattle.doc_read.specs.Holds.{all_rules}
 use Rattle.edit_script.specs.declared.commands.Command.{Command}
 use Rattle.edit_script.specs.Scripts.{IsScript}
 use Rattle.edit_guards.specs.Policies.{Policy}
-use Rattle.doc_edit.specs.Generated.{generated}
-use Rattle.doc_edit.specs.GeneratedRuns.{generator_start}
-use Rattle.doc_edit.specs.Ends.{EndsInMode}
-use Rattle.doc_tasks.specs.Lines.{usage_line}
+use Rattle.script_run.specs.Generated.{generated}
+use Rattle.script_run.specs.GeneratedRuns.{generator_start}
+use Rattle.script_run.specs.Ends.{EndsInMode}
+use Rattle.document_commands.specs.Lines.{usage_line}
 use Rattle.run_stages.specs.Outcomes.{Outcome, says, AreAlike}
-use Rattle.doc_tasks.specs.Tasks.{PairTask}
-use Rattle.doc_tasks.specs.Judged.{stream_rules}
-use Rattle.doc_tasks.specs.Answers.{ListsStreams, AnswersFile, AnswersTwo}
+use Rattle.document_commands.specs.Tasks.{PairTask}
+use Rattle.document_commands.specs.Judged.{stream_rules}
+use Rattle.document_commands.specs.Answers.{ListsStreams, AnswersFile, AnswersTwo}
 use Rattle.doc_run.specs.Commands.{Request, streams, on_document, on_two, edit, from_json, generate}
 use Rattle.doc_run.specs.Commands.{IsCommand, IsNoCommand}
 use Rattle.run_stages.specs.Stages.{ReadsFile}

@@ -4,14 +4,14 @@ use Rattle.std.specs.Fmt.{decimal}
 use Rattle.plain_doc.specs.Blank.{blank_document}
 use Rattle.plain_doc.specs.RulesOfSheet.{item_count}
 use Rattle.full_save.specs.Layout.{full_save_image}
-use Rattle.doc_edit.specs.Saves.{save_count}
-use Rattle.doc_edit.specs.Generated.{generated}
-use Rattle.doc_edit.specs.Ends.{IsAcceptedRun, IsLastSave, end_state}
-use Rattle.doc_edit.specs.GeneratedRuns.{generator_start, commands_run, mark_count}
-use Rattle.doc_tasks.specs.declared.reply.Reply.{Reply}
-use Rattle.doc_tasks.specs.declared.reply.Reply.TheVariants.{Made}
+use Rattle.script_run.specs.Saves.{save_count}
+use Rattle.script_run.specs.Generated.{generated}
+use Rattle.script_run.specs.Ends.{IsAcceptedRun, IsLastSave, end_state}
+use Rattle.script_run.specs.GeneratedRuns.{generator_start, commands_run, mark_count}
+use Rattle.document_commands.specs.declared.reply.Reply.{Reply}
+use Rattle.document_commands.specs.declared.reply.Reply.TheVariants.{Made}
 use Rattle.run_stages.specs.Outcomes.{Outcome}
-use Rattle.doc_tasks.specs.Replies.{EndsBy}
+use Rattle.document_commands.specs.Replies.{EndsBy}
 use Rattle.text_codes.specs.Shown.{line}
 use Rattle.run_stages.specs.Stages.{IsShelfFault}
 

@@ -1,9 +1,9 @@
 -- How a run ends that saves the document which is the JSON of a file.
 use Rattle.std.specs.Prelude.{◌≡◌, List, ℕ, Option, Some}
 use Rattle.doc_outer.specs.Held.{Files}
-use Rattle.doc_tasks.specs.Imports.{Imports, overlong_json_line}
+use Rattle.document_commands.specs.Imports.{Imports, overlong_json_line}
 use Rattle.run_stages.specs.Outcomes.{Outcome, says}
-use Rattle.doc_tasks.specs.Replies.{EndsBy}
+use Rattle.document_commands.specs.Replies.{EndsBy}
 use Rattle.run_stages.specs.Stages.{Reads}
 
 -- JSON that is overlong

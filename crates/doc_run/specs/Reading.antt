@@ -11,8 +11,8 @@ use Rattle.run_stages.specs.declared.stage.Stage.TheVariants.{Go, Stop}
 use Rattle.run_stages.specs.Outcomes.{Outcome}
 use Rattle.run_stages.specs.Judged.{IsRefused}
 use Rattle.run_stages.specs.Reading.{Follows, IsWholeIn}
-use Rattle.doc_tasks.specs.Tasks.{PairTask, out_of_two}
-use Rattle.doc_tasks.specs.Replies.{EndsBy, RepliesTwo}
+use Rattle.document_commands.specs.Tasks.{PairTask, out_of_two}
+use Rattle.document_commands.specs.Replies.{EndsBy, RepliesTwo}
 
 -- a file that was read is refused, or the run ended before
 abbrev pub IsStoppedBy : (name : List ℕ) → Stage (List ℕ) → Outcome → Type 0
@@ -25,10 +25,10 @@ pub record IsOpenedAs (document : Document) (file : List ℕ) : Type 0 where
   pub sound : IsSound document
 
 -- what opening the document of what was read came to
-abbrev pub IsReached : (name : List ℕ) → Stage (List ℕ) → Stage Document → Type 0
-IsReached name taken (Go document) =
+abbrev pub IsOpenedStage : (name : List ℕ) → Stage (List ℕ) → Stage Document → Type 0
+IsOpenedStage name taken (Go document) =
     IsWholeIn taken (IsOpenedAs document)
-IsReached name taken (Stop ending) = IsStoppedBy name taken ending
+IsOpenedStage name taken (Stop ending) = IsStoppedBy name taken ending
 
 -- what beginning a session on a file that was read whole came to
 abbrev pub IsBegunOn : (name file : List ℕ) → Stage SessionView → Type 0

@@ -2,11 +2,11 @@
 ghost use Rattle.std.specs.Prelude.{◌≡◌, ℕ, List, [], ◌∷◌, MatchOption, map, codes};
 ghost use Rattle.std.specs.String.{string_bytes};
 ghost use Rattle.summary_set.specs.Written.{IsTitle};
-ghost use Rattle.doc_tasks.specs.Tasks.{FileTask, retitle_task, task_of};
+ghost use Rattle.document_commands.specs.Tasks.{FileTask, retitle_task, task_of};
 ghost use Rattle.doc_run.specs.Commands.{request_of, AsksFor, IsCommand, IsNoCommand, IsPosition, IsSeed};
 
-use doc_edit::MOST_SEED;
-use doc_tasks::{Pair, Task, Title};
+use document_commands::{Pair, Task, Title};
+use script_run::MAX_SEED;
 
 /// A command, with the names that it is given.
 #[derive(Drop)]
@@ -45,7 +45,7 @@ pub enum Command<'a> {
 }
 
 /// The most digits of a position or a seed.
-const MOST_DIGITS: usize = 9;
+const MAX_DIGITS: usize = 9;
 
 /// The command that the words are, where they are one.
 pub(crate) fn command_of(words: &[String]) -> Option<Command<'_>>
@@ -198,7 +198,7 @@ fn seed_of(word: &str) -> Option<u32>
         (λ seed. IsSeed word.now seed) }
 {
     let seed = position_of(word)?;
-    if seed <= MOST_SEED { Some(seed) } else { None }
+    if seed <= MAX_SEED { Some(seed) } else { None }
 }
 
 /// The number of a word of at most nine digits.
@@ -207,7 +207,7 @@ fn position_of(word: &str) -> Option<u32>
         ((pos : ℕ) → ¬ IsPosition word.now pos)
         (λ pos. IsPosition word.now pos) }
 {
-    if word.len() > MOST_DIGITS || word.starts_with('+') {
+    if word.len() > MAX_DIGITS || word.starts_with('+') {
         return None;
     }
     match word.parse::<u32>() {

@@ -3,24 +3,23 @@ ghost use Rattle.std.specs.Prelude.{◌≡◌, ◌≤◌, Some, length, IfOk, ma
 ghost use Rattle.doc_bits.specs.Number.{AreBytes};
 ghost use Rattle.edit_script.specs.Laws.{IsCause};
 ghost use Rattle.edit_script.specs.Scripts.{EndsWithSave, most_commands};
-ghost use Rattle.doc_edit.specs.States.{start_of};
-ghost use Rattle.doc_edit.specs.Ends.{IsUnchanged};
-ghost use Rattle.doc_tasks.specs.Replies.{EndsBy};
-ghost use Rattle.doc_tasks.specs.declared.reply.Reply.TheVariants.{Made, Refused};
-ghost use Rattle.doc_tasks.specs.declared.reply.Refusal.TheVariants.{Script as no_script};
+ghost use Rattle.script_run.specs.States.{start_of};
+ghost use Rattle.script_run.specs.Ends.{IsUnchanged};
+ghost use Rattle.document_commands.specs.Replies.{EndsBy};
+ghost use Rattle.document_commands.specs.declared.reply.Reply.TheVariants.{Made, Refused};
+ghost use Rattle.document_commands.specs.declared.reply.Refusal.TheVariants.{Script as no_script};
 ghost use Rattle.doc_run.specs.EditLines.{script_line as script_of, stop_line as stop_of, edited_line as edited_of};
 ghost use Rattle.doc_run.specs.Edits.{refusal_of as why_of, Edits, EditsBy, IsOverlongScript};
 
-use crate::beside::let_go;
 use crate::edit_lines::{edited_line, script_line, stop_line};
-use doc_bits::Memory;
-use doc_edit::{RunFault, Saved, Stop, run_script};
-use doc_tasks::{Refusal, Reply, STATUS_SCRIPT};
+use doc_bits::{Memory, drop_then};
+use document_commands::{Refusal, Reply, STATUS_SCRIPT};
 use edit_guards::Guard;
 use edit_ops::{Script, ScriptFault, read_script};
 use fast_save::Session;
 use json_reasons::why_no_script;
 use run_stages::Ending;
+use script_run::{RunFault, Saved, Stop, run_script};
 use std::alloc::Global;
 
 /// The ending where a session is run by the bytes of a script, under the eyes of guards, and its last save is put under
@@ -39,11 +38,11 @@ pub(crate) fn edit_under(
 {
     let reply = edit_by(alloc, session, script, guards)?;
     let ending = reply.into_ending(alloc, Some(out))?;
-    Ok(explained(alloc, ending, script))
+    Ok(explain(alloc, ending, script))
 }
 
-/// The same ending; that of a script that is none tells what of it is wrong.
-fn explained(alloc: Global, ending: Ending, script: &[u8]) -> Ending
+/// The ending; that of a script that is none tells what of it is wrong.
+fn explain(alloc: Global, ending: Ending, script: &[u8]) -> Ending
     ensures { result ≡ ending }
 {
     if ending.status() != STATUS_SCRIPT {
@@ -67,7 +66,7 @@ fn edit_by(
 {
     match read_script(alloc, script) {
         Ok(script) => edit(alloc, session, &script, guards),
-        Err(fault) => let_go(session, no_script(alloc, fault)),
+        Err(fault) => drop_then(session, no_script(alloc, fault)),
     }
 }
 
@@ -101,14 +100,14 @@ fn edit(
     ensures { IfOk result (λ r. Edits (start_of session (map (λ b. policy b) guards.old)) script.now r) }
 {
     match run_script(alloc, session, script, guards) {
-        Ok(saved) => edited(alloc, saved),
-        Err(RunFault::Stopped { index, stop }) => stopped(alloc, index, stop),
+        Ok(saved) => reply_of_edit(alloc, saved),
+        Err(RunFault::Stopped { index, stop }) => reply_of_stop(alloc, index, stop),
         Err(RunFault::Memory) => Err(Memory),
     }
 }
 
 /// What a script left.
-fn edited(alloc: Global, saved: Saved) -> Result<Reply, Memory>
+fn reply_of_edit(alloc: Global, saved: Saved) -> Result<Reply, Memory>
     ensures { IfOk result (λ r.
         r ≡ Made (edited_of saved.commands saved.saves.fast saved.saves.full) saved.image) }
 {
@@ -122,7 +121,7 @@ fn edited(alloc: Global, saved: Saved) -> Result<Reply, Memory>
 }
 
 /// What a script comes to that a command stops.
-fn stopped(alloc: Global, index: usize, stop: Stop) -> Result<Reply, Memory>
+fn reply_of_stop(alloc: Global, index: usize, stop: Stop) -> Result<Reply, Memory>
     ensures { IfOk result (λ r. r ≡ Refused (why_of stop) (stop_of index stop)) }
 {
     let text = stop_line(alloc, index, stop)?;

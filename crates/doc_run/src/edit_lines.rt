@@ -3,14 +3,15 @@ ghost use Rattle.std.specs.Prelude.{◌≡◌, IfOk};
 ghost use Rattle.std.specs.String.{string_bytes};
 ghost use Rattle.edit_script.specs.declared.faults.ScriptFault.TheVariants.{Shape};
 ghost use Rattle.edit_script.specs.Laws.{IsCause};
-ghost use Rattle.doc_edit.specs.declared.faults.Stop.TheVariants.{Refused, Guarded, Sixteenth, TooManyPieces, TooLarge};
+ghost use Rattle.script_run.specs.declared.faults.Stop.TheVariants.{Refused, Guarded, Sixteenth, TooManyPieces};
+ghost use Rattle.script_run.specs.declared.faults.Stop.TheVariants.{TooLarge};
 ghost use Rattle.doc_run.specs.EditLines.{script_line as script_of, rule_text as rule_of, cause_text as cause_of};
 ghost use Rattle.doc_run.specs.EditLines.{stop_line as stop_of, edited_line as edited_of};
 
 use doc_bits::{Memory, Text, Where};
-use doc_edit::{SaveCounts, Stop};
 use edit_ops::{EditFault, ScriptFault};
 use run_stages::part_name;
+use script_run::{SaveCounts, Stop};
 use std::alloc::Global;
 
 /// The line that says why bytes are no script.

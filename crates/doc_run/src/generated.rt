@@ -1,13 +1,13 @@
 // The ending of a run that makes a file by the generator.
 ghost use Rattle.std.specs.Prelude.{◌≡◌, ◌≤◌, Some, IfOk};
-ghost use Rattle.doc_edit.specs.GeneratedRuns.{most_seed};
-ghost use Rattle.doc_tasks.specs.Replies.{EndsBy};
+ghost use Rattle.script_run.specs.GeneratedRuns.{most_seed};
+ghost use Rattle.document_commands.specs.Replies.{EndsBy};
 ghost use Rattle.doc_run.specs.Generates.{generated_line as generated_of, Generates};
 
 use doc_bits::{Memory, Text};
-use doc_edit::{Generated, SaveCounts, generate};
-use doc_tasks::Reply;
+use document_commands::Reply;
 use run_stages::Ending;
+use script_run::{Generated, SaveCounts, generate};
 use std::alloc::Global;
 
 /// The ending where what the generator makes of a seed is put under a name.

@@ -1,11 +1,11 @@
 // The stages that open what was read of a name: they end the run, or hand its document on, or a session on its file.
 ghost use Rattle.std.specs.Prelude.{IfOk};
 ghost use Rattle.doc_bits.specs.Number.{AreBytes};
-ghost use Rattle.doc_run.specs.Reading.{IsReached, IsBegun, IsBegunOn};
+ghost use Rattle.doc_run.specs.Reading.{IsOpenedStage, IsBegun, IsBegunOn};
 
 use doc_bits::{Bytes, Memory};
 use doc_columns::ColumnDocument;
-use doc_tasks::{open_file, refused};
+use document_commands::{open_file, refusal};
 use fast_save::Session;
 use run_stages::Stage;
 use std::alloc::Global;
@@ -16,7 +16,7 @@ pub(crate) fn open_taken(
     name: &str,
     taken: Stage<Bytes>,
 ) -> Result<Stage<ColumnDocument>, Memory>
-    ensures { IfOk result (λ r. IsReached name.now taken r) }
+    ensures { IfOk result (λ r. IsOpenedStage name.now taken r) }
 {
     match taken {
         Stage::Go(bytes) => open_file(alloc, name, bytes.as_slice()),
@@ -46,7 +46,7 @@ fn begin_on(alloc: Global, name: &str, file: &[u8]) -> Result<Stage<Session>, Me
     match Session::start(alloc, file) {
         Ok(session) => Ok(Stage::Go(session)),
         Err(fault) => {
-            let ending = refused(alloc, name, file, fault)?;
+            let ending = refusal(alloc, name, file, fault)?;
             Ok(Stage::Stop(ending))
         }
     }

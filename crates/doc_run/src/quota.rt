@@ -19,7 +19,7 @@ use run_stages::{STATUS_MEMORY, tell_status};
 use std::alloc::Global;
 
 /// How many items the edits of a run may add.
-const UNITS: u64 = 1_000_000;
+pub const QUOTA_UNITS: u64 = 1_000_000;
 
 /// Runs the words of a command over the files of a shelf under one guard, a quota on the items that edits add, and
 /// answers the status. Where there is no memory for the quota, that is the status for want of it. A second sink is told
@@ -63,7 +63,7 @@ pub fn run_under_quota<S: Shelf, K: Sink, E: Sink>(
     ensures nothing { result ≡ 6 → K.written out.new ≡ K.written out.old }
 {
     let mut guards: Vec<Box<dyn Guard>> = Vec::new(alloc);
-    let Ok(quota) = Box::new(alloc, UnitQuota::new(UNITS)) else {
+    let Ok(quota) = Box::new(alloc, UnitQuota::new(QUOTA_UNITS)) else {
         tell_status(reasons, PROGRAM, STATUS_MEMORY);
         return STATUS_MEMORY;
     };

@@ -18,7 +18,7 @@ use crate::nowhere::Nowhere;
 use crate::serve::{serve_document, serve_edit, serve_import, serve_streams, serve_two};
 use doc_bits::Memory;
 use doc_outer::{PutFault, Shelf, Sink, write_all};
-use doc_tasks::usage_line;
+use document_commands::usage_line;
 use edit_guards::Guard;
 use run_stages::{
     Ending, STATUS_MEMORY, STATUS_SHELF_FAULT, STATUS_SINK_FAULT, STATUS_USAGE, shelf_fault_line,
@@ -88,7 +88,8 @@ pub fn docbin_run<S: Shelf, K: Sink>(
     run_telling(alloc, words, shelf, out, &mut Nowhere, guards)
 }
 
-/// The same, where a second sink is told why the run ends so, for people. What it does not take changes nothing.
+/// Runs the words of a command; a second sink is told why the run ends so, for people. What it does not take changes
+/// nothing.
 pub(crate) fn run_telling<S: Shelf, K: Sink, E: Sink>(
     alloc: Global,
     words: &[String],

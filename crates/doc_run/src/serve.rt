@@ -3,14 +3,14 @@ ghost use Rattle.std.specs.Prelude.{Some, map, IfOk};
 ghost use Rattle.doc_bits.specs.Number.{AreBytes};
 ghost use Rattle.plain_doc.specs.Sound.{IsSound};
 ghost use Rattle.doc_read.specs.Holds.{all_rules};
-ghost use Rattle.doc_edit.specs.States.{start_of};
-ghost use Rattle.doc_edit.specs.Ends.{IsUnchanged};
-ghost use Rattle.doc_tasks.specs.Tasks.{task_of, pair_of};
-ghost use Rattle.doc_tasks.specs.Replies.{EndsBy};
-ghost use Rattle.doc_tasks.specs.Judged.{stream_rules};
+ghost use Rattle.script_run.specs.States.{start_of};
+ghost use Rattle.script_run.specs.Ends.{IsUnchanged};
+ghost use Rattle.document_commands.specs.Tasks.{task_of, pair_of};
+ghost use Rattle.document_commands.specs.Replies.{EndsBy};
+ghost use Rattle.document_commands.specs.Judged.{stream_rules};
 ghost use Rattle.run_stages.specs.Judged.{Judges};
-ghost use Rattle.doc_tasks.specs.Answers.{ListsStreams, AnswersFile};
-ghost use Rattle.doc_tasks.specs.Imports.{Imports};
+ghost use Rattle.document_commands.specs.Answers.{ListsStreams, AnswersFile};
+ghost use Rattle.document_commands.specs.Imports.{Imports};
 ghost use Rattle.run_stages.specs.Leaves.{IsCaused, IsOnlyRead};
 ghost use Rattle.run_stages.specs.Stages.{ReadsFile};
 ghost use Rattle.run_stages.specs.Reading.{Follows, IsTaken, stage_status};
@@ -19,13 +19,12 @@ ghost use Rattle.doc_run.specs.Edits.{EditsBy, IsOverlongScript, ReadsScript, Ed
 ghost use Rattle.doc_run.specs.Imports.{ReadsJson};
 ghost use Rattle.doc_run.specs.Endings.{ReadsSecond};
 
-use crate::beside::{beside, let_go};
 use crate::edit::{edit_under, overlong_script};
 use crate::opening::{begin_taken, open_taken};
-use doc_bits::{Bytes, Memory};
+use doc_bits::{Bytes, Memory, drop_then, with_result};
 use doc_columns::ColumnDocument;
 use doc_outer::Shelf;
-use doc_tasks::{
+use document_commands::{
     Pair, Task, answer_file, answer_two, import_file, list_streams, open_file, overlong_json,
 };
 use edit_guards::Guard;
@@ -241,7 +240,7 @@ fn edit_by_name<S: Shelf>(
     ensures cause { IfOk result (λ e. IsCaused S.Shelf shelf.old shelf.new e.status) }
 {
     let read = take_script(alloc, shelf, script);
-    let (session, taken) = beside(session, read)?;
+    let (session, taken) = with_result(session, read)?;
     edit_taken(alloc, session, taken, out, guards)
 }
 
@@ -269,6 +268,6 @@ fn edit_taken(
 {
     match taken {
         Stage::Go(bytes) => edit_under(alloc, session, bytes.as_slice(), out, guards),
-        Stage::Stop(ending) => Ok(let_go(session, ending)),
+        Stage::Stop(ending) => Ok(drop_then(session, ending)),
     }
 }

@@ -10,19 +10,19 @@ use Rattle.plain_doc.specs.declared.document.Document.{Document}
 use Rattle.plain_doc.specs.Document.{IsFormedText}
 use Rattle.plain_doc.specs.Paragraphs.{HasNoParagraphEnd}
 use Rattle.plain_doc.specs.Sound.{IsSound}
-use Rattle.plain_doc.proofs.RightLemmas.{sound_is_right}
+use Rattle.plain_doc.proofs.RightLemmas.{sound_is_valid}
 use Rattle.plain_doc.proofs.MainLemmas.{main_right, some_end, maps_there}
 use Rattle.doc_columns.proofs.EndLemmas.{EndsAt}
 use Rattle.doc_show.specs.Properties.{IsMarkFrom}
 
 pub sound_bases : (document : Document) → IsSound document → HasSoundBases document.sheet
-sound_bases document sound = (sound_is_right document sound).bases
+sound_bases document sound = (sound_is_valid document sound).bases
 
 -- the style of a mark is one of paragraphs
 pub mark_style : (document : Document) (pos : ℕ) (mark : Mark) → IsSound document →
     IsMarkFrom document.main pos mark → kind_at document.sheet mark.istd ≡ 1
 mark_style document pos mark sound m =
-    (main_right document (sound_is_right document sound)).styles m.end m.item m.there mark m.has
+    (main_right document (sound_is_valid document sound)).styles m.end m.item m.there mark m.has
 
 pub mark_map : (items : List Item) (from : ℕ) (mark : Mark) → IsFormedText items → IsMarkFrom items from mark →
     IsPropertyMap paragraph_groups mark.pap
@@ -53,7 +53,7 @@ pub there_some : (document : Document) (pos : ℕ) (items : List Item) (found : 
     pos < length document.main → items ≡ document.main →
     MatchOption found (HasNoParagraphEnd items pos) (λ mark. IsMarkFrom items pos mark.now) → IsSome found
 there_some document pos items None sound h e m =
-    absurd (some_end document pos (sound_is_right document sound) h (subst (λ i. HasNoParagraphEnd i pos) e m))
+    absurd (some_end document pos (sound_is_valid document sound) h (subst (λ i. HasNoParagraphEnd i pos) e m))
 there_some document pos items (Some mark) sound h e m = refl
 
 pub mark_there : (pos : ℕ) (items : List Item) (found : Option (Bor Mark)) (mark : Bor Mark) → found ≡ Some mark →

@@ -8,17 +8,17 @@ use Rattle.std.proofs.lemmas.Bool.{cases_lt}
 use Rattle.std.proofs.lemmas.List.{take-map, drop-map, take_all}
 use Rattle.std.proofs.lemmas.Option.{same_Some}
 use Rattle.doc_bits.proofs.ListLemmas.{there_is}
-use Rattle.prop_map.specs.Settings.{Settings}
-use Rattle.run_lists.specs.Spread.{spread}
+use Rattle.prop_map.specs.Settings.{Properties}
+use Rattle.run_lists.specs.Spread.{expanded}
 use Rattle.plain_doc.specs.declared.item.Item.{Item}
 use Rattle.plain_doc.specs.Stretches.{stretches, BeginsStretch}
-use Rattle.plain_doc.specs.Settings.{same_settings, is_inside}
+use Rattle.plain_doc.specs.Settings.{same_properties, is_inside}
 use Rattle.plain_doc.proofs.LawLemmas.{equal_are_same}
-use Rattle.doc_columns.specs.declared.beside.Beside.{Beside}
-use Rattle.doc_columns.specs.Beside.{beside_of}
+use Rattle.doc_columns.specs.declared.attached.Attached.{Attached}
+use Rattle.doc_columns.specs.Attached.{attached_of}
 use Rattle.doc_columns.specs.declared.walk.Parts.{Parts}
 use Rattle.doc_columns.specs.Walks.{items_in, AreParts}
-use Rattle.doc_columns.proofs.WalkLemmas.{items_long, units_are, beside_there, range_got, range_long, begins_range}
+use Rattle.doc_columns.proofs.WalkLemmas.{items_long, units_are, attached_there, range_got, range_long, begins_range}
 use Rattle.doc_show.specs.Story.{is_plain, is_one_run, run_line, mark_line, sect_line, line_of_mark, line_of_sect}
 use Rattle.doc_show.specs.Story.{paragraph_lines}
 use Rattle.doc_show.specs.Walks.{is_bare, alike_line}
@@ -30,73 +30,76 @@ both_true true true is = (refl, refl)
 both_true true false is = absurd (cc)
 both_true false b is = absurd (cc)
 
--- the items from a place to another are plain and have the same settings
-abbrev pub AreAlike : List Item → ℕ → ℕ → Settings → Type 0
+-- the items from a place to another are plain and have the same properties
+abbrev pub AreAlike : List Item → ℕ → ℕ → Properties → Type 0
 AreAlike items from to chp =
     (k : ℕ) (item : Item) → from ≤ k → k < to → slice_get items k ≡ Some item →
     (is_plain item ≡ true) × (item.chp ≡ chp)
 
-pub alike_by : (items : List Item) (from to : ℕ) (chp : Settings) (beside : Beside) → is_bare beside ≡ true →
+pub alike_by : (items : List Item) (from to : ℕ) (chp : Properties) (attached : Attached) → is_bare attached ≡ true →
     ((k : ℕ) (item : Item) → from ≤ k → k < to → slice_get items k ≡ Some item → item.chp ≡ chp) →
-    ((k : ℕ) (item : Item) → from ≤ k → k < to → slice_get items k ≡ Some item → beside_of item ≡ beside) →
+    ((k : ℕ) (item : Item) → from ≤ k → k < to → slice_get items k ≡ Some item → attached_of item ≡ attached) →
     AreAlike items from to chp
-alike_by items from to chp beside bare chps besides = λ k item le until here. (
-  ap is_bare (besides k item le until here) ∙ bare,
+alike_by items from to chp attached bare chps attachments = λ k item le until here. (
+  ap is_bare (attachments k item le until here) ∙ bare,
   chps k item le until here,
 )
 
 -- two stretches of such items one behind the other
-pub alike_on : (items : List Item) (from to end : ℕ) (first next : Settings) (beside : Beside) →
-    AreAlike items from to first → true ≡ (is_bare beside && same_settings first next) →
+pub alike_on : (items : List Item) (from to end : ℕ) (first next : Properties) (attached : Attached) →
+    AreAlike items from to first → true ≡ (is_bare attached && same_properties first next) →
     ((k : ℕ) (item : Item) → to ≤ k → k < end → slice_get items k ≡ Some item → item.chp ≡ next) →
-    ((k : ℕ) (item : Item) → to ≤ k → k < end → slice_get items k ≡ Some item → beside_of item ≡ beside) →
+    ((k : ℕ) (item : Item) → to ≤ k → k < end → slice_get items k ≡ Some item → attached_of item ≡ attached) →
     AreAlike items from end first
-alike_on items from to end first next beside before same chps besides = λ k item le until here.
-    let both = both_true (is_bare beside) (same_settings first next) same in
+alike_on items from to end first next attached before same chps attachments = λ k item le until here.
+    let both = both_true (is_bare attached) (same_properties first next) same in
     let one : first ≡ next = (equal_are_same first next).0 both.1 in
     elim (cases_lt k to) [
       | inl early ↦ before k item le early here
-      | inr late ↦ (let more = alike_by items to end next beside both.0 chps besides k item (omega (arith, late)) until
+      | inr late ↦ (let more = alike_by items to end next attached both.0 chps attachments k item (omega (arith, late))
+          until
           here in
           (more.0, more.1 ∙ sym one))
     ]
 
 -- they are of one run
-pub alike_joined : (items : List Item) (from to : ℕ) (chp : Settings) → AreAlike items from to chp →
+pub alike_joined : (items : List Item) (from to : ℕ) (chp : Properties) → AreAlike items from to chp →
     (k : ℕ) (item next : Item) → from ≤ k → k + 1 < to → slice_get items k ≡ Some item →
     slice_get items (k + 1) ≡ Some next → is_one_run item next ≡ true
 alike_joined items from to chp alike k item next le until here there =
     let one = alike k item le (omega (arith, until)) here in
     let other = alike (k + 1) next (omega (arith, le)) until there in
-    (λ i. one.0 i && (other.0 i && same_settings (one.1 i) (other.1 i))) ∙ (equal_are_same chp chp).1 refl
+    (λ i. one.0 i && (other.0 i && same_properties (one.1 i) (other.1 i))) ∙ (equal_are_same chp chp).1 refl
 
--- the run ends before an item that is not plain or has other settings
-pub alike_ends : (items : List Item) (from to end : ℕ) (first next : Settings) (beside : Beside) → from < to →
+-- the run ends before an item that is not plain or has other properties
+pub alike_ends : (items : List Item) (from to end : ℕ) (first next : Properties) (attached : Attached) → from < to →
     to < end →
-    AreAlike items from to first → false ≡ (is_bare beside && same_settings first next) →
+    AreAlike items from to first → false ≡ (is_bare attached && same_properties first next) →
     ((k : ℕ) (item : Item) → to ≤ k → k < end → slice_get items k ≡ Some item → item.chp ≡ next) →
-    ((k : ℕ) (item : Item) → to ≤ k → k < end → slice_get items k ≡ Some item → beside_of item ≡ beside) →
+    ((k : ℕ) (item : Item) → to ≤ k → k < end → slice_get items k ≡ Some item → attached_of item ≡ attached) →
     (one other : Item) → slice_get items (to - 1) ≡ Some one → slice_get items to ≡ Some other →
     is_one_run one other ≡ false
-alike_ends items from to end first next beside some more alike apart chps besides one other here there =
+alike_ends items from to end first next attached some more alike apart chps attachments one other here there =
     let last = alike (to - 1) one (omega (arith, some)) (omega (arith, some)) here in
     let chp = chps to other (omega arith) more there in
-    let plain : is_plain other ≡ is_bare beside = ap is_bare (besides to other (omega arith) more there) in
-    (λ i. last.0 i && (plain i && same_settings (last.1 i) (chp i))) ∙ sym apart
+    let plain : is_plain other ≡ is_bare attached = ap is_bare (attachments to other (omega arith) more there) in
+    (λ i. last.0 i && (plain i && same_properties (last.1 i) (chp i))) ∙ sym apart
 
 run_line_of : (xs : List Item) (x : Item) → slice_get xs 0 ≡ Some x →
-    run_line xs ≡ alike_line (beside_of x) x.chp (map (λ item. item.unit) xs)
+    run_line xs ≡ alike_line (attached_of x) x.chp (map (λ item. item.unit) xs)
 run_line_of [] x is = absurd (cc)
 run_line_of (y ∷ ys) x is =
-    ap (λ (z : Item). alike_line (beside_of z) z.chp (map (λ (item : Item). item.unit) (y ∷ ys))) (same_Some y x is)
+    ap (λ (z : Item). alike_line (attached_of z) z.chp (map (λ (item : Item). item.unit) (y ∷ ys))) (same_Some y x is)
 
 -- the line of the items of a range
-pub run_line-range : (parts : Parts) → AreParts parts → (at to end : ℕ) (chp : Settings) (beside : Beside) → at < to →
+pub run_line-range : (parts : Parts) → AreParts parts → (at to end : ℕ) (chp : Properties) (attached : Attached) → at <
+    to →
     to ≤ length parts.units.now → at < end →
     ((k : ℕ) (item : Item) → at ≤ k → k < end → slice_get (items_in parts) k ≡ Some item → item.chp ≡ chp) →
-    ((k : ℕ) (item : Item) → at ≤ k → k < end → slice_get (items_in parts) k ≡ Some item → beside_of item ≡ beside) →
-    run_line (slice_range (items_in parts) at to) ≡ alike_line beside chp (slice_range parts.units.now at to)
-run_line-range parts are at to end chp beside some within first chps besides =
+    ((k : ℕ) (item : Item) → at ≤ k → k < end → slice_get (items_in parts) k ≡ Some item → attached_of item ≡ attached)
+    →
+    run_line (slice_range (items_in parts) at to) ≡ alike_line attached chp (slice_range parts.units.now at to)
+run_line-range parts are at to end chp attached some within first chps attachments =
     let items = items_in parts in
     let part = slice_range items at to in
     let long : length part ≡ to - at = range_long items at to (omega (arith, items_long parts are, within)) in
@@ -109,8 +112,8 @@ run_line-range parts are at to end chp beside some within first chps besides =
     sym (take-map unit (to - at) (drop at items)) ∙ ap (take (to - at)) (sym (drop-map unit at items))
     ∙ ap (λ (us : List ℕ). slice_range us at to) (units_are parts are) in
     let one_chp = chps at one.0 (omega arith) first here in
-    let one_beside = besides at one.0 (omega arith) first here in
-    run_line_of part one.0 one.1 ∙ (λ i. alike_line (one_beside i) (one_chp i) (units i))
+    let one_attached = attachments at one.0 (omega arith) first here in
+    run_line_of part one.0 one.1 ∙ (λ i. alike_line (one_attached i) (one_chp i) (units i))
 
 -- ---- paragraphs
 
@@ -122,24 +125,26 @@ a_mark x y some = ap not some
 
 -- a paragraph of the text
 pub begins_paragraph : (parts : Parts) → AreParts parts → (from to : ℕ) → from < to → to ≤ length parts.units.now →
-    ((k : ℕ) (beside : Beside) → from ≤ k → k + 1 < to → slice_get (spread parts.besides.now) k ≡ Some beside →
-    beside.mark ≡ None) →
-    (to < length parts.units.now → (beside : Beside) → slice_get (spread parts.besides.now) (to - 1) ≡ Some beside →
-    IsSome beside.mark) →
+    ((k : ℕ) (attached : Attached) → from ≤ k → k + 1 < to → slice_get (expanded parts.attachments.now) k ≡ Some
+    attached →
+    attached.mark ≡ None) →
+    (to < length parts.units.now → (attached : Attached) → slice_get (expanded parts.attachments.now) (to - 1) ≡ Some
+    attached →
+    IsSome attached.mark) →
     BeginsStretch is_inside (slice_range (items_in parts) from (length parts.units.now)) (to - from)
 begins_paragraph parts are from to some within inside ends =
     begins_range is_inside (items_in parts) from to (length parts.units.now) some within
     (omega (arith, items_long parts are))
-    (λ k x y le until here there. no_mark x y (inside k (beside_of x) le until (beside_there parts are k x here)))
-    (λ more x y here there. a_mark x y (ends more (beside_of x) (beside_there parts are (to - 1) x here)))
+    (λ k x y le until here there. no_mark x y (inside k (attached_of x) le until (attached_there parts are k x here)))
+    (λ more x y here there. a_mark x y (ends more (attached_of x) (attached_there parts are (to - 1) x here)))
 
 -- its lines, by what stands beside its last item
-pub paragraph-range : (parts : Parts) → AreParts parts → (from to : ℕ) (beside : Beside) → from < to →
-    to ≤ length parts.units.now → slice_get (spread parts.besides.now) (to - 1) ≡ Some beside →
+pub paragraph-range : (parts : Parts) → AreParts parts → (from to : ℕ) (attached : Attached) → from < to →
+    to ≤ length parts.units.now → slice_get (expanded parts.attachments.now) (to - 1) ≡ Some attached →
     paragraph_lines (slice_range (items_in parts) from to)
-    ≡ mark_line beside.mark ++ (flat_map run_line (stretches is_one_run (slice_range (items_in parts) from to))
-    ++ sect_line beside.sect)
-paragraph-range parts are from to beside some within last =
+    ≡ mark_line attached.mark ++ (flat_map run_line (stretches is_one_run (slice_range (items_in parts) from to))
+    ++ sect_line attached.sect)
+paragraph-range parts are from to attached some within last =
     let items = items_in parts in
     let part = slice_range items from to in
     let runs = flat_map run_line (stretches is_one_run part) in
@@ -148,10 +153,10 @@ paragraph-range parts are from to beside some within last =
     let place : from + (length part - 1) ≡ to - 1 = omega (arith, long, some) in
     let here : slice_get items (to - 1) ≡ Some one.0 =
     subst (λ n. slice_get items n ≡ Some one.0) place (range_got items from to (length part - 1) one.0 one.1) in
-    let same : beside_of one.0 ≡ beside =
-    same_Some (beside_of one.0) beside (sym (beside_there parts are (to - 1) one.0 here) ∙ last) in
+    let same : attached_of one.0 ≡ attached =
+    same_Some (attached_of one.0) attached (sym (attached_there parts are (to - 1) one.0 here) ∙ last) in
     ap (λ (o : Option Item). line_of_mark o ++ (runs ++ line_of_sect o)) one.1
-    ∙ ap (λ (b : Beside). mark_line b.mark ++ (runs ++ sect_line b.sect)) same
+    ∙ ap (λ (b : Attached). mark_line b.mark ++ (runs ++ sect_line b.sect)) same
 
 -- three texts one behind the other
 pub three_put : (start one two three p q s : List ℕ) → one ≡ start ++ p → two ≡ one ++ q → three ≡ two ++ s →

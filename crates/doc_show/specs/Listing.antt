@@ -10,7 +10,7 @@ use Rattle.style_sheet.specs.declared.styles.Kind.TheVariants.{Para, Char, Other
 use Rattle.style_sheet.specs.Sheet.{Sheet}
 use Rattle.plain_doc.specs.declared.item.Item.{Item}
 use Rattle.plain_doc.specs.declared.document.Document.{Document}
-use Rattle.doc_show.specs.Settings.{settings_text}
+use Rattle.doc_show.specs.Settings.{properties_text}
 use Rattle.text_codes.specs.Shown.{line}
 use Rattle.doc_show.specs.Story.{story_lines}
 
@@ -23,14 +23,14 @@ abbrev pub base_word : Option ℕ → List ℕ
 base_word None = codes "none"
 base_word (Some base) = decimal base
 
--- the settings that a kind has
+-- the properties that a kind has
 abbrev pub kind_lines : Kind → List ℕ
 kind_lines (Para pap chp) =
-    line (codes "par" ++ settings_text pap) ++ line (codes "char" ++ settings_text chp)
-kind_lines (Char chp) = line (codes "char" ++ settings_text chp)
+    line (codes "par" ++ properties_text pap) ++ line (codes "char" ++ properties_text chp)
+kind_lines (Char chp) = line (codes "char" ++ properties_text chp)
 kind_lines (Other stk upxes) = []
 
--- a style by its number: the kind, the base, the next style, the name, and its settings
+-- a style by its number: the kind, the base, the next style, the name, and its properties
 abbrev pub style_lines : ℕ → Style → List ℕ
 style_lines istd style =
     line (codes "style " ++ (decimal istd ++ (kind_word style.kind ++ (base_word style.base

@@ -4,15 +4,15 @@ use Rattle.std.specs.Prelude.{None, slice_get, codes}
 use Rattle.std.specs.List.{flat_map}
 use Rattle.std.specs.Fmt.{decimal}
 use Rattle.text_codes.specs.Shown.{line, shown}
-use Rattle.prop_map.specs.Settings.{Settings}
+use Rattle.prop_map.specs.Settings.{Properties}
 use Rattle.plain_doc.specs.declared.item.Item.{Item}
 use Rattle.plain_doc.specs.declared.item.Mark.{Mark}
 use Rattle.plain_doc.specs.declared.item.NoteKind.{NoteKind}
 use Rattle.plain_doc.specs.declared.item.NoteKind.TheVariants.{Auto, Custom}
 use Rattle.plain_doc.specs.Stretches.{stretches}
-use Rattle.plain_doc.specs.Settings.{same_settings, is_inside}
+use Rattle.plain_doc.specs.Settings.{same_properties, is_inside}
 use Rattle.text_codes.specs.Digits.{byte_text}
-use Rattle.doc_show.specs.Settings.{settings_text}
+use Rattle.doc_show.specs.Settings.{properties_text}
 
 -- an item that is no field character and no reference
 abbrev pub is_plain : Item → Bool
@@ -20,9 +20,9 @@ is_plain item = not (is_some item.fld) && not (is_some item.note)
 
 -- the next item is of the same run
 abbrev pub is_one_run : Item → Item → Bool
-is_one_run item next = is_plain item && (is_plain next && same_settings item.chp next.chp)
+is_one_run item next = is_plain item && (is_plain next && same_properties item.chp next.chp)
 
--- what stands before the settings of an item
+-- what stands before the properties of an item
 abbrev pub note_word : Option NoteKind → List ℕ
 note_word None = codes "run"
 note_word (Some Auto) = codes "note auto"
@@ -36,18 +36,18 @@ item_word None reference = note_word reference
 abbrev pub run_line : List Item → List ℕ
 run_line [] = []
 run_line (item ∷ more) =
-    line (item_word item.fld item.note ++ (settings_text item.chp
+    line (item_word item.fld item.note ++ (properties_text item.chp
     ++ (codes " | " ++ shown false (map (λ i. i.unit) (item ∷ more)))))
 
 -- the line of a paragraph's mark
 abbrev pub mark_line : Option Mark → List ℕ
 mark_line None = []
-mark_line (Some mark) = line (codes "mark " ++ (decimal mark.istd ++ settings_text mark.pap))
+mark_line (Some mark) = line (codes "mark " ++ (decimal mark.istd ++ properties_text mark.pap))
 
 -- the line of a section
-abbrev pub sect_line : Option Settings → List ℕ
+abbrev pub sect_line : Option Properties → List ℕ
 sect_line None = []
-sect_line (Some sect) = line (codes "sect" ++ settings_text sect)
+sect_line (Some sect) = line (codes "sect" ++ properties_text sect)
 
 -- what the last item of a paragraph says
 abbrev pub line_of_mark : Option Item → List ℕ

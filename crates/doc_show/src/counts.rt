@@ -1,12 +1,12 @@
 // The line on a document that breaks no rule: how much it has.
 ghost use Rattle.std.specs.Prelude.{◌≡◌, ◌^◌, ◌<◌, is_some, replicate, IfOk};
 ghost use Rattle.std.specs.List.{count_by};
-ghost use Rattle.run_lists.specs.Spread.{spread, extent};
+ghost use Rattle.run_lists.specs.Spread.{expanded, total_len};
 ghost use Rattle.plain_doc.specs.RulesOfSheet.{section_count};
 ghost use Rattle.doc_show.specs.Counts.{accepted_line_of, counts_line, counts_of, style_count};
 
 use doc_bits::{Memory, Text};
-use doc_columns::{Beside, ColumnDocument, Columns, all_items};
+use doc_columns::{Attached, ColumnDocument, Columns, all_items};
 use plain_doc::Document;
 use run_lists::Run;
 use std::alloc::Global;
@@ -29,13 +29,14 @@ pub fn accepted_line(alloc: Global, document: &Document) -> Result<Text, Memory>
     ensures { IfOk result (λ text. text ≡ accepted_line_of document.now) }
 {
     let columns = ColumnDocument::from_document(alloc, document)?;
-    let made = columns_accepted_line(alloc, &columns);
+    let made = accepted_line_of_columns(alloc, &columns);
     drop(columns);
     made
 }
 
-/// The same of a document by columns. It is linear in the runs, the notes, the header texts and the slots of the sheet.
-pub fn columns_accepted_line(alloc: Global, document: &ColumnDocument) -> Result<Text, Memory>
+/// The line that says how much an accepted document has, by columns. It is linear in the runs, the notes, the header
+/// texts and the slots of the sheet.
+pub fn accepted_line_of_columns(alloc: Global, document: &ColumnDocument) -> Result<Text, Memory>
     ensures { IfOk result (λ text. text ≡ accepted_line_of document.now) }
 {
     counts_text(alloc, &counts_in(document))
@@ -59,13 +60,13 @@ fn sections_in(text: &Columns) -> usize
     ensures { result ≡ section_count text.now }
 {
     let _len = text.len();
-    ends_in(text.besides())
+    ends_in(text.attachments())
 }
 
 /// How many sections end in runs.
-fn ends_in(runs: &[Run<Beside>]) -> usize
-    requires { extent runs.now < 2 ^ 32 }
-    ensures { result ≡ count_by (λ beside. is_some beside.sect) (spread runs.now) }
+fn ends_in(runs: &[Run<Attached>]) -> usize
+    requires { total_len runs.now < 2 ^ 32 }
+    ensures { result ≡ count_by (λ attached. is_some attached.sect) (expanded runs.now) }
 {
     let mut count = 0;
     for run in runs {
@@ -75,8 +76,8 @@ fn ends_in(runs: &[Run<Beside>]) -> usize
 }
 
 /// How many sections end in a run.
-fn ends_in_run(run: &Run<Beside>) -> usize
-    ensures { result ≡ count_by (λ beside. is_some beside.sect) (replicate run.now.count run.now.value) }
+fn ends_in_run(run: &Run<Attached>) -> usize
+    ensures { result ≡ count_by (λ attached. is_some attached.sect) (replicate run.now.count run.now.value) }
 {
     if run.value.sect.is_some() {
         run.count as usize

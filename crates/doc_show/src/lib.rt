@@ -12,8 +12,8 @@ mod story;
 mod styles;
 mod texts;
 
-pub use counts::{accepted_line, columns_accepted_line};
+pub use counts::{accepted_line, accepted_line_of_columns};
 pub use laws::property_lines_are_one;
-pub use plain_text::{columns_main_text, main_text};
-pub use properties::{columns_props_lines, props_lines};
-pub use texts::{columns_listing, listing};
+pub use plain_text::{main_text, main_text_of_columns};
+pub use properties::{props_lines, props_lines_of_columns};
+pub use texts::{listing, listing_of_columns};

@@ -13,13 +13,13 @@ pub fn main_text(alloc: Global, document: &Document) -> Result<Text, Memory>
     ensures { IfOk result (λ text. text ≡ main_text_of document.now) }
 {
     let columns = ColumnDocument::from_document(alloc, document)?;
-    let made = columns_main_text(alloc, &columns);
+    let made = main_text_of_columns(alloc, &columns);
     drop(columns);
     made
 }
 
-/// The same of a document by columns. It is linear in the units.
-pub fn columns_main_text(alloc: Global, document: &ColumnDocument) -> Result<Text, Memory>
+/// The shown main text of a document by columns, with a line feed for each paragraph mark. It is linear in the units.
+pub fn main_text_of_columns(alloc: Global, document: &ColumnDocument) -> Result<Text, Memory>
     ensures { IfOk result (λ text. text ≡ main_text_of document.now) }
 {
     let mut text = ShownText::new(alloc, true);

@@ -1,4 +1,4 @@
-// The lines on an item of the main text: its settings and those of its paragraph, as they stand there and as they are
+// The lines on an item of the main text: its properties and those of its paragraph, as they stand there and as they are
 // in effect.
 ghost use Rattle.std.specs.Prelude.{◌≡◌, ◌<◌, ◌++◌, length, IfOk, OnOk, MatchOption};
 ghost use Rattle.std.specs.List.{flat_map};
@@ -24,14 +24,15 @@ pub fn props_lines(alloc: Global, document: &Document, pos: usize) -> Result<Tex
     ensures { IfOk result (ArePropertyLines document.now pos) }
 {
     let columns = ColumnDocument::from_document(alloc, document)?;
-    let made = columns_props_lines(alloc, &columns, pos);
+    let made = props_lines_of_columns(alloc, &columns, pos);
     drop(columns);
     made
 }
 
-/// The same of a document by columns. It is linear in the runs before the end of the paragraph, and in the bases of its
+/// The seven lines on an item of the main text, by columns. It is linear in the runs before the end of the paragraph,
+/// and in the bases of its
 /// style.
-pub fn columns_props_lines(
+pub fn props_lines_of_columns(
     alloc: Global,
     document: &ColumnDocument,
     pos: usize,
@@ -58,14 +59,14 @@ fn mark_from(columns: &Columns, pos: usize) -> Option<&Mark>
     ensures { MatchOption result (HasNoParagraphEnd columns.now pos) (λ mark. IsMarkFrom columns.now pos mark.now) }
 {
     let len = columns.len();
-    let besides = columns.besides();
+    let attachments = columns.attachments();
     let mut marks = Cursor::new();
-    let end = paragraph_end(besides, &mut marks, pos, len);
-    let last = seek(besides, &mut marks, end - 1);
+    let end = paragraph_end(attachments, &mut marks, pos, len);
+    let last = seek(attachments, &mut marks, end - 1);
     last.mark.as_ref()
 }
 
-/// Appends the lines on an item in a paragraph of a style, with the settings that are in effect.
+/// Appends the lines on an item in a paragraph of a style, with the properties that are in effect.
 fn push_item(
     alloc: Global,
     text: &mut Text,
@@ -98,7 +99,7 @@ fn push_style_number(alloc: Global, text: &mut Text, istd: u16) -> Result<(), Me
     text.push_all(line.as_str())
 }
 
-/// Appends the lines on the mark of a paragraph, with the settings and stops that are in effect.
+/// Appends the lines on the mark of a paragraph, with the properties and stops that are in effect.
 fn push_mark(alloc: Global, text: &mut Text, mark: &Mark, effect: &ParaEffect) -> Result<(), Memory>
     ensures { OnOk result (text.new ≡ text.old ++ mark_lines mark.now effect.now) }
 {

@@ -1,15 +1,15 @@
 // The texts of maps that were shown, kept for the next time.
 ghost use Rattle.std.specs.Prelude.{◌≡◌, ◌++◌, IfOk, IfSome, IsTrue, OnOk};
-ghost use Rattle.doc_show.specs.Settings.{settings_text};
+ghost use Rattle.doc_show.specs.Settings.{properties_text};
 
-use crate::settings::push_settings;
+use crate::settings::push_properties;
 use doc_bits::{Memory, Text};
 use prop_map::PropMap;
 use std::alloc::Global;
 use std::marker::Model;
 
 /// A map of fewer entries is shown anew each time.
-const LEAST_ENTRIES: usize = 8;
+const MIN_ENTRIES: usize = 8;
 
 /// So many bits has the number of a slot.
 const SLOT_BITS: u32 = 8;
@@ -17,22 +17,22 @@ const SLOT_BITS: u32 = 8;
 /// A map, and its text.
 #[derive(Drop)]
 struct ShownMap {
-    settings: PropMap,
+    properties: PropMap,
     text: Text,
 }
 
 impl Model for ShownMap {
     ghost use Rattle.std.specs.Prelude.{◌≡◌};
-    ghost use Rattle.prop_map.specs.Settings.{Settings, settings_code};
-    ghost use Rattle.doc_show.specs.Settings.{settings_text};
+    ghost use Rattle.prop_map.specs.Settings.{Properties, properties_code};
+    ghost use Rattle.doc_show.specs.Settings.{properties_text};
 
-    ghost Value = { Settings };
+    ghost Value = { Properties };
 
-    ghost coded = { settings_code };
+    ghost coded = { properties_code };
 
-    ghost view = { λ s. s.settings };
+    ghost view = { λ s. s.properties };
 
-    ghost invariant = { λ s. s.text ≡ settings_text s.settings };
+    ghost invariant = { λ s. s.text ≡ properties_text s.properties };
 }
 
 impl ShownMap {
@@ -41,9 +41,9 @@ impl ShownMap {
         ensures { IfOk result (λ shown. shown ≡ map.now) }
     {
         let mut text = Text::new(alloc);
-        push_settings(&mut text, map)?;
+        push_properties(&mut text, map)?;
         Ok(ShownMap {
-            settings: map.copy(alloc)?,
+            properties: map.copy(alloc)?,
             text,
         })
     }
@@ -52,12 +52,12 @@ impl ShownMap {
     fn shows(&self, map: &PropMap) -> bool
         ensures { IsTrue result → self.now ≡ map.now }
     {
-        self.settings.equal(map)
+        self.properties.equal(map)
     }
 
     /// Appends the text.
     fn push(&self, text: &mut Text) -> Result<(), Memory>
-        ensures { OnOk result (text.new ≡ text.old ++ settings_text self.now) }
+        ensures { OnOk result (text.new ≡ text.old ++ properties_text self.now) }
     {
         text.push_all(self.text.as_str())
     }
@@ -81,12 +81,12 @@ impl ShownMaps {
 
     /// Appends the text of a map.
     pub(crate) fn push(&mut self, text: &mut Text, map: &PropMap) -> Result<(), Memory>
-        ensures { OnOk result (text.new ≡ text.old ++ settings_text map.now) }
+        ensures { OnOk result (text.new ≡ text.old ++ properties_text map.now) }
     {
         let Some(slot) = slot_of(map) else {
-            return push_settings(text, map);
+            return push_properties(text, map);
         };
-        if let Some(shown) = self.kept(slot, map) {
+        if let Some(shown) = self.map_in_slot(slot, map) {
             return shown.push(text);
         }
         let shown = ShownMap::of(self.alloc, map)?;
@@ -95,7 +95,7 @@ impl ShownMaps {
     }
 
     /// The text of a map, where it is in the slot.
-    fn kept(&self, slot: usize, map: &PropMap) -> Option<&ShownMap>
+    fn map_in_slot(&self, slot: usize, map: &PropMap) -> Option<&ShownMap>
         ensures { IfSome result (λ shown. shown.now ≡ map.now) }
     {
         match self.slots.get(slot) {
@@ -121,7 +121,7 @@ impl ShownMaps {
 fn slot_of(map: &PropMap) -> Option<usize> {
     let mut left = map.entries();
     let mut sum = 0u32;
-    for _turn in 0..LEAST_ENTRIES {
+    for _turn in 0..MIN_ENTRIES {
         let Some((code, value)) = left.next() else {
             return None;
         };

@@ -4,8 +4,8 @@ ghost use Rattle.std.specs.Prelude.{length, slice_get, slice_range, Some, OnOk};
 ghost use Rattle.std.specs.List.{flat_map};
 ghost use Rattle.plain_doc.specs.declared.item.Item.{Item};
 ghost use Rattle.plain_doc.specs.Stretches.{stretches};
-ghost use Rattle.plain_doc.specs.Settings.{same_settings};
-ghost use Rattle.doc_columns.specs.Beside.{beside_of};
+ghost use Rattle.plain_doc.specs.Settings.{same_properties};
+ghost use Rattle.doc_columns.specs.Attached.{attached_of};
 ghost use Rattle.doc_columns.specs.Walks.{items_in, AreParts, IsWalk};
 ghost use Rattle.doc_show.specs.Story.{is_one_run, item_word, mark_line};
 ghost use Rattle.doc_show.specs.Story.{run_line, sect_line, story_lines};
@@ -13,7 +13,7 @@ ghost use Rattle.doc_show.specs.Walks.{is_bare, alike_line};
 
 use crate::shown_maps::ShownMaps;
 use doc_bits::{Memory, Text};
-use doc_columns::{Alike, Beside, Columns, Parts, Walk, alike_from, paragraph_end};
+use doc_columns::{Alike, Attached, Columns, Parts, Walk, alike_from, paragraph_end};
 use plain_doc::{Mark, NoteKind};
 use prop_map::PropMap;
 use run_lists::{Cursor, seek};
@@ -39,8 +39,8 @@ fn push_paragraphs(alloc: Global, text: &mut Text, parts: &Parts<'_>) -> Result<
     let mut marks = Cursor::new();
     let mut at = 0;
     while at < parts.units.len() {
-        let end = paragraph_end(parts.besides, &mut marks, at, parts.units.len());
-        let last = seek(parts.besides, &mut marks, end - 1);
+        let end = paragraph_end(parts.attachments, &mut marks, at, parts.units.len());
+        let last = seek(parts.attachments, &mut marks, end - 1);
         push_mark(&mut maps, text, &last.mark)?;
         push_runs(&mut maps, text, parts, &mut walk, at, end)?;
         push_sect(&mut maps, text, &last.sect)?;
@@ -112,8 +112,8 @@ fn run_end(parts: &Parts<'_>, walk: &mut Walk, first: &Alike<'_>, place: usize, 
     requires within { end ≤ length parts.now.units.now }
     requires chps { (k : ℕ) (item : Item) → place ≤ k → k < first.now.end
         → slice_get (items_in parts.now) k ≡ Some item → item.chp ≡ first.now.chp.now }
-    requires besides { (k : ℕ) (item : Item) → place ≤ k → k < first.now.end
-        → slice_get (items_in parts.now) k ≡ Some item → beside_of item ≡ first.now.beside.now }
+    requires attachments { (k : ℕ) (item : Item) → place ≤ k → k < first.now.end
+        → slice_get (items_in parts.now) k ≡ Some item → attached_of item ≡ first.now.attached.now }
     ensures walk { IsWalk parts.now walk.new result }
     ensures some { place < result }
     ensures within { result ≤ end }
@@ -123,7 +123,7 @@ fn run_end(parts: &Parts<'_>, walk: &mut Walk, first: &Alike<'_>, place: usize, 
     ensures ends { result < end → (item next : Item) → slice_get (items_in parts.now) (result - 1) ≡ Some item
         → slice_get (items_in parts.now) result ≡ Some next → is_one_run item next ≡ false }
 {
-    if !is_plain(first.beside) {
+    if !is_plain(first.attached) {
         return place + 1;
     }
     let mut until = first.end;
@@ -139,23 +139,23 @@ fn run_end(parts: &Parts<'_>, walk: &mut Walk, first: &Alike<'_>, place: usize, 
 
 /// Whether a run goes on with what others have in common.
 fn goes_on(first: &Alike<'_>, next: &Alike<'_>) -> bool
-    ensures { result ≡ (is_bare next.now.beside.now && same_settings first.now.chp.now next.now.chp.now) }
+    ensures { result ≡ (is_bare next.now.attached.now && same_properties first.now.chp.now next.now.chp.now) }
 {
-    is_plain(next.beside) && has_same_settings(first.chp, next.chp)
+    is_plain(next.attached) && has_same_properties(first.chp, next.chp)
 }
 
 /// Whether two maps have the same codes and values.
-fn has_same_settings(one: &PropMap, other: &PropMap) -> bool
-    ensures { result ≡ same_settings one.now other.now }
+fn has_same_properties(one: &PropMap, other: &PropMap) -> bool
+    ensures { result ≡ same_properties one.now other.now }
 {
     one.equal(other)
 }
 
 /// Whether there is no field character and no reference.
-fn is_plain(beside: &Beside) -> bool
-    ensures { result ≡ is_bare beside.now }
+fn is_plain(attached: &Attached) -> bool
+    ensures { result ≡ is_bare attached.now }
 {
-    beside.fld.is_none() && beside.note.is_none()
+    attached.fld.is_none() && attached.note.is_none()
 }
 
 /// Appends the line of a run, a field character or a reference: of these units, whose items begin
@@ -167,9 +167,9 @@ fn push_run(
     units: &[u16],
 ) -> Result<(), Memory>
     ensures { OnOk result (text.new ≡ text.old
-        ++ alike_line first.now.beside.now first.now.chp.now units.now) }
+        ++ alike_line first.now.attached.now first.now.chp.now units.now) }
 {
-    push_item_word(text, &first.beside.fld, &first.beside.note)?;
+    push_item_word(text, &first.attached.fld, &first.attached.note)?;
     maps.push(text, first.chp)?;
     text.push_all(" | ")?;
     let shown = show_units(maps.alloc, units)?;
@@ -177,7 +177,7 @@ fn push_run(
     text.push_all("\n")
 }
 
-/// Appends what stands before the settings of an item.
+/// Appends what stands before the properties of an item.
 fn push_item_word(text: &mut Text, fld: &Option<u8>, note: &Option<NoteKind>) -> Result<(), Memory>
     ensures { OnOk result (text.new ≡ text.old ++ item_word fld.now note.now) }
 {

@@ -3,12 +3,12 @@ ghost use Rattle.std.specs.Prelude.{◌≡◌, ◌++◌, IfOk, OnOk};
 ghost use Rattle.std.specs.Fmt.{decimal};
 ghost use Rattle.std.specs.String.{string_bytes};
 ghost use Rattle.style_sheet.specs.Sheet.{style_at};
-ghost use Rattle.doc_show.specs.Settings.{settings_text};
+ghost use Rattle.doc_show.specs.Settings.{properties_text};
 ghost use Rattle.text_codes.specs.Shown.{line};
 ghost use Rattle.doc_show.specs.Listing.{base_word as word_of_base, kind_lines, kind_word as word_of_kind, sheet_lines};
 ghost use Rattle.doc_show.specs.Listing.{slot_lines, style_lines};
 
-use crate::settings::push_settings;
+use crate::settings::push_properties;
 use doc_bits::{Memory, Text};
 use prop_map::PropMap;
 use std::alloc::Global;
@@ -73,7 +73,7 @@ fn base_word(alloc: Global, base: Option<u16>) -> Result<String, Memory>
     Ok(word)
 }
 
-/// Appends the settings that a kind has.
+/// Appends the properties that a kind has.
 fn push_kind(text: &mut Text, kind: &Kind) -> Result<(), Memory>
     ensures { OnOk result (text.new ≡ text.old ++ kind_lines kind.now) }
 {
@@ -87,11 +87,11 @@ fn push_kind(text: &mut Text, kind: &Kind) -> Result<(), Memory>
     }
 }
 
-/// Appends a word and settings as a line.
+/// Appends a word and properties as a line.
 pub(crate) fn push_map(text: &mut Text, word: &str, map: &PropMap) -> Result<(), Memory>
-    ensures { OnOk result (text.new ≡ text.old ++ line (word.now ++ settings_text map.now)) }
+    ensures { OnOk result (text.new ≡ text.old ++ line (word.now ++ properties_text map.now)) }
 {
     text.push_all(word)?;
-    push_settings(text, map)?;
+    push_properties(text, map)?;
     text.push_all("\n")
 }

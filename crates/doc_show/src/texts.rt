@@ -17,13 +17,13 @@ pub fn listing(alloc: Global, document: &Document) -> Result<Text, Memory>
     ensures { IfOk result (λ text. text ≡ listing_of document.now) }
 {
     let columns = ColumnDocument::from_document(alloc, document)?;
-    let made = columns_listing(alloc, &columns);
+    let made = listing_of_columns(alloc, &columns);
     drop(columns);
     made
 }
 
-/// The same of a document by columns. It is linear in the units and the runs.
-pub fn columns_listing(alloc: Global, document: &ColumnDocument) -> Result<Text, Memory>
+/// The lines that show a document by columns. It is linear in the units and the runs.
+pub fn listing_of_columns(alloc: Global, document: &ColumnDocument) -> Result<Text, Memory>
     ensures { IfOk result (λ text. text ≡ listing_of document.now) }
 {
     let mut text = Text::new(alloc);

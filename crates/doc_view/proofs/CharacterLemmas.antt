@@ -14,9 +14,11 @@ use Rattle.symbol_fonts.specs.declared.fonts.SymbolFonts.{SymbolFonts}
 use Rattle.view_places.specs.declared.glyph.Glyph.{Glyph}
 use Rattle.view_places.specs.declared.glyph.Glyph.TheVariants.{Unit, Tab, LineBreak, PageBreak, NoteMark, Picture, Object}
 use Rattle.doc_view.specs.Glyphs.{are_halves, control_glyph, drawn_unit, glyph_of, glyph_text, glyphs_text, is_stand_in}
-use Rattle.doc_view.specs.Glyphs.{is_surrogate, is_windows, replacement, stand_in_glyph, unit_glyph, whole_text}
+use Rattle.doc_view.specs.Glyphs.{is_windows, stand_in_glyph, unit_glyph, whole_text}
 use Rattle.doc_view.specs.Glyphs.{windows_unit}
 use Rattle.doc_view.specs.Laws.{is_control}
+use Rattle.doc_bits.proofs.TestLemmas.{both_true}
+use Rattle.text_codes.specs.Halves.{replacement, is_surrogate}
 
 -- a text without controls
 abbrev pub ArePlain : List ℕ → Type 0
@@ -96,10 +98,6 @@ known_plain (code ∷ more) is =
 all_high : List (ℕ × ℕ) → Bool
 all_high [] = true
 all_high (entry ∷ entries) = nat_le 160 entry.1 && all_high entries
-
-both_true : (a b : Bool) → (a && b) ≡ true → (a ≡ true) × (b ≡ true)
-both_true true b is = (refl, is)
-both_true false b is = absurd (false≢true is)
 
 high_by : (code : ℕ) → nat_le 160 code ≡ true → is_control code ≡ false
 high_by code is = grind (arith, nat_tests)

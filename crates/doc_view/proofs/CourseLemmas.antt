@@ -6,18 +6,18 @@ use Rattle.std.specs.List.{count_by, cons_option}
 use Rattle.std.proofs.lemmas.List.Elements.{filter_map-append}
 use Rattle.std.proofs.lemmas.List.Sums.{sum_by-append, count_by-le-length}
 use Rattle.std.proofs.lemmas.Option.{get_or_from_slice_get, slice_get_within}
-use Rattle.doc_bits.proofs.ListLemmas.{get-map, there_is}
+use Rattle.doc_bits.proofs.ListLemmas.{get-map, there_is, take_step}
 use Rattle.run_lists.proofs.CutLemmas.{run_and_rest}
 use Rattle.plain_doc.specs.declared.item.Item.{Item}
 use Rattle.plain_doc.specs.declared.item.NoteKind.{NoteKind}
 use Rattle.plain_doc.specs.declared.item.NoteKind.TheVariants.{Auto, Custom}
 use Rattle.doc_outer.specs.declared.sink.Sink.{Ghosts}
 use Rattle.plain_doc.specs.RulesOfTexts.{last_unit}
-use Rattle.prop_map.specs.Settings.{Settings}
+use Rattle.prop_map.specs.Settings.{Properties}
 use Rattle.char_formats.specs.declared.format.CharFormat.{CharFormat}
-use Rattle.doc_columns.specs.Beside.{beside_of}
+use Rattle.doc_columns.specs.Attached.{attached_of}
 use Rattle.doc_columns.specs.Columns.{item_of}
-use Rattle.doc_columns.specs.declared.beside.Beside.{Beside}
+use Rattle.doc_columns.specs.declared.attached.Attached.{Attached}
 use Rattle.doc_columns.specs.declared.walk.Parts.{Parts}
 use Rattle.doc_columns.specs.declared.walk.Walk.{Walk}
 use Rattle.doc_columns.specs.Walks.{items_in, AreParts}
@@ -39,7 +39,7 @@ use Rattle.page_out.specs.Printed.{Prints}
 use Rattle.doc_view.specs.Seen.{Formats, is_shown, seen_as, front_of, is_auto, is_note_unit, note_unit, reference_kind, reference_of}
 use Rattle.doc_view.specs.Seen.{references_in}
 use Rattle.page_out.proofs.PrintLemmas.{nothing_put, put_then}
-use Rattle.doc_view.proofs.RangeLemmas.{last_is, one_more_front, seen_none, seen_one, seen_range, seen_then}
+use Rattle.doc_view.proofs.RangeLemmas.{last_is, seen_none, seen_one, seen_range, seen_then}
 use Rattle.doc_view.proofs.SayingLemmas.{says_none, says_then}
 
 -- some items were put, and then others
@@ -110,7 +110,7 @@ fields_on : (items : List Item) (at : ℕ) (item : Item) → slice_get items at 
 fields_on items at item here =
     let within = slice_get_within items at item here in
     let long : length (take at items) ≡ at = omega (arith, length-take at items, within) in
-    sym (ap open_fields (one_more_front items at item here)
+    sym (ap open_fields (take_step items at item here)
     ∙ open_fields-more (take at items) item
     ∙ ap (λ (p : ℕ). after_unit p item.unit item.fld (open_fields (take at items))) long)
 
@@ -125,19 +125,19 @@ numbered_on manner items at item number shown here =
     ap (λ (b : Bool). count + (if b then 1 else 0)) (numbered_by (reference_kind manner item.note) number shown)
     ∙ ap (λ (n : ℕ). count + n) (sym (zero-add (cond (auto item) 1 0)))
     ∙ sym (sum_by-append (λ (i : Item). cond (auto i) 1 0) (take at items) (item ∷ []))
-    ∙ ap (count_by auto) (sym (one_more_front items at item here))
+    ∙ ap (count_by auto) (sym (take_step items at item here))
 
 label_on : (items : List Item) (at : ℕ) (item : Item) → slice_get items at ≡ Some item →
     (item.unit == note_unit) ≡ is_note_unit (last_unit (take (at + 1) items))
 label_on items at item here =
-    sym (ap (λ (front : List Item). is_note_unit (last_unit front)) (one_more_front items at item here)
+    sym (ap (λ (front : List Item). is_note_unit (last_unit front)) (take_step items at item here)
     ∙ ap is_note_unit (last_is (take at items) item))
 
 -- behind the item there
 pub course_on : (manner : Manner) (items : List Item) (course : Course) (item : Item) (number : ℕ) (shown : Bool) →
     IsCourse manner items course → slice_get items course.place ≡ Some item →
     IsCourse manner items
-    (course_after course item.unit (beside_of item) (reference_of (reference_kind manner item.note) number shown))
+    (course_after course item.unit (attached_of item) (reference_of (reference_kind manner item.note) number shown))
 course_on manner items course item number shown is here =
     let at = course.place in
     let kind = reference_kind manner item.note in
@@ -165,7 +165,7 @@ course_on manner items course item number shown is here =
 
 -- ---- one item
 
-references_on : (kept : KeptReferences) (reference : Option Reference) →
+pub references_on : (kept : KeptReferences) (reference : Option Reference) →
     (with_reference kept reference).list ≡ kept.list ++ cons_option reference []
 references_on kept None = sym (append-nil kept.list)
 references_on kept (Some reference) = refl
@@ -222,12 +222,12 @@ passes_to sink a b formats manner istd items from mid to same passes =
 -- ---- the item of a place
 
 -- what is seen of it
-pub seen_is : (manner : Manner) (format : CharFormat) (front : Front) (item : Item) (unit : ℕ) (beside : Beside)
-    (seen : Seen) → item.unit ≡ unit → beside_of item ≡ beside →
-    ((chp : Settings) → seen ≡ seen_as manner format front (item_of unit chp beside)) →
+pub seen_is : (manner : Manner) (format : CharFormat) (front : Front) (item : Item) (unit : ℕ) (attached : Attached)
+    (seen : Seen) → item.unit ≡ unit → attached_of item ≡ attached →
+    ((chp : Properties) → seen ≡ seen_as manner format front (item_of unit chp attached)) →
     seen ≡ seen_as manner format front item
-seen_is manner format front item unit beside seen unit_is beside_is is =
-    is item.chp ∙ (λ i. seen_as manner format front (item_of (sym unit_is i) item.chp (sym beside_is i)))
+seen_is manner format front item unit attached seen unit_is attached_is is =
+    is item.chp ∙ (λ i. seen_as manner format front (item_of (sym unit_is i) item.chp (sym attached_is i)))
 
 pub item_room : (manner : Manner) (items : List Item) (course : Course) (format : CharFormat) (item : Item)
     (seen : Seen) → IsCourse manner items course → slice_get items course.place ≡ Some item →
@@ -237,13 +237,13 @@ item_room manner items course format item seen is here same =
     (room_there manner items course item (course.front.numbered + 1) (is_shown manner format course.front item) is here)
 
 pub item_course : (manner : Manner) (items : List Item) (course : Course) (format : CharFormat) (item : Item)
-    (unit : ℕ) (beside : Beside) (seen : Seen) → IsCourse manner items course →
-    slice_get items course.place ≡ Some item → item.unit ≡ unit → beside_of item ≡ beside →
+    (unit : ℕ) (attached : Attached) (seen : Seen) → IsCourse manner items course →
+    slice_get items course.place ≡ Some item → item.unit ≡ unit → attached_of item ≡ attached →
     seen ≡ seen_as manner format course.front item →
-    IsCourse manner items (course_after course unit beside seen.reference)
-item_course manner items course format item unit beside seen is here unit_is beside_is same =
+    IsCourse manner items (course_after course unit attached seen.reference)
+item_course manner items course format item unit attached seen is here unit_is attached_is same =
     subst (λ (c : Course). IsCourse manner items c)
-    (λ i. course_after course (unit_is i) (beside_is i) (sym same i).reference)
+    (λ i. course_after course (unit_is i) (attached_is i) (sym same i).reference)
     (course_on manner items course item (course.front.numbered + 1) (is_shown manner format course.front item) is here)
 
 pub item_said : {K : Type 0} (sink : Ghosts K) (out next : K) (page after : Page) (saying said : Saying)

@@ -1,7 +1,7 @@
 -- A document has one page.
 use Rattle.std.proofs.Common.{◌≡◌, ◌∙◌, ℕ, Bool, true, false, List, sym, ap, refl}
 use Rattle.std.specs.Prelude.{encode_utf8_all, ◌==◌}
-use Rattle.prop_map.specs.Settings.{Settings}
+use Rattle.prop_map.specs.Settings.{Properties}
 use Rattle.style_sheet.specs.Sheet.{Sheet}
 use Rattle.style_sheet.specs.Chain.{kind_at}
 use Rattle.char_formats.proofs.FormatLemmas.{format_one}
@@ -13,7 +13,7 @@ use Rattle.doc_view.specs.Seen.{Formats}
 use Rattle.doc_view.proofs.PageLemmas.{is_one, is_other}
 
 same_by : (sheet : Sheet) (one other : Formats) → AreFormats sheet one → AreFormats sheet other → (istd : ℕ)
-    (direct : Settings) (is_paragraph : Bool) → (kind_at sheet istd == 1) ≡ is_paragraph →
+    (direct : Properties) (is_paragraph : Bool) → (kind_at sheet istd == 1) ≡ is_paragraph →
     one istd direct ≡ other istd direct
 same_by sheet one other a b istd direct true is =
     let kind = is_one (kind_at sheet istd) is in

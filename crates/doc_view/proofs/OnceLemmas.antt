@@ -1,9 +1,8 @@
 -- What is seen of the items of a text, paragraph by paragraph, is what is seen of them one by one.
-use Rattle.std.proofs.Common.{◌≡◌, ◌∙◌, ℕ, suc, ◌-◌, Bool, true, false, not, ◌||◌, List, [], ◌∷◌, ◌++◌, length, refl, sym, ap}
+use Rattle.std.proofs.Common.{◌≡◌, ◌∙◌, ℕ, suc, ◌-◌, false, not, List, [], ◌∷◌, ◌++◌, length, refl, sym, ap}
 use Rattle.std.proofs.Common.{append_assoc, append-nil, arith, Option, Some, None}
 use Rattle.std.specs.Prelude.{if◌then◌else◌, is_some, slice_get}
 use Rattle.std.specs.List.{cons_option, flat_map}
-use Rattle.std.proofs.lemmas.Bool.{true≢false}
 use Rattle.std.proofs.lemmas.List.Elements.{filter_map-append}
 use Rattle.plain_doc.specs.declared.item.Item.{Item}
 use Rattle.plain_doc.specs.declared.item.Mark.{Mark}
@@ -14,6 +13,7 @@ use Rattle.doc_view.specs.declared.reading.Seen.{Seen}
 use Rattle.doc_view.specs.Laws.{EachItemIsShownOnce, each_seen, style_behind, style_from}
 use Rattle.doc_view.specs.Seen.{Formats, Paragraph, front_of, glyphs_in, paragraph_ending}
 use Rattle.doc_view.specs.Seen.{paragraphs_from, paragraphs_of, seen_as, seen_from, shown_glyph, some_shown, style_of}
+use Rattle.doc_bits.proofs.TestLemmas.{neither}
 
 -- ---- styles
 
@@ -156,14 +156,10 @@ joined_glyphs (p ∷ more) =
     ap (λ gs. glyphs_in p.items ++ gs) (joined_glyphs more)
     ∙ sym (filter_map-append shown_glyph p.items (flat_map (λ (q : Paragraph). q.items) more))
 
-both_false : (a b : Bool) → (a || b) ≡ false → (a ≡ false) × (b ≡ false)
-both_false true b is = absurd (true≢false is)
-both_false false b is = (refl, is)
-
 none_here : (items : List Seen) → some_shown items ≡ false → glyphs_in items ≡ []
 none_here [] none = refl
 none_here (s ∷ more) none =
-    let e = both_false s.is_shown (some_shown more) none in
+    let e = neither s.is_shown (some_shown more) none in
     (λ i. cons_option (if e.0 i then s.glyph else None) (glyphs_in more)) ∙ none_here more e.1
 
 pub once : EachItemIsShownOnce

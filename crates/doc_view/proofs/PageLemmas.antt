@@ -3,7 +3,7 @@ use Rattle.std.proofs.Common.{◌≡◌, ◌≢◌, ℕ, Bool, true, false, List
 use Rattle.std.proofs.Common.{append-nil, arith, Some, None, length, Result, Ok, Err}
 use Rattle.std.specs.Prelude.{encode_utf8_all, ◌==◌, OnOk, OnErr}
 use Rattle.std.proofs.lemmas.Bool.Decides.{nat_tests}
-use Rattle.prop_map.specs.Settings.{Settings}
+use Rattle.prop_map.specs.Settings.{Properties}
 use Rattle.style_sheet.specs.Sheet.{Sheet}
 use Rattle.style_sheet.specs.Chain.{kind_at, HasSoundBases}
 use Rattle.doc_outer.specs.Counts.{Rose, GoesOn}
@@ -26,7 +26,7 @@ use Rattle.plain_doc.specs.RightDocument.{HoldsAtItems}
 use Rattle.plain_doc.specs.RulesOfSheet.{note_count}
 use Rattle.plain_doc.specs.RulesOfTexts.{HasParagraphStyle, text_of}
 use Rattle.plain_doc.specs.Sound.{IsSound}
-use Rattle.plain_doc.proofs.RightLemmas.{sound_is_right}
+use Rattle.plain_doc.proofs.RightLemmas.{sound_is_valid}
 use Rattle.doc_view.specs.Seen.{Formats}
 use Rattle.page_out.proofs.PrintLemmas.{failed_before, failed_behind, flag_cases}
 
@@ -56,7 +56,7 @@ prefix_page sink a c p bytes empty fails =
 
 -- ---- formats
 
-there : (sheet : Sheet) (istd : ℕ) (direct : Settings) → HasSoundBases sheet → kind_at sheet istd ≡ 1 →
+there : (sheet : Sheet) (istd : ℕ) (direct : Properties) → HasSoundBases sheet → kind_at sheet istd ≡ 1 →
     (format : CharFormat) × IsCharFormat sheet istd direct format
 there sheet istd direct bases kind = format_there sheet istd direct bases kind
 
@@ -66,19 +66,19 @@ is_one n is = grind (arith, nat_tests)
 pub is_other : (n : ℕ) → (n == 1) ≡ false → n ≢ 1
 is_other n is = λ same. absurd (grind (arith, nat_tests))
 
-format_or : (sheet : Sheet) → HasSoundBases sheet → (istd : ℕ) (direct : Settings) (is_paragraph : Bool) →
+format_or : (sheet : Sheet) → HasSoundBases sheet → (istd : ℕ) (direct : Properties) (is_paragraph : Bool) →
     (kind_at sheet istd == 1) ≡ is_paragraph → CharFormat
 format_or sheet bases istd direct true is = (there sheet istd direct bases (is_one (kind_at sheet istd) is)).0
 format_or sheet bases istd direct false is = format_in (λ code. None)
 
-right_or : (sheet : Sheet) (bases : HasSoundBases sheet) (istd : ℕ) (direct : Settings) (is_paragraph : Bool)
+right_or : (sheet : Sheet) (bases : HasSoundBases sheet) (istd : ℕ) (direct : Properties) (is_paragraph : Bool)
     (is : (kind_at sheet istd == 1) ≡ is_paragraph) → kind_at sheet istd ≡ 1 →
     IsCharFormat sheet istd direct (format_or sheet bases istd direct is_paragraph is)
 unfolding format_or
 right_or sheet bases istd direct true is kind = (there sheet istd direct bases (is_one (kind_at sheet istd) is)).1
 right_or sheet bases istd direct false is kind = absurd (is_other (kind_at sheet istd) is kind)
 
-none_or : (sheet : Sheet) (bases : HasSoundBases sheet) (istd : ℕ) (direct : Settings) (is_paragraph : Bool)
+none_or : (sheet : Sheet) (bases : HasSoundBases sheet) (istd : ℕ) (direct : Properties) (is_paragraph : Bool)
     (is : (kind_at sheet istd == 1) ≡ is_paragraph) → kind_at sheet istd ≢ 1 →
     format_or sheet bases istd direct is_paragraph is ≡ format_in (λ code. None)
 unfolding format_or
@@ -99,18 +99,18 @@ formats_there sheet bases = (
 
 pub sound_normal : (document : Document) (sheet : Sheet) → IsSound document → sheet ≡ document.sheet → kind_at sheet 0 ≡ 1
 sound_normal document sheet sound is =
-    subst (λ (s : Sheet). kind_at s 0 ≡ 1) (sym is) (sound_is_right document sound).bases.normal
+    subst (λ (s : Sheet). kind_at s 0 ≡ 1) (sym is) (sound_is_valid document sound).bases.normal
 
 pub sound_styles : (document : Document) (sheet : Sheet) (part : Where) (text : List Item) → IsSound document →
     sheet ≡ document.sheet → text_of document part ≡ Some text →
     HoldsAtItems text (λ i item. HasParagraphStyle sheet item)
 sound_styles document sheet part text sound is there =
     subst (λ (s : Sheet). HoldsAtItems text (λ i item. HasParagraphStyle s item)) (sym is)
-    ((sound_is_right document sound).texts part text there).styles
+    ((sound_is_valid document sound).texts part text there).styles
 
 -- as many notes as references
 pub sound_room : (document : Document) → IsSound document → length document.notes ≡ note_count document.main
-sound_room document sound = (sound_is_right document sound).notes
+sound_room document sound = (sound_is_valid document sound).notes
 
 -- ---- the page
 
@@ -121,7 +121,7 @@ pub page_ok : {K E : Type 0} (sink : Ghosts K) (a b c : K) (p q : Page) (documen
     OnOk taken ((bytes : List ℕ) × (IsPage options document bytes × Appends (sink.written a) (sink.written c) bytes))
 page_ok sink a b c p q document values options (Err e) are sound empty right put fine ends = tt
 page_ok sink a b c p q document values options (Ok u) are sound empty right put fine ends =
-    let there = formats_there document.sheet (sound_is_right document sound).bases in
+    let there = formats_there document.sheet (sound_is_valid document sound).bases in
     let bytes = encode_utf8_all (page_text there.0 values options document) in (
       bytes,
       (
@@ -139,7 +139,7 @@ pub page_prefix : {K E : Type 0} (sink : Ghosts K) (a b c : K) (p q : Page) (doc
     × AppendsPrefix (sink.written a) (sink.written c) bytes))
 page_prefix sink a b c p q document values options (Ok u) are sound empty right put fails stays on = tt
 page_prefix sink a b c p q document values options (Err e) are sound empty right put fails stays on =
-    let there = formats_there document.sheet (sound_is_right document sound).bases in
+    let there = formats_there document.sheet (sound_is_valid document sound).bases in
     let bytes = encode_utf8_all (page_text there.0 values options document) in (
       bytes,
       (
@@ -156,6 +156,6 @@ pub page_rose : {K E : Type 0} (sink : Ghosts K) (a b c : K) (p q : Page) (docum
     OnErr taken (Rose (sink.faults a) (sink.faults c))
 page_rose sink a b c p q document values options (Ok u) are sound right put fails stays on = tt
 page_rose sink a b c p q document values options (Err e) are sound right put fails stays on =
-    let there = formats_there document.sheet (sound_is_right document sound).bases in
+    let there = formats_there document.sheet (sound_is_valid document sound).bases in
     let bytes = encode_utf8_all (page_text there.0 values options document) in
     (failed_page sink a b c p q bytes right (put there.0 there.1) fails stays on).rose

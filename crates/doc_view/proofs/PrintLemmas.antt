@@ -8,8 +8,8 @@ use Rattle.page_out.specs.Printed.{Prints}
 use Rattle.page_out.proofs.PrintLemmas.{put_then}
 use Rattle.view_places.specs.declared.glyph.Glyph.{Glyph}
 use Rattle.doc_view.specs.declared.paragraph.Saying.{Saying}
-use Rattle.doc_view.specs.Glyphs.{replacement}
 use Rattle.doc_view.specs.Lines.{begun_front, first_text, glyph_said, shown_said, unit_said}
+use Rattle.text_codes.specs.Halves.{replacement}
 
 -- a unit behind a half
 pub pair_put : {K : Type 0} (sink : Ghosts K) (a b : K) (p q : Page) (first unit code : ℕ) →

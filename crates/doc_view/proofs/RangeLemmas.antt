@@ -3,8 +3,7 @@ use Rattle.std.proofs.Common.{◌≡◌, ◌∙◌, ℕ, ◌+◌, ◌-◌, ◌�
 use Rattle.std.proofs.Common.{append_assoc, append-nil, arith, Some, length-append}
 use Rattle.std.specs.Prelude.{slice_get, slice_range, option_map}
 use Rattle.std.proofs.Math.Seq.{take-add}
-use Rattle.std.proofs.lemmas.List.{drop-drop}
-use Rattle.doc_bits.proofs.ListLemmas.{slice_get_push}
+use Rattle.doc_bits.proofs.ListLemmas.{slice_get_push, range_split}
 use Rattle.run_lists.proofs.CutLemmas.{run_and_rest}
 use Rattle.plain_doc.specs.declared.item.Item.{Item}
 use Rattle.plain_doc.specs.RulesOfTexts.{last_unit}
@@ -13,17 +12,6 @@ use Rattle.doc_view.specs.declared.reading.Seen.{Seen}
 use Rattle.doc_view.specs.Seen.{Formats, seen_as, seen_from, front_of}
 
 -- ---- ranges
-
--- a range and the one behind it
-pub range_then : {A : Type 0} (xs : List A) (from mid to : ℕ) → from ≤ mid → mid ≤ to →
-    slice_range xs from to ≡ slice_range xs from mid ++ slice_range xs mid to
-range_then {A = A} xs from mid to low high =
-    let sum : to - from ≡ (mid - from) + (to - mid) = omega (arith, low, high) in
-    let place : from + (mid - from) ≡ mid = omega (arith, low) in
-    ap (λ (n : ℕ). take n (drop from xs)) sum
-    ∙ take-add (mid - from) (to - mid) (drop from xs)
-    ∙ ap (λ (rest : List A). slice_range xs from mid ++ take (to - mid) rest)
-    (drop-drop (mid - from) from xs ∙ ap (λ (n : ℕ). drop n xs) place)
 
 -- what stands before a range, and the range
 pub front_then : {A : Type 0} (xs : List A) (from to : ℕ) → from ≤ to → take from xs ++ slice_range xs from to ≡ take to xs
@@ -43,12 +31,6 @@ pub one_range : {A : Type 0} (xs : List A) (at : ℕ) (x : A) → slice_get xs a
 one_range {A = A} xs at x here =
     let one : at + 1 - at ≡ 1 = omega arith in
     ap (λ (n : ℕ). take n (drop at xs)) one ∙ ap (take 1) (run_and_rest xs at x here)
-
--- one more in front
-pub one_more_front : {A : Type 0} (xs : List A) (at : ℕ) (x : A) → slice_get xs at ≡ Some x →
-    take (at + 1) xs ≡ take at xs ++ x ∷ []
-one_more_front {A = A} xs at x here =
-    sym (front_then xs at (at + 1) (omega arith)) ∙ ap (λ (one : List A). take at xs ++ one) (one_range xs at x here)
 
 -- ---- what is seen
 
@@ -75,7 +57,7 @@ pub seen_then : (formats : Formats) (manner : Manner) (istd : ℕ) (items : List
     seen_range formats manner istd items from to
     ≡ seen_range formats manner istd items from mid ++ seen_range formats manner istd items mid to
 seen_then formats manner istd items from mid to low high =
-    ap (seen_from formats manner istd (take from items)) (range_then items from mid to low high)
+    ap (seen_from formats manner istd (take from items)) (range_split items from mid to low high)
     ∙ seen_from-append formats manner istd (take from items) (slice_range items from mid) (slice_range items mid to)
     ∙ ap
     (λ (f : List Item). seen_range formats manner istd items from mid ++ seen_from formats manner istd f

@@ -9,11 +9,14 @@ use Rattle.view_places.specs.declared.glyph.Glyph.{Glyph}
 use Rattle.view_places.specs.declared.glyph.Glyph.TheVariants.{Unit, Tab, LineBreak, PageBreak, NoteMark, Picture, Object}
 use Rattle.doc_view.specs.declared.paragraph.Saying.{Saying}
 use Rattle.doc_view.specs.declared.reading.Seen.{Seen}
-use Rattle.doc_view.specs.Glyphs.{glyph_text, glyphs_text, are_halves, is_surrogate, replacement, whole_text}
+use Rattle.doc_view.specs.Glyphs.{glyph_text, glyphs_text, are_halves, whole_text}
 use Rattle.doc_view.specs.Seen.{some_shown, glyphs_in}
-use Rattle.doc_view.specs.Lines.{is_high, waiting, half_text, first_text, first_half, unit_in, unit_said, unit_waits, other_said}
+use Rattle.doc_view.specs.Lines.{waiting, half_text, first_text, first_half, unit_in, unit_said, unit_waits, other_said}
 use Rattle.doc_view.specs.Lines.{glyph_said, waits_after, saying_front, shown_said, shown_after, left}
 use Rattle.doc_view.specs.Lines.{IsSaying, Says}
+use Rattle.doc_bits.proofs.TestLemmas.{or_true, or_false}
+use Rattle.text_codes.proofs.ShownLemmas.{apart_low}
+use Rattle.text_codes.specs.Halves.{replacement, is_high, is_surrogate}
 
 -- ---- glyphs one by one
 
@@ -26,14 +29,9 @@ alone in_table g (next ∷ more) apart = λ i.
     if apart next i then whole_text g next ++ glyphs_text in_table more else glyph_text in_table g ++ glyphs_text in_table
     (next ∷ more)
 
-first_false : (a b c : Bool) → (a && b) ≡ false → (a && (b && c)) ≡ false
-first_false true true c is = absurd (cc)
-first_false true false c is = refl
-first_false false b c is = refl
-
 no_half : (unit : ℕ) → is_high unit ≡ false → (next : Glyph) → are_halves (Unit unit) next ≡ false
 no_half unit low (Unit other) =
-    first_false (nat_le 0xD800 unit) (nat_lt unit 0xDC00) (nat_le 0xDC00 other && nat_lt other 0xE000) low
+    apart_low (nat_le 0xD800 unit) (nat_lt unit 0xDC00) (nat_le 0xDC00 other && nat_lt other 0xE000) low
 no_half unit low Tab = refl
 no_half unit low LineBreak = refl
 no_half unit low PageBreak = refl
@@ -132,10 +130,6 @@ glyph_still half Object = λ unit same. absurd (cc (same))
 
 -- ---- items one by one
 
-or_false : (b : Bool) → (b || false) ≡ b
-or_false true = refl
-or_false false = refl
-
 or_assoc : (a b c : Bool) → ((a || b) || c) ≡ (a || (b || c))
 or_assoc true b c = refl
 or_assoc false b c = refl
@@ -222,10 +216,6 @@ behind_said p (Some g) more = refl
 after_is : (p : Saying) (glyph : Option Glyph) → IsSaying p → IsSaying (shown_after p glyph)
 after_is p None is = record { behind = λ same. absurd (cc (same)); half = is.half }
 after_is p (Some g) is = record { behind = λ same. absurd (cc (same)); half = glyph_still p.half g }
-
-or_true : (b : Bool) → (b || true) ≡ true
-or_true true = refl
-or_true false = refl
 
 after_begun : (p : Saying) (glyph : Option Glyph) → (shown_after p glyph).begun ≡ true
 after_begun p None = refl

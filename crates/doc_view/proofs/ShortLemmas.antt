@@ -14,7 +14,7 @@ use Rattle.plain_doc.specs.RulesOfSheet.{item_count}
 use Rattle.plain_doc.specs.Settings.{is_inside}
 use Rattle.plain_doc.specs.Stretches.{stretches}
 use Rattle.plain_doc.proofs.CutLemmas.{are_stretches}
-use Rattle.plain_doc.proofs.RightLemmas.{sound_is_right}
+use Rattle.plain_doc.proofs.RightLemmas.{sound_is_valid}
 use Rattle.list_numbers.specs.declared.paragraph_values.ListLabel.{ListLabel}
 use Rattle.list_numbers.specs.declared.paragraph_values.ParagraphValues.{ParagraphValues}
 use Rattle.list_numbers.specs.Counts.{count_at}
@@ -27,7 +27,6 @@ use Rattle.symbol_fonts.specs.declared.fonts.SymbolFonts.{SymbolFonts}
 use Rattle.symbol_fonts.specs.Characters.{shown_unit}
 use Rattle.symbol_fonts.specs.Fonts.{symbol_font, symbol_fonts}
 use Rattle.list_numbers.specs.Places.{place_of}
-use Rattle.list_numbers.specs.Tabulated.{tabulate}
 use Rattle.doc_view.specs.declared.line.Line.{Line}
 use Rattle.doc_view.specs.declared.reading.Manner.{Manner}
 use Rattle.doc_view.specs.declared.reading.Seen.{Seen}
@@ -46,6 +45,7 @@ use Rattle.doc_view.proofs.LengthLemmas.{IsSmallNumber, IsSmallReference, IsSmal
 use Rattle.doc_view.proofs.LengthLemmas.{glyphs_size}
 use Rattle.doc_view.proofs.LengthLemmas.{glyphs_small, items_small, label_size, references_small, seen_long, sizes_nine}
 use Rattle.doc_view.proofs.LengthLemmas.{utf8_short}
+use Rattle.doc_parts.specs.Tabulated.{tabulate}
 
 -- ---- labels
 
@@ -423,7 +423,7 @@ behind_short (suc n) (text ∷ texts) =
 
 pub page_short : PagesAreShort
 page_short options document bytes sound is =
-    let right = sound_is_right document sound in
+    let right = sound_is_valid document sound in
     let main = paragraphs_of is.formats (main_manner options document) document.main in
     let paragraphs = with_values is.values main in
     let few : item_count document < 999999 = omega (arith, right.few) in

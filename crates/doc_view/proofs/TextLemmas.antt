@@ -10,7 +10,7 @@ use Rattle.std.proofs.lemmas.List.Sums.{take_while-cons}
 use Rattle.std.proofs.lemmas.Bool.{cases_lt}
 use Rattle.std.proofs.lemmas.Option.{same_Some, slice_get_past}
 use Rattle.doc_bits.proofs.ListLemmas.{there_is}
-use Rattle.run_lists.specs.Spread.{spread}
+use Rattle.run_lists.specs.Spread.{expanded}
 use Rattle.run_lists.proofs.CutLemmas.{run_and_rest}
 use Rattle.style_sheet.specs.Chain.{kind_at}
 use Rattle.style_sheet.specs.Sheet.{Sheet}
@@ -21,11 +21,12 @@ use Rattle.plain_doc.specs.RulesOfTexts.{HasParagraphStyle}
 use Rattle.plain_doc.specs.Settings.{is_inside}
 use Rattle.plain_doc.specs.Stretches.{stretches, BeginsStretch}
 use Rattle.plain_doc.proofs.StretchLemmas.{stretches-first, stretches-nil, rest_of}
-use Rattle.doc_columns.specs.Beside.{beside_of}
-use Rattle.doc_columns.specs.declared.beside.Beside.{Beside}
+use Rattle.doc_columns.specs.Attached.{attached_of}
+use Rattle.doc_columns.specs.declared.attached.Attached.{Attached}
 use Rattle.doc_columns.specs.declared.walk.Parts.{Parts}
 use Rattle.doc_columns.specs.Walks.{items_in, AreParts}
-use Rattle.doc_columns.proofs.WalkLemmas.{begins_range, beside_there, items_long, part_at, range_got, range_long, units_are}
+use Rattle.doc_columns.proofs.WalkLemmas.{begins_range, attached_there, items_long, part_at, range_got, range_long}
+use Rattle.doc_columns.proofs.WalkLemmas.{units_are}
 use Rattle.list_numbers.specs.declared.paragraph_values.ParagraphValues.{ParagraphValues}
 use Rattle.doc_outer.specs.declared.sink.Sink.{Ghosts}
 use Rattle.doc_view.specs.declared.line.Lead.{Lead}
@@ -51,6 +52,7 @@ use Rattle.std.proofs.Math.ListN.{drop_of_length-le}
 use Rattle.page_out.proofs.PrintLemmas.{nothing_put, put_then}
 use Rattle.doc_view.proofs.RangeLemmas.{front_then, seen_range}
 use Rattle.doc_view.proofs.SayingLemmas.{left_end}
+use Rattle.doc_bits.proofs.TestLemmas.{or_false}
 
 -- ---- lines
 
@@ -187,15 +189,11 @@ pub all_met : {K : Type 0} (sink : Ghosts K) (start : K) (page : Page) (out : K)
     TextAt sink start page out now lead all [] line first references → references ≡ first ++ references_of all
 all_met sink start page out now lead all line first references at = sym (append-nil references) ∙ at.met
 
-or_nothing : (b : Bool) → (b || false) ≡ b
-or_nothing true = refl
-or_nothing false = refl
-
 pub some_put : {K : Type 0} (sink : Ghosts K) (start : K) (page : Page) (out : K) (now : Page)
     (lead : List ℕ) (all : List Paragraph) (line : Line) (first references : List Reference) →
     TextAt sink start page out now lead all [] line first references → line.some ≡ some_here all
 some_put sink start page out now lead all line first references at =
-    ap (λ (l : Line). l.some) at.line_is ∙ sym (or_nothing (some_here at.before)) ∙ at.some
+    ap (λ (l : Line). l.some) at.line_is ∙ sym (or_false (some_here at.before)) ∙ at.some
 
 -- ---- one paragraph
 
@@ -220,10 +218,12 @@ a_mark x y some = ap not some
 
 -- the items from a place on begin with the paragraph there
 pub paragraph_begins : (parts : Parts) → AreParts parts → (from to : ℕ) → from < to → to ≤ length parts.units.now →
-    ((k : ℕ) (beside : Beside) → from ≤ k → k + 1 < to → slice_get (spread parts.besides.now) k ≡ Some beside →
-    beside.mark ≡ None) →
-    (to < length parts.units.now → (beside : Beside) → slice_get (spread parts.besides.now) (to - 1) ≡ Some beside →
-    IsSome beside.mark) →
+    ((k : ℕ) (attached : Attached) → from ≤ k → k + 1 < to → slice_get (expanded parts.attachments.now) k ≡ Some
+    attached →
+    attached.mark ≡ None) →
+    (to < length parts.units.now → (attached : Attached) → slice_get (expanded parts.attachments.now) (to - 1) ≡ Some
+    attached →
+    IsSome attached.mark) →
     stretches is_inside (drop from (items_in parts))
     ≡ slice_range (items_in parts) from to ∷ stretches is_inside (drop to (items_in parts))
 paragraph_begins parts are from to some within inside ends =
@@ -231,9 +231,9 @@ paragraph_begins parts are from to some within inside ends =
     let long : length items ≡ length parts.units.now = items_long parts are in
     let range =
     begins_range is_inside items from to (length items) some (omega (arith, long, within)) (omega arith)
-    (λ k x y le until here there. no_mark x y (inside k (beside_of x) le until (beside_there parts are k x here)))
+    (λ k x y le until here there. no_mark x y (inside k (attached_of x) le until (attached_there parts are k x here)))
     (λ more x y here there. a_mark x y
-    (ends (omega (arith, long, more)) (beside_of x) (beside_there parts are (to - 1) x here))) in
+    (ends (omega (arith, long, more)) (attached_of x) (attached_there parts are (to - 1) x here))) in
     let begins : BeginsStretch is_inside (drop from items) (to - from) =
     subst (λ (xs : List Item). BeginsStretch is_inside xs (to - from)) (rest_of items from) range in
     let place : from + (to - from) ≡ to = omega (arith, some) in
@@ -243,17 +243,18 @@ paragraph_begins parts are from to some within inside ends =
 
 -- the paragraph, by what stands at its last item
 pub paragraph_is : (formats : Formats) (manner : Manner) (parts : Parts) → AreParts parts → (from to unit : ℕ)
-    (beside : Beside) → from < to → to ≤ length parts.units.now →
-    slice_get parts.units.now (to - 1) ≡ Some unit → slice_get (spread parts.besides.now) (to - 1) ≡ Some beside →
+    (attached : Attached) → from < to → to ≤ length parts.units.now →
+    slice_get parts.units.now (to - 1) ≡ Some unit → slice_get (expanded parts.attachments.now) (to - 1) ≡ Some attached
+    →
     paragraph_of formats manner (take from (items_in parts)) (slice_range (items_in parts) from to)
     ≡ record {
-      standing = standing_of unit beside.mark;
+      standing = standing_of unit attached.mark;
       values = None;
       items =
-          seen_from formats manner (style_of beside.mark) (take from (items_in parts))
+          seen_from formats manner (style_of attached.mark) (take from (items_in parts))
           (slice_range (items_in parts) from to);
     }
-paragraph_is formats manner parts are from to unit beside some within unit_is last =
+paragraph_is formats manner parts are from to unit attached some within unit_is last =
     let items = items_in parts in
     let part = slice_range items from to in
     let long : length part ≡ to - from = range_long items from to (omega (arith, items_long parts are, within)) in
@@ -261,8 +262,8 @@ paragraph_is formats manner parts are from to unit beside some within unit_is la
     let place : from + (length part - 1) ≡ to - 1 = omega (arith, long, some) in
     let here : slice_get items (to - 1) ≡ Some one.0 =
     subst (λ n. slice_get items n ≡ Some one.0) place (range_got items from to (length part - 1) one.0 one.1) in
-    let same : beside_of one.0 ≡ beside =
-    same_Some (beside_of one.0) beside (sym (beside_there parts are (to - 1) one.0 here) ∙ last) in
+    let same : attached_of one.0 ≡ attached =
+    same_Some (attached_of one.0) attached (sym (attached_there parts are (to - 1) one.0 here) ∙ last) in
     let unit_same : one.0.unit ≡ unit =
     part_at (λ (item : Item). item.unit) items parts.units.now (to - 1) one.0 unit (units_are parts are) here unit_is in
     ap (λ (o : Option Item). paragraph_ending formats manner (take from items) part o) one.1
@@ -278,16 +279,16 @@ style_by sheet None normal right = normal
 style_by sheet (Some mark) normal right = right mark refl
 
 -- the style of a paragraph is one of paragraphs
-pub right_style : (sheet : Sheet) (parts : Parts) → AreParts parts → (at : ℕ) (beside : Beside) →
+pub right_style : (sheet : Sheet) (parts : Parts) → AreParts parts → (at : ℕ) (attached : Attached) →
     kind_at sheet 0 ≡ 1 → HoldsAtItems (items_in parts) (λ i item. HasParagraphStyle sheet item) →
-    at < length parts.units.now → slice_get (spread parts.besides.now) at ≡ Some beside →
-    kind_at sheet (style_of beside.mark) ≡ 1
-right_style sheet parts are at beside normal styles within here =
+    at < length parts.units.now → slice_get (expanded parts.attachments.now) at ≡ Some attached →
+    kind_at sheet (style_of attached.mark) ≡ 1
+right_style sheet parts are at attached normal styles within here =
     let items = items_in parts in
     let one = there_is items at (omega (arith, items_long parts are, within)) in
-    let same : beside_of one.0 ≡ beside =
-    same_Some (beside_of one.0) beside (sym (beside_there parts are at one.0 one.1) ∙ here) in
-    subst (λ (b : Beside). kind_at sheet (style_of b.mark) ≡ 1) same
+    let same : attached_of one.0 ≡ attached =
+    same_Some (attached_of one.0) attached (sym (attached_there parts are at one.0 one.1) ∙ here) in
+    subst (λ (b : Attached). kind_at sheet (style_of b.mark) ≡ 1) same
     (style_by sheet one.0.mark normal (styles at one.0 one.1))
 
 -- ---- the loop
@@ -324,23 +325,26 @@ none_left formats manner items at past =
 
 -- the paragraph of a place, and those behind it
 pub next_left : (formats : Formats) (manner : Manner) (parts : Parts) → AreParts parts → (from to unit : ℕ)
-    (beside : Beside) → from < to → to ≤ length parts.units.now →
-    ((k : ℕ) (beside : Beside) → from ≤ k → k + 1 < to → slice_get (spread parts.besides.now) k ≡ Some beside →
-    beside.mark ≡ None) →
-    (to < length parts.units.now → (beside : Beside) → slice_get (spread parts.besides.now) (to - 1) ≡ Some beside →
-    IsSome beside.mark) →
-    slice_get parts.units.now (to - 1) ≡ Some unit → slice_get (spread parts.besides.now) (to - 1) ≡ Some beside →
+    (attached : Attached) → from < to → to ≤ length parts.units.now →
+    ((k : ℕ) (attached : Attached) → from ≤ k → k + 1 < to → slice_get (expanded parts.attachments.now) k ≡ Some
+    attached →
+    attached.mark ≡ None) →
+    (to < length parts.units.now → (attached : Attached) → slice_get (expanded parts.attachments.now) (to - 1) ≡ Some
+    attached →
+    IsSome attached.mark) →
+    slice_get parts.units.now (to - 1) ≡ Some unit → slice_get (expanded parts.attachments.now) (to - 1) ≡ Some attached
+    →
     paragraphs_from formats manner (take from (items_in parts)) (stretches is_inside (drop from (items_in parts)))
     ≡ record {
-      standing = standing_of unit beside.mark;
+      standing = standing_of unit attached.mark;
       values = None;
-      items = seen_range formats manner (style_of beside.mark) (items_in parts) from to;
+      items = seen_range formats manner (style_of attached.mark) (items_in parts) from to;
     } ∷ paragraphs_from formats manner (take to (items_in parts)) (stretches is_inside (drop to (items_in parts)))
 unfolding paragraphs_from
-next_left formats manner parts are from to unit beside some within inside ends unit_is last =
+next_left formats manner parts are from to unit attached some within inside ends unit_is last =
     let items = items_in parts in
     ap (paragraphs_from formats manner (take from items)) (paragraph_begins parts are from to some within inside ends)
-    ∙ (λ i. paragraph_is formats manner parts are from to unit beside some within unit_is last i
+    ∙ (λ i. paragraph_is formats manner parts are from to unit attached some within unit_is last i
     ∷ paragraphs_from formats manner (front_then items from to (omega (arith, some)) i)
     (stretches is_inside (drop to items)))
 

@@ -9,7 +9,7 @@ use Rattle.std.proofs.lemmas.Bool.{and_parts, cases_lt, le-leb, le-ltb, lt-ltb, 
 use Rattle.std.proofs.lemmas.Bool.Decides.{nat_tests}
 use Rattle.std.proofs.lemmas.List.{get_or-drop, get_or-take}
 use Rattle.std.proofs.lemmas.Option.{get_or_from_slice_get}
-use Rattle.doc_bits.proofs.ListLemmas.{get-map, there_is}
+use Rattle.doc_bits.proofs.ListLemmas.{get-map, there_is, range_split}
 use Rattle.doc_outer.specs.declared.sink.Sink.{Ghosts}
 use Rattle.doc_columns.specs.declared.walk.Parts.{Parts}
 use Rattle.doc_columns.specs.Walks.{items_in, AreParts}
@@ -20,8 +20,8 @@ use Rattle.std.proofs.lemmas.List.Elements.{All-from_get_or, filter_map-append}
 use Rattle.plain_doc.specs.declared.item.Item.{Item}
 use Rattle.plain_doc.specs.Rows.{is_on, value_in}
 use Rattle.char_formats.specs.declared.format.CharFormat.{CharFormat}
-use Rattle.doc_columns.specs.Beside.{beside_of}
-use Rattle.doc_columns.specs.declared.beside.Beside.{Beside}
+use Rattle.doc_columns.specs.Attached.{attached_of}
+use Rattle.doc_columns.specs.declared.attached.Attached.{Attached}
 use Rattle.field_links.specs.OpenFields.{after_unit, is_in_results}
 use Rattle.view_places.specs.declared.glyph.Glyph.TheVariants.{Unit}
 use Rattle.doc_view.specs.declared.paragraph.Saying.{Saying}
@@ -31,29 +31,23 @@ use Rattle.doc_view.specs.declared.reading.Seen.{Seen}
 use Rattle.doc_view.specs.declared.references.Reference.{Reference}
 use Rattle.doc_view.specs.declared.text.Course.{Course}
 use Rattle.doc_view.specs.Blocks.{IsItself, is_itself, shows_units}
-use Rattle.doc_view.specs.Course.{HasBeside, HasFormat, IsCourse, Passes, is_numbered, with_reference}
-use Rattle.doc_view.specs.Glyphs.{control_glyph, is_surrogate, is_windows, replacement, stand_in_glyph, unit_glyph, drawn_unit}
+use Rattle.doc_view.specs.Course.{HasAttached, HasFormat, IsCourse, Passes, is_numbered, with_reference}
+use Rattle.doc_view.specs.Glyphs.{control_glyph, is_windows, stand_in_glyph, unit_glyph, drawn_unit}
 use Rattle.doc_view.specs.Glyphs.{text_unit}
 use Rattle.symbol_fonts.specs.Characters.{is_sign}
 use Rattle.symbol_fonts.specs.Fonts.{symbol_font}
 use Rattle.symbol_fonts.proofs.CharacterLemmas.{sign_none}
 use Rattle.doc_view.specs.Glyphs.{windows_unit}
-use Rattle.doc_view.specs.Lines.{IsSaying, Says, begun_front, is_high, shown_after, shown_said}
+use Rattle.doc_view.specs.Lines.{IsSaying, Says, begun_front, shown_after, shown_said}
 use Rattle.doc_view.specs.Seen.{Formats, counts, is_note, reference_kind, reference_of, references_in, seen_as}
 use Rattle.doc_view.specs.Seen.{visible}
 use Rattle.doc_view.proofs.CourseLemmas.{course_on}
-use Rattle.doc_view.proofs.RangeLemmas.{one_range, range_then, seen_one, seen_range, seen_then}
+use Rattle.doc_view.proofs.RangeLemmas.{one_range, seen_one, seen_range, seen_then}
 use Rattle.doc_view.proofs.SayingLemmas.{says_shown, says_then}
+use Rattle.doc_bits.proofs.TestLemmas.{second_false, and_false, not_true}
+use Rattle.text_codes.specs.Halves.{replacement, is_high, is_surrogate}
 
 -- ---- what such a unit is not
-
-is_off : (b : Bool) → not b ≡ true → b ≡ false
-is_off true e = absurd (cc (e))
-is_off false e = refl
-
-and_off : (b : Bool) → (b && false) ≡ false
-and_off true = refl
-and_off false = refl
 
 none_by : {A : Type 0} (x : Option A) → is_some x ≡ false → x ≡ None
 none_by None e = refl
@@ -70,7 +64,7 @@ above_control unit e = (and_parts (nat_le 0x20 unit) (not (is_windows unit) && n
 no_windows : (unit : ℕ) → is_itself unit ≡ true → is_windows unit ≡ false
 no_windows unit e =
     let more = (and_parts (nat_le 0x20 unit) (not (is_windows unit) && no_part unit) e).1 in
-    is_off (is_windows unit) (and_parts (not (is_windows unit)) (no_part unit) more).0
+    not_true (is_windows unit) (and_parts (not (is_windows unit)) (no_part unit) more).0
 
 is_no_part : (unit : ℕ) → is_itself unit ≡ true → no_part unit ≡ true
 is_no_part unit e =
@@ -79,11 +73,11 @@ is_no_part unit e =
 
 no_surrogate : (unit : ℕ) → is_itself unit ≡ true → is_surrogate unit ≡ false
 no_surrogate unit e =
-    is_off (is_surrogate unit) (and_parts (not (is_surrogate unit)) (not (is_sign unit)) (is_no_part unit e)).0
+    not_true (is_surrogate unit) (and_parts (not (is_surrogate unit)) (not (is_sign unit)) (is_no_part unit e)).0
 
 no_sign : (unit : ℕ) → is_itself unit ≡ true → is_sign unit ≡ false
 no_sign unit e =
-    is_off (is_sign unit) (and_parts (not (is_surrogate unit)) (not (is_sign unit)) (is_no_part unit e)).1
+    not_true (is_sign unit) (and_parts (not (is_surrogate unit)) (not (is_sign unit)) (is_no_part unit e)).1
 
 not_below : (unit : ℕ) → nat_le 0x20 unit ≡ true → nat_lt unit 0x20 ≡ false
 not_below unit high = grind (arith, nat_tests)
@@ -101,35 +95,36 @@ abbrev pub unit_seen : CharFormat → ℕ → Seen
 unit_seen format unit = record { is_shown = true; glyph = Some (Unit unit); reference = None; format = format }
 
 -- the parts of the test
-record Shows (manner : Manner) (format : CharFormat) (front : Front) (beside : Beside) : Type 0 where
-  field : beside.fld ≡ None
-  note : reference_kind manner beside.note ≡ None
+record Shows (manner : Manner) (format : CharFormat) (front : Front) (attached : Attached) : Type 0 where
+  field : attached.fld ≡ None
+  note : reference_kind manner attached.note ≡ None
   results : front.in_results ≡ true
   seen : (manner.hidden || not format.hidden) ≡ true
   symbol : format.symbol ≡ None
   label : (is_note manner.kind && front.behind_label) ≡ false
 
-shows_by : (manner : Manner) (format : CharFormat) (front : Front) (beside : Beside) →
-    shows_units manner format front beside ≡ true → Shows manner format front beside
-shows_by manner format front beside e =
+shows_by : (manner : Manner) (format : CharFormat) (front : Front) (attached : Attached) →
+    shows_units manner format front attached ≡ true → Shows manner format front attached
+shows_by manner format front attached e =
     let label = not (is_note manner.kind && front.behind_label) in
     let symbol = not (is_some format.symbol) in
     let seen = manner.hidden || not format.hidden in
-    let note = not (is_some (reference_kind manner beside.note)) in
-    let field = not (is_some beside.fld) in
+    let note = not (is_some (reference_kind manner attached.note)) in
+    let field = not (is_some attached.fld) in
     let one = and_parts field (note && (front.in_results && (seen && (symbol && label)))) e in
     let two = and_parts note (front.in_results && (seen && (symbol && label))) one.1 in
     let three = and_parts front.in_results (seen && (symbol && label)) two.1 in
     let four = and_parts seen (symbol && label) three.1 in
     let five = and_parts symbol label four.1 in
     record {
-      field = none_by beside.fld (is_off (is_some beside.fld) one.0);
+      field = none_by attached.fld (not_true (is_some attached.fld) one.0);
       note =
-          none_by (reference_kind manner beside.note) (is_off (is_some (reference_kind manner beside.note)) two.0);
+          none_by (reference_kind manner attached.note) (not_true (is_some (reference_kind manner attached.note))
+          two.0);
       results = three.0;
       seen = four.0;
-      symbol = none_by format.symbol (is_off (is_some format.symbol) five.0);
-      label = is_off (is_note manner.kind && front.behind_label) five.1;
+      symbol = none_by format.symbol (not_true (is_some format.symbol) five.0);
+      label = not_true (is_note manner.kind && front.behind_label) five.1;
     }
 
 no_label : (note space behind : Bool) → (note && behind) ≡ false → (note && (space && behind)) ≡ false
@@ -137,15 +132,16 @@ no_label false space behind e = refl
 no_label true false behind e = refl
 no_label true true behind e = e
 
-pub seen_itself : (manner : Manner) (format : CharFormat) (front : Front) (beside : Beside) (item : Item) →
-    shows_units manner format front beside ≡ true → beside_of item ≡ beside → is_itself item.unit ≡ true →
+pub seen_itself : (manner : Manner) (format : CharFormat) (front : Front) (attached : Attached) (item : Item) →
+    shows_units manner format front attached ≡ true → attached_of item ≡ attached → is_itself item.unit ≡ true →
     seen_as manner format front item ≡ unit_seen format item.unit
-seen_itself manner format front beside item shows same itself =
-    let is = shows_by manner format front beside shows in
+seen_itself manner format front attached item shows same itself =
+    let is = shows_by manner format front attached shows in
     let unit = item.unit in
     let high = above_control unit itself in
-    let field : item.fld ≡ None = ap (λ (b : Beside). b.fld) same ∙ is.field in
-    let kind : reference_kind manner item.note ≡ None = ap (λ (b : Beside). reference_kind manner b.note) same ∙ is.note in
+    let field : item.fld ≡ None = ap (λ (b : Attached). b.fld) same ∙ is.field in
+    let kind : reference_kind manner item.note ≡ None = ap (λ (b : Attached). reference_kind manner b.note) same ∙
+    is.note in
     let two : (unit == 0x02) ≡ false = not_equal unit 0x02 (omega arith) high in
     let space : Bool = unit == 0x20 || unit == 0x09 in
     let label : (is_note manner.kind && ((unit == 0x02) || (space && front.behind_label))) ≡ false =
@@ -155,7 +151,7 @@ seen_itself manner format front beside item shows same itself =
     let mark : ((unit == 0x07) && row) ≡ false = λ i. not_equal unit 0x07 (omega arith) high i && row in
     let stand_in : (format.special && ((unit == 0x01) || (unit == 0x08))) ≡ false =
     (λ i. format.special && (not_equal unit 0x01 (omega arith) high i || not_equal unit 0x08 (omega arith) high i))
-    ∙ and_off format.special in
+    ∙ and_false format.special in
     let drawn : drawn_unit manner.fonts format unit ≡ unit =
     (λ i. if not_below unit high i then unit else text_unit manner.fonts format.font (is.symbol i) unit)
     ∙ sign_none (symbol_font manner.fonts format.font) unit (no_sign unit itself) in
@@ -190,23 +186,24 @@ behind_units course place = record course {
   };
 }
 
-pub still_shows : (manner : Manner) (format : CharFormat) (front : Front) (beside : Beside) →
-    shows_units manner format front beside ≡ true →
-    shows_units manner format (record front { behind_label = false }) beside ≡ true
-still_shows manner format front beside shows =
-    let is = shows_by manner format front beside shows in
+pub still_shows : (manner : Manner) (format : CharFormat) (front : Front) (attached : Attached) →
+    shows_units manner format front attached ≡ true →
+    shows_units manner format (record front { behind_label = false }) attached ≡ true
+still_shows manner format front attached shows =
+    let is = shows_by manner format front attached shows in
     λ i. not (is_some (is.field i)) && (not (is_some (is.note i)) && (is.results i && (is.seen i
-    && (not (is_some (is.symbol i)) && not (and_off (is_note manner.kind) i)))))
+    && (not (is_some (is.symbol i)) && not (and_false (is_note manner.kind) i)))))
 
-course_itself : (manner : Manner) (items : List Item) (course : Course) (format : CharFormat) (beside : Beside)
+course_itself : (manner : Manner) (items : List Item) (course : Course) (format : CharFormat) (attached : Attached)
     (item : Item) → IsCourse manner items course → slice_get items course.place ≡ Some item →
-    shows_units manner format course.front beside ≡ true → beside_of item ≡ beside → is_itself item.unit ≡ true →
+    shows_units manner format course.front attached ≡ true → attached_of item ≡ attached → is_itself item.unit ≡ true →
     IsCourse manner items (behind_units course (course.place + 1))
-course_itself manner items course format beside item is here shows same itself =
-    let by = shows_by manner format course.front beside shows in
+course_itself manner items course format attached item is here shows same itself =
+    let by = shows_by manner format course.front attached shows in
     let unit = item.unit in
-    let field : item.fld ≡ None = ap (λ (b : Beside). b.fld) same ∙ by.field in
-    let kind : reference_kind manner item.note ≡ None = ap (λ (b : Beside). reference_kind manner b.note) same ∙ by.note in
+    let field : item.fld ≡ None = ap (λ (b : Attached). b.fld) same ∙ by.field in
+    let kind : reference_kind manner item.note ≡ None = ap (λ (b : Attached). reference_kind manner b.note) same ∙
+    by.note in
     let two : (unit == 0x02) ≡ false = not_equal unit 0x02 (omega arith) (above_control unit itself) in
     let results : is_in_results course.fields ≡ course.front.in_results =
     ap is_in_results is.fields ∙ sym (ap (λ (f : Front). f.in_results) is.front) in
@@ -247,34 +244,34 @@ says_itself p format unit is whole itself =
 -- ---- one behind the other
 
 -- at a place there is such an item, with this beside it
-pub record IsUnitAt (items : List Item) (units : List ℕ) (beside : Beside) (place : ℕ) : Type 0 where
+pub record IsUnitAt (items : List Item) (units : List ℕ) (attached : Attached) (place : ℕ) : Type 0 where
   pub item : Item
   pub here : slice_get items place ≡ Some item
   pub unit : slice_get units place ≡ Some item.unit
-  pub same : beside_of item ≡ beside
+  pub same : attached_of item ≡ attached
   pub itself : is_itself item.unit ≡ true
 
 -- from a place on there are, up to another
-abbrev pub AreUnits : List Item → List ℕ → Beside → ℕ → ℕ → Type 0
-AreUnits items units beside from until = (k : ℕ) → from ≤ k → k < until → IsUnitAt items units beside k
+abbrev pub AreUnits : List Item → List ℕ → Attached → ℕ → ℕ → Type 0
+AreUnits items units attached from until = (k : ℕ) → from ≤ k → k < until → IsUnitAt items units attached k
 
 pub units_course : (manner : Manner) (items : List Item) (units : List ℕ) (course : Course) (format : CharFormat)
-    (beside : Beside) (n : ℕ) → IsCourse manner items course →
-    shows_units manner format course.front beside ≡ true →
-    AreUnits items units beside course.place (course.place + suc n) →
+    (attached : Attached) (n : ℕ) → IsCourse manner items course →
+    shows_units manner format course.front attached ≡ true →
+    AreUnits items units attached course.place (course.place + suc n) →
     IsCourse manner items (behind_units course (course.place + suc n))
-units_course manner items units course format beside zero is shows are =
+units_course manner items units course format attached zero is shows are =
     let one = are course.place (omega arith) (omega arith) in
-    course_itself manner items course format beside one.item is one.here shows one.same one.itself
-units_course manner items units course format beside (suc n) is shows are =
+    course_itself manner items course format attached one.item is one.here shows one.same one.itself
+units_course manner items units course format attached (suc n) is shows are =
     let place = course.place + suc n in
     let one = are place (omega arith) (omega arith) in
     let more : place + 1 ≡ course.place + suc (suc n) = omega arith in
     subst (λ (to : ℕ). IsCourse manner items (behind_units course to)) more
-    (course_itself manner items (behind_units course place) format beside one.item
-    (units_course manner items units course format beside n is shows
+    (course_itself manner items (behind_units course place) format attached one.item
+    (units_course manner items units course format attached n is shows
     (λ k low below. are k low (omega (arith, below))))
-    one.here (still_shows manner format course.front beside shows) one.same one.itself)
+    one.here (still_shows manner format course.front attached shows) one.same one.itself)
 
 -- a paragraph says units
 pub record SaysUnits (p : Saying) (seen : List Seen) (units : List ℕ) : Type 0 where
@@ -293,17 +290,17 @@ units_then p xs ys us vs one other = record {
 }
 
 unit_said : (formats : Formats) (manner : Manner) (istd : ℕ) (items : List Item) (units : List ℕ) (format : CharFormat)
-    (beside : Beside) (course : Course) (p : Saying) (one : IsUnitAt items units beside course.place) →
-    IsCourse manner items course → shows_units manner format course.front beside ≡ true →
+    (attached : Attached) (course : Course) (p : Saying) (one : IsUnitAt items units attached course.place) →
+    IsCourse manner items course → shows_units manner format course.front attached ≡ true →
     formats istd one.item.chp ≡ format → IsSaying p → p.half ≡ None →
     SaysUnits p (seen_range formats manner istd items course.place (course.place + 1))
     (slice_range units course.place (course.place + 1))
-unit_said formats manner istd items units format beside course p one is shows formed saying whole =
+unit_said formats manner istd items units format attached course p one is shows formed saying whole =
     let unit = one.item.unit in
     let seen : seen_range formats manner istd items course.place (course.place + 1) ≡ unit_seen format unit ∷ [] =
     seen_one formats manner istd items course.place one.item one.here
     ∙ (λ i. seen_as manner (formed i) (sym is.front i) one.item ∷ [])
-    ∙ ap (λ (s : Seen). s ∷ []) (seen_itself manner format course.front beside one.item shows one.same one.itself) in
+    ∙ ap (λ (s : Seen). s ∷ []) (seen_itself manner format course.front attached one.item shows one.same one.itself) in
     let range : slice_range units course.place (course.place + 1) ≡ unit ∷ [] =
     one_range units course.place unit one.unit in
     record {
@@ -314,31 +311,31 @@ unit_said formats manner istd items units format beside course p one is shows fo
     }
 
 pub units_said : (formats : Formats) (manner : Manner) (istd : ℕ) (items : List Item) (units : List ℕ)
-    (format : CharFormat) (beside : Beside) (course : Course) (p : Saying) (n : ℕ) → IsCourse manner items course →
-    shows_units manner format course.front beside ≡ true →
-    AreUnits items units beside course.place (course.place + suc n) →
+    (format : CharFormat) (attached : Attached) (course : Course) (p : Saying) (n : ℕ) → IsCourse manner items course →
+    shows_units manner format course.front attached ≡ true →
+    AreUnits items units attached course.place (course.place + suc n) →
     HasFormat formats istd items course.place (course.place + suc n) format → IsSaying p → p.half ≡ None →
     SaysUnits p (seen_range formats manner istd items course.place (course.place + suc n))
     (slice_range units course.place (course.place + suc n))
-units_said formats manner istd items units format beside course p zero is shows are has saying whole =
+units_said formats manner istd items units format attached course p zero is shows are has saying whole =
     let one = are course.place (omega arith) (omega arith) in
-    unit_said formats manner istd items units format beside course p one is shows
+    unit_said formats manner istd items units format attached course p one is shows
     (has course.place one.item (omega arith) (omega arith) one.here) saying whole
-units_said formats manner istd items units format beside course p (suc n) is shows are has saying whole =
+units_said formats manner istd items units format attached course p (suc n) is shows are has saying whole =
     let from = course.place in
     let place = from + suc n in
     let one = are place (omega arith) (omega arith) in
     let more : place + 1 ≡ from + suc (suc n) = omega arith in
     let begun = record p { begun = true } in
     let before =
-    units_said formats manner istd items units format beside course p n is shows
+    units_said formats manner istd items units format attached course p n is shows
     (λ k low below. are k low (omega (arith, below)))
     (λ k item low below here. has k item low (omega (arith, below)) here) saying whole in
     let last =
-    unit_said formats manner istd items units format beside (behind_units course place) begun one
-    (units_course manner items units course format beside n is shows
+    unit_said formats manner istd items units format attached (behind_units course place) begun one
+    (units_course manner items units course format attached n is shows
     (λ k low below. are k low (omega (arith, below))))
-    (still_shows manner format course.front beside shows)
+    (still_shows manner format course.front attached shows)
     (has place one.item (omega arith) (omega arith) one.here)
     (record { behind = λ same. absurd (cc (same)); half = saying.half }) whole in
     let low : from ≤ place = omega arith in
@@ -347,7 +344,7 @@ units_said formats manner istd items units format beside course p (suc n) is sho
     (subst (λ (x : List Seen × List ℕ). SaysUnits p x.0 x.1)
     (λ i. (
       sym (seen_then formats manner istd items from place (place + 1) low high) i,
-      sym (range_then units from place (place + 1) low high) i,
+      sym (range_split units from place (place + 1) low high) i,
     ))
     (units_then p (seen_range formats manner istd items from place)
     (seen_range formats manner istd items place (place + 1)) (slice_range units from place)
@@ -356,45 +353,46 @@ units_said formats manner istd items units format beside course p (suc n) is sho
 -- ---- the same by how many there are
 
 pub course_behind : (manner : Manner) (items : List Item) (units : List ℕ) (course : Course) (format : CharFormat)
-    (beside : Beside) (count : ℕ) → 0 < count → IsCourse manner items course →
-    shows_units manner format course.front beside ≡ true →
-    AreUnits items units beside course.place (course.place + count) →
+    (attached : Attached) (count : ℕ) → 0 < count → IsCourse manner items course →
+    shows_units manner format course.front attached ≡ true →
+    AreUnits items units attached course.place (course.place + count) →
     IsCourse manner items (behind_units course (course.place + count))
-course_behind manner items units course format beside zero some is shows are = absurd (omega (arith, some))
-course_behind manner items units course format beside (suc n) some is shows are =
-    units_course manner items units course format beside n is shows are
+course_behind manner items units course format attached zero some is shows are = absurd (omega (arith, some))
+course_behind manner items units course format attached (suc n) some is shows are =
+    units_course manner items units course format attached n is shows are
 
 said_by : (formats : Formats) (manner : Manner) (istd : ℕ) (items : List Item) (units : List ℕ) (format : CharFormat)
-    (beside : Beside) (course : Course) (p : Saying) (count : ℕ) → 0 < count → IsCourse manner items course →
-    shows_units manner format course.front beside ≡ true →
-    AreUnits items units beside course.place (course.place + count) →
+    (attached : Attached) (course : Course) (p : Saying) (count : ℕ) → 0 < count → IsCourse manner items course →
+    shows_units manner format course.front attached ≡ true →
+    AreUnits items units attached course.place (course.place + count) →
     HasFormat formats istd items course.place (course.place + count) format → IsSaying p → p.half ≡ None →
     SaysUnits p (seen_range formats manner istd items course.place (course.place + count))
     (slice_range units course.place (course.place + count))
-said_by formats manner istd items units format beside course p zero some is shows are has saying whole =
+said_by formats manner istd items units format attached course p zero some is shows are has saying whole =
     absurd (omega (arith, some))
-said_by formats manner istd items units format beside course p (suc n) some is shows are has saying whole =
-    units_said formats manner istd items units format beside course p n is shows are has saying whole
+said_by formats manner istd items units format attached course p (suc n) some is shows are has saying whole =
+    units_said formats manner istd items units format attached course p n is shows are has saying whole
 
 -- what was put of them
 pub units_pass : {K : Type 0} (sink : Ghosts K) (out next : K) (page after : Page) (p q : Saying) (formats : Formats)
-    (manner : Manner) (istd : ℕ) (items : List Item) (units : List ℕ) (format : CharFormat) (beside : Beside)
+    (manner : Manner) (istd : ℕ) (items : List Item) (units : List ℕ) (format : CharFormat) (attached : Attached)
     (course : Course) (count : ℕ) → 0 < count → IsCourse manner items course →
-    shows_units manner format course.front beside ≡ true →
-    AreUnits items units beside course.place (course.place + count) →
+    shows_units manner format course.front attached ≡ true →
+    AreUnits items units attached course.place (course.place + count) →
     HasFormat formats istd items course.place (course.place + count) format → IsSaying p → p.half ≡ None →
     q ≡ record p { begun = true } →
     Prints sink out page next after (begun_front p ++ slice_range units course.place (course.place + count)) →
     Passes sink (record { out = out; page = page; saying = p; references = course.references.list })
     (record { out = next; page = after; saying = q; references = course.references.list })
     (seen_range formats manner istd items course.place (course.place + count))
-units_pass sink out next page after p q formats manner istd items units format beside course count some is shows are has
+units_pass sink out next page after p q formats manner istd items units format attached course count some is shows are
+    has
     saying whole same prints =
     let kept = course.references.list in
     let seen = seen_range formats manner istd items course.place (course.place + count) in
     let text = begun_front p ++ slice_range units course.place (course.place + count) in
     let said =
-    said_by formats manner istd items units format beside course p count some is shows are has saying whole in
+    said_by formats manner istd items units format attached course p count some is shows are has saying whole in
     record {
       text = text;
       prints = prints;
@@ -403,11 +401,11 @@ units_pass sink out next page after p q formats manner istd items units format b
     }
 
 -- the items of such units of the columns
-pub units_at : (parts : Parts) → AreParts parts → (beside : Beside) (from until : ℕ) →
-    until ≤ length parts.units.now → HasBeside (items_in parts) from until beside →
+pub units_at : (parts : Parts) → AreParts parts → (attached : Attached) (from until : ℕ) →
+    until ≤ length parts.units.now → HasAttached (items_in parts) from until attached →
     ((k : ℕ) → from ≤ k → k < until → IsItself (slice_index parts.units.now k)) →
-    AreUnits (items_in parts) parts.units.now beside from until
-units_at parts are beside from until within has itself = λ k low below.
+    AreUnits (items_in parts) parts.units.now attached from until
+units_at parts are attached from until within has itself = λ k low below.
     let items = items_in parts in
     let units = parts.units.now in
     let one = there_is items k (omega (arith, items_long parts are, within, below)) in
@@ -425,16 +423,12 @@ units_at parts are beside from until within has itself = λ k low below.
 
 -- ---- units of a list that are characters
 
-second_off : (low high : Bool) → (low && high) ≡ false → low ≡ true → high ≡ false
-second_off true high e l = e
-second_off false high e l = absurd (cc (l))
-
 pub itself_character : (unit : ℕ) → unit < 65536 → is_itself unit ≡ true → IsScalar unit
 itself_character unit small itself = elim (cases_lt unit 0xD800) [
   | inl low ↦ rw (lt-ltb unit 0xD800 low) refl
   | inr high ↦
       let above : 0xE000 ≤ unit = ltb-false unit 0xE000
-      (second_off (nat_le 0xD800 unit) (nat_lt unit 0xE000) (no_surrogate unit itself) (le-leb 0xD800 unit high)) in
+      (second_false (nat_le 0xD800 unit) (nat_lt unit 0xE000) (no_surrogate unit itself) (le-leb 0xD800 unit high)) in
       rw (le-ltb unit 0xD800 high, le-leb 0xE000 unit above, lt-ltb unit 0x110000 (omega (arith, small))) refl
 ]
 

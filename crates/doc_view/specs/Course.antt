@@ -3,8 +3,8 @@ use Rattle.std.specs.Prelude.{◌≡◌, ℕ, ◌+◌, ◌<◌, ◌≤◌, Bool,
 use Rattle.std.specs.Prelude.{Option, Some, None, slice_get, if◌then◌else◌, false, ◌==◌, ◌-◌, ⊤}
 use Rattle.std.specs.List.{count_by}
 use Rattle.plain_doc.specs.declared.item.Item.{Item}
-use Rattle.doc_columns.specs.Beside.{beside_of}
-use Rattle.doc_columns.specs.declared.beside.Beside.{Beside}
+use Rattle.doc_columns.specs.Attached.{attached_of}
+use Rattle.doc_columns.specs.declared.attached.Attached.{Attached}
 use Rattle.char_formats.specs.declared.format.CharFormat.{CharFormat}
 use Rattle.field_links.specs.OpenFields.{open_fields, after_unit, is_in_results}
 use Rattle.doc_outer.specs.declared.sink.Sink.{Ghosts}
@@ -40,9 +40,9 @@ is_numbered None = false
 is_numbered (Some reference) = is_some reference.number
 
 -- behind an item with this unit, this beside it and this reference
-abbrev pub course_after : Course → ℕ → Beside → Option Reference → Course
-course_after course unit beside reference =
-    let fields = after_unit course.place unit beside.fld course.fields in
+abbrev pub course_after : Course → ℕ → Attached → Option Reference → Course
+course_after course unit attached reference =
+    let fields = after_unit course.place unit attached.fld course.fields in
     record course {
       place = course.place + 1;
       fields = fields;
@@ -79,6 +79,6 @@ HasFormat formats istd items from until format =
     (k : ℕ) (item : Item) → from ≤ k → k < until → slice_get items k ≡ Some item → formats istd item.chp ≡ format
 
 -- they have this beside them
-abbrev pub HasBeside : List Item → ℕ → ℕ → Beside → Type 0
-HasBeside items from until beside =
-    (k : ℕ) (item : Item) → from ≤ k → k < until → slice_get items k ≡ Some item → beside_of item ≡ beside
+abbrev pub HasAttached : List Item → ℕ → ℕ → Attached → Type 0
+HasAttached items from until attached =
+    (k : ℕ) (item : Item) → from ≤ k → k < until → slice_get items k ≡ Some item → attached_of item ≡ attached

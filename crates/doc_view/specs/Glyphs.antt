@@ -11,10 +11,7 @@ use Rattle.symbol_fonts.specs.Characters.{shown_unit}
 use Rattle.symbol_fonts.specs.Fonts.{symbol_font}
 use Rattle.view_places.specs.declared.glyph.Glyph.{Glyph}
 use Rattle.view_places.specs.declared.glyph.Glyph.TheVariants.{Unit, Tab, LineBreak, PageBreak, NoteMark, Picture, Object}
-
--- the replacement character
-abbrev pub replacement : ℕ
-replacement = 0xFFFD
+use Rattle.text_codes.specs.Halves.{replacement, is_surrogate}
 
 -- Profile: a unit from 7F to 9F is a byte of Windows-1252, and U+FFFD where that has no character
 abbrev pub windows_unit : ℕ → ℕ
@@ -62,10 +59,6 @@ abbrev pub glyph_of : SymbolFonts → CharFormat → Bool → ℕ → Option Gly
 glyph_of fonts format ends_section unit =
     if is_stand_in format unit then stand_in_glyph format else
     unit_glyph (drawn_unit fonts format unit) ends_section
-
--- a surrogate
-abbrev pub is_surrogate : ℕ → Bool
-is_surrogate unit = nat_le 0xD800 unit && nat_lt unit 0xE000
 
 -- the characters of a glyph; in a cell each break is a space, so a row is a line and its cells are its tabs
 abbrev pub glyph_text : Bool → Glyph → List ℕ

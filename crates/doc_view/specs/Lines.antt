@@ -1,6 +1,6 @@
 -- A page while it is put: what stands before a text and before its paragraphs, and what the glyphs of a paragraph come to one by
 -- one, where the first half of a character waits for the other one.
-use Rattle.std.specs.Prelude.{◌≡◌, ℕ, Bool, true, false, ◌&&◌, ◌||◌, not, nat_le, nat_lt, if◌then◌else◌}
+use Rattle.std.specs.Prelude.{◌≡◌, ℕ, Bool, true, false, ◌&&◌, ◌||◌, not, if◌then◌else◌}
 use Rattle.std.specs.Prelude.{List, [], ◌∷◌, ◌++◌, Option, Some, None, option_map}
 use Rattle.text_codes.specs.Shown.{is_pair, pair_code}
 use Rattle.view_places.specs.declared.glyph.Glyph.{Glyph}
@@ -11,13 +11,14 @@ use Rattle.doc_view.specs.declared.line.Title.TheVariants as title
 use Rattle.doc_view.specs.declared.line.Line.{Line}
 use Rattle.doc_view.specs.declared.paragraph.Saying.{Saying}
 use Rattle.doc_view.specs.declared.standing.Standing.{Standing}
-use Rattle.doc_view.specs.Glyphs.{glyph_text, glyphs_text, replacement}
+use Rattle.doc_view.specs.Glyphs.{glyph_text, glyphs_text}
 use Rattle.doc_view.specs.Labels.{opening_text}
 use Rattle.doc_view.specs.Layout.{front_at, keeps_row, ends_cell}
 use Rattle.doc_view.specs.Notes.{note_label}
 use Rattle.doc_view.specs.Headers.{header_title}
 use Rattle.doc_view.specs.declared.reading.Seen.{Seen}
 use Rattle.doc_view.specs.Seen.{some_shown, glyphs_in}
+use Rattle.text_codes.specs.Halves.{replacement, is_high}
 
 abbrev pub title_text : Title → List ℕ
 title_text title.Bare = []
@@ -35,9 +36,6 @@ line_after line standing here = record {
   in_cell = keeps_row standing && (not (ends_cell standing) && (here || line.in_cell));
   later = keeps_row standing && (ends_cell standing || line.later);
 }
-
-abbrev pub is_high : ℕ → Bool
-is_high unit = nat_le 0xD800 unit && nat_lt unit 0xDC00
 
 -- a half that waits, as a glyph, and its text where no other one follows
 abbrev pub waiting : Option ℕ → List Glyph

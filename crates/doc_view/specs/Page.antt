@@ -1,6 +1,6 @@
 -- The page of a document.
 use Rattle.std.specs.Prelude.{◌≡◌, ◌≢◌, ℕ, false, List, [], ◌++◌, drop, None, encode_utf8_all, if◌then◌else◌}
-use Rattle.prop_map.specs.Settings.{Settings}
+use Rattle.prop_map.specs.Settings.{Properties}
 use Rattle.style_sheet.specs.Sheet.{Sheet}
 use Rattle.style_sheet.specs.Chain.{kind_at}
 use Rattle.plain_doc.specs.declared.document.Document.{Document}
@@ -17,11 +17,11 @@ use Rattle.doc_view.specs.Notes.{notes_from}
 use Rattle.doc_view.specs.Headers.{headers_from}
 use Rattle.doc_view.specs.declared.reading.TextKind.TheVariants as text_kind
 
--- the format of characters with these settings in each paragraph of a style of paragraphs; others have none
+-- the format of characters with these properties in each paragraph of a style of paragraphs; others have none
 pub record AreFormats (sheet : Sheet) (formats : Formats) : Type 0 where
   pub right :
-      (istd : ℕ) (direct : Settings) → kind_at sheet istd ≡ 1 → IsCharFormat sheet istd direct (formats istd direct)
-  pub none : (istd : ℕ) (direct : Settings) → kind_at sheet istd ≢ 1 → formats istd direct ≡ format_in (λ code. None)
+      (istd : ℕ) (direct : Properties) → kind_at sheet istd ≡ 1 → IsCharFormat sheet istd direct (formats istd direct)
+  pub none : (istd : ℕ) (direct : Properties) → kind_at sheet istd ≢ 1 → formats istd direct ≡ format_in (λ code. None)
 
 -- the symbol fonts of a document
 abbrev pub fonts_of : Document → SymbolFonts

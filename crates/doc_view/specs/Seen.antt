@@ -2,7 +2,7 @@
 use Rattle.std.specs.Prelude.{ℕ, ◌+◌, ◌-◌, Bool, true, false, not, ◌&&◌, ◌||◌, ◌==◌, is_some, if◌then◌else◌}
 use Rattle.std.specs.Prelude.{List, [], ◌∷◌, ◌++◌, length, Option, Some, None, slice_get}
 use Rattle.std.specs.List.{count_by, filter_map, flat_map, list_any}
-use Rattle.prop_map.specs.Settings.{Settings}
+use Rattle.prop_map.specs.Settings.{Properties}
 use Rattle.text_codes.specs.Paragraph.{cell_mark}
 use Rattle.plain_doc.specs.declared.item.Item.{Item}
 use Rattle.plain_doc.specs.declared.item.Mark.{Mark}
@@ -104,9 +104,9 @@ seen_as manner format front item =
       format = format;
     }
 
--- the format of characters with some settings in a paragraph of a style
+-- the format of characters with some properties in a paragraph of a style
 abbrev pub Formats : Type 0
-Formats = ℕ → Settings → CharFormat
+Formats = ℕ → Properties → CharFormat
 
 -- items of a paragraph of a style, behind those in front of them
 unfoldable pub seen_from : Formats → Manner → ℕ → List Item → List Item → List Seen

@@ -1,8 +1,9 @@
 // What is visible of a unit.
 ghost use Rattle.std.specs.Prelude.{◌≡◌, ℕ, ◌+◌, ◌<◌, ◌≤◌, length, slice_index, IsTrue};
 ghost use Rattle.doc_view.specs.Blocks.{IsItself, is_itself};
-ghost use Rattle.doc_view.specs.Glyphs.{control_glyph, drawn_unit, glyph_of, is_stand_in, is_surrogate};
+ghost use Rattle.doc_view.specs.Glyphs.{control_glyph, drawn_unit, glyph_of, is_stand_in};
 ghost use Rattle.doc_view.specs.Glyphs.{is_windows, stand_in_glyph, unit_glyph, windows_unit};
+ghost use Rattle.text_codes.specs.Halves.{is_surrogate};
 
 use char_formats::CharFormat;
 use symbol_fonts::{SymbolFonts, is_sign, shown_unit};

@@ -20,11 +20,9 @@ use doc_columns::ColumnTexts;
 use doc_outer::Sink;
 use list_numbers::ParagraphValuesList;
 use page_out::Page;
+use plain_doc::SEPARATORS;
 use std::alloc::Global;
 use symbol_fonts::SymbolFonts;
-
-/// [MS-DOC] PlcfHdd: the first texts are those of the separators of notes.
-const SEPARATORS: usize = 6;
 
 /// The header texts of a document, the formats of its styles, whether hidden text is shown, and the symbol fonts.
 #[derive(Drop)]

@@ -5,12 +5,13 @@ ghost use Rattle.std.specs.Fmt.{decimal};
 ghost use Rattle.std.specs.List.{All};
 ghost use Rattle.text_codes.specs.Shown.{is_pair, pair_code};
 ghost use Rattle.std.specs.Prelude.{◌&&◌, not, option_map};
-ghost use Rattle.doc_view.specs.Glyphs.{glyphs_text, is_surrogate};
+ghost use Rattle.doc_view.specs.Glyphs.{glyphs_text};
 ghost use Rattle.doc_view.specs.Labels.{break_text, label_glyph, label_glyphs, label_text, opening_text};
-ghost use Rattle.doc_view.specs.Lines.{IsSaying, Says, glyph_said, half_text, is_high, other_said, shown_after};
+ghost use Rattle.doc_view.specs.Lines.{IsSaying, Says, glyph_said, half_text, other_said, shown_after};
 ghost use Rattle.doc_view.specs.Lines.{begun_front, first_half, first_text, saying_front, unit_in};
 ghost use Rattle.doc_view.specs.Lines.{maybe_said, maybe_waits, shown_said, unit_said, unit_waits, waits_after};
 ghost use Rattle.page_out.specs.Printed.{Prints};
+ghost use Rattle.text_codes.specs.Halves.{is_high, is_surrogate};
 
 use crate::labels::label_glyph;
 use crate::line::{Lead, Line};

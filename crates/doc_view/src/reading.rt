@@ -2,7 +2,7 @@
 ghost use Rattle.std.specs.Prelude.{◌≡◌, ◌+◌, ◌^◌, ◌<◌, ◌==◌, ◌&&◌, not};
 ghost use Rattle.text_codes.specs.Paragraph.{cell_mark};
 ghost use Rattle.plain_doc.specs.Rows.{is_on, value_in};
-ghost use Rattle.prop_map.specs.Settings.{Settings};
+ghost use Rattle.prop_map.specs.Settings.{Properties};
 ghost use Rattle.doc_columns.specs.Columns.{item_of};
 ghost use Rattle.doc_view.specs.Blocks.{shows_units};
 ghost use Rattle.doc_view.specs.Seen.{counts, is_header, is_label, is_main, is_note, is_shown, reference_kind};
@@ -12,7 +12,7 @@ use crate::Reference;
 use crate::glyph::glyph_of;
 use crate::standing::is_row_mark;
 use char_formats::CharFormat;
-use doc_columns::Beside;
+use doc_columns::Attached;
 use plain_doc::{Mark, NoteKind};
 use symbol_fonts::SymbolFonts;
 use view_places::Glyph;
@@ -85,16 +85,22 @@ pub struct Seen {
 }
 
 /// What is seen of a unit of this format, and with this beside it, behind such a front.
-pub fn see(manner: Manner, format: &CharFormat, front: Front, unit: u16, beside: &Beside) -> Seen
+pub fn see(
+    manner: Manner,
+    format: &CharFormat,
+    front: Front,
+    unit: u16,
+    attached: &Attached,
+) -> Seen
     requires { front.numbered + 1 < 2 ^ 32 }
-    ensures { (chp : Settings) → result ≡ seen_as manner format.now front (item_of unit chp beside.now) }
+    ensures { (chp : Properties) → result ≡ seen_as manner format.now front (item_of unit chp attached.now) }
 {
     let number = front.numbered + 1;
-    let kind = reference_kind(manner, beside.note);
-    let shown = is_shown(manner, format, front, unit, beside);
-    let drawn = glyph_of(manner.fonts, format, beside.sect.is_some(), unit);
+    let kind = reference_kind(manner, attached.note);
+    let shown = is_shown(manner, format, front, unit, attached);
+    let drawn = glyph_of(manner.fonts, format, attached.sect.is_some(), unit);
     let glyph = visible(kind, number, drawn);
-    let text = is_text(shown, unit, &beside.mark);
+    let text = is_text(shown, unit, &attached.mark);
     Seen {
         is_shown: is_seen(manner.kind, glyph, text),
         glyph,
@@ -116,12 +122,12 @@ pub(crate) fn shows_units(
     manner: Manner,
     format: &CharFormat,
     front: Front,
-    beside: &Beside,
+    attached: &Attached,
 ) -> bool
-    ensures { result ≡ shows_units manner format.now front beside.now }
+    ensures { result ≡ shows_units manner format.now front attached.now }
 {
-    beside.fld.is_none()
-        && reference_kind(manner, beside.note).is_none()
+    attached.fld.is_none()
+        && reference_kind(manner, attached.note).is_none()
         && front.in_results
         && (manner.hidden || !format.hidden)
         && format.symbol.is_none()
@@ -136,10 +142,16 @@ fn is_text(shown: bool, unit: u16, mark: &Option<Mark>) -> bool
 }
 
 /// Whether it is shown.
-fn is_shown(manner: Manner, format: &CharFormat, front: Front, unit: u16, beside: &Beside) -> bool
-    ensures { (chp : Settings) → result ≡ is_shown manner format.now front (item_of unit chp beside.now) }
+fn is_shown(
+    manner: Manner,
+    format: &CharFormat,
+    front: Front,
+    unit: u16,
+    attached: &Attached,
+) -> bool
+    ensures { (chp : Properties) → result ≡ is_shown manner format.now front (item_of unit chp attached.now) }
 {
-    beside.fld.is_none()
+    attached.fld.is_none()
         && front.in_results
         && (manner.hidden || !format.hidden)
         && !(manner.kind.is_note() && is_label(front, unit))

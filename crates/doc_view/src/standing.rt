@@ -108,14 +108,14 @@ pub fn is_row_mark(unit: u16, mark: &Option<Mark>) -> bool
 fn is_set(mark: &Option<Mark>, code: Code) -> bool
     ensures { result ≡ is_on (value_in mark.now code.0) }
 {
-    match setting(mark, code) {
+    match property(mark, code) {
         None => false,
         Some(value) => value.len() == 1 && value[0] == 1,
     }
 }
 
 /// The value of a mark at a code.
-fn setting(mark: &Option<Mark>, code: Code) -> Option<&[u8]>
+fn property(mark: &Option<Mark>, code: Code) -> Option<&[u8]>
     ensures { option_map (λ v. v.now) result ≡ value_in mark.now code.0 }
 {
     match mark {

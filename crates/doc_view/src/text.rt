@@ -9,7 +9,7 @@ ghost use Rattle.plain_doc.specs.declared.item.Item.{Item};
 ghost use Rattle.plain_doc.specs.RightDocument.{HoldsAtItems};
 ghost use Rattle.plain_doc.specs.RulesOfTexts.{HasParagraphStyle};
 ghost use Rattle.doc_columns.specs.Walks.{items_in, AreParts, IsWalk};
-ghost use Rattle.doc_view.specs.Course.{At, HasBeside, HasFormat, HasRoomFor, IsCourse, Passes};
+ghost use Rattle.doc_view.specs.Course.{At, HasAttached, HasFormat, HasRoomFor, IsCourse, Passes};
 ghost use Rattle.doc_view.specs.Course.{course_after, has_reference, is_numbered};
 ghost use Rattle.doc_view.specs.Layout.{layout_of, some_here};
 ghost use Rattle.doc_view.specs.Lines.{IsSaying, lead_text};
@@ -26,7 +26,7 @@ use crate::reading::{Front, Manner, NOTE_LABEL, see, shows_units};
 use crate::references::References;
 use crate::standing::{Standing, style_of};
 use char_formats::{CharFormat, StyleFormats};
-use doc_columns::{Beside, Parts, Walk, alike_from, paragraph_end};
+use doc_columns::{Attached, Parts, Walk, alike_from, paragraph_end};
 use doc_outer::Sink;
 use field_links::OpenFieldPlaces;
 use list_numbers::ParagraphValuesList;
@@ -64,7 +64,7 @@ pub struct Bounds {
 pub struct Stretch<'a> {
     pub until: usize,
     pub format: CharFormat,
-    pub beside: &'a Beside,
+    pub attached: &'a Attached,
 }
 
 impl Text<'_> {
@@ -100,8 +100,8 @@ impl Text<'_> {
         let mut line = Line::new();
         let mut number = 0;
         while course.place < len {
-            let end = paragraph_end(self.parts.besides, &mut marks, course.place, len);
-            let last = seek(self.parts.besides, &mut marks, end - 1);
+            let end = paragraph_end(self.parts.attachments, &mut marks, course.place, len);
+            let last = seek(self.parts.attachments, &mut marks, end - 1);
             let standing = Standing::of(self.parts.units[end - 1], &last.mark);
             let mut saying = Saying::new(lead, line, standing.is_in_table(), values.get(number));
             let bounds = Bounds {
@@ -122,7 +122,13 @@ impl Course {
     /// At the start of a text.
     pub fn new(references: References) -> Course
         ensures place { result.place ≡ 0 }
-        ensures walk { result.walk ≡ record { chps = record { run = 0; begin = 0 }; besides = record { run = 0; begin = 0 } } }
+        ensures walk { result.walk ≡ record {
+          chps = record { run = 0; begin = 0 };
+          attachments = record {
+            run = 0;
+            begin = 0;
+          };
+        } }
         ensures references { result.references ≡ references }
         ensures course { (manner : Manner) (items : List Item) → count_by (has_reference manner) items ≤ references.room
             → IsCourse manner items result }
@@ -171,7 +177,7 @@ impl Course {
             let stretch = Stretch {
                 until: alike.end.min(bounds.end),
                 format: text.formats.format(bounds.istd, alike.chp),
-                beside: alike.beside,
+                attached: alike.attached,
             };
             self.push_stretch(page, out, saying, text, &stretch);
         }
@@ -191,7 +197,8 @@ impl Course {
         requires saying { IsSaying saying.old }
         requires ahead { self.old.place ≤ stretch.now.until }
         requires within { stretch.now.until ≤ length text.now.parts.units.now }
-        requires beside { HasBeside (items_in text.now.parts) self.old.place stretch.now.until stretch.now.beside.now }
+        requires attached { HasAttached (items_in text.now.parts) self.old.place stretch.now.until
+            stretch.now.attached.now }
         ensures place { self.new.place ≡ stretch.now.until }
         ensures walk { self.new.walk ≡ self.old.walk }
         ensures course { IsCourse text.now.manner (items_in text.now.parts) self.new }
@@ -223,7 +230,8 @@ impl Course {
         requires saying { IsSaying saying.old }
         requires ahead { self.old.place < stretch.now.until }
         requires within { stretch.now.until ≤ length text.now.parts.units.now }
-        requires beside { HasBeside (items_in text.now.parts) self.old.place stretch.now.until stretch.now.beside.now }
+        requires attached { HasAttached (items_in text.now.parts) self.old.place stretch.now.until
+            stretch.now.attached.now }
         ensures ahead { self.old.place < self.new.place }
         ensures within { self.new.place ≤ stretch.now.until }
         ensures walk { self.new.walk ≡ self.old.walk }
@@ -255,7 +263,7 @@ impl Course {
         ensures within { self.now.place + result ≤ stretch.now.until }
         ensures whole { 0 < result → saying.now.half ≡ None }
         ensures shows { 0 < result
-            → shows_units text.now.manner stretch.now.format self.now.front stretch.now.beside.now ≡ true }
+            → shows_units text.now.manner stretch.now.format self.now.front stretch.now.attached.now ≡ true }
         ensures units { (k : ℕ) → self.now.place ≤ k → k < self.now.place + result
             → IsItself (slice_index text.now.parts.units.now k) }
     {
@@ -271,11 +279,11 @@ impl Course {
         requires within { stretch.now.until ≤ length text.now.parts.units.now }
         ensures within { self.now.place + result ≤ stretch.now.until }
         ensures shows { 0 < result
-            → shows_units text.now.manner stretch.now.format self.now.front stretch.now.beside.now ≡ true }
+            → shows_units text.now.manner stretch.now.format self.now.front stretch.now.attached.now ≡ true }
         ensures units { (k : ℕ) → self.now.place ≤ k → k < self.now.place + result
             → IsItself (slice_index text.now.parts.units.now k) }
     {
-        if !shows_units(text.manner, &stretch.format, self.front, stretch.beside) {
+        if !shows_units(text.manner, &stretch.format, self.front, stretch.attached) {
             return 0;
         }
         itself_end(text.parts.units, self.place, stretch.until) - self.place
@@ -295,7 +303,8 @@ impl Course {
         requires saying { IsSaying saying.old }
         requires ahead { self.old.place < stretch.now.until }
         requires within { stretch.now.until ≤ length text.now.parts.units.now }
-        requires beside { HasBeside (items_in text.now.parts) self.old.place stretch.now.until stretch.now.beside.now }
+        requires attached { HasAttached (items_in text.now.parts) self.old.place stretch.now.until
+            stretch.now.attached.now }
         ensures place { self.new.place ≡ self.old.place + 1 }
         ensures walk { self.new.walk ≡ self.old.walk }
         ensures course { IsCourse text.now.manner (items_in text.now.parts) self.new }
@@ -314,20 +323,20 @@ impl Course {
             &stretch.format,
             self.front,
             unit,
-            stretch.beside,
+            stretch.attached,
         );
         saying.say(page, out, &seen);
-        self.pass(unit, stretch.beside, seen.reference);
+        self.pass(unit, stretch.attached, seen.reference);
     }
 
     /// Goes behind an item.
-    pub fn pass(&mut self, unit: u16, beside: &Beside, reference: Option<Reference>)
+    pub fn pass(&mut self, unit: u16, attached: &Attached, reference: Option<Reference>)
         requires place { self.old.place + 1 < 2 ^ 32 }
         requires numbered { self.old.front.numbered + 1 < 2 ^ 32 }
         requires room { HasRoomFor self.old.references reference }
-        ensures { self.new ≡ course_after self.old unit beside.now reference }
+        ensures { self.new ≡ course_after self.old unit attached.now reference }
     {
-        self.fields.pass(self.place as u32, unit, beside.fld);
+        self.fields.pass(self.place as u32, unit, attached.fld);
         self.front = Front {
             in_results: self.fields.is_in_results(),
             behind_label: unit == NOTE_LABEL,

@@ -19,7 +19,7 @@ use char_formats::StyleFormats;
 use doc_bits::Memory;
 use doc_columns::ColumnDocument;
 use doc_outer::{OutBlock, Sink, SinkFailed};
-use list_numbers::{ParagraphValuesList, columns_paragraph_values};
+use list_numbers::{ParagraphValuesList, paragraph_values_of_columns};
 use page_out::Page;
 use std::alloc::Global;
 use symbol_fonts::SymbolFonts;
@@ -100,7 +100,7 @@ fn needs_of(alloc: Global, document: &ColumnDocument) -> Result<Needs, Memory>
 {
     Ok(Needs {
         formats: StyleFormats::of(alloc, &document.sheet)?,
-        values: columns_paragraph_values(alloc, document)?,
+        values: paragraph_values_of_columns(alloc, document)?,
         references: References::new(alloc, document.notes.len())?,
         block: OutBlock::new(alloc)?,
     })

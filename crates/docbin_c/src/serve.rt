@@ -11,13 +11,10 @@ use crate::given::GivenFiles;
 use crate::rooms::hand;
 use crate::words::words_of;
 use doc_bits::Memory;
-use doc_run::{STATUS_MEMORY, ending_of};
+use doc_run::{QUOTA_UNITS, STATUS_MEMORY, ending_of};
 use edit_guards::{Guard, UnitQuota};
 use run_stages::Ending;
 use std::alloc::Global;
-
-/// How many items the edits of a call may add, where it has the program's guard.
-const UNITS: u64 = 1_000_000;
 
 /// How a run over these words and files ends, before anything is put or printed.
 pub(crate) fn ending_over(
@@ -49,7 +46,7 @@ fn ending_under_quota(
     ensures read { IfOk result (λ e. e.status ≢ 4) }
 {
     let mut guards: Vec<Box<dyn Guard>> = Vec::new(alloc);
-    let quota = Box::new(alloc, UnitQuota::new(UNITS))?;
+    let quota = Box::new(alloc, UnitQuota::new(QUOTA_UNITS))?;
     guards.push(quota)?;
     ending_of(alloc, words, files, &mut guards)
 }

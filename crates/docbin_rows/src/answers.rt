@@ -2,7 +2,7 @@
 use doc_bits::Where;
 use edit_ops::{EditFault, Facts};
 use fast_save::{FastFault, Ledgers};
-use row_lines::RowFault;
+use row_language::RowFault;
 use std::alloc::Global;
 
 /// The line on an answer.

@@ -9,7 +9,7 @@ use doc_show::listing;
 use edit_ops::{Command, EditFault, Facts, apply_plain, test};
 use full_save::{SaveFault, full};
 use plain_doc::{Document, blank, check, equal};
-use row_lines::RowFault;
+use row_language::RowFault;
 use std::alloc::Global;
 
 /// A document by itself.

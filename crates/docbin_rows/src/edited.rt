@@ -8,7 +8,7 @@ use doc_bits::Bytes;
 use doc_outer::{MemShelf, MemSink};
 use edit_ops::{Command, EditFault, Facts, Script, ScriptFault, read_script};
 use fast_save::FastFault;
-use row_lines::{Mode, RowFault, Subject};
+use row_language::{Mode, RowFault, Subject};
 use std::alloc::Global;
 
 /// The member that ends each script.

@@ -1,7 +1,7 @@
 // Edits of what is watched: both calls answer alike, and what refuses is what it was.
 use doc_bits::Memory;
 use edit_ops::{Command, EditFault, Facts};
-use row_lines::RowFault;
+use row_language::RowFault;
 use std::alloc::Global;
 
 /// What commands are tried on and made on: a document, or a session on a file.

@@ -12,7 +12,7 @@ mod session;
 use edited::Edited;
 use fast_save::Session;
 use plain_doc::Document;
-use row_lines::play;
+use row_language::play;
 use std::process::ExitCode;
 
 /// Plays the lines of the standard input. The status is 0 where each was understood.

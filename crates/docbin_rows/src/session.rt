@@ -10,7 +10,7 @@ use edit_ops::{Command, EditFault, Facts};
 use fast_save::{FastFault, Ledgers, Session};
 use full_save::SaveFault;
 use plain_doc::{Document, equal};
-use row_lines::{Mode, RowFault};
+use row_language::{Mode, RowFault};
 use std::alloc::Global;
 
 /// The units, runs and sections that a session may have counted before an edit.

@@ -4,7 +4,7 @@
 mod fitted;
 
 use fitted::Fitted;
-use row_lines::play;
+use row_language::play;
 use std::process::ExitCode;
 
 /// Plays the lines of the standard input. The status is 0 where each was understood.

@@ -6,7 +6,7 @@ use Rattle.doc_bits.specs.Places.{Upto}
 use Rattle.doc_bits.proofs.RuleLemmas.{hold_or_first}
 use Rattle.doc_outer.specs.Held.{Files}
 use Rattle.plain_doc.specs.declared.document.Document.{Document}
-use Rattle.doc_load.specs.FileRules.{FileText}
+use Rattle.file_rules.specs.FileRules.{FileText}
 use Rattle.loss_report.specs.Features.{Inventory}
 use Rattle.full_save.specs.Layout.{full_save_image}
 use Rattle.run_stages.specs.Outcomes.{Outcome, puts}

@@ -11,12 +11,12 @@ ghost use Rattle.docfit_run.specs.Fitted.{FitsFile, JudgesFit, IsSaved, fit_repo
 
 use crate::lines::{fit_line, needs_line};
 use crate::status::STATUS_TOO_LARGE;
-use doc_bits::{Bytes, Memory, Text};
+use doc_bits::{Bytes, Memory, Text, drop_then};
 use doc_columns::columns_are_formed;
 use doc_fit::{OpenedAny, open_any, refusal};
 use doc_mends::push_mends;
 use doc_outer::Shelf;
-use full_save::{SaveFault, full_by_columns};
+use full_save::{SaveFault, full_of_columns};
 use run_stages::{Ending, FilePut, Stage, take_file};
 use std::alloc::Global;
 
@@ -53,18 +53,10 @@ fn fit_file(alloc: Global, name: &str, file: &[u8], out: &str) -> Result<Ending,
     match open_any(alloc, file) {
         Ok(opened) => {
             let ending = save(alloc, &opened, out);
-            let_go(opened, ending)
+            drop_then(opened, ending)
         }
         Err(fault) => refusal(alloc, name, file, fault),
     }
-}
-
-/// An answer, once a value is let go.
-fn let_go<T: Drop, A>(value: T, answer: A) -> A
-    ensures { result ≡ answer }
-{
-    drop(value);
-    answer
 }
 
 /// Saves the document that was opened, and names what is left out and what is mended.
@@ -75,8 +67,8 @@ fn save(alloc: Global, opened: &OpenedAny, out: &str) -> Result<Ending, Memory>
 {
     let document = &opened.lifted.document;
     columns_are_formed(document);
-    match full_by_columns(alloc, document) {
-        Ok(bytes) => fitted(alloc, bytes, opened, out),
+    match full_of_columns(alloc, document) {
+        Ok(bytes) => put_ending(alloc, bytes, opened, out),
         Err(SaveFault::TooLarge { sectors }) => too_large(alloc, sectors),
         Err(SaveFault::Memory) => Err(Memory),
     }
@@ -91,7 +83,7 @@ fn too_large(alloc: Global, sectors: u64) -> Result<Ending, Memory>
 }
 
 /// The ending that puts the bytes, and prints what is told of what was opened.
-fn fitted(alloc: Global, bytes: Bytes, opened: &OpenedAny, out: &str) -> Result<Ending, Memory>
+fn put_ending(alloc: Global, bytes: Bytes, opened: &OpenedAny, out: &str) -> Result<Ending, Memory>
     ensures { IfOk result (λ e.
         e ≡ puts (fit_report (length bytes) opened.now.losses opened.now.mends.items) out.now bytes) }
 {

@@ -149,14 +149,14 @@ pub fn ending_of<S: Shelf>(alloc: Global, words: &[String], shelf: &mut S) -> Re
 {
     match asked_by(words) {
         Some(Asked::Fit { file, out }) => fit_name(alloc, shelf, file, out),
-        Some(Asked::Help) => said(alloc, STATUS_DONE, HELP),
-        Some(Asked::Version) => said(alloc, STATUS_DONE, VERSION),
-        None => said(alloc, STATUS_USAGE, USAGE),
+        Some(Asked::Help) => print_ending(alloc, STATUS_DONE, HELP),
+        Some(Asked::Version) => print_ending(alloc, STATUS_DONE, VERSION),
+        None => print_ending(alloc, STATUS_USAGE, USAGE),
     }
 }
 
 /// The ending that prints a text.
-fn said(alloc: Global, status: u8, text: &str) -> Result<Ending, Memory>
+fn print_ending(alloc: Global, status: u8, text: &str) -> Result<Ending, Memory>
     ensures { IfOk result (λ ending. ending ≡ says status text.now) }
 {
     let mut said = Text::new(alloc);

@@ -3,7 +3,7 @@
 
 mod shown;
 
-use row_lines::play;
+use row_language::play;
 use shown::Shown;
 use std::process::ExitCode;
 

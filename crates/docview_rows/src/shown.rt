@@ -2,7 +2,7 @@
 use doc_bits::Bytes;
 use doc_outer::{MemShelf, MemSink, write_all};
 use docview_run::docview_run;
-use row_lines::{Mode, RowFault, Subject};
+use row_language::{Mode, RowFault, Subject};
 use run_stages::STATUS_MEMORY;
 use std::alloc::Global;
 

@@ -22,18 +22,18 @@ use Rattle.docview_run.specs.Laws.{CanView, FilesAreShown}
 use Rattle.docview_run.proofs.OneLemmas.{ShowsBytes, read_bytes}
 
 -- a file has a document in a view
-abbrev IsRight : Bool → List ℕ → Type 0
-IsRight strict file = IsAccepted file ⊎ ((strict ≡ false) × Hold (fit_rules file))
+abbrev IsValid : Bool → List ℕ → Type 0
+IsValid strict file = IsAccepted file ⊎ ((strict ≡ false) × Hold (fit_rules file))
 
 -- such a file is not too long
-not_long : (strict : Bool) (file : List ℕ) → IsRight strict file → longest_file < length file → ⊥
+not_long : (strict : Bool) (file : List ℕ) → IsValid strict file → longest_file < length file → ⊥
 not_long strict file (inl hold) long =
     hold.0.0.0.0 (File, 7143937) (refl, record { here = omega (arith, long); wrong = inr (inr long) })
 not_long strict file (inr (is, hold)) long =
     hold.0.0.0.0 (File, 7143937) (refl, record { here = omega (arith, long); wrong = inr (inr long) })
 
 -- and has no reason to be refused
-not_refused : (strict : Bool) (file name : List ℕ) (outcome : Outcome) → AreBytes file → IsRight strict file →
+not_refused : (strict : Bool) (file name : List ℕ) (outcome : Outcome) → AreBytes file → IsValid strict file →
     IsNotViewed strict file name outcome → ⊥
 not_refused strict file name outcome bytes (inl hold) (inl (is, x)) =
     hold_or_first Upto (all_rules file) x.rule x.place (all_single file) hold x.first
@@ -43,7 +43,7 @@ not_refused strict file name outcome bytes (inr (other, hold)) (inr (is, x)) =
     let refused = x.ends in
     hold_or_first Upto (fit_rules file) refused.rule refused.place (fit_single file bytes) hold refused.first
 
-shown_done : (view : View) (name file : List ℕ) (outcome : Outcome) → AreBytes file → IsRight view.strict file →
+shown_done : (view : View) (name file : List ℕ) (outcome : Outcome) → AreBytes file → IsValid view.strict file →
     ShowsFile view name file outcome → outcome.status ≡ 0
 shown_done view name file outcome bytes right (inl not) =
     absurd (not_refused view.strict file name outcome bytes right not)

@@ -11,9 +11,9 @@ use Rattle.doc_outer.proofs.CountLemmas.{Rose-after}
 use Rattle.doc_outer.proofs.HeldLemmas.{StaysAt-refl}
 use Rattle.doc_outer.proofs.WrittenLemmas.{Appends-nil}
 use Rattle.plain_doc.specs.declared.document.Document.{Document}
-use Rattle.doc_load.specs.Faults.{IsReadFault}
-use Rattle.doc_load.specs.declared.fault.ReadFault.{ReadFault}
-use Rattle.doc_load.specs.declared.fault.ReadFault.TheVariants.{Refused, Memory as NoMemory}
+use Rattle.file_rules.specs.Faults.{IsReadFault}
+use Rattle.file_rules.specs.declared.fault.ReadFault.{ReadFault}
+use Rattle.file_rules.specs.declared.fault.ReadFault.TheVariants.{Refused, Memory as NoMemory}
 use Rattle.doc_read.specs.Holds.{IsAccepted, all_rules}
 use Rattle.doc_read.specs.Opened.{IsOpened, OpenedFile}
 use Rattle.doc_fit.specs.declared.opening.OpenedAny.{OpenedAny}

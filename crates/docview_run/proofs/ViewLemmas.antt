@@ -1,5 +1,5 @@
 -- A file is shown, or it has no document.
-use Rattle.std.proofs.Common.{◌≡◌, ◌⊎◌, ℕ, List, Bool, true, false, not, refl, sym, inl, inr, arith}
+use Rattle.std.proofs.Common.{◌≡◌, ◌⊎◌, ℕ, List, true, false, not, refl, inl, inr, arith}
 use Rattle.doc_bits.specs.Number.{AreBytes}
 use Rattle.doc_bits.specs.Places.{Place, IsFirstPlace, Upto}
 use Rattle.doc_bits.proofs.RuleLemmas.{hold_or_first}
@@ -60,14 +60,6 @@ pub not_accepted : (file : List ℕ) (rule : ℕ) (place : Place) → IsFirstPla
     ¬ (IsAccepted file)
 not_accepted file rule place first accepted =
     hold_or_first Upto (all_rules file) rule place (all_single file) accepted first
-
-pub strict_by : (strict : Bool) → not strict ≡ false → strict ≡ true
-strict_by true is = refl
-strict_by false is = sym is
-
-pub lifts_by : (strict : Bool) → not strict ≡ true → strict ≡ false
-lifts_by true is = sym is
-lifts_by false is = refl
 
 -- a rule is broken, in a strict view
 pub refused_ends : {K : Type 0} (sink : Ghosts K) (out : K) (name file : List ℕ) (view : View) (rule : ℕ)

@@ -2,7 +2,7 @@
 ghost use Rattle.std.specs.Prelude.{◌≡◌, ◌≢◌, MatchResult};
 ghost use Rattle.doc_bits.specs.Number.{AreBytes};
 ghost use Rattle.doc_bits.specs.Rules.{Hold};
-ghost use Rattle.doc_load.specs.Faults.{IsReadFault};
+ghost use Rattle.file_rules.specs.Faults.{IsReadFault};
 ghost use Rattle.property_text.specs.Printable.{HasNoControls};
 ghost use Rattle.run_stages.specs.Leaves.{IsCaused, IsOnlyRead};
 ghost use Rattle.docview_run.specs.Endings.{IsOfFile, RunEnds};
@@ -11,8 +11,8 @@ ghost use Rattle.docview_run.specs.FileProperties.{PropertiesOf, ShowsProperties
 use crate::run::{PROGRAM, print, tell_refusal};
 use cfb_streams::Container;
 use doc_bits::Text;
-use doc_load::{ReadFault, refused_container};
 use doc_outer::{Shelf, Sink};
+use file_rules::{ReadFault, refused_container};
 use property_text::{PropertyForm, SummaryStreams, property_page};
 use run_stages::{STATUS_MEMORY, STATUS_REFUSED, Stage, take_file, tell_reason, why_refused};
 use std::alloc::Global;

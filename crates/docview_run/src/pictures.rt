@@ -16,10 +16,10 @@ use crate::run::{PROGRAM, show_file, tell};
 use cfb_streams::Container;
 use doc_columns::ColumnDocument;
 use doc_fit::open_any;
-use doc_load::ReadFault;
 use doc_outer::{Shelf, Sink};
 use doc_pictures::{Album, AlbumFault, pictures_of, write_pictures};
 use doc_read::open;
+use file_rules::ReadFault;
 use run_stages::{STATUS_MEMORY, STATUS_SHELF_FAULT, Stage, take_file, tell_reason};
 use std::alloc::Global;
 

@@ -22,11 +22,11 @@ use crate::{Form, View};
 use doc_bits::{Memory, Where};
 use doc_columns::ColumnDocument;
 use doc_html::write_html;
-use doc_load::ReadFault;
 use doc_markdown::write_markdown;
 use doc_outer::{Shelf, Sink, write_all};
 use doc_read::open;
 use doc_view::{ViewFault, write_page};
+use file_rules::ReadFault;
 use run_stages::{
     STATUS_DONE, STATUS_MEMORY, STATUS_REFUSED, STATUS_SINK_FAULT, STATUS_USAGE, Stage, part_name,
     reason_of_name, take_file, tell_reason, why_refused,

@@ -214,7 +214,7 @@ fn is_strict(view: View, word: &str) -> bool
     !view.strict && word == "--strict"
 }
 
-/// The same with hidden text.
+/// The page with hidden text.
 fn with_hidden(view: View) -> View
     ensures { result ≡ with_hidden view }
 {
@@ -228,7 +228,7 @@ fn with_hidden(view: View) -> View
     }
 }
 
-/// The same with header texts.
+/// The page with header texts.
 fn with_headers(view: View) -> View
     ensures { result ≡ with_headers view }
 {
@@ -352,7 +352,7 @@ fn asked_in_form<'a>(view: View, form: &str, file: &'a str) -> Option<Asked<'a>>
     None
 }
 
-/// The same in another form.
+/// The page in another form.
 fn with_form(view: View, form: Form) -> View
     ensures { result ≡ record view { form = form } }
 {

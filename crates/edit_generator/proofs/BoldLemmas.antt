@@ -1,4 +1,4 @@
--- The settings of what is generated: none, or bold.
+-- The properties of what is generated: none, or bold.
 use Rattle.std.proofs.Common.{◌≡◌, ◌∙◌, refl, sym, ap, inl, inr, ℕ, Bool, true, false, cond, not, List, [], ◌∷◌}
 use Rattle.std.proofs.Common.{Option, Some, None}
 use Rattle.std.specs.Ordering.{nat_cmp, eq_by_cmp}
@@ -7,27 +7,24 @@ use Rattle.std.specs.Option.{option_or}
 use Rattle.std.specs.FinMap.{get, empty, retain_keys, get-empty, get-insert}
 use Rattle.std.proofs.lemmas.Bool.{eqb-true}
 use Rattle.sprm_table.specs.Codes.{is_among}
-use Rattle.prop_map.specs.Settings.{Settings}
+use Rattle.prop_map.specs.Settings.{Properties}
 use Rattle.prop_map.specs.Overlay.{overlay, without, modified_characters}
 use Rattle.prop_map.proofs.ChangeLemmas.{get-retained}
-use Rattle.prop_map.proofs.MapLemmas.{same_settings, get-overlay, overlay-empty}
+use Rattle.prop_map.proofs.MapLemmas.{same_properties, get-overlay, overlay-empty}
 use Rattle.edit_ops.specs.Fresh.{special_codes}
-use Rattle.edit_ops.specs.Edits.{setting_characters}
+use Rattle.edit_ops.specs.Edits.{property_characters}
 use Rattle.edit_generator.specs.GeneratedDocuments.{bold, IsBoldOrNone}
+use Rattle.edit_ops.proofs.WithoutLemmas.{nothing_kept}
 
 -- ---- what a test of codes leaves
 
-nothing : (b : Bool) (o : Option (List ℕ)) → o ≡ None → cond b o None ≡ None
-nothing true o e = e
-nothing false o e = refl
-
-abbrev pub kept_by : (ℕ → Bool) → Settings → Settings
+abbrev pub kept_by : (ℕ → Bool) → Properties → Properties
 kept_by p map = retain_keys map p
 
 pub none_kept : (p : ℕ → Bool) → kept_by p empty ≡ empty
-none_kept p = same_settings (kept_by p empty) empty (λ code.
+none_kept p = same_properties (kept_by p empty) empty (λ code.
     get-retained empty p code
-    ∙ (nothing (p code) (get empty code) (get-empty nat_cmp code) ∙ sym (get-empty nat_cmp code)))
+    ∙ (nothing_kept (p code) (get empty code) (get-empty nat_cmp code) ∙ sym (get-empty nat_cmp code)))
 
 abbrev one_value : Bool → Option (List ℕ)
 one_value here = cond here (Some (1 ∷ [])) None
@@ -45,16 +42,16 @@ kept : (p : ℕ → Bool) (code : ℕ) (here : Bool) → eq_by_cmp nat_cmp code 
 kept p code true same keeps =
     let is : code ≡ 0x0835 = eqb-true code 0x0835 (sym (unsigned_tied code 0x0835) ∙ same) in
     passed (p code) (Some (1 ∷ [])) (ap p is ∙ keeps)
-kept p code false same keeps = nothing (p code) None refl
+kept p code false same keeps = nothing_kept (p code) None refl
 
 bold_kept : (p : ℕ → Bool) → p 0x0835 ≡ true → kept_by p bold ≡ bold
-bold_kept p keeps = same_settings (kept_by p bold) bold (λ code.
+bold_kept p keeps = same_properties (kept_by p bold) bold (λ code.
     get-retained bold p code
     ∙ (ap (λ o. cond (p code) o None) (value_at code)
     ∙ (kept p code (eq_by_cmp nat_cmp code 0x0835) refl keeps ∙ sym (value_at code))))
 
 -- none makes a unit special
-pub plain : (chp : Settings) → IsBoldOrNone chp → without special_codes chp ≡ chp
+pub plain : (chp : Properties) → IsBoldOrNone chp → without special_codes chp ≡ chp
 plain chp (inl none) = ap (without special_codes) none
     ∙ (none_kept (λ code. not (is_among code special_codes)) ∙ sym none)
 plain chp (inr is) = ap (without special_codes) is
@@ -66,9 +63,9 @@ same_or : (o : Option (List ℕ)) → option_or o o ≡ o
 same_or None = refl
 same_or (Some value) = refl
 
-twice : (map : Settings) → overlay map map ≡ map
-twice map = same_settings (overlay map map) map (λ code. get-overlay map map code ∙ same_or (get map code))
+twice : (map : Properties) → overlay map map ≡ map
+twice map = same_properties (overlay map map) map (λ code. get-overlay map map code ∙ same_or (get map code))
 
-pub set_bold : (chp : Settings) → IsBoldOrNone chp → modified_characters (setting_characters bold) chp ≡ bold
+pub set_bold : (chp : Properties) → IsBoldOrNone chp → modified_characters (property_characters bold) chp ≡ bold
 set_bold chp (inl none) = ap (overlay bold) none ∙ overlay-empty bold
 set_bold chp (inr is) = ap (overlay bold) is ∙ twice bold

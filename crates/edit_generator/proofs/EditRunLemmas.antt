@@ -19,18 +19,18 @@ use Rattle.doc_parts.specs.Bookmarks.{moved_bookmarks}
 use Rattle.plain_doc.specs.declared.item.Item.{Item}
 use Rattle.plain_doc.specs.declared.item.Mark.{Mark}
 use Rattle.plain_doc.specs.declared.document.Document.{Document}
-use Rattle.plain_doc.specs.Settings.{same_settings, is_alike, is_inside}
-use Rattle.plain_doc.proofs.SettingsLemmas.{same_settings-Decides}
+use Rattle.plain_doc.specs.Settings.{same_properties, is_alike, is_inside}
+use Rattle.plain_doc.proofs.SettingsLemmas.{same_properties-Decides}
 use Rattle.full_save.specs.Text.{with_mark, note_story, head_story, text_items}
 use Rattle.full_save.specs.Runs.{joins_run}
 use Rattle.full_save.specs.WordDocument.{text_at}
 use Rattle.full_save.proofs.StreamLengths.{length-runs_from}
 use Rattle.plain_doc.specs.Stretches.{stretches}
-use Rattle.edit_ops.specs.Fresh.{base_of, base_settings, plain_end, unit_item, unit_items}
+use Rattle.edit_ops.specs.Fresh.{base_of, base_properties, plain_end, unit_item, unit_items}
 use Rattle.edit_ops.specs.Fresh.{inserted_items, split_item}
-use Rattle.edit_changes.specs.Places.{mark_place}
-use Rattle.edit_changes.specs.Changes.{map_range, modified_item, modified_mark}
-use Rattle.edit_ops.specs.Edits.{setting_characters, naming_style}
+use Rattle.doc_patch.specs.Places.{mark_place}
+use Rattle.doc_patch.specs.Changes.{map_range, modified_item, modified_mark}
+use Rattle.edit_ops.specs.Edits.{property_characters, naming_style}
 use Rattle.edit_generator.specs.FewRuns.{runs_of, IsPlainAt, EditsAddFewRuns}
 use Rattle.edit_generator.proofs.RunCountLemmas.{count, StandsFor, one_more_put, none_put, several_put, count_changed}
 use Rattle.edit_generator.proofs.RunCountLemmas.{count_keys}
@@ -80,7 +80,7 @@ module _ (main : List Item) (at : ℕ) (there : IsPlainAt main at) (rest : List 
 
 stands_for : (kind : PageKind) (item : Item) (unit : ℕ) → StandsFor (joins_run kind) (unit_item item.chp unit) item
 stands_for Chpx item unit = record {
-  joined = (same_settings-Decides item.chp item.chp).1 refl;
+  joined = (same_properties-Decides item.chp item.chp).1 refl;
   alike = λ w. refl;
 }
 stands_for Papx item unit = record { joined = refl; alike = λ w. refl }
@@ -91,8 +91,8 @@ inserted_are [] at text there = let within = slice_get_within [] at there.item t
     absurd (omega (arith, within))
 inserted_are (first ∷ main) at text there =
     cond_both (length (first ∷ main) == 0) (unit_items empty text ++ plain_end ∷ plain_end ∷ [])
-    (unit_items (base_settings (first ∷ main) at) text)
-    (λ items. items ≡ unit_items (base_settings (first ∷ main) at) text)
+    (unit_items (base_properties (first ∷ main) at) text)
+    (λ items. items ≡ unit_items (base_properties (first ∷ main) at) text)
     (λ e. let none = eqb-true (length (first ∷ main)) 0 e in absurd (omega (arith, none))) (λ e. refl)
     ∙ ap (λ chp. unit_items chp text) (ap base_of there.here ∙ there.plain)
 
@@ -115,8 +115,8 @@ split_chp main at there = ap base_of there.here ∙ there.plain
 split_stands : (main : List Item) (at : ℕ) (there : IsPlainAt main at) → StandsFor is_alike (split_item main at)
     there.item
 split_stands main at there = record {
-  joined = (same_settings-Decides (split_item main at).chp there.item.chp).1 (split_chp main at there);
-  alike = λ w. ap (same_settings w.chp) (split_chp main at there);
+  joined = (same_properties-Decides (split_item main at).chp there.item.chp).1 (split_chp main at there);
+  alike = λ w. ap (same_properties w.chp) (split_chp main at there);
 }
 
 split_characters : (main : List Item) (at : ℕ) (there : IsPlainAt main at) (rest : List Item) →
@@ -181,8 +181,8 @@ keys_stay key joins f main from to rest ordered same =
 alike_still : (modifier : Modifier) (x y : Item) → is_alike x y ≡ true → is_alike (modified_item modifier x)
     (modified_item modifier y) ≡ true
 alike_still modifier x y joined =
-    (same_settings-Decides (modified_characters modifier x.chp) (modified_characters modifier y.chp)).1
-    (ap (modified_characters modifier) ((same_settings-Decides x.chp y.chp).0 joined))
+    (same_properties-Decides (modified_characters modifier x.chp) (modified_characters modifier y.chp)).1
+    (ap (modified_characters modifier) ((same_properties-Decides x.chp y.chp).0 joined))
 
 characters_set : (modifier : Modifier) (main : List Item) (from to : ℕ) (rest : List Item) → from ≤ to →
     count is_alike (map_range (modified_item modifier) main from to ++ rest) ≤ count is_alike (main ++ rest) + 2
@@ -209,7 +209,7 @@ paragraphs_stay modifier main from to rest ordered =
 characters_stay : (istd : ℕ) (main : List Item) (from to : ℕ) (rest : List Item) → from ≤ to →
     count is_alike (map_range (modified_item (naming_style istd)) main from to ++ rest) ≡ count is_alike (main ++ rest)
 characters_stay istd main from to rest ordered =
-    keys_stay (λ item. item.chp) same_settings (modified_item (naming_style istd)) main from to rest ordered
+    keys_stay (λ item. item.chp) same_properties (modified_item (naming_style istd)) main from to rest ordered
     (λ item. empty-overlay item.chp)
 
 style_named : (kind : PageKind) (main : List Item) (at istd : ℕ) (rest : List Item) → count (joins_run kind)
@@ -243,15 +243,15 @@ few_added = record {
       let one = split_paragraphs document.main at there (behind document) in
       omega (arith, after, now, one);
   characters = λ document from to set ordered.
-      let set_main = map_range (modified_item (setting_characters set)) document.main from to in
+      let set_main = map_range (modified_item (property_characters set)) document.main from to in
       let after = runs_with Chpx document set_main document.bookmarks in
       let now = runs_now Chpx document in
-      let two = characters_set (setting_characters set) document.main from to (behind document) ordered in
+      let two = characters_set (property_characters set) document.main from to (behind document) ordered in
       omega (arith, after, now, two);
   paragraphs = λ document from to set ordered.
-      let set_main = map_range (modified_item (setting_characters set)) document.main from to in
+      let set_main = map_range (modified_item (property_characters set)) document.main from to in
       runs_with Papx document set_main document.bookmarks
-      ∙ (paragraphs_stay (setting_characters set) document.main from to (behind document) ordered ∙ sym (runs_now Papx
+      ∙ (paragraphs_stay (property_characters set) document.main from to (behind document) ordered ∙ sym (runs_now Papx
       document));
   style = λ kind document at istd.
       let place = mark_place document.main at in

@@ -18,8 +18,8 @@ use Rattle.cfb_layout.proofs.BytesLemmas.{length-padded}
 use Rattle.plain_doc.specs.declared.document.Document.{Document}
 use Rattle.plain_doc.specs.Collected.{sections_of}
 use Rattle.plain_doc.specs.Formed.{IsFormed}
-use Rattle.plain_doc.specs.RightDocument.{IsRightDocument}
-use Rattle.plain_doc.proofs.RightLemmas.{sound_is_right}
+use Rattle.plain_doc.specs.RightDocument.{IsValidDocument}
+use Rattle.plain_doc.proofs.RightLemmas.{sound_is_valid}
 use Rattle.full_save.specs.Text.{text_items}
 use Rattle.full_save.specs.Sections.{sepxes}
 use Rattle.full_save.specs.Streams.{put_stream, saved_streams}
@@ -57,7 +57,7 @@ layout_is table wd others none = ap (λ streams. lengths_of (saved_streams table
 
 -- ---- the parts of WordDocument
 
-module _ (document : Document) (formed : IsFormed document) (right : IsRightDocument document)
+module _ (document : Document) (formed : IsFormed document) (right : IsValidDocument document)
     (small : IsSmallDocument document) where
   few_pages : (kind : PageKind) → length (document_pages kind document).starts ≤ runs_of kind document
   few_pages kind = (whole_pages kind document formed right).few
@@ -122,4 +122,4 @@ module _ (document : Document) (formed : IsFormed document) (right : IsRightDocu
       }
 
 pub small_saves : SmallDocumentsHaveSmallSaves
-small_saves document formed sound small = small_save document formed (sound_is_right document sound) small
+small_saves document formed sound small = small_save document formed (sound_is_valid document sound) small

@@ -31,12 +31,12 @@ use Rattle.full_save.specs.Runs.{joins_run}
 use Rattle.full_save.specs.WordDocument.{text_at, full_text, table_stream}
 use Rattle.full_save.proofs.StreamLengths.{length-runs_from}
 use Rattle.edit_script.specs.declared.commands.Command.TheVariants.{Insert, Char, Style, Split}
-use Rattle.edit_ops.specs.Fresh.{base_of, base_settings, unit_item, unit_items, inserted_items, split_item}
-use Rattle.edit_changes.specs.Places.{mark_place}
-use Rattle.edit_changes.specs.Changes.{map_range, modified_item}
-use Rattle.edit_ops.specs.Edits.{setting_characters, naming_style, document_after}
+use Rattle.edit_ops.specs.Fresh.{base_of, base_properties, unit_item, unit_items, inserted_items, split_item}
+use Rattle.doc_patch.specs.Places.{mark_place}
+use Rattle.doc_patch.specs.Changes.{map_range, modified_item}
+use Rattle.edit_ops.specs.Edits.{property_characters, naming_style, document_after}
 use Rattle.edit_ops.specs.Ranges.{IsInRange}
-use Rattle.edit_ops.specs.Codes.{IsPutUnit, HasRightCodes}
+use Rattle.edit_ops.specs.Codes.{IsPutUnit, HasValidCodes}
 use Rattle.edit_ops.specs.Causes.{IsAcceptedEdit}
 use Rattle.edit_generator.specs.Generated.{line_text, edit_of_rest}
 use Rattle.edit_generator.specs.FewRuns.{runs_of, IsPlainAt}
@@ -75,9 +75,9 @@ plain_there main at within text =
     let is = All_at IsGeneratedItem main at found.0 text.each found.1 in
     record { item = found.0; here = found.1; plain = plain found.0.chp is.chp }
 
-settings_there : (main : List Item) (at : ℕ) (there : IsPlainAt main at) → IsGeneratedText main →
+properties_there : (main : List Item) (at : ℕ) (there : IsPlainAt main at) → IsGeneratedText main →
     IsBoldOrNone there.item.chp
-settings_there main at there text = (All_at IsGeneratedItem main at there.item text.each there.here).chp
+properties_there main at there text = (All_at IsGeneratedItem main at there.item text.each there.here).chp
 
 -- ---- the document after it
 
@@ -114,7 +114,7 @@ module _ (edits at : ℕ) (document : Document) (within : at < length document.m
         let fresh = inserted_are main at text there in
         let items = unit_items chp text in
         let put = put_generated main items at within is.text
-        (letters chp text (settings_there main at there is.text) (line_printed (edits + 1) some (omega (arith, few))))
+        (letters chp text (properties_there main at there is.text) (line_printed (edits + 1) some (omega (arith, few))))
         (All-map (λ (item : Item). item.sect ≡ None) (unit_item chp) text (λ k d inside. refl)) in
         let long = length-splice main (inserted_items main at text) at at (omega arith) (omega (arith, within)) in
         let added : length (inserted_items main at text) ≡ length text = ap length fresh ∙ length-map text
@@ -137,9 +137,9 @@ module _ (edits at : ℕ) (document : Document) (within : at < length document.m
     splitting third =
         let main = document.main in
         let there = plain_there main at within is.text in
-        let base : base_settings main at ≡ there.item.chp = ap base_of there.here ∙ there.plain in
-        let settings = subst IsBoldOrNone (sym base) (settings_there main at there is.text) in
-        let item = split_generated main at (base_settings main at) is.text.each settings in
+        let base : base_properties main at ≡ there.item.chp = ap base_of there.here ∙ there.plain in
+        let properties = subst IsBoldOrNone (sym base) (properties_there main at there is.text) in
+        let item = split_generated main at (base_properties main at) is.text.each properties in
         let fresh : List Item = split_item main at ∷ [] in
         let put = put_generated main fresh at within is.text (All-one IsGeneratedItem (split_item main at) item)
         (All-one (λ (item : Item). item.sect ≡ None) (split_item main at) refl) in
@@ -157,14 +157,14 @@ module _ (edits at : ℕ) (document : Document) (within : at < length document.m
           paragraphs = omega (arith, paragraphs, had_paragraphs, third);
         }
 
-    setting : (edits + 1) % 5 ≡ 4 →
+    property : (edits + 1) % 5 ≡ 4 →
         IsGeneratedDocument (edits + 1)
         (document_after document (Char Main at (min (at + 20) (length document.main)) bold))
-    setting fourth =
+    property fourth =
         let main = document.main in
         let to = min (at + 20) (length main) in
         let ordered : at ≤ to = le-min (omega arith) (omega (arith, within)) in
-        let f = modified_item (setting_characters bold) in
+        let f = modified_item (property_characters bold) in
         let long = length-map_range f main at to ordered in
         let was = is.items in
         let characters = few_added.characters document at to bold ordered in
@@ -218,7 +218,7 @@ edit_generated (suc (suc (suc zero))) edits number document which few is =
     splitting edits (number % length document.main) document (at_within document number is.text) is (omega arith) few
     (sym which)
 edit_generated (suc (suc (suc (suc more)))) edits number document which few is =
-    setting edits (number % length document.main) document (at_within document number is.text) is (omega arith) few
+    property edits (number % length document.main) document (at_within document number is.text) is (omega arith) few
     (omega (arith, which))
 
 -- ---- what it comes to is sound and small
@@ -279,7 +279,7 @@ in_range (suc (suc (suc (suc more)))) edits number document text =
     let next : at + 1 ≤ min (at + 20) main = le-min (omega arith) (omega (arith, within)) in
     (omega (arith, next), min-le_right (at + 20) main)
 
-has_codes : (rest edit number main : ℕ) → 0 < edit → edit < 10 ^ 4 → HasRightCodes (edit_of_rest rest edit number main)
+has_codes : (rest edit number main : ℕ) → 0 < edit → edit < 10 ^ 4 → HasValidCodes (edit_of_rest rest edit number main)
 has_codes zero edit number main some few = tt
 has_codes (suc zero) edit number main some few =
     let short = line_short edit few in

@@ -18,7 +18,7 @@ use Rattle.doc_bits.specs.declared.places.Where.TheVariants.{File, Wd, Table, Sh
 use Rattle.doc_bits.proofs.ListLemmas.{All_at, there_is, slice_get_push, slice_get_before, get-map}
 use Rattle.doc_bits.specs.Number.{number_bytes}
 use Rattle.text_codes.specs.Paragraph.{paragraph_mark, cell_mark}
-use Rattle.prop_map.specs.Settings.{Settings}
+use Rattle.prop_map.specs.Settings.{Properties}
 use Rattle.prop_map.specs.Printing.{printed_list}
 use Rattle.prop_map.specs.Formed.{IsPropertyMap, character_groups, paragraph_groups, section_groups}
 use Rattle.prop_map.proofs.ActingLemmas.{IsPropertyMap-empty}
@@ -36,10 +36,10 @@ use Rattle.plain_doc.specs.Document.{IsFormedItem}
 use Rattle.plain_doc.specs.Formed.{IsFormed}
 use Rattle.plain_doc.specs.Nesting.{AreFields, field_characters, most_open}
 use Rattle.plain_doc.specs.Rows.{is_row_mark, is_cell_mark, open_cells, cells_after, FitsRow}
-use Rattle.plain_doc.specs.RulesOfItems.{HasMarkRight, IsPlacedRight, HasShortSettings, IsShortChp}
+use Rattle.plain_doc.specs.RulesOfItems.{HasMarkRight, IsPlacedRight, HasShortProperties, IsShortChp}
 use Rattle.plain_doc.specs.RulesOfTexts.{text_of, last_unit, HasParagraphStyle}
 use Rattle.plain_doc.specs.RulesOfSheet.{note_count, section_count}
-use Rattle.plain_doc.specs.RightDocument.{IsRightText, IsRightDocument}
+use Rattle.plain_doc.specs.RightDocument.{IsValidText, IsValidDocument}
 use Rattle.plain_doc.specs.Sound.{IsSound}
 use Rattle.plain_doc.proofs.BlankLemmas.{bold as bold_formed, blank_document_is_formed}
 use Rattle.plain_doc.proofs.RightLemmas.{right_is_sound}
@@ -60,7 +60,7 @@ sect_empty item is sect here = elim is.kind [
   | inr end ↦ end.sect sect here
 ]
 
-chp_formed : (chp : Settings) → IsBoldOrNone chp → IsPropertyMap character_groups chp
+chp_formed : (chp : Properties) → IsBoldOrNone chp → IsPropertyMap character_groups chp
 chp_formed chp (inl none) = subst (IsPropertyMap character_groups) (sym none) (IsPropertyMap-empty character_groups)
 chp_formed chp (inr is) = subst (IsPropertyMap character_groups) (sym is) bold_formed
 
@@ -82,7 +82,7 @@ item_formed item is = record {
   field = λ byte here. absurd (none-some byte (sym is.fld ∙ here));
 }
 
-chp_short : (chp : Settings) → IsBoldOrNone chp → IsShortChp chp
+chp_short : (chp : Properties) → IsBoldOrNone chp → IsShortChp chp
 unfolding number_bytes
 chp_short chp (inl none) = let len : length (printed_list chp) ≡ 0 = ap (λ map. length (printed_list map)) none ∙ ap
     length none_printed in omega (arith, len)
@@ -91,10 +91,10 @@ chp_short chp (inr is) =
     (one_printed 0x0835 1) in
     omega (arith, len)
 
-empty_short : (map : Settings) → map ≡ empty → length (printed_list map) ≡ 0
+empty_short : (map : Properties) → map ≡ empty → length (printed_list map) ≡ 0
 empty_short map is = ap (λ map. length (printed_list map)) is ∙ ap length none_printed
 
-item_short : (item : Item) → IsGeneratedItem item → HasShortSettings item
+item_short : (item : Item) → IsGeneratedItem item → HasShortProperties item
 item_short item is = record {
   chp = chp_short item.chp is.chp;
   pap = λ mark here. let len = empty_short mark.pap (marked item mark is here).pap in omega (arith, len);
@@ -149,8 +149,8 @@ module _ (main : List Item) (text : IsGeneratedText main) where
   size =
       let all = length-map main (λ (item : Item). item.sect) in
       let is = ap length text.sections in
-      let both = length-append (replicate {A = Option Settings} text.front None) (Some empty ∷ []) in
-      let front = length-replicate {A = Option Settings} text.front None in
+      let both = length-append (replicate {A = Option Properties} text.front None) (Some empty ∷ []) in
+      let front = length-replicate {A = Option Properties} text.front None in
       omega (arith, all, is, both, front)
 
   section_at : (place : ℕ) (item : Item) → slice_get main place ≡ Some item →
@@ -160,8 +160,8 @@ module _ (main : List Item) (text : IsGeneratedText main) where
 
   none_at : (place : ℕ) (item : Item) → slice_get main place ≡ Some item → place < text.front → item.sect ≡ None
   none_at place item here low =
-      let nones : List (Option Settings) = replicate text.front None in
-      let long = length-replicate {A = Option Settings} text.front None in
+      let nones : List (Option Properties) = replicate text.front None in
+      let long = length-replicate {A = Option Properties} text.front None in
       let below : place < length nones = omega (arith, low, long) in
       sym (same_Some None item.sect
       (sym (slice_get_before nones (Some empty ∷ []) place below
@@ -170,8 +170,8 @@ module _ (main : List Item) (text : IsGeneratedText main) where
 
   last_at : (place : ℕ) (item : Item) → slice_get main place ≡ Some item → place ≡ text.front → item.sect ≡ Some empty
   last_at place item here is =
-      let nones : List (Option Settings) = replicate text.front None in
-      let at : length nones ≡ place = length-replicate {A = Option Settings} text.front None ∙ sym is in
+      let nones : List (Option Properties) = replicate text.front None in
+      let at : length nones ≡ place = length-replicate {A = Option Properties} text.front None ∙ sym is in
       sym (same_Some (Some empty) item.sect
       (sym (ap (λ k. slice_get (nones ++ Some empty ∷ []) k) (sym at) ∙ slice_get_push nones (Some empty))
       ∙ section_at place item here))
@@ -252,7 +252,7 @@ unfolding AreFields
 nothing_nests = record { fields = []; each = All-nil _; joined = refl }
 
 -- the main text
-main_right : (main : List Item) → IsGeneratedText main → IsRightText blank_sheet Main main
+main_right : (main : List Item) → IsGeneratedText main → IsValidText blank_sheet Main main
 main_right main text = record {
   ends = inl (ends main text);
   placed = placed main text;
@@ -267,7 +267,7 @@ nowhere : {A : Type 0} (k : ℕ) (x : A) → slice_get [] k ≡ Some x → ⊥
 nowhere k x here = let within = slice_get_within [] k x here in absurd (omega (arith, within))
 
 -- an empty header text
-head_right : (number : ℕ) → IsRightText blank_sheet (Head number) []
+head_right : (number : ℕ) → IsValidText blank_sheet (Head number) []
 head_right number = record {
   ends = inr ((number, refl), refl);
   placed = λ i item here. absurd (nowhere i item here);
@@ -287,16 +287,16 @@ head_empty number text here =
     (All-replicate (λ (text : List Item). text ≡ []) 12 [] refl) here
 
 texts_right : (main : List Item) → IsGeneratedText main → (part : Where) (text : List Item) →
-    text_of (generated_with main) part ≡ Some text → IsRightText blank_sheet part text
+    text_of (generated_with main) part ≡ Some text → IsValidText blank_sheet part text
 texts_right main is File text here = absurd (none-some text here)
 texts_right main is Wd text here = absurd (none-some text here)
 texts_right main is Table text here = absurd (none-some text here)
 texts_right main is Sheet text here = absurd (none-some text here)
-texts_right main is Main text here = subst (IsRightText blank_sheet Main) (same_Some main text here)
+texts_right main is Main text here = subst (IsValidText blank_sheet Main) (same_Some main text here)
     (main_right main is)
 texts_right main is (Note number) text here = absurd (nowhere number text here)
 texts_right main is (Head number) text here =
-    subst (IsRightText blank_sheet (Head number)) (sym (head_empty number text here)) (head_right number)
+    subst (IsValidText blank_sheet (Head number)) (sym (head_empty number text here)) (head_right number)
 
 -- ---- the counts
 
@@ -314,7 +314,7 @@ no_notes main text =
     omega (arith, few)
 
 -- a sum over what items have
-sum_keys : (f : Option Settings → ℕ) (main : List Item) →
+sum_keys : (f : Option Properties → ℕ) (main : List Item) →
     sum_by (λ (item : Item). f item.sect) main ≡ sum_by f (map (λ (item : Item). item.sect) main)
 sum_keys f [] = refl
 sum_keys f (item ∷ items) =
@@ -324,8 +324,8 @@ sum_keys f (item ∷ items) =
 
 pub one_section : (main : List Item) → IsGeneratedText main → section_count main ≡ 1
 one_section main text =
-    let f : Option Settings → ℕ = λ o. one_if (is_some o) in
-    let nones : List (Option Settings) = replicate text.front None in
+    let f : Option Properties → ℕ = λ o. one_if (is_some o) in
+    let nones : List (Option Properties) = replicate text.front None in
     let keys = sum_keys f main in
     let is = ap (sum_by f) text.sections in
     let both = sum_by-append f nones (Some empty ∷ []) in
@@ -347,7 +347,7 @@ none_apart name = omega arith
 -- ---- documents
 
 pub generated_right : (main : List Item) → IsGeneratedText main → length main ≤ 400000 →
-    IsRightDocument (generated_with main)
+    IsValidDocument (generated_with main)
 generated_right main text few =
     let notes = no_notes main text in
     let sections = one_section main text in

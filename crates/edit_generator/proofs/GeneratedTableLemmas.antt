@@ -1,5 +1,5 @@
 -- How many bytes the parts have that a full save of what is generated writes beside its text and its bin tables.
-use Rattle.std.proofs.Common.{◌≡◌, ◌∙◌, refl, ap, ℕ, suc, ◌+◌, ◌≤◌, List, [], ◌∷◌, ◌++◌, length}
+use Rattle.std.proofs.Common.{◌≡◌, ◌∙◌, refl, ap, ℕ, ◌+◌, ◌≤◌, List, [], ◌∷◌, ◌++◌, length}
 use Rattle.std.proofs.Common.{map, Option, Some, None, arith, length-append}
 use Rattle.std.specs.Prelude.{slice_index}
 use Rattle.std.specs.List.{All}
@@ -7,7 +7,7 @@ use Rattle.std.specs.Option.{option_map, ForSome}
 use Rattle.std.specs.FinMap.{empty}
 use Rattle.std.proofs.lemmas.List.Elements.{All-head, All-tail}
 use Rattle.doc_bits.specs.Number.{number_bytes}
-use Rattle.prop_map.specs.Settings.{Settings}
+use Rattle.prop_map.specs.Settings.{Properties}
 use Rattle.prop_map.proofs.EntriesLemmas.{entries-empty}
 use Rattle.fib_form.specs.FibFields.{pair_at}
 use Rattle.fib_form.specs.TableEntries.{TableEntry, entry}
@@ -30,7 +30,7 @@ use Rattle.plain_doc.specs.Collected.{entry_before, collected, sections_of, fiel
 use Rattle.plain_doc.proofs.CollectedLemmas.{collected_count}
 use Rattle.full_save.specs.declared.table_text.TableText.{TableText}
 use Rattle.full_save.specs.Text.{note_story, head_story, text_items}
-use Rattle.full_save.specs.Sections.{sepx_bytes, sepxes, seds_from}
+use Rattle.full_save.specs.Sections.{sepx_bytes, sepxes}
 use Rattle.full_save.specs.TableText.{table_entries}
 use Rattle.full_save.specs.TableStream.{entries_bytes, entries_pairs}
 use Rattle.full_save.specs.WordDocument.{pages_end, full_text, full_fib, table_stream}
@@ -39,7 +39,7 @@ use Rattle.save_bounds.proofs.TableLemmas.{tables_differ_by_own_parts}
 use Rattle.edit_generator.specs.GeneratedDocuments.{IsGeneratedItem, IsGeneratedText}
 use Rattle.plain_doc.proofs.BlankSheetLemmas.{length-blank_sheet}
 use Rattle.edit_generator.proofs.GeneratedRightLemmas.{generated_with, sect_empty, one_section}
-use Rattle.full_save.proofs.StreamLengths.{clx_short}
+use Rattle.full_save.proofs.StreamLengths.{clx_short, length-seds}
 use Rattle.full_save.proofs.MarkLengths.{no_starts, no_ends}
 
 -- ---- what is not there
@@ -65,12 +65,12 @@ no_fields main each =
     ap (map (λ (e : ℕ × (ℕ × ℕ)). record { cp = e.0; unit = e.1.0; byte = e.1.1 }))
     (collected_none field_of 0 main (λ k d within. no_field _ (each k d within)))
 
--- ---- the sections have no settings
+-- ---- the sections have no properties
 
 no_sepx : sepx_bytes empty ≡ []
 no_sepx = rw entries-empty refl
 
-sepx_before : (o : Option Settings) (cp : ℕ) (rest : List (ℕ × Settings)) → ForSome o (λ sect. sect ≡ empty) →
+sepx_before : (o : Option Properties) (cp : ℕ) (rest : List (ℕ × Properties)) → ForSome o (λ sect. sect ≡ empty) →
     sepxes (entry_before o cp rest) ≡ sepxes rest
 sepx_before None cp rest none = refl
 sepx_before (Some sect) cp rest none =
@@ -96,13 +96,6 @@ unfolding text_items note_story head_story
 length-text_items main = let all = length-append main [] in omega (arith, all)
 
 -- ---- the table stream
-
-length-seds : (start place : ℕ) (sections : List (ℕ × Settings)) →
-    length (seds_from start place sections) ≡ length sections
-unfolding seds_from
-length-seds start place [] = refl
-length-seds start place (section ∷ sections) =
-    ap suc (length-seds (section.0 + 1) (place + length (sepx_bytes section.1)) sections)
 
 -- the parts of a document without notes and header texts, by what they list of the main text
 abbrev parts_behind : List NoteRef → List Fld → (starts ends : List ℕ) → TableText → List TableEntry

@@ -21,7 +21,7 @@ use Rattle.std.proofs.lemmas.List.Sums.{AllPass-from_list_all}
 use Rattle.std.proofs.lemmas.Option.{same_Some, slice_get_cases, none-some}
 use Rattle.doc_bits.proofs.ListLemmas.{All_at}
 use Rattle.text_codes.specs.Paragraph.{paragraph_mark}
-use Rattle.prop_map.specs.Settings.{Settings}
+use Rattle.prop_map.specs.Settings.{Properties}
 use Rattle.prop_map.specs.declared.modifiers.Modifier.{Modifier}
 use Rattle.prop_map.specs.Modifiers.{mark_style}
 use Rattle.prop_map.specs.Overlay.{modified_paragraph}
@@ -29,9 +29,9 @@ use Rattle.prop_map.proofs.MapLemmas.{empty-overlay}
 use Rattle.plain_doc.specs.declared.item.Item.{Item}
 use Rattle.plain_doc.specs.declared.item.Mark.{Mark}
 use Rattle.edit_ops.specs.Fresh.{unit_item, unit_items, is_table_code, split_mark, mark_item}
-use Rattle.edit_changes.specs.Places.{mark_place, mark_at}
-use Rattle.edit_changes.specs.Changes.{map_range, modified_item, modified_mark}
-use Rattle.edit_ops.specs.Edits.{setting_characters, naming_style}
+use Rattle.doc_patch.specs.Places.{mark_place, mark_at}
+use Rattle.doc_patch.specs.Changes.{map_range, modified_item, modified_mark}
+use Rattle.edit_ops.specs.Edits.{property_characters, naming_style}
 use Rattle.edit_generator.specs.Generated.{line_text}
 use Rattle.edit_generator.specs.GeneratedDocuments.{bold, IsBoldOrNone, IsPrinted, IsLetter, IsPlainMark}
 use Rattle.edit_generator.specs.GeneratedDocuments.{IsGeneratedItem}
@@ -69,18 +69,18 @@ line_printed edit some few =
 
 -- ---- items that are put
 
-letter : (chp : Settings) (unit : ℕ) → IsBoldOrNone chp → IsPrinted unit → IsGeneratedItem (unit_item chp unit)
-letter chp unit settings printed = record {
-  chp = settings;
+letter : (chp : Properties) (unit : ℕ) → IsBoldOrNone chp → IsPrinted unit → IsGeneratedItem (unit_item chp unit)
+letter chp unit properties printed = record {
+  chp = properties;
   fld = refl;
   note = refl;
   kind = inl (record { unit = printed; mark = refl; sect = refl });
 }
 
-pub letters : (chp : Settings) (text : List ℕ) → IsBoldOrNone chp → All IsPrinted text →
+pub letters : (chp : Properties) (text : List ℕ) → IsBoldOrNone chp → All IsPrinted text →
     All IsGeneratedItem (unit_items chp text)
-letters chp text settings printed =
-    All-map IsGeneratedItem (unit_item chp) text (λ k d within. letter chp _ settings (printed k d within))
+letters chp text properties printed =
+    All-map IsGeneratedItem (unit_item chp) text (λ k d within. letter chp _ properties (printed k d within))
 
 -- a mark of what is generated
 pub record IsSmallMark (mark : Mark) : Type 0 where
@@ -113,12 +113,12 @@ mark_small main at each mark is = elim (slice_get_cases main (mark_place main at
 ]
 
 -- the mark that splits a paragraph
-pub split_generated : (main : List Item) (at : ℕ) (chp : Settings) → All IsGeneratedItem main → IsBoldOrNone chp →
+pub split_generated : (main : List Item) (at : ℕ) (chp : Properties) → All IsGeneratedItem main → IsBoldOrNone chp →
     IsGeneratedItem (mark_item chp paragraph_mark (split_mark (mark_at main at)))
-split_generated main at chp each settings =
+split_generated main at chp each properties =
     let small = split_small (mark_at main at) (mark_small main at each) in
     record {
-      chp = settings;
+      chp = properties;
       fld = refl;
       note = refl;
       kind = inr (record {
@@ -133,7 +133,7 @@ split_generated main at chp each settings =
 
 -- ---- items that are put into the text
 
-abbrev sections : List Item → List (Option Settings)
+abbrev sections : List Item → List (Option Properties)
 sections items = map (λ (item : Item). item.sect) items
 
 no_sections : (items : List Item) → All (λ (item : Item). item.sect ≡ None) items →
@@ -145,7 +145,7 @@ no_sections (item ∷ items) none =
     λ i. first i ∷ rest i
 
 -- where no section ends, more places where none does
-more_none : (front more at : ℕ) (last : List (Option Settings)) → at ≤ front →
+more_none : (front more at : ℕ) (last : List (Option Properties)) → at ≤ front →
     take at (replicate front None ++ last) ++
     (replicate more None ++ drop at (replicate front None ++ last)) ≡ replicate (front + more) None ++ last
 more_none front more zero last within =
@@ -162,12 +162,12 @@ pub put_generated : (main fresh : List Item) (at : ℕ) → at < length main →
     All IsGeneratedItem fresh → All (λ (item : Item). item.sect ≡ None) fresh →
     IsGeneratedText (splice main at at fresh)
 put_generated main fresh at within text each none =
-    let section : Item → Option Settings = λ item. item.sect in
-    let last : List (Option Settings) = Some empty ∷ [] in
+    let section : Item → Option Properties = λ item. item.sect in
+    let last : List (Option Properties) = Some empty ∷ [] in
     let size = ap length text.sections in
     let all = length-map main section in
     let both = length-append (replicate text.front None) last in
-    let front = length-replicate {A = Option Settings} text.front None in
+    let front = length-replicate {A = Option Properties} text.front None in
     record {
       each =
           All-append IsGeneratedItem (take at main) (fresh ++ drop at main) (All-take IsGeneratedItem at main text.each)
@@ -199,7 +199,7 @@ sections_stay f (item ∷ items) same =
 same_sections : (f : Item → Item) (main : List Item) (from to : ℕ) → from ≤ to →
     ((item : Item) → (f item).sect ≡ item.sect) → sections (map_range f main from to) ≡ sections main
 same_sections f main from to ordered same =
-    let section : Item → Option Settings = λ item. item.sect in
+    let section : Item → Option Properties = λ item. item.sect in
     let middle = slice_range main from to in
     map-append section (take from main) (map f middle ++ drop to main)
     ∙ ap (λ xs. sections (take from main) ++ xs)
@@ -241,7 +241,7 @@ length-map_range f main from to ordered =
 -- ---- bold, and a style
 
 modified_kind : (modifier : Modifier) (item : Item) → ((istd : ℕ) → istd ≤ 1 → mark_style modifier istd ≤ 1) →
-    ((pap : Settings) → modified_paragraph modifier pap ≡ pap) → IsLetter item ⊎ IsPlainMark item →
+    ((pap : Properties) → modified_paragraph modifier pap ≡ pap) → IsLetter item ⊎ IsPlainMark item →
     IsLetter (modified_item modifier item) ⊎ IsPlainMark (modified_item modifier item)
 modified_kind modifier item styles same (inl letter) =
     inl (record { unit = letter.unit; mark = ap (option_map (modified_mark modifier)) letter.mark; sect = letter.sect })
@@ -256,12 +256,12 @@ modified_kind modifier item styles same (inr end) =
     })
 
 pub bold_generated : (item : Item) → IsGeneratedItem item →
-    IsGeneratedItem (modified_item (setting_characters bold) item)
+    IsGeneratedItem (modified_item (property_characters bold) item)
 bold_generated item is = record {
   chp = inr (set_bold item.chp is.chp);
   fld = is.fld;
   note = is.note;
-  kind = modified_kind (setting_characters bold) item (λ style small. small) (λ pap. empty-overlay pap) is.kind;
+  kind = modified_kind (property_characters bold) item (λ style small. small) (λ pap. empty-overlay pap) is.kind;
 }
 
 pub style_generated : (istd : ℕ) → istd ≤ 1 → (item : Item) → IsGeneratedItem item →

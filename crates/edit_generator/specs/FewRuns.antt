@@ -1,7 +1,7 @@
 -- How few runs the commands of the generator add to the tables of a full save.
 use Rattle.std.specs.Prelude.{◌≡◌, ℕ, ◌+◌, ◌≤◌, List, length, slice_get, Some}
 use Rattle.doc_bits.specs.declared.places.Story.TheVariants.{Main}
-use Rattle.prop_map.specs.Settings.{Settings}
+use Rattle.prop_map.specs.Settings.{Properties}
 use Rattle.prop_map.specs.Overlay.{without}
 use Rattle.fkp_pages.specs.declared.kind.PageKind.{PageKind}
 use Rattle.fkp_pages.specs.declared.kind.PageKind.TheVariants.{Chpx, Papx}
@@ -22,7 +22,7 @@ pub record IsPlainAt (main : List Item) (at : ℕ) : Type 0 where
   pub here : slice_get main at ≡ Some item
   pub plain : without special_codes item.chp ≡ item.chp
 
--- an insertion takes the settings of the item at its place, so it adds no run of characters or of paragraphs; a split
+-- an insertion takes the properties of the item at its place, so it adds no run of characters or of paragraphs; a split
 -- adds one paragraph; a command that sets characters adds two runs of characters; one that names a style adds none
 pub record EditsAddFewRuns : Type 0 where
   pub insertion :
@@ -35,10 +35,10 @@ pub record EditsAddFewRuns : Type 0 where
       (document : Document) (at : ℕ) → IsPlainAt document.main at →
       runs_of Papx (document_after document (Split Main at)) ≤ runs_of Papx document + 1
   pub characters :
-      (document : Document) (from to : ℕ) (set : Settings) → from ≤ to →
+      (document : Document) (from to : ℕ) (set : Properties) → from ≤ to →
       runs_of Chpx (document_after document (Char Main from to set)) ≤ runs_of Chpx document + 2
   pub paragraphs :
-      (document : Document) (from to : ℕ) (set : Settings) → from ≤ to →
+      (document : Document) (from to : ℕ) (set : Properties) → from ≤ to →
       runs_of Papx (document_after document (Char Main from to set)) ≡ runs_of Papx document
   pub style :
       (kind : PageKind) (document : Document) (at istd : ℕ) →

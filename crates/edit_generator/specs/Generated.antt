@@ -4,7 +4,7 @@ use Rattle.std.specs.Prelude.{ℕ, zero, suc, ◌+◌, ◌-◌, ◌*◌, ◌/◌
 use Rattle.std.specs.Prelude.{Bool, List, ◌++◌, codes}
 use Rattle.std.specs.Fmt.{decimal}
 use Rattle.doc_bits.specs.declared.places.Story.TheVariants.{Main}
-use Rattle.plain_doc.specs.Blank.{one_setting}
+use Rattle.plain_doc.specs.Blank.{one_property}
 use Rattle.edit_script.specs.declared.commands.Command.{Command}
 use Rattle.edit_script.specs.declared.commands.Command.TheVariants.{Insert, Char, Style, Split, Save}
 
@@ -28,7 +28,7 @@ edit_of_rest (suc zero) edit number main = Insert Main (number % main) (line_tex
 edit_of_rest (suc (suc zero)) edit number main = Insert Main (number % main) (line_text edit)
 edit_of_rest (suc (suc (suc zero))) edit number main = Split Main (number % main)
 edit_of_rest (suc (suc (suc (suc more)))) edit number main =
-    Char Main (number % main) (min (number % main + 20) main) (one_setting 0x0835 1)
+    Char Main (number % main) (min (number % main + 20) main) (one_property 0x0835 1)
 
 -- the edit of this count, on a main text of so many items
 abbrev pub generated_edit : (seed edit main : ℕ) → Command

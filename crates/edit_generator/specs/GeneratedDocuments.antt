@@ -6,19 +6,19 @@ use Rattle.std.specs.Prelude.{Some, None}
 use Rattle.std.specs.Option.{ForSome}
 use Rattle.std.specs.FinMap.{empty}
 use Rattle.text_codes.specs.Paragraph.{paragraph_mark}
-use Rattle.prop_map.specs.Settings.{Settings}
+use Rattle.prop_map.specs.Settings.{Properties}
 use Rattle.fkp_pages.specs.declared.kind.PageKind.TheVariants.{Chpx, Papx}
 use Rattle.plain_doc.specs.declared.item.Item.{Item}
 use Rattle.plain_doc.specs.declared.item.Mark.{Mark}
 use Rattle.plain_doc.specs.declared.document.Document.{Document}
-use Rattle.plain_doc.specs.Blank.{one_setting, blank_document}
+use Rattle.plain_doc.specs.Blank.{one_property, blank_document}
 use Rattle.edit_generator.specs.FewRuns.{runs_of}
 
 -- [MS-DOC] sprmCFBold
-abbrev pub bold : Settings
-bold = one_setting 0x0835 1
+abbrev pub bold : Properties
+bold = one_property 0x0835 1
 
-abbrev pub IsBoldOrNone : Settings → Type 0
+abbrev pub IsBoldOrNone : Properties → Type 0
 IsBoldOrNone chp = (chp ≡ empty) ⊎ (chp ≡ bold)
 
 -- a character of ASCII that is no control
@@ -32,7 +32,7 @@ pub record IsLetter (item : Item) : Type 0 where
   pub mark : item.mark ≡ None
   pub sect : item.sect ≡ None
 
--- the end of a paragraph of style 0 or 1, without settings
+-- the end of a paragraph of style 0 or 1, without properties
 pub record IsPlainMark (item : Item) : Type 0 where
   pub unit : item.unit ≡ paragraph_mark
   pub mark : Mark

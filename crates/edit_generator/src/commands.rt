@@ -2,7 +2,7 @@
 ghost use Rattle.std.specs.Prelude.{◌≡◌, ◌+◌, ◌<◌, min, IfOk};
 ghost use Rattle.doc_bits.specs.declared.places.Story.TheVariants.{Main};
 ghost use Rattle.edit_script.specs.declared.commands.Command.TheVariants.{Insert, Char};
-ghost use Rattle.plain_doc.specs.Blank.{one_setting};
+ghost use Rattle.plain_doc.specs.Blank.{one_property};
 ghost use Rattle.edit_generator.specs.Generated.{next_number as next_of, edit_number as number_of};
 ghost use Rattle.edit_generator.specs.Generated.{line_text as line_of};
 ghost use Rattle.edit_generator.specs.Generated.{generated_edit as edit_made, generated_count as count_of};
@@ -11,7 +11,7 @@ ghost use Rattle.edit_generator.specs.Generated.{is_generated_save as saves_at, 
 use doc_bits::{Memory, Story, Units};
 use edit_ops::Command;
 use prop_map::PropMap;
-use sprm_table::Code;
+use sprm_table::SPRM_C_F_BOLD;
 use std::alloc::Global;
 
 /// The edits before a save.
@@ -24,10 +24,7 @@ const FAST_A_FULL: u8 = 7;
 pub const SAVES_IN_TURN: usize = FAST_A_FULL as usize + 1;
 
 /// The most items that are set bold at once.
-const MOST_BOLD: u32 = 20;
-
-/// [MS-DOC] sprmCFBold.
-const SPRM_C_F_BOLD: Code = Code(0x0835);
+const MAX_BOLD: u32 = 20;
 
 /// The number of commands from a seed: as many edits as it says, and a save after each fiftieth and after the last.
 pub fn generated_count(seed: u32) -> usize
@@ -93,11 +90,11 @@ fn insertion(alloc: Global, edit: usize, at: u32) -> Result<Command, Memory>
 /// Sets items bold, from a place on.
 fn bold(alloc: Global, at: u32, main_len: u32) -> Result<Command, Memory>
     requires { at < main_len }
-    ensures { IfOk result (λ command. command ≡ Char Main at (min (at + 20) main_len) (one_setting 0x0835 1)) }
+    ensures { IfOk result (λ command. command ≡ Char Main at (min (at + 20) main_len) (one_property 0x0835 1)) }
 {
     let mut set = PropMap::new(alloc);
     set.set(SPRM_C_F_BOLD, &[1])?;
-    let to = at.saturating_add(MOST_BOLD).min(main_len);
+    let to = at.saturating_add(MAX_BOLD).min(main_len);
     Ok(Command::Char(Story::Main, at, to, set))
 }
 

@@ -12,7 +12,7 @@ not_behind : (policies : List Policy) (facts : Facts) (index other : ℕ)
 not_behind policies facts index other first second less =
     first.refuses (lock_of []) (second.before index (lock_of []) (omega arith) less)
 
-one_of : (policies : List Policy) (facts : Facts) (index other : ℕ)
+pub one_of : (policies : List Policy) (facts : Facts) (index other : ℕ)
     → IsFirstRefuser policies facts index → IsFirstRefuser policies facts other
     → (index ≡ other) ⊎ ((index < other) ⊎ (other < index)) → index ≡ other
 one_of policies facts index other first second (inl same) = same

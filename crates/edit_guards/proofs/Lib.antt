@@ -1,2 +1,2 @@
 mod PolicyLemmas
-mod LawLemmas
+pub mod LawLemmas

@@ -9,29 +9,29 @@ use Rattle.std.proofs.lemmas.List.Sums.{sum_by-cons}
 use Rattle.std.proofs.lemmas.List.Folds.{sum_by-replicate}
 use Rattle.doc_bits.specs.declared.places.Story.{Story}
 use Rattle.doc_bits.specs.declared.places.Story.TheVariants.{Main, Note as NoteText, Head as HeadText}
-use Rattle.prop_map.specs.Settings.{Settings}
+use Rattle.prop_map.specs.Settings.{Properties}
 use Rattle.plain_doc.specs.declared.item.Item.{Item}
 use Rattle.plain_doc.specs.declared.document.Document.{Document}
 use Rattle.plain_doc.specs.Sound.{IsSound}
-use Rattle.plain_doc.specs.RightDocument.{IsRightDocument}
-use Rattle.plain_doc.proofs.RightLemmas.{sound_is_right}
+use Rattle.plain_doc.specs.RightDocument.{IsValidDocument}
+use Rattle.plain_doc.proofs.RightLemmas.{sound_is_valid}
 use Rattle.edit_script.specs.declared.commands.Command.{Command}
 use Rattle.edit_script.specs.declared.commands.Command.TheVariants.{Insert, Erase, Char, Plain, Para, Style, Field}
 use Rattle.edit_script.specs.declared.commands.Command.TheVariants.{Note, Split, Merge, Sect, Row, StyleChar}
 use Rattle.edit_script.specs.declared.commands.Command.TheVariants.{StylePara, Bookmark, Unmark, Save}
-use Rattle.edit_changes.specs.declared.changes.Change.{Change}
-use Rattle.edit_changes.specs.declared.changes.Change.TheVariants.{SpliceText, ModifyItems, SetSection, SpliceNotes}
-use Rattle.edit_changes.specs.declared.changes.Change.TheVariants.{SpliceHeads, SetStyleCharacters, SetStyleParagraphs}
-use Rattle.edit_changes.specs.declared.changes.Change.TheVariants.{SetBookmarks}
-use Rattle.edit_changes.specs.Places.{text_at, items_at, note_number, head_number}
-use Rattle.edit_ops.specs.Fresh.{section_item, plain_end, inserted_items, field_items, base_settings, row_items}
+use Rattle.doc_patch.specs.declared.changes.Change.{Change}
+use Rattle.doc_patch.specs.declared.changes.Change.TheVariants.{SpliceText, ModifyItems, SetSection, SpliceNotes}
+use Rattle.doc_patch.specs.declared.changes.Change.TheVariants.{SpliceHeads, SetStyleCharacters, SetStyleParagraphs}
+use Rattle.doc_patch.specs.declared.changes.Change.TheVariants.{SetBookmarks}
+use Rattle.doc_patch.specs.Places.{text_at, items_at, note_number, head_number}
+use Rattle.edit_ops.specs.Fresh.{section_item, plain_end, inserted_items, field_items, base_properties, row_items}
 use Rattle.edit_ops.specs.Fresh.{note_items, note_reference, unit_items}
-use Rattle.edit_ops.specs.Edits.{changes_of, erased, section_changes, put_in}
+use Rattle.edit_ops.specs.Edits.{changes_of, erased, section_changes, insertion}
 use Rattle.edit_ops.specs.Ranges.{IsInRange, HasText, HasRange}
-use Rattle.edit_ops.specs.Codes.{HasRightCodes}
+use Rattle.edit_ops.specs.Codes.{HasValidCodes}
 use Rattle.edit_ops.specs.Causes.{CanBeTried}
 use Rattle.edit_ops.specs.EditFacts.{items_added, items_removed}
-use Rattle.edit_changes.specs.Makes.{CanRemove}
+use Rattle.doc_patch.specs.Makes.{CanRemove}
 use Rattle.edit_ops.proofs.TextLemmas.{few_items}
 use Rattle.edit_ops.proofs.SumLemmas.{no_range, range_sum}
 use Rattle.edit_ops.proofs.CanMakeLemmas.{length-inserted, length-field, length-row, length-units, can_splice_notes}
@@ -64,7 +64,7 @@ one document change added removed there =
     }
 
 put : (document : Document) (story : Story) (at : ℕ) (items : List Item) → length items < 2 ^ 32 →
-    AreCountable document (put_in story at items)
+    AreCountable document (insertion story at items)
 put document story at items few = one document (SpliceText story at at items) few (omega arith) (omega arith)
 
 no_texts : (count : ℕ) → sum_by length (replicate {A = List Item} count []) ≡ 0
@@ -72,7 +72,7 @@ no_texts count =
     let each = sum_by-replicate {X = List Item} length count [] in
     omega arith
 
-erased_main : (document : Document) (from to : ℕ) → IsRightDocument document → HasRange from to document.main →
+erased_main : (document : Document) (from to : ℕ) → IsValidDocument document → HasRange from to document.main →
     AreCountable document (erased document Main from to)
 erased_main document from to right range =
     let few = right.few in
@@ -103,7 +103,7 @@ record IsShortRange (from to : ℕ) : Type 0 where
   ordered : from < to
   short : to ≤ 499998
 
-short_range : (document : Document) (story : Story) (from to : ℕ) → IsRightDocument document → HasText document story
+short_range : (document : Document) (story : Story) (from to : ℕ) → IsValidDocument document → HasText document story
     (HasRange from to) → IsShortRange from to
 short_range document story from to right range = range_of (text_at document story) (λ text there. few_items document
     story text right there) range
@@ -116,7 +116,7 @@ short_range document story from to right range = range_of (text_at document stor
         let within = h.1 in
         record { ordered = h.0; short = omega arith }
 
-erased_from : (document : Document) (story : Story) (from to : ℕ) → IsRightDocument document → HasText document story
+erased_from : (document : Document) (story : Story) (from to : ℕ) → IsValidDocument document → HasText document story
     (HasRange from to) → AreCountable document (erased document story from to)
 erased_from document Main from to right range = erased_main document from to right range
 erased_from document (NoteText k) from to right range =
@@ -146,7 +146,7 @@ two document first next added removed_first removed_next there_first there_next 
           there_next (All-nil (CanRemove document)));
     }
 
-note_put : (document : Document) (at : ℕ) (reference : Item) (text : List ℕ) → IsRightDocument document →
+note_put : (document : Document) (at : ℕ) (reference : Item) (text : List ℕ) → IsValidDocument document →
     at < length document.main → length text ≤ 4000000000 → AreCountable document (SpliceText Main at at (reference ∷
     []) ∷ SpliceNotes (note_number document.main at) (note_number document.main at) (note_items text ∷ []) ∷ [])
 note_put document at reference text right within few =
@@ -158,7 +158,7 @@ note_put document at reference text right within few =
     (omega arith) (omega arith) (no_range length document.notes (note_number document.main at)) (omega arith)
     (notes.ordered, notes.within)
 
-section_put : (document : Document) (at : ℕ) (new : Bool) (set : Settings) → IsRightDocument document →
+section_put : (document : Document) (at : ℕ) (new : Bool) (set : Properties) → IsValidDocument document →
     at < length document.main → AreCountable document (section_changes document.main at new set)
 section_put document at false set right within = one document (SetSection _ set) (omega arith) (omega arith) tt
 section_put document at true set right within =
@@ -171,9 +171,9 @@ section_put document at true set right within =
 
 pub countable : (document : Document) (command : Command) → IsSound document → CanBeTried document command →
     AreCountable document (changes_of document command)
-countable document command sound tried = by_kind command (sound_is_right document sound) tried.range tried.codes
+countable document command sound tried = by_kind command (sound_is_valid document sound) tried.range tried.codes
   where
-    by_kind : (command : Command) → IsRightDocument document → IsInRange document command → HasRightCodes command →
+    by_kind : (command : Command) → IsValidDocument document → IsInRange document command → HasValidCodes command →
         AreCountable document (changes_of document command)
     by_kind (Insert story at text) right range codes =
         let few = codes.1 in
@@ -190,9 +190,9 @@ countable document command sound tried = by_kind command (sound_is_right documen
         (omega arith) tt
     by_kind (Field story at type code shown) right range codes =
         let few = codes.few in
-        let len = length-field (base_settings (items_at document story) at) type code shown in
-        put document story at (field_items (base_settings (items_at document story) at) type code shown) (omega arith)
-    by_kind (Note at text) right range codes = note_put document at (note_reference (base_settings document.main at))
+        let len = length-field (base_properties (items_at document story) at) type code shown in
+        put document story at (field_items (base_properties (items_at document story) at) type code shown) (omega arith)
+    by_kind (Note at text) right range codes = note_put document at (note_reference (base_properties document.main at))
         text right range codes.1
     by_kind (Split story at) right range codes = put document story at _ (omega arith)
     by_kind (Merge story at) right range codes = erased_from document story _ _ right (unit_range document story at

@@ -3,7 +3,7 @@ use Rattle.std.proofs.Common.{ℕ, ◌≤◌, refl, List, length, arith}
 use Rattle.std.specs.Prelude.{Bool, true, false}
 use Rattle.doc_bits.specs.declared.places.Story.{Story}
 use Rattle.doc_bits.specs.declared.places.Story.TheVariants.{Main, Note as NoteText, Head as HeadText}
-use Rattle.prop_map.specs.Settings.{Settings}
+use Rattle.prop_map.specs.Settings.{Properties}
 use Rattle.plain_doc.specs.declared.item.Item.{Item}
 use Rattle.plain_doc.specs.declared.document.Document.{Document}
 use Rattle.edit_script.specs.declared.commands.Command.TheVariants.{Insert, Erase, Char, Plain, Para, Style, Field}
@@ -17,7 +17,7 @@ few_erased document Main from to = omega arith
 few_erased document (NoteText number) from to = omega arith
 few_erased document (HeadText number) from to = omega arith
 
-few_of_section : (main : List Item) (at : ℕ) (new : Bool) (set : Settings) → length (section_changes main at new set)
+few_of_section : (main : List Item) (at : ℕ) (new : Bool) (set : Properties) → length (section_changes main at new set)
     ≤ 3
 few_of_section main at false set = omega arith
 few_of_section main at true set = omega arith

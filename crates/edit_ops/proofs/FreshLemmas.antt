@@ -1,28 +1,28 @@
--- The settings and the items that commands put are well formed.
+-- The properties and the items that commands put are well formed.
 use Rattle.std.proofs.Common.{◌≡◌, ◌∙◌, refl, sym, ap, inl, inr, ℕ, ◌≤◌, List, [], ◌∷◌, length, Some, arith}
 use Rattle.std.specs.FinMap.{insert}
 use Rattle.std.specs.Option.{option_and_then}
 use Rattle.std.proofs.lemmas.Option.{slice_get_cases, none-some}
 use Rattle.doc_bits.specs.Number.{AreBytes}
 use Rattle.doc_bits.proofs.ByteListLemmas.{one_byte}
-use Rattle.prop_map.specs.Settings.{Settings}
+use Rattle.prop_map.specs.Settings.{Properties}
 use Rattle.prop_map.specs.Formed.{IsPropertyMap, character_groups, paragraph_groups, section_groups}
 use Rattle.prop_map.proofs.LawLemmas.{stay_formed}
 use Rattle.plain_doc.specs.declared.item.Item.{Item}
 use Rattle.plain_doc.specs.declared.item.Mark.{Mark}
 use Rattle.plain_doc.specs.Document.{IsFormedText}
 use Rattle.plain_doc.proofs.MainLemmas.{maps_there}
-use Rattle.edit_changes.specs.Places.{mark_place, mark_at, section_place, section_at}
+use Rattle.doc_patch.specs.Places.{mark_place, mark_at, section_place, section_at}
 use Rattle.edit_ops.specs.Fresh.{special}
 
--- ---- settings
+-- ---- properties
 
-pub special_formed : (base : Settings) → IsPropertyMap character_groups base → IsPropertyMap character_groups
+pub special_formed : (base : Properties) → IsPropertyMap character_groups base → IsPropertyMap character_groups
     (special base)
 special_formed base formed =
     stay_formed character_groups base (0x0855, 1 ∷ []) formed
     (record {
-      setting = record {
+      property = record {
         entry = record { some = omega arith; word = omega arith; size = refl };
         held = refl;
         sets = refl;
@@ -30,12 +30,12 @@ special_formed base formed =
       bytes = one_byte 1 (omega arith);
     })
 
-pub in_table_formed : (base : Settings) → IsPropertyMap paragraph_groups base → IsPropertyMap paragraph_groups
+pub in_table_formed : (base : Properties) → IsPropertyMap paragraph_groups base → IsPropertyMap paragraph_groups
     (insert base 0x2416 (1 ∷ []))
 in_table_formed base formed =
     stay_formed paragraph_groups base (0x2416, 1 ∷ []) formed
     (record {
-      setting = record {
+      property = record {
         entry = record { some = omega arith; word = omega arith; size = refl };
         held = refl;
         sets = refl;
@@ -43,12 +43,12 @@ in_table_formed base formed =
       bytes = one_byte 1 (omega arith);
     })
 
-pub row_end_formed : (base : Settings) → IsPropertyMap paragraph_groups base → IsPropertyMap paragraph_groups
+pub row_end_formed : (base : Properties) → IsPropertyMap paragraph_groups base → IsPropertyMap paragraph_groups
     (insert base 0x2417 (1 ∷ []))
 row_end_formed base formed =
     stay_formed paragraph_groups base (0x2417, 1 ∷ []) formed
     (record {
-      setting = record {
+      property = record {
         entry = record { some = omega arith; word = omega arith; size = refl };
         held = refl;
         sets = refl;
@@ -56,12 +56,12 @@ row_end_formed base formed =
       bytes = one_byte 1 (omega arith);
     })
 
-pub definition_formed : (base : Settings) (value : List ℕ) → length value ≤ 65534 → AreBytes value →
+pub definition_formed : (base : Properties) (value : List ℕ) → length value ≤ 65534 → AreBytes value →
     IsPropertyMap paragraph_groups base → IsPropertyMap paragraph_groups (insert base 0xD608 value)
 definition_formed base value short bytes formed =
     stay_formed paragraph_groups base (0xD608, value) formed
     (record {
-      setting = record {
+      property = record {
         entry = record { some = omega arith; word = omega arith; size = short };
         held = refl;
         sets = refl;
@@ -82,7 +82,7 @@ mark_formed text at mark formed is = elim (slice_get_cases text (mark_place text
   | inr past ↦ absurd (none-some mark (sym (ap (option_and_then (λ item. item.mark)) past.1) ∙ is))
 ]
 
-pub section_formed : (main : List Item) (at : ℕ) (sect : Settings) → IsFormedText main → section_at main at ≡ Some
+pub section_formed : (main : List Item) (at : ℕ) (sect : Properties) → IsFormedText main → section_at main at ≡ Some
     sect → IsPropertyMap section_groups sect
 section_formed main at sect formed is = elim (slice_get_cases main (section_place main at)).1 [
   | inl w ↦

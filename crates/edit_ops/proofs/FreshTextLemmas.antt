@@ -1,4 +1,4 @@
--- Settings of items that are there.
+-- Properties of items that are there.
 use Rattle.std.proofs.Common.{◌≡◌, ◌∙◌, inl, inr, refl, sym, ap, subst, ℕ, List, [], ◌∷◌, ◌++◌, map, Option, Some}
 use Rattle.std.proofs.Common.{None, append_assoc, ◌+◌, length, length-append}
 use Rattle.std.proofs.lemmas.List.{length-map}
@@ -6,14 +6,14 @@ use Rattle.std.specs.Prelude.{slice_get}
 use Rattle.std.specs.Option.{option_map, unwrap_or}
 use Rattle.std.specs.FinMap.{empty}
 use Rattle.std.proofs.lemmas.Option.{same_Some, none-some, slice_get-map, slice_get_cases}
-use Rattle.prop_map.specs.Settings.{Settings}
+use Rattle.prop_map.specs.Settings.{Properties}
 use Rattle.prop_map.specs.Overlay.{without}
 use Rattle.prop_map.specs.Formed.{IsPropertyMap, character_groups}
 use Rattle.plain_doc.specs.declared.item.Item.{Item}
 use Rattle.plain_doc.specs.Document.{IsFormedText}
 use Rattle.plain_doc.proofs.MainLemmas.{maps_there}
 use Rattle.doc_columns.specs.Columns.{bare_items}
-use Rattle.edit_ops.specs.Fresh.{special_codes, base_of, base_settings, special, unit_item, unit_items, plain_end}
+use Rattle.edit_ops.specs.Fresh.{special_codes, base_of, base_properties, special, unit_item, unit_items, plain_end}
 use Rattle.edit_ops.specs.Fresh.{field_mark, field_items, note_items}
 
 base_chp : (o : Option Item) →
@@ -21,17 +21,17 @@ base_chp : (o : Option Item) →
 base_chp None = refl
 base_chp (Some item) = refl
 
--- the base settings, by the settings that are there, or not
-pub base_by : (text : List Item) (at : ℕ) (o : Option Settings) →
+-- the base properties, by the properties that are there, or not
+pub base_by : (text : List Item) (at : ℕ) (o : Option Properties) →
     slice_get (map (λ (item : Item). item.chp) text) at ≡ o
-    → base_settings text at ≡ unwrap_or (option_map (without special_codes) o) empty
+    → base_properties text at ≡ unwrap_or (option_map (without special_codes) o) empty
 base_by text at o is =
     base_chp (slice_get text at)
-    ∙ ap (λ (p : Option Settings). unwrap_or (option_map (without special_codes) p) empty)
+    ∙ ap (λ (p : Option Properties). unwrap_or (option_map (without special_codes) p) empty)
     (sym (slice_get-map (λ (item : Item). item.chp) text at) ∙ is)
 
--- settings that are there are well formed
-pub chp_formed : (text : List Item) (at : ℕ) (chp : Settings) → IsFormedText text →
+-- properties that are there are well formed
+pub chp_formed : (text : List Item) (at : ℕ) (chp : Properties) → IsFormedText text →
     slice_get (map (λ (item : Item). item.chp) text) at ≡ Some chp → IsPropertyMap character_groups chp
 chp_formed text at chp formed there = elim (slice_get_cases text at).1 [
   | inl w ↦
@@ -52,7 +52,7 @@ chp_formed text at chp formed there = elim (slice_get_cases text at).1 [
 pub length-one : (text made : List Item) (item : Item) → made ≡ text ++ item ∷ [] → length made ≡ length text + 1
 length-one text made item is = ap length is ∙ length-append text (item ∷ [])
 
-pub length-units : (text made : List Item) (chp : Settings) (units : List ℕ) → made ≡ text ++ unit_items chp units →
+pub length-units : (text made : List Item) (chp : Properties) (units : List ℕ) → made ≡ text ++ unit_items chp units →
     length made ≡ length text + length units
 length-units text made chp units is =
     ap length is
@@ -60,7 +60,7 @@ length-units text made chp units is =
     ∙ ap (λ n. length text + n) (length-map units (unit_item chp))
 
 -- units, and two paragraph marks
-pub two_ends : (units : List ℕ) (none : Settings) (new shown ended made : List Item) (one two : Item) →
+pub two_ends : (units : List ℕ) (none : Properties) (new shown ended made : List Item) (one two : Item) →
     none ≡ empty → new ≡ [] → shown ≡ new ++ bare_items none units → one ≡ plain_end → ended ≡ shown ++ one ∷ []
     → two ≡ plain_end → made ≡ ended ++ two ∷ []
     → made ≡ unit_items empty units ++ plain_end ∷ plain_end ∷ []
@@ -69,7 +69,7 @@ two_ends units none new shown ended made one two none_is new_is shown_is one_is 
     (append_assoc (unit_items empty units) (plain_end ∷ []) (plain_end ∷ []))
 
 -- an item, units, and a paragraph mark
-pub note_parts : (units : List ℕ) (none : Settings) (new begun shown made : List Item) (first last : Item) →
+pub note_parts : (units : List ℕ) (none : Properties) (new begun shown made : List Item) (first last : Item) →
     none ≡ empty → new ≡ [] → first ≡ unit_item (special empty) 0x02 → begun ≡ new ++ first ∷ []
     → shown ≡ begun ++ bare_items none units → last ≡ plain_end → made ≡ shown ++ last ∷ []
     → made ≡ note_items units
@@ -81,7 +81,7 @@ note_parts units none new begun shown made first last none_is new_is first_is be
     ∙ ap (λ (t : List Item). t ++ first ∷ []) new_is)) in
     joined
     ∙ ap (λ (x : Item). x ∷ (bare_items none units ++ last ∷ [])) first_is
-    ∙ ap (λ (s : Settings). unit_item (special empty) 0x02 ∷ (bare_items s units ++ last ∷ [])) none_is
+    ∙ ap (λ (s : Properties). unit_item (special empty) 0x02 ∷ (bare_items s units ++ last ∷ [])) none_is
     ∙ ap (λ (x : Item). unit_item (special empty) 0x02 ∷ (bare_items empty units ++ x ∷ [])) last_is
 
 field_joined : (begin separator end : Item) (code shown : List Item) →
@@ -93,7 +93,7 @@ field_joined begin separator end code shown =
     ∙ append_assoc code (separator ∷ []) (shown ++ end ∷ []))
 
 -- three field characters, with units between them
-pub field_parts : (base one two : Settings) (kind : ℕ) (code shown : List ℕ)
+pub field_parts : (base one two : Properties) (kind : ℕ) (code shown : List ℕ)
     (new begun coded parted both made : List Item) (begin separator end : Item) → one ≡ base → two ≡ base → new ≡ []
     → begin ≡ field_mark base 0x13 kind → begun ≡ new ++ begin ∷ [] → coded ≡ begun ++ bare_items one code
     → separator ≡ field_mark base 0x14 0xFF → parted ≡ coded ++ separator ∷ []
@@ -114,7 +114,7 @@ field_parts base one two kind code shown new begun coded parted both made begin 
     joined
     ∙ field_joined begin separator end (bare_items one code) (bare_items two shown)
     ∙ ap (λ (x : Item). x ∷ bare_items one code ++ (separator ∷ bare_items two shown ++ end ∷ [])) begin_is
-    ∙ ap (λ (s : Settings). first ∷ bare_items s code ++ (separator ∷ bare_items two shown ++ end ∷ [])) one_is
+    ∙ ap (λ (s : Properties). first ∷ bare_items s code ++ (separator ∷ bare_items two shown ++ end ∷ [])) one_is
     ∙ ap (λ (x : Item). first ∷ bare_items base code ++ (x ∷ bare_items two shown ++ end ∷ [])) separator_is
-    ∙ ap (λ (s : Settings). first ∷ bare_items base code ++ (middle ∷ bare_items s shown ++ end ∷ [])) two_is
+    ∙ ap (λ (s : Properties). first ∷ bare_items base code ++ (middle ∷ bare_items s shown ++ end ∷ [])) two_is
     ∙ ap (λ (x : Item). first ∷ bare_items base code ++ (middle ∷ bare_items base shown ++ x ∷ [])) end_is

@@ -9,10 +9,10 @@ use Rattle.edit_ops.specs.declared.faults.EditFault.TheVariants.{Range, Code, Ru
 use Rattle.edit_ops.specs.declared.applying.Edit.{Edit}
 use Rattle.edit_ops.specs.Edits.{changes_of, document_after}
 use Rattle.edit_ops.specs.EditFacts.{edit_facts}
-use Rattle.edit_ops.specs.Causes.{CanBeTried, IsJudged, IsEditFault, IsAcceptedEdit}
+use Rattle.edit_ops.specs.Causes.{CanBeTried, IsNamedRule, IsEditFault, IsAcceptedEdit}
 
 pub edit_fault : (document : Document) (command : Command) (made : Document) (fault : EditFault) → CanBeTried document
-    command → made ≡ document_after document command → IsJudged made fault → IsEditFault document command fault
+    command → made ≡ document_after document command → IsNamedRule made fault → IsEditFault document command fault
 edit_fault d c made Range tried is judged = absurd judged
 edit_fault d c made Code tried is judged = absurd judged
 edit_fault d c made Memory tried is judged = tt
@@ -49,7 +49,7 @@ given_right made verdict (Err fault) P so right = tt
 pub outcome : (document : Document) (command : Command) (edit : Edit) (verdict : Result Unit EditFault)
     (result : Result Edit EditFault) → CanBeTried document command → edit.changes ≡ changes_of document command →
     edit.document ≡ document_after document command → edit.facts ≡ edit_facts document command →
-    MatchResult verdict (λ _. IsSound edit.document) (IsJudged edit.document) →
+    MatchResult verdict (λ _. IsSound edit.document) (IsNamedRule edit.document) →
     MatchResult result (λ given. (given ≡ edit) × IsOk verdict) (λ fault. verdict ≡ Err fault) →
     MatchResult result
     (λ made. IsAcceptedEdit document command
@@ -68,5 +68,5 @@ outcome d c edit (Err fault) (Ok given) tried changes document facts judged righ
     absurd (let none = right.1 in cc (none))
 outcome d c edit verdict (Err fault) tried changes document facts judged right =
     edit_fault d c edit.document fault tried document
-    (subst (λ (v : Result Unit EditFault). MatchResult v (λ _. IsSound edit.document) (IsJudged edit.document)) right
+    (subst (λ (v : Result Unit EditFault). MatchResult v (λ _. IsSound edit.document) (IsNamedRule edit.document)) right
     judged)

@@ -10,7 +10,7 @@ use Rattle.doc_bits.specs.declared.places.Story.TheVariants.{Main, Note as NoteT
 use Rattle.doc_parts.specs.Bookmarks.{AreFormedBookmarks, IsFormedBookmark, moved_bookmarks}
 use Rattle.doc_parts.specs.Names.{is_named}
 use Rattle.doc_parts.proofs.MoveLemmas.{moves_form, put_form, filter_form}
-use Rattle.prop_map.specs.Settings.{Settings}
+use Rattle.prop_map.specs.Settings.{Properties}
 use Rattle.prop_map.specs.declared.modifiers.Modifier.{Modifier}
 use Rattle.plain_doc.specs.declared.item.Item.{Item}
 use Rattle.plain_doc.specs.declared.document.Document.{Document}
@@ -20,15 +20,15 @@ use Rattle.edit_script.specs.declared.commands.Command.{Command}
 use Rattle.edit_script.specs.declared.commands.Command.TheVariants.{Insert, Erase, Char, Plain, Para, Style, Field}
 use Rattle.edit_script.specs.declared.commands.Command.TheVariants.{Note, Split, Merge, Sect, Row, StyleChar}
 use Rattle.edit_script.specs.declared.commands.Command.TheVariants.{StylePara, Bookmark, Unmark, Save}
-use Rattle.edit_changes.specs.Changes.{map_range, put_changed, modified_item, with_text, text_spliced}
-use Rattle.edit_changes.specs.Changes.{with_section}
-use Rattle.edit_changes.specs.Places.{text_at, items_at, mark_place}
+use Rattle.doc_patch.specs.Changes.{map_range, put_changed, modified_item, with_text, text_spliced}
+use Rattle.doc_patch.specs.Changes.{with_section}
+use Rattle.doc_patch.specs.Places.{text_at, items_at, mark_place}
 use Rattle.edit_ops.specs.Bookmarks.{new_bookmark}
-use Rattle.edit_ops.specs.Fresh.{base_settings, note_reference, section_item}
-use Rattle.edit_ops.specs.Codes.{IsPutName, HasRightCodes}
+use Rattle.edit_ops.specs.Fresh.{base_properties, note_reference, section_item}
+use Rattle.edit_ops.specs.Codes.{IsPutName, HasValidCodes}
 use Rattle.edit_ops.specs.Edits.{erased, section_changes, modified_at_mark, document_after}
-use Rattle.edit_ops.specs.Edits.{setting_characters, clearing, setting_paragraphs, naming_style}
-use Rattle.edit_changes.specs.Changes.{all_changed}
+use Rattle.edit_ops.specs.Edits.{property_characters, clearing, property_paragraphs, naming_style}
+use Rattle.doc_patch.specs.Changes.{all_changed}
 use Rattle.edit_ops.specs.Ranges.{IsInRange, HasText, HasRange}
 use Rattle.edit_ops.specs.Laws.{EditsKeepBookmarks}
 use Rattle.edit_ops.proofs.CanMakeLemmas.{takes_text, has_place, begins, unit_range}
@@ -107,7 +107,7 @@ erase_keeps document Main from to range formed =
 erase_keeps document (NoteText k) from to range formed = formed
 erase_keeps document (HeadText k) from to range formed = formed
 
-section_keeps : (document : Document) (at : ℕ) (new : Bool) (set : Settings) → at < length document.main →
+section_keeps : (document : Document) (at : ℕ) (new : Bool) (set : Properties) → at < length document.main →
     KeepsForm document (all_changed (section_changes document.main at new set) document)
 section_keeps document at false set within formed =
     same_length document _ (length-put (with_section set) document.main _ _) formed
@@ -126,22 +126,22 @@ put_name_fits len name from to ordered within right =
 pub keeps_bookmarks : EditsKeepBookmarks
 keeps_bookmarks document command formed tried = by_kind command tried.range tried.codes
   where
-    by_kind : (command : Command) → IsInRange document command → HasRightCodes command →
+    by_kind : (command : Command) → IsInRange document command → HasValidCodes command →
         HasFormedBookmarks (document_after document command)
     by_kind (Insert story at text) range codes =
         put_keeps document story at _ (takes_text document story at range) formed
     by_kind (Erase story from to) range codes = erase_keeps document story from to range formed
     by_kind (Char story from to set) range codes =
-        modify_keeps document story from to (setting_characters set)
+        modify_keeps document story from to (property_characters set)
         (range_ordered (text_at document story) from to range) formed
     by_kind (Plain story from to) range codes =
         modify_keeps document story from to clearing (range_ordered (text_at document story) from to range) formed
-    by_kind (Para story at set) range codes = mark_keeps document story at (setting_paragraphs set) formed
+    by_kind (Para story at set) range codes = mark_keeps document story at (property_paragraphs set) formed
     by_kind (Style story at istd) range codes = mark_keeps document story at (naming_style istd) formed
     by_kind (Field story at type code shown) range codes =
         put_keeps document story at _ (has_place document story at range) formed
     by_kind (Note at text) range codes =
-        main_form document at at (note_reference (base_settings document.main at) ∷ []) (omega arith)
+        main_form document at at (note_reference (base_properties document.main at) ∷ []) (omega arith)
         (omega (arith, range)) formed
     by_kind (Split story at) range codes = put_keeps document story at _ (has_place document story at range) formed
     by_kind (Merge story at) range codes =

@@ -1,46 +1,41 @@
 -- Rows: the bytes of their definition, and the items of their cells.
-use Rattle.std.proofs.Common.{◌≡◌, ◌∙◌, sym, ap, ℕ, zero, suc, ◌+◌, ◌*◌, ◌<◌, ◌≤◌, List, [], ◌∷◌, ◌++◌, length, map}
+use Rattle.std.proofs.Common.{◌≡◌, ◌∙◌, sym, ap, ℕ, zero, suc, ◌+◌, ◌*◌, ◌≤◌, List, [], ◌∷◌, ◌++◌, length, map}
 use Rattle.std.proofs.Common.{take, get_or, Some, arith, length-append, replicate}
 use Rattle.std.specs.Prelude.{slice_get}
 use Rattle.std.specs.List.{flat_map, sum_by, range_with_len}
-use Rattle.std.proofs.lemmas.List.{append-nil, take_more, length-replicate, length-map}
+use Rattle.std.proofs.lemmas.List.{append-nil, length-replicate, length-map}
 use Rattle.std.proofs.lemmas.Grind.{flat_map-append}
 use Rattle.std.proofs.lemmas.List.Concat.{length-flat_map}
 use Rattle.std.proofs.lemmas.List.FromFn.{map-range_with_len_more, length-map-range_with_len}
 use Rattle.std.proofs.lemmas.List.Sums.{sum_by-le}
-use Rattle.std.proofs.lemmas.Option.{slice_get_within, get_or_from_slice_get}
 use Rattle.std.specs.FinMap.{empty}
 use Rattle.std.specs.Int.{bytes_low_first, byte_at}
-use Rattle.doc_bits.proofs.ByteListLemmas.{no_bytes, joined_bytes, one_byte, AreBytes-flat_map}
+use Rattle.doc_bits.proofs.ByteListLemmas.{no_bytes, joined_bytes, one_byte, AreBytes-flat_map, small_byte}
 use Rattle.doc_bits.specs.Number.{number_bytes, AreBytes}
 use Rattle.doc_bits.proofs.NumberLemmas.{length-number_bytes}
 use Rattle.prop_map.specs.Formed.{IsPropertyMap, paragraph_groups}
 use Rattle.prop_map.proofs.ActingLemmas.{IsPropertyMap-empty}
 use Rattle.text_codes.specs.Paragraph.{cell_mark}
-use Rattle.edit_ops.specs.Fresh.{row_edges, row_definition, row_settings, cell_settings, cell_items, unit_item}
+use Rattle.edit_ops.specs.Fresh.{row_edges, row_definition, row_properties, cell_properties, cell_items, unit_item}
 use Rattle.edit_ops.specs.Fresh.{unit_items, mark_item, mark_with}
 use Rattle.edit_ops.proofs.FreshLemmas.{in_table_formed, row_end_formed, definition_formed}
+use Rattle.doc_bits.proofs.ListLemmas.{take_step}
 
 -- ---- lists by their entries
 
 flat_map_one : {X A : Type 0} (f : X → List A) (xs : List X) (x : X) → flat_map f (xs ++ x ∷ []) ≡ flat_map f xs ++ f x
 flat_map_one f xs x = flat_map-append f xs (x ∷ []) ∙ ap (λ more. flat_map f xs ++ more) (append-nil (f x))
 
-taken : {X : Type 0} (xs : List X) (i : ℕ) (x : X) → slice_get xs i ≡ Some x → take (i + 1) xs ≡ take i xs ++ x ∷ []
-taken xs i x there =
-    take_more xs i x (slice_get_within xs i x there)
-    ∙ ap (λ y. take i xs ++ y ∷ []) (get_or_from_slice_get xs i x x there)
-
 -- ---- the items of cells
 
 pub cells_more : (cells : List (List ℕ)) (i : ℕ) (text : List ℕ) → slice_get cells i ≡ Some text → flat_map cell_items
     (take (i + 1) cells) ≡ flat_map cell_items (take i cells) ++ cell_items text
-cells_more cells i text there = ap (flat_map cell_items) (taken cells i text there) ∙ flat_map_one cell_items
+cells_more cells i text there = ap (flat_map cell_items) (take_step cells i text there) ∙ flat_map_one cell_items
     (take i cells) text
 
 pub length-cell : (text : List ℕ) → length (cell_items text) ≡ length text + 1
 length-cell text =
-    length-append (unit_items empty text) (mark_item empty cell_mark (mark_with cell_settings) ∷ [])
+    length-append (unit_items empty text) (mark_item empty cell_mark (mark_with cell_properties) ∷ [])
     ∙ ap (λ n. n + 1) (length-map text (unit_item empty))
 
 -- ---- the definition of a row
@@ -81,10 +76,6 @@ definition_short cells width few =
     two : (x : ℕ) → length (number_bytes 2 x) ≤ 2
     two x = let len = length-number_bytes 2 x in omega arith
 
-small_byte : (i x : ℕ) → byte_at i x < 256
-small_byte zero x = omega arith
-small_byte (suc i) x = omega arith
-
 low_bytes : (i k x : ℕ) → AreBytes (bytes_low_first i k x)
 low_bytes i zero x = no_bytes
 low_bytes i (suc k) x = joined_bytes (byte_at i x ∷ []) (bytes_low_first (suc i) k x) (one_byte (byte_at i x)
@@ -105,8 +96,8 @@ definition_bytes cells width few =
     (joined_bytes edges (replicate (20 * cells) 0) (AreBytes-flat_map (number_bytes 2) (row_edges cells width)
     two_bytes) (zero_bytes (20 * cells)))
 
-pub row_formed : (cells width : ℕ) → cells ≤ 63 → IsPropertyMap paragraph_groups (row_settings cells width)
+pub row_formed : (cells width : ℕ) → cells ≤ 63 → IsPropertyMap paragraph_groups (row_properties cells width)
 row_formed cells width few =
     definition_formed _ (row_definition cells width) (definition_short cells width few) (definition_bytes cells width
     few)
-    (row_end_formed cell_settings (in_table_formed empty (IsPropertyMap-empty paragraph_groups)))
+    (row_end_formed cell_properties (in_table_formed empty (IsPropertyMap-empty paragraph_groups)))

@@ -8,22 +8,23 @@ use Rattle.std.proofs.lemmas.List.{append-nil}
 use Rattle.std.proofs.lemmas.List.Elements.{All-append, All-cons, All-nil}
 use Rattle.std.proofs.lemmas.List.Sums.{sum_by-append, sum_by-cons}
 use Rattle.text_codes.specs.Paragraph.{cell_mark}
-use Rattle.prop_map.specs.Settings.{Settings}
+use Rattle.prop_map.specs.Settings.{Properties}
 use Rattle.plain_doc.specs.declared.item.Item.{Item}
 use Rattle.plain_doc.specs.declared.item.Mark.{Mark}
 use Rattle.plain_doc.specs.declared.document.Document.{Document}
 use Rattle.plain_doc.specs.Stretches.{stretches}
 use Rattle.plain_doc.specs.Settings.{is_alike}
-use Rattle.plain_doc.proofs.SettingsLemmas.{same_settings-Decides}
+use Rattle.plain_doc.proofs.SettingsLemmas.{same_properties-Decides}
 use Rattle.plain_doc.proofs.StretchLemmas.{one_more, none_more}
 use Rattle.doc_bits.specs.declared.places.Story.{Story}
 use Rattle.doc_bits.specs.declared.places.Story.TheVariants.{Main, Note as NoteText, Head as HeadText}
 use Rattle.edit_script.specs.declared.commands.Command.TheVariants.{Insert, Erase, Char, Plain, Para, Style, Field}
 use Rattle.edit_script.specs.declared.commands.Command.TheVariants.{Note, Split, Merge, Sect, Row, StyleChar}
 use Rattle.edit_script.specs.declared.commands.Command.TheVariants.{StylePara, Bookmark, Unmark, Save}
-use Rattle.edit_changes.specs.Places.{items_at}
-use Rattle.edit_ops.specs.Fresh.{unit_item, unit_items, mark_item, mark_with, plain_end, cell_items, cell_settings}
-use Rattle.edit_ops.specs.Fresh.{row_items, row_settings, field_items, field_mark, special, base_settings, note_items}
+use Rattle.doc_patch.specs.Places.{items_at}
+use Rattle.edit_ops.specs.Fresh.{unit_item, unit_items, mark_item, mark_with, plain_end, cell_items, cell_properties}
+use Rattle.edit_ops.specs.Fresh.{row_items, row_properties, field_items, field_mark, special, base_properties}
+use Rattle.edit_ops.specs.Fresh.{note_items}
 use Rattle.edit_ops.specs.Edits.{erased, section_changes}
 use Rattle.edit_ops.specs.Runs.{paragraph_count, run_count, texts_put, most_runs_of_section, RunsAreFew}
 
@@ -52,15 +53,15 @@ unfolding stretches
 joined_one joins P same xs all = subst (λ list. length (stretches joins list) ≤ 1) (append-nil xs)
     (let few = joined_before joins P same xs [] all in omega (arith, few))
 
--- ---- items of equal settings
+-- ---- items of equal properties
 
-abbrev pub HasChp : Settings → Item → Type 0
+abbrev pub HasChp : Properties → Item → Type 0
 HasChp chp item = item.chp ≡ chp
 
-alike : (chp : Settings) (x y : Item) → HasChp chp x → HasChp chp y → is_alike x y ≡ true
-alike chp x y one other = (same_settings-Decides x.chp y.chp).1 (one ∙ sym other)
+alike : (chp : Properties) (x y : Item) → HasChp chp x → HasChp chp y → is_alike x y ≡ true
+alike chp x y one other = (same_properties-Decides x.chp y.chp).1 (one ∙ sym other)
 
-pub units_have : (chp : Settings) (units : List ℕ) → All (HasChp chp) (unit_items chp units)
+pub units_have : (chp : Properties) (units : List ℕ) → All (HasChp chp) (unit_items chp units)
 units_have chp [] = All-nil (HasChp chp)
 units_have chp (unit ∷ units) = All-cons (HasChp chp) (unit_item chp unit) (unit_items chp units) refl (units_have chp
     units)
@@ -68,18 +69,18 @@ units_have chp (unit ∷ units) = All-cons (HasChp chp) (unit_item chp unit) (un
 cells_have : (cells : List (List ℕ)) → All (HasChp empty) (flat_map cell_items cells)
 cells_have [] = All-nil (HasChp empty)
 cells_have (text ∷ cells) =
-    let mark = mark_item empty cell_mark (mark_with cell_settings) in
+    let mark = mark_item empty cell_mark (mark_with cell_properties) in
     All-append (HasChp empty) (cell_items text) (flat_map cell_items cells)
     (All-append (HasChp empty) (unit_items empty text) (mark ∷ []) (units_have empty text) (All-cons (HasChp empty)
     mark [] refl (All-nil (HasChp empty))))
     (cells_have cells)
 
 -- they are one run
-pub one_run : (chp : Settings) (items : List Item) → All (HasChp chp) items → length (stretches is_alike items) ≤ 1
+pub one_run : (chp : Properties) (items : List Item) → All (HasChp chp) items → length (stretches is_alike items) ≤ 1
 one_run chp items all = joined_one is_alike (HasChp chp) (alike chp) items all
 
 -- units are one run more
-units_before : (chp : Settings) (units : List ℕ) (rest : List Item) → length (stretches is_alike (unit_items chp units
+units_before : (chp : Properties) (units : List ℕ) (rest : List Item) → length (stretches is_alike (unit_items chp units
     ++ rest)) ≤ 1 + length (stretches is_alike rest)
 units_before chp units rest = joined_before is_alike (HasChp chp) (alike chp) (unit_items chp units) rest
     (units_have chp units)
@@ -99,14 +100,14 @@ unmarked item more none =
     sum_by-cons (λ (item : Item). ends_of item.mark) item more
     ∙ (ap (λ (mark : Option Mark). ends_of mark + paragraph_count more) none ∙ same)
 
-in_units : (chp : Settings) (units : List ℕ) → paragraph_count (unit_items chp units) ≡ 0
+in_units : (chp : Properties) (units : List ℕ) → paragraph_count (unit_items chp units) ≡ 0
 in_units chp [] = refl
 in_units chp (unit ∷ units) = unmarked (unit_item chp unit) (unit_items chp units) refl ∙ in_units chp units
 
 in_cells : (cells : List (List ℕ)) → paragraph_count (flat_map cell_items cells) ≡ length cells
 in_cells [] = refl
 in_cells (text ∷ cells) =
-    let mark = mark_item empty cell_mark (mark_with cell_settings) in
+    let mark = mark_item empty cell_mark (mark_with cell_properties) in
     let both : paragraph_count (flat_map cell_items (text ∷ cells)) ≡ paragraph_count (cell_items text) +
     paragraph_count (flat_map cell_items cells) =
     both_texts (cell_items text) (flat_map cell_items cells) in
@@ -130,18 +131,18 @@ first_units units =
     let none = in_units empty units in
     omega (arith, characters, paragraphs, none)
 
-later_units : (base : Settings) (units : List ℕ) → run_count (unit_items base units) ≤ 3
+later_units : (base : Properties) (units : List ℕ) → run_count (unit_items base units) ≤ 3
 later_units base units =
     let characters = joined_one is_alike (HasChp base) (alike base) (unit_items base units) (units_have base units) in
     let none = in_units base units in
     omega (arith, characters, none)
 
-few_inserted : (none : Bool) (base : Settings) (units : List ℕ) → run_count (if none then unit_items empty units ++
+few_inserted : (none : Bool) (base : Properties) (units : List ℕ) → run_count (if none then unit_items empty units ++
     plain_end ∷ plain_end ∷ [] else unit_items base units) ≤ 3
 few_inserted true base units = first_units units
 few_inserted false base units = later_units base units
 
-few_of_field : (base : Settings) (type : ℕ) (code shown : List ℕ) → run_count (field_items base type code shown) ≤ 5
+few_of_field : (base : Properties) (type : ℕ) (code shown : List ℕ) → run_count (field_items base type code shown) ≤ 5
 unfolding stretches
 few_of_field base type code shown =
     let begin = field_mark base 0x13 type in
@@ -181,7 +182,7 @@ few_of_note units =
 
 few_of_row : (width : ℕ) (cells : List (List ℕ)) → run_count (row_items width cells) ≤ length cells + 2
 few_of_row width cells =
-    let end = mark_item empty cell_mark (mark_with (row_settings (length cells) width)) in
+    let end = mark_item empty cell_mark (mark_with (row_properties (length cells) width)) in
     let all = All-append (HasChp empty) (flat_map cell_items cells) (end ∷ []) (cells_have cells)
     (All-cons (HasChp empty) end [] refl (All-nil (HasChp empty))) in
     let characters = joined_one is_alike (HasChp empty) (alike empty) (row_items width cells) all in
@@ -199,7 +200,7 @@ few_erased document Main from to = omega arith
 few_erased document (NoteText number) from to = omega arith
 few_erased document (HeadText number) from to = omega arith
 
-few_of_section : (main : List Item) (at : ℕ) (new : Bool) (set : Settings) → sum_by (λ change. sum_by run_count
+few_of_section : (main : List Item) (at : ℕ) (new : Bool) (set : Properties) → sum_by (λ change. sum_by run_count
     (texts_put change)) (section_changes main at new set) ≤ most_runs_of_section new
 unfolding stretches
 few_of_section main at false set = omega arith
@@ -209,7 +210,7 @@ pub few_runs : RunsAreFew
 unfolding stretches
 few_runs document (Insert story at text) =
     let items = items_at document story in
-    let few = few_inserted (length items == 0) (base_settings items at) text in
+    let few = few_inserted (length items == 0) (base_properties items at) text in
     omega (arith, few)
 few_runs document (Erase story from to) = few_erased document story from to
 few_runs document (Char story from to set) = omega arith
@@ -217,7 +218,7 @@ few_runs document (Plain story from to) = omega arith
 few_runs document (Para story at set) = omega arith
 few_runs document (Style story at istd) = omega arith
 few_runs document (Field story at type code shown) =
-    let few = few_of_field (base_settings (items_at document story) at) type code shown in
+    let few = few_of_field (base_properties (items_at document story) at) type code shown in
     omega (arith, few)
 few_runs document (Note at text) =
     let few = few_of_note text in

@@ -17,10 +17,10 @@ use Rattle.style_sheet.specs.Sheet.{Sheet}
 use Rattle.plain_doc.specs.declared.item.Item.{Item}
 use Rattle.plain_doc.specs.declared.document.Document.{Document}
 use Rattle.plain_doc.specs.RulesOfTexts.{last_unit, EndsRight}
-use Rattle.plain_doc.specs.RightDocument.{IsRightText, IsRightDocument}
+use Rattle.plain_doc.specs.RightDocument.{IsValidText, IsValidDocument}
 use Rattle.plain_doc.proofs.MainLemmas.{main_ends, ends_main}
-use Rattle.edit_changes.specs.Places.{text_at, mark_place, mark_unit, section_place}
-use Rattle.edit_changes.proofs.PlaceLemmas.{nothing}
+use Rattle.doc_patch.specs.Places.{text_at, mark_place, mark_unit, section_place}
+use Rattle.doc_patch.proofs.PlaceLemmas.{nothing}
 
 -- ---- texts that are there
 
@@ -29,8 +29,8 @@ part_of Main = part.Main
 part_of (Note k) = part.Note k
 part_of (Head k) = part.Head k
 
-pub right_text : (document : Document) (story : Story) (text : List Item) → IsRightDocument document →
-    text_at document story ≡ Some text → IsRightText document.sheet (part_of story) text
+pub right_text : (document : Document) (story : Story) (text : List Item) → IsValidDocument document →
+    text_at document story ≡ Some text → IsValidText document.sheet (part_of story) text
 right_text document Main text right there = right.texts part.Main text there
 right_text document (Note k) text right there = right.texts (part.Note k) text there
 right_text document (Head k) text right there = right.texts (part.Head k) text there
@@ -44,7 +44,7 @@ among texts k text there =
     omega arith
 
 -- a text has no more items than a document may have
-pub few_items : (document : Document) (story : Story) (text : List Item) → IsRightDocument document → text_at document
+pub few_items : (document : Document) (story : Story) (text : List Item) → IsValidDocument document → text_at document
     story ≡ Some text → length text ≤ 499998
 few_items document Main text right there =
     let few : length document.main + (sum_by length document.notes + sum_by length document.heads) ≤ 499998 =
@@ -101,7 +101,7 @@ last_mark part text ends some = elim ends [
   | inr head ↦ absurd (let none = ap length head.1 in omega (arith, none, some))
 ]
 
-pub mark_within : (sheet : Sheet) (part : Where) (text : List Item) (at : ℕ) → IsRightText sheet part text →
+pub mark_within : (sheet : Sheet) (part : Where) (text : List Item) (at : ℕ) → IsValidText sheet part text →
     at < length text → mark_place text at < length text
 mark_within sheet part text at right within =
     let last = last_mark part text right.ends (omega arith) in
@@ -113,7 +113,7 @@ mark_within sheet part text at right within =
     omega (arith, upto, within)
 
 -- the main text's last item ends a section
-pub section_within : (document : Document) (at : ℕ) → IsRightDocument document → at < length document.main →
+pub section_within : (document : Document) (at : ℕ) → IsValidDocument document → at < length document.main →
     section_place document.main at < length document.main
 section_within document at right within =
     let last = main_ends document right in

@@ -7,11 +7,11 @@ use Rattle.std.specs.Cmp.{unsigned_tied}
 use Rattle.std.specs.FinMap.{get, retain_keys, entries, find, get-entries}
 use Rattle.std.proofs.lemmas.Bool.{eqb-true}
 use Rattle.sprm_table.specs.Codes.{is_among}
-use Rattle.prop_map.specs.Settings.{Settings}
+use Rattle.prop_map.specs.Settings.{Properties}
 use Rattle.prop_map.specs.Entries.{Entries}
 use Rattle.prop_map.specs.Overlay.{without}
 use Rattle.prop_map.proofs.ChangeLemmas.{get-retained}
-use Rattle.prop_map.proofs.MapLemmas.{same_settings, get-without}
+use Rattle.prop_map.proofs.MapLemmas.{same_properties, get-without}
 
 abbrev pub keys : Entries → List ℕ
 keys es = map (λ entry. entry.0) es
@@ -61,29 +61,32 @@ among_there p code (e ∷ es) value passes there =
     one_found p code e.0 (filter p (keys es)) (code == e.0) passes refl
     (λ other. among_there p code es value passes (later_entry code e es value there other))
 
-nothing_kept : (b : Bool) (found : Option (List ℕ)) → found ≡ None → cond b found None ≡ None
+pub nothing_kept : (b : Bool) (found : Option (List ℕ)) → found ≡ None → cond b found None ≡ None
 nothing_kept true found is = is
 nothing_kept false found is = refl
 
-among_is : (p : ℕ → Bool) (settings : Settings) (code : ℕ) (value : List ℕ) (test : Bool) → p code ≡ test →
-    find nat_cmp code (entries settings) ≡ Some value → is_among code (filter p (keys (entries settings))) ≡ test
-among_is p settings code value true passes there = among_there p code (entries settings) value passes there
-among_is p settings code value false passes there = among_none p code (keys (entries settings)) passes
+among_is : (p : ℕ → Bool) (properties : Properties) (code : ℕ) (value : List ℕ) (test : Bool) → p code ≡ test →
+    find nat_cmp code (entries properties) ≡ Some value → is_among code (filter p (keys (entries properties))) ≡ test
+among_is p properties code value true passes there = among_there p code (entries properties) value passes there
+among_is p properties code value false passes there = among_none p code (keys (entries properties)) passes
 
-by_value : (p : ℕ → Bool) (settings : Settings) (code : ℕ) (o : Option (List ℕ)) → find nat_cmp code
-    (entries settings) ≡ o → cond (not (is_among code (filter p (keys (entries settings))))) o None ≡ cond
+by_value : (p : ℕ → Bool) (properties : Properties) (code : ℕ) (o : Option (List ℕ)) → find nat_cmp code
+    (entries properties) ≡ o → cond (not (is_among code (filter p (keys (entries properties))))) o None ≡ cond
     (not (p code)) o None
-by_value p settings code None there = nothing_kept (not (is_among code (filter p (keys (entries settings))))) None
+by_value p properties code None there = nothing_kept (not (is_among code (filter p (keys (entries properties))))) None
     refl ∙ sym (nothing_kept (not (p code)) None refl)
-by_value p settings code (Some value) there = ap (λ b. cond (not b) (Some value) None) (among_is p settings code value
+by_value p properties code (Some value) there = ap (λ b. cond (not b) (Some value) None) (among_is p properties code
+    value
     (p code) refl there)
 
 -- the map without its codes that pass
-pub without_listed : (p : ℕ → Bool) (settings : Settings) → without (filter p (keys (entries settings))) settings ≡
-    retain_keys settings (λ code. not (p code))
-without_listed p settings =
-    same_settings (without (filter p (keys (entries settings))) settings) (retain_keys settings (λ code. not
+pub without_listed : (p : ℕ → Bool) (properties : Properties) → without (filter p (keys (entries properties)))
+    properties ≡
+    retain_keys properties (λ code. not (p code))
+without_listed p properties =
+    same_properties (without (filter p (keys (entries properties))) properties) (retain_keys properties (λ code. not
     (p code))) (λ code.
-    get-without (filter p (keys (entries settings))) settings code
-    ∙ (by_value p settings code (get settings code) (sym (get-entries settings code)) ∙ sym (get-retained settings
+    get-without (filter p (keys (entries properties))) properties code
+    ∙ (by_value p properties code (get properties code) (sym (get-entries properties code)) ∙ sym (get-retained
+    properties
     (λ key. not (p key)) code)))

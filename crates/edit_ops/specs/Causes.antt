@@ -8,13 +8,13 @@ use Rattle.edit_script.specs.declared.commands.Command.{Command}
 use Rattle.edit_ops.specs.declared.faults.EditFault.{EditFault}
 use Rattle.edit_ops.specs.declared.faults.EditFault.TheVariants.{Range, Code, Rule, Limit, Memory}
 use Rattle.edit_ops.specs.Ranges.{IsInRange}
-use Rattle.edit_ops.specs.Codes.{HasRightCodes}
+use Rattle.edit_ops.specs.Codes.{HasValidCodes}
 use Rattle.edit_ops.specs.Edits.{document_after}
 
 -- the command is in range and its codes are right
 pub record CanBeTried (document : Document) (command : Command) : Type 0 where
   pub range : IsInRange document command
-  pub codes : HasRightCodes command
+  pub codes : HasValidCodes command
 
 -- the rules that a document breaks by being too large
 abbrev pub IsLimit : ℕ → Type 0
@@ -33,15 +33,15 @@ pub record IsAcceptedEdit (document : Document) (command : Command) : Type 0 whe
 -- out of range; else wrong codes; else the first rule that the changed document breaks
 abbrev pub IsEditFault : Document → Command → EditFault → Type 0
 IsEditFault document command Range = ¬ (IsInRange document command)
-IsEditFault document command Code = IsInRange document command × ¬ (HasRightCodes command)
+IsEditFault document command Code = IsInRange document command × ¬ (HasValidCodes command)
 IsEditFault document command (Rule rule place at) = BreaksFirst document command rule place at × ¬ (IsLimit rule)
 IsEditFault document command (Limit rule place at) = BreaksFirst document command rule place at × IsLimit rule
 IsEditFault document command Memory = ⊤
 
 -- the first rule that a document breaks, as the fault of an edit
-abbrev pub IsJudged : Document → EditFault → Type 0
-IsJudged document Range = ⊥
-IsJudged document Code = ⊥
-IsJudged document (Rule rule place at) = IsFirstPlace (document_rules document) rule (place, at) × ¬ (IsLimit rule)
-IsJudged document (Limit rule place at) = IsFirstPlace (document_rules document) rule (place, at) × IsLimit rule
-IsJudged document Memory = ⊤
+abbrev pub IsNamedRule : Document → EditFault → Type 0
+IsNamedRule document Range = ⊥
+IsNamedRule document Code = ⊥
+IsNamedRule document (Rule rule place at) = IsFirstPlace (document_rules document) rule (place, at) × ¬ (IsLimit rule)
+IsNamedRule document (Limit rule place at) = IsFirstPlace (document_rules document) rule (place, at) × IsLimit rule
+IsNamedRule document Memory = ⊤

@@ -1,4 +1,4 @@
--- Which texts, settings and rows a command may have.
+-- Which texts, properties and rows a command may have.
 use Rattle.std.specs.Prelude.{◌≡◌, ◌⊎◌, ℕ, ◌+◌, ◌*◌, ◌<◌, ◌≤◌, List, length, All, ⊤}
 use Rattle.std.specs.List.{sum_by}
 use Rattle.prop_map.specs.Formed.{IsPropertyMap, character_groups, paragraph_groups, section_groups}
@@ -43,22 +43,22 @@ pub record IsPutName (name : List ℕ) : Type 0 where
   pub few : length name ≤ 40
   pub shown : All IsShownUnit name
 
--- the command has texts that may be put, and settings that its place may hold
-abbrev pub HasRightCodes : Command → Type 0
-HasRightCodes (Insert story at text) = IsPutText text
-HasRightCodes (Erase story from to) = ⊤
-HasRightCodes (Char story from to set) = IsPropertyMap character_groups set
-HasRightCodes (Plain story from to) = ⊤
-HasRightCodes (Para story at set) = IsPropertyMap paragraph_groups set
-HasRightCodes (Style story at istd) = ⊤
-HasRightCodes (Field story at type code result) = IsPutField code result
-HasRightCodes (Note at text) = IsPutText text
-HasRightCodes (Split story at) = ⊤
-HasRightCodes (Merge story at) = ⊤
-HasRightCodes (Sect at new set) = IsPropertyMap section_groups set
-HasRightCodes (Row story at width cells) = IsPutRow width cells
-HasRightCodes (StyleChar istd set) = IsPropertyMap character_groups set
-HasRightCodes (StylePara istd set) = IsPropertyMap paragraph_groups set
-HasRightCodes (Bookmark name from to) = IsPutName name
-HasRightCodes (Unmark name) = ⊤
-HasRightCodes (Save full) = ⊤
+-- the command has texts that may be put, and properties that its place may hold
+abbrev pub HasValidCodes : Command → Type 0
+HasValidCodes (Insert story at text) = IsPutText text
+HasValidCodes (Erase story from to) = ⊤
+HasValidCodes (Char story from to set) = IsPropertyMap character_groups set
+HasValidCodes (Plain story from to) = ⊤
+HasValidCodes (Para story at set) = IsPropertyMap paragraph_groups set
+HasValidCodes (Style story at istd) = ⊤
+HasValidCodes (Field story at type code result) = IsPutField code result
+HasValidCodes (Note at text) = IsPutText text
+HasValidCodes (Split story at) = ⊤
+HasValidCodes (Merge story at) = ⊤
+HasValidCodes (Sect at new set) = IsPropertyMap section_groups set
+HasValidCodes (Row story at width cells) = IsPutRow width cells
+HasValidCodes (StyleChar istd set) = IsPropertyMap character_groups set
+HasValidCodes (StylePara istd set) = IsPropertyMap paragraph_groups set
+HasValidCodes (Bookmark name from to) = IsPutName name
+HasValidCodes (Unmark name) = ⊤
+HasValidCodes (Save full) = ⊤

@@ -9,11 +9,11 @@ use Rattle.edit_script.specs.declared.commands.Command.{Command}
 use Rattle.edit_script.specs.declared.commands.Command.TheVariants.{Insert, Erase, Char, Plain, Para, Style, Field}
 use Rattle.edit_script.specs.declared.commands.Command.TheVariants.{Note, Split, Merge, Sect, Row, StyleChar}
 use Rattle.edit_script.specs.declared.commands.Command.TheVariants.{StylePara, Bookmark, Unmark, Save}
-use Rattle.edit_changes.specs.declared.changes.Change.{Change}
-use Rattle.edit_changes.specs.declared.changes.Change.TheVariants.{SpliceText, ModifyItems, SetSection, SpliceNotes}
-use Rattle.edit_changes.specs.declared.changes.Change.TheVariants.{SpliceHeads, SetStyleCharacters, SetStyleParagraphs}
-use Rattle.edit_changes.specs.declared.changes.Change.TheVariants.{SetBookmarks}
-use Rattle.edit_changes.specs.Places.{items_at, mark_at}
+use Rattle.doc_patch.specs.declared.changes.Change.{Change}
+use Rattle.doc_patch.specs.declared.changes.Change.TheVariants.{SpliceText, ModifyItems, SetSection, SpliceNotes}
+use Rattle.doc_patch.specs.declared.changes.Change.TheVariants.{SpliceHeads, SetStyleCharacters, SetStyleParagraphs}
+use Rattle.doc_patch.specs.declared.changes.Change.TheVariants.{SetBookmarks}
+use Rattle.doc_patch.specs.Places.{items_at, mark_at}
 use Rattle.edit_ops.specs.Bookmarks.{begin_of, place_before}
 use Rattle.edit_ops.specs.Edits.{changes_of}
 
@@ -68,25 +68,25 @@ kind_of (Unmark name) = 16
 kind_of (Save full) = 0
 
 -- the style of the paragraph that the command begins in, before it; the style that it changes
-abbrev pub style_of : Document → Command → ℕ
-style_of document (Insert story at text) = style_before (items_at document story) at
-style_of document (Erase story from to) = style_before (items_at document story) from
-style_of document (Char story from to set) = style_before (items_at document story) from
-style_of document (Plain story from to) = style_before (items_at document story) from
-style_of document (Para story at set) = style_before (items_at document story) at
-style_of document (Style story at istd) = style_before (items_at document story) at
-style_of document (Field story at type code result) = style_before (items_at document story) at
-style_of document (Note at text) = style_before document.main at
-style_of document (Split story at) = style_before (items_at document story) at
-style_of document (Merge story at) = style_before (items_at document story) at
-style_of document (Sect at new set) = style_before document.main at
-style_of document (Row story at width cells) = style_before (items_at document story) at
-style_of document (StyleChar istd set) = istd
-style_of document (StylePara istd set) = istd
-style_of document (Bookmark name from to) = style_before document.main (place_before document.main from)
-style_of document (Unmark name) =
+abbrev pub style_of_command : Document → Command → ℕ
+style_of_command document (Insert story at text) = style_before (items_at document story) at
+style_of_command document (Erase story from to) = style_before (items_at document story) from
+style_of_command document (Char story from to set) = style_before (items_at document story) from
+style_of_command document (Plain story from to) = style_before (items_at document story) from
+style_of_command document (Para story at set) = style_before (items_at document story) at
+style_of_command document (Style story at istd) = style_before (items_at document story) at
+style_of_command document (Field story at type code result) = style_before (items_at document story) at
+style_of_command document (Note at text) = style_before document.main at
+style_of_command document (Split story at) = style_before (items_at document story) at
+style_of_command document (Merge story at) = style_before (items_at document story) at
+style_of_command document (Sect at new set) = style_before document.main at
+style_of_command document (Row story at width cells) = style_before (items_at document story) at
+style_of_command document (StyleChar istd set) = istd
+style_of_command document (StylePara istd set) = istd
+style_of_command document (Bookmark name from to) = style_before document.main (place_before document.main from)
+style_of_command document (Unmark name) =
     style_before document.main (place_before document.main (begin_of name document.bookmarks))
-style_of document (Save full) = 0
+style_of_command document (Save full) = 0
 
 -- the kind of the command, the items that its changes add and remove in all texts, and that style
 abbrev pub edit_facts : Document → Command → Facts
@@ -94,5 +94,5 @@ edit_facts document command = record {
   kind = kind_of command;
   units_in = sum_by items_added (changes_of document command);
   units_out = sum_by (items_removed document) (changes_of document command);
-  style = style_of document command;
+  style = style_of_command document command;
 }

@@ -12,7 +12,7 @@ use Rattle.edit_script.specs.declared.commands.Command.TheVariants.{StylePara, B
 use Rattle.edit_ops.specs.Edits.{changes_of, document_after}
 use Rattle.edit_ops.specs.EditFacts.{edit_facts}
 use Rattle.edit_ops.specs.Causes.{CanBeTried, IsEditFault, IsAcceptedEdit}
-use Rattle.edit_changes.specs.Makes.{CanMakeAll}
+use Rattle.doc_patch.specs.Makes.{CanMakeAll}
 
 -- a fault for another cause than memory
 abbrev pub IsCause : EditFault → Type 0

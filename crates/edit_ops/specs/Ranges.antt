@@ -11,8 +11,8 @@ use Rattle.edit_script.specs.declared.commands.Command.{Command}
 use Rattle.edit_script.specs.declared.commands.Command.TheVariants.{Insert, Erase, Char, Plain, Para, Style, Field}
 use Rattle.edit_script.specs.declared.commands.Command.TheVariants.{Note, Split, Merge, Sect, Row, StyleChar}
 use Rattle.edit_script.specs.declared.commands.Command.TheVariants.{StylePara, Bookmark, Unmark, Save}
-pub use Rattle.edit_changes.specs.Places.{HasText, HasRange}
-use Rattle.edit_changes.specs.Places.{mark_unit}
+pub use Rattle.doc_patch.specs.Places.{HasText, HasRange}
+use Rattle.doc_patch.specs.Places.{mark_unit}
 use Rattle.edit_ops.specs.Bookmarks.{bookmark_named}
 
 -- the place is that of an item

@@ -1,4 +1,4 @@
--- How many runs of settings a command puts: of characters, and of paragraphs. A save writes so many of them at most.
+-- How many runs of properties a command puts: of characters, and of paragraphs. A save writes so many of them at most.
 use Rattle.std.specs.Prelude.{ℕ, ◌+◌, ◌≤◌, Bool, true, false, List, [], ◌∷◌, length, is_some}
 use Rattle.std.specs.List.{count_by, sum_by}
 use Rattle.plain_doc.specs.declared.item.Item.{Item}
@@ -9,17 +9,17 @@ use Rattle.edit_script.specs.declared.commands.Command.{Command}
 use Rattle.edit_script.specs.declared.commands.Command.TheVariants.{Insert, Erase, Char, Plain, Para, Style, Field}
 use Rattle.edit_script.specs.declared.commands.Command.TheVariants.{Note, Split, Merge, Sect, Row, StyleChar}
 use Rattle.edit_script.specs.declared.commands.Command.TheVariants.{StylePara, Bookmark, Unmark, Save}
-use Rattle.edit_changes.specs.declared.changes.Change.{Change}
-use Rattle.edit_changes.specs.declared.changes.Change.TheVariants.{SpliceText, ModifyItems, SetSection, SpliceNotes}
-use Rattle.edit_changes.specs.declared.changes.Change.TheVariants.{SpliceHeads, SetStyleCharacters, SetStyleParagraphs}
-use Rattle.edit_changes.specs.declared.changes.Change.TheVariants.{SetBookmarks}
+use Rattle.doc_patch.specs.declared.changes.Change.{Change}
+use Rattle.doc_patch.specs.declared.changes.Change.TheVariants.{SpliceText, ModifyItems, SetSection, SpliceNotes}
+use Rattle.doc_patch.specs.declared.changes.Change.TheVariants.{SpliceHeads, SetStyleCharacters, SetStyleParagraphs}
+use Rattle.doc_patch.specs.declared.changes.Change.TheVariants.{SetBookmarks}
 use Rattle.edit_ops.specs.Edits.{changes_of}
 
 -- the paragraphs that end in a text
 abbrev pub paragraph_count : List Item → ℕ
 paragraph_count text = count_by (λ item. is_some item.mark) text
 
--- the stretches of items with equal settings, and the paragraphs
+-- the stretches of items with equal properties, and the paragraphs
 abbrev pub run_count : List Item → ℕ
 run_count text = length (stretches is_alike text) + paragraph_count text
 

@@ -1,17 +1,17 @@
 // Edits tried and made. A copy is changed, run by run, and judged.
-ghost use Rattle.std.specs.Prelude.{◌≡◌, Err, IfErr, IfOk, IsOk, OnOk, MatchResult};
+ghost use Rattle.std.specs.Prelude.{◌≡◌, Err, IfErr, IfOk, OnOk, MatchResult};
 ghost use Rattle.plain_doc.specs.Sound.{IsSound};
 ghost use Rattle.edit_ops.specs.Causes.{CanBeTried, IsAcceptedEdit, IsEditFault};
 ghost use Rattle.edit_ops.specs.EditFacts.{edit_facts};
 ghost use Rattle.edit_ops.specs.Edits.{changes_of as changes_by, document_after};
 
 use crate::facts::facts_of;
-use crate::judging::{judged, let_go};
+use crate::judging::check_edited;
 use crate::planning::changes_of;
-use crate::{Changes, Command, EditFault, Facts, has_right_codes, is_in_range};
-use doc_bits::Memory;
+use crate::{Changes, Command, EditFault, Facts, has_valid_codes, is_in_range};
+use doc_bits::{Memory, drop_then, keep_if_ok};
 use doc_columns::ColumnDocument;
-use edit_changes::make_all;
+use doc_patch::make_all;
 use plain_doc::Document;
 use std::alloc::Global;
 use std::mem;
@@ -32,12 +32,16 @@ pub fn test(alloc: Global, document: &Document, command: &Command) -> Result<Fac
         (IsEditFault document.now command.now) }
 {
     let columns = ColumnDocument::from_document(alloc, document)?;
-    let told = told(alloc, &columns, command);
-    let_go(columns, told)
+    let told = facts_or_fault(alloc, &columns, command);
+    drop_then(columns, told)
 }
 
 /// What an edit of a document by columns does, or why it is refused. The document stays as it is.
-fn told(alloc: Global, document: &ColumnDocument, command: &Command) -> Result<Facts, EditFault>
+fn facts_or_fault(
+    alloc: Global,
+    document: &ColumnDocument,
+    command: &Command,
+) -> Result<Facts, EditFault>
     requires { IsSound document.now }
     ensures { MatchResult result
         (λ facts. IsAcceptedEdit document.now command.now × (facts ≡ edit_facts document.now command.now))
@@ -45,7 +49,7 @@ fn told(alloc: Global, document: &ColumnDocument, command: &Command) -> Result<F
 {
     let edit = edit_of(alloc, document, command)?;
     let facts = edit.facts;
-    let_go(edit, Ok(facts))
+    drop_then(edit, Ok(facts))
 }
 
 /// Makes an edit. A save changes nothing.
@@ -61,24 +65,28 @@ pub fn apply_plain(
         (λ fault. (document.new ≡ document.old) × IsEditFault document.old command.now fault) }
     ensures sound { IsSound document.new }
 {
-    let made = edited(alloc, document, command)?;
-    let_go(mem::replace(document, made), Ok(()))
+    let made = document_after_edit(alloc, document, command)?;
+    drop_then(mem::replace(document, made), Ok(()))
 }
 
 /// The document after an edit, item by item, or why it is refused. The document stays as it is.
-fn edited(alloc: Global, document: &Document, command: &Command) -> Result<Document, EditFault>
+fn document_after_edit(
+    alloc: Global,
+    document: &Document,
+    command: &Command,
+) -> Result<Document, EditFault>
     requires { IsSound document.now }
     ensures { MatchResult result
         (λ made. IsAcceptedEdit document.now command.now × (made ≡ document_after document.now command.now))
         (IsEditFault document.now command.now) }
 {
     let columns = ColumnDocument::from_document(alloc, document)?;
-    let made = expanded(alloc, &columns, command);
-    let_go(columns, made)
+    let made = items_after_edit(alloc, &columns, command);
+    drop_then(columns, made)
 }
 
-/// The same of a document by columns.
-fn expanded(
+/// The document by columns after an edit, item by item, or why it is refused.
+fn items_after_edit(
     alloc: Global,
     document: &ColumnDocument,
     command: &Command,
@@ -90,7 +98,7 @@ fn expanded(
 {
     let edit = edit_of(alloc, document, command)?;
     let items = edit.document.expand(alloc);
-    let made = let_go(edit, items)?;
+    let made = drop_then(edit, items)?;
     Ok(made)
 }
 
@@ -112,28 +120,16 @@ pub fn edit_of(
     if !is_in_range(document, command) {
         return Err(EditFault::Range);
     }
-    if !has_right_codes(command) {
+    if !has_valid_codes(command) {
         return Err(EditFault::Code);
     }
-    let edit = planned(alloc, document, command)?;
-    let verdict = judged(alloc, &edit.document);
-    where_right(edit, verdict)
-}
-
-/// What was made, where nothing is said against it.
-fn where_right<T: Drop, E: Drop>(made: T, verdict: Result<(), E>) -> Result<T, E>
-    ensures { MatchResult result
-        (λ given. (given ≡ made) × IsOk verdict)
-        (λ fault. verdict ≡ Err fault) }
-{
-    match verdict {
-        Ok(()) => Ok(made),
-        Err(fault) => Err(fault),
-    }
+    let edit = plan(alloc, document, command)?;
+    let verdict = check_edited(alloc, &edit.document);
+    keep_if_ok(edit, verdict)
 }
 
 /// The edit of a command, before the document after it is judged.
-fn planned(alloc: Global, document: &ColumnDocument, command: &Command) -> Result<Edit, Memory>
+fn plan(alloc: Global, document: &ColumnDocument, command: &Command) -> Result<Edit, Memory>
     requires sound { IsSound document.now }
     requires tried { CanBeTried document.now command.now }
     ensures changes { IfOk result (λ edit. edit.changes ≡ changes_by document.now command.now) }

@@ -1,23 +1,23 @@
-// Which texts, settings and rows a command may have. No call takes memory.
+// Which texts, properties and rows a command may have. No call takes memory.
 ghost use Rattle.std.specs.Prelude.{◌+◌, ◌↔◌, ◌≤◌, IsTrue, All, length};
 ghost use Rattle.std.specs.List.{sum_by};
-ghost use Rattle.edit_ops.specs.Codes.{HasRightCodes, IsPutUnit, IsPutText, IsPutField, IsPutRow, IsPutName};
+ghost use Rattle.edit_ops.specs.Codes.{HasValidCodes, IsPutUnit, IsPutText, IsPutField, IsPutRow, IsPutName};
 ghost use Rattle.edit_ops.specs.Codes.{most_units, IsShownUnit};
 
 use crate::{Cells, Command};
 use prop_map::{CHARACTER_GROUPS, PARAGRAPH_GROUPS, SECTION_GROUPS};
 
 /// The most units that a command's texts have together.
-const MOST_UNITS: usize = 4_000_000_000;
+const MAX_UNITS: usize = 4_000_000_000;
 
 /// [MS-DOC] TDefTableOperand: the most cells of a row.
-const MOST_CELLS: usize = 63;
+const MAX_CELLS: usize = 63;
 
 /// Where the last cell of a row ends at most, in twips.
-const MOST_TWIPS: usize = 32_767;
+const MAX_TWIPS: usize = 32_767;
 
 /// The most units of the name of a bookmark.
-const MOST_NAME_UNITS: usize = 40;
+const MAX_NAME_UNITS: usize = 40;
 
 /// The first character that is no control character.
 const SPACE: u16 = 0x20;
@@ -26,16 +26,16 @@ const TAB: u16 = 0x09;
 
 const LINE_BREAK: u16 = 0x0B;
 
-/// Whether the texts of a command may be put, and its settings may stand at its place.
-pub fn has_right_codes(command: &Command) -> bool
-    ensures { IsTrue result ↔ HasRightCodes command.now }
+/// Whether the texts of a command may be put, and its properties may stand at its place.
+pub fn has_valid_codes(command: &Command) -> bool
+    ensures { IsTrue result ↔ HasValidCodes command.now }
 {
     match command {
-        Command::Insert(_, _, text) => is_put_text(text.as_slice()),
+        Command::Insert(_, _, text) => is_insertable_text(text.as_slice()),
         Command::Char(_, _, _, set) => set.is_held(CHARACTER_GROUPS),
         Command::Para(_, _, set) => set.is_held(PARAGRAPH_GROUPS),
         Command::Field(_, _, _, code, shown) => is_put_field(code.as_slice(), shown.as_slice()),
-        Command::Note(_, text) => is_put_text(text.as_slice()),
+        Command::Note(_, text) => is_insertable_text(text.as_slice()),
         Command::Sect(_, _, set) => set.is_held(SECTION_GROUPS),
         Command::Row(_, _, width, cells) => is_put_row(*width, cells),
         Command::StyleChar(_, set) => set.is_held(CHARACTER_GROUPS),
@@ -52,17 +52,17 @@ pub fn has_right_codes(command: &Command) -> bool
 }
 
 /// Whether the text of a command may be put.
-fn is_put_text(text: &[u16]) -> bool
+fn is_insertable_text(text: &[u16]) -> bool
     ensures { IsTrue result ↔ IsPutText text.now }
 {
-    text.len() <= MOST_UNITS && are_put_units(text)
+    text.len() <= MAX_UNITS && are_insertable_units(text)
 }
 
 /// Whether a bookmark may have this name.
 fn is_put_name(name: &[u16]) -> bool
     ensures { IsTrue result ↔ IsPutName name.now }
 {
-    name.len() > 0 && name.len() <= MOST_NAME_UNITS && are_shown_units(name)
+    name.len() > 0 && name.len() <= MAX_NAME_UNITS && are_shown_units(name)
 }
 
 /// Whether no unit is a control character.
@@ -88,10 +88,10 @@ fn is_shown_unit(unit: u16) -> bool
 fn is_put_field(code: &[u16], shown: &[u16]) -> bool
     ensures { IsTrue result ↔ IsPutField code.now shown.now }
 {
-    if code.len() > MOST_UNITS || shown.len() > MOST_UNITS - code.len() {
+    if code.len() > MAX_UNITS || shown.len() > MAX_UNITS - code.len() {
         return false;
     }
-    are_put_units(code) && are_put_units(shown)
+    are_insertable_units(code) && are_insertable_units(shown)
 }
 
 /// Whether a row has cells, of a width, that fit a table and texts that may be put.
@@ -99,26 +99,26 @@ fn is_put_row(width: u16, cells: &Cells) -> bool
     ensures { IsTrue result ↔ IsPutRow width cells.now }
 {
     let count = cells.len();
-    if count == 0 || count > MOST_CELLS {
+    if count == 0 || count > MAX_CELLS {
         return false;
     }
-    if width == 0 || count * width as usize > MOST_TWIPS {
+    if width == 0 || count * width as usize > MAX_TWIPS {
         return false;
     }
-    are_put_cells(cells)
+    are_insertable_cells(cells)
 }
 
 /// Whether the texts of the cells may be put.
-fn are_put_cells(cells: &Cells) -> bool
+fn are_insertable_cells(cells: &Cells) -> bool
     ensures { IsTrue result ↔ (All (All IsPutUnit) cells.now × (sum_by length cells.now ≤ most_units)) }
 {
     let mut units = 0;
     for i in 0..cells.len() {
         let text = cells.get(i).as_slice();
-        if text.len() > MOST_UNITS - units {
+        if text.len() > MAX_UNITS - units {
             return false;
         }
-        if !are_put_units(text) {
+        if !are_insertable_units(text) {
             return false;
         }
         units += text.len();
@@ -127,11 +127,11 @@ fn are_put_cells(cells: &Cells) -> bool
 }
 
 /// Whether each unit may be put.
-fn are_put_units(units: &[u16]) -> bool
+fn are_insertable_units(units: &[u16]) -> bool
     ensures { IsTrue result ↔ All IsPutUnit units.now }
 {
     for unit in units {
-        if !is_put_unit(*unit) {
+        if !is_insertable_unit(*unit) {
             return false;
         }
     }
@@ -139,7 +139,7 @@ fn are_put_units(units: &[u16]) -> bool
 }
 
 /// Whether the unit may be put: it is no control character but a tab and a line break.
-fn is_put_unit(unit: u16) -> bool
+fn is_insertable_unit(unit: u16) -> bool
     ensures { IsTrue result ↔ IsPutUnit unit }
 {
     is_shown_unit(unit) || unit == TAB || unit == LINE_BREAK

@@ -2,19 +2,19 @@
 ghost use Rattle.std.specs.Prelude.{◌≡◌, ◌^◌, ◌<◌, ◌≤◌, length, slice_range};
 ghost use Rattle.std.specs.List.{All, sum_by};
 ghost use Rattle.plain_doc.specs.Sound.{IsSound};
-ghost use Rattle.edit_changes.specs.Places.{items_at as items_there};
+ghost use Rattle.doc_patch.specs.Places.{items_at as items_there};
 ghost use Rattle.edit_ops.specs.Causes.{CanBeTried};
 ghost use Rattle.edit_ops.specs.Edits.{changes_of};
 ghost use Rattle.edit_ops.specs.EditFacts.{edit_facts, items_added, items_removed, kind_of as kind_number};
-ghost use Rattle.edit_ops.specs.EditFacts.{style_of as style_number, style_before as style_there};
+ghost use Rattle.edit_ops.specs.EditFacts.{style_of_command as style_number, style_before as style_there};
 ghost use Rattle.edit_ops.specs.Bookmarks.{place_before as place_there};
-ghost use Rattle.edit_changes.specs.Makes.{CanRemove};
+ghost use Rattle.doc_patch.specs.Makes.{CanRemove};
 
 use crate::bookmarks::begin_of;
 use crate::{Change, Changes, Command, Facts};
 use doc_bits::Story;
 use doc_columns::{ColumnDocument, ColumnTexts, Columns};
-use edit_changes::{find_text, mark_at};
+use doc_patch::{find_text, mark_at};
 use std::cmp::min;
 
 /// What an edit of these changes does, where it may be tried.
@@ -123,13 +123,13 @@ fn all_added(changes: &Changes) -> u32
 {
     let mut count = 0;
     for i in 0..changes.len() {
-        count += added(changes.get(i));
+        count += count_added(changes.get(i));
     }
     count
 }
 
 /// How many items a change adds.
-fn added(change: &Change) -> u32
+fn count_added(change: &Change) -> u32
     requires { items_added change.now < 2 ^ 32 }
     ensures { result ≡ items_added change.now }
 {
@@ -153,13 +153,13 @@ fn all_removed(document: &ColumnDocument, changes: &Changes) -> u32
 {
     let mut count = 0;
     for i in 0..changes.len() {
-        count += removed(document, changes.get(i));
+        count += count_removed(document, changes.get(i));
     }
     count
 }
 
 /// How many items of the document a change removes.
-fn removed(document: &ColumnDocument, change: &Change) -> u32
+fn count_removed(document: &ColumnDocument, change: &Change) -> u32
     requires few { items_removed document.now change.now < 2 ^ 32 }
     requires there { CanRemove document.now change.now }
     ensures { result ≡ items_removed document.now change.now }

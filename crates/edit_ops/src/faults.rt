@@ -13,7 +13,7 @@ pub enum EditFault {
     /// The first rule that the changed document would break, at its first place.
     #[error("rule {rule} would be broken at {at}")]
     Rule { rule: u8, place: Where, at: u32 },
-    /// The same of a rule on sizes, 68, 70 or 71.
+    /// The rule on sizes, 68, 70 or 71, that would be broken, and where.
     #[error("limit of rule {rule} at {at}")]
     Limit { rule: u8, place: Where, at: u32 },
     #[error("out of memory")]

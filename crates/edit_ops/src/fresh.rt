@@ -1,11 +1,11 @@
-// The items that commands put, as runs of equal settings.
+// The items that commands put, as runs of equal properties.
 ghost use Rattle.std.specs.Prelude.{◌≡◌, ◌+◌, ◌^◌, ◌<◌, ◌≤◌, [], ◌∷◌, ◌++◌, length, IfOk, Some};
 ghost use Rattle.std.specs.FinMap.{empty};
 ghost use Rattle.prop_map.specs.Formed.{IsPropertyMap, character_groups, paragraph_groups};
 ghost use Rattle.prop_map.specs.Overlay.{without};
 ghost use Rattle.plain_doc.specs.Document.{HasPropertyMaps};
 ghost use Rattle.edit_ops.specs.Codes.{most_units};
-ghost use Rattle.edit_ops.specs.Fresh.{base_settings as base_of, special as special_of, special_codes};
+ghost use Rattle.edit_ops.specs.Fresh.{base_properties as base_of, special as special_of, special_codes};
 ghost use Rattle.edit_ops.specs.Fresh.{unit_item as item_of, unit_items as units_of, mark_item as marked_item};
 ghost use Rattle.edit_ops.specs.Fresh.{plain_end as end_of};
 ghost use Rattle.edit_ops.specs.Fresh.{inserted_items as inserted_of, field_items as field_of};
@@ -13,39 +13,27 @@ ghost use Rattle.edit_ops.specs.Fresh.{note_reference as reference_of, note_item
 
 use doc_bits::Memory;
 use doc_columns::Columns;
-use edit_changes::chp_at;
+use doc_patch::chp_at;
 use plain_doc::{Item, Mark, NoteKind};
 use prop_map::PropMap;
-use sprm_table::Code;
+use sprm_table::{Code, SPRM_C_F_SPEC};
 use std::alloc::Global;
-use text_codes::PARAGRAPH_MARK;
-
-/// [MS-DOC] sprmCFSpec: the unit is special.
-const SPRM_C_F_SPEC: Code = Code(0x0855);
+use text_codes::{FIELD_BEGIN, FIELD_END, FIELD_SEPARATOR, PARAGRAPH_MARK};
 
 /// [MS-DOC] sprmCFSpec, sprmCFData and sprmCPicLocation.
 const SPECIAL_CODES: [Code; 3] = [Code(0x0855), Code(0x0806), Code(0x6A03)];
-
-/// [MS-DOC] The unit that begins a field.
-const FIELD_BEGIN: u16 = 0x13;
-
-/// The unit between the code and the result of a field.
-const FIELD_SEPARATOR: u16 = 0x14;
-
-/// The unit that ends a field.
-const FIELD_END: u16 = 0x15;
 
 /// The byte of a separator.
 const SEPARATOR_BYTE: u8 = 0xFF;
 
 /// The byte of an end.
-const END_BYTE: u8 = 0x80;
+const FLD_END_FLAGS: u8 = 0x80;
 
 /// The unit that refers to a note, and that begins its text.
-const NOTE_UNIT: u16 = 0x02;
+const NOTE_REF: u16 = 0x02;
 
-/// The settings of the item at the place, without what makes a unit special.
-pub(crate) fn base_settings(alloc: Global, text: &Columns, at: usize) -> Result<PropMap, Memory>
+/// The properties of the item at the place, without what makes a unit special.
+pub(crate) fn base_properties(alloc: Global, text: &Columns, at: usize) -> Result<PropMap, Memory>
     ensures map { IfOk result (λ base. base ≡ base_of text.now at) }
     ensures formed { IfOk result (IsPropertyMap character_groups) }
 {
@@ -56,7 +44,7 @@ pub(crate) fn base_settings(alloc: Global, text: &Columns, at: usize) -> Result<
     }
 }
 
-/// The settings, without what makes a unit special.
+/// The properties, without what makes a unit special.
 fn without_special(alloc: Global, chp: &PropMap) -> Result<PropMap, Memory>
     requires { IsPropertyMap character_groups chp.now }
     ensures map { IfOk result (λ base. base ≡ without special_codes chp.now) }
@@ -66,7 +54,7 @@ fn without_special(alloc: Global, chp: &PropMap) -> Result<PropMap, Memory>
     Ok(base)
 }
 
-/// The settings, of a special unit.
+/// The properties, of a special unit.
 fn special(alloc: Global, base: &PropMap) -> Result<PropMap, Memory>
     requires { IsPropertyMap character_groups base.now }
     ensures map { IfOk result (λ made. made ≡ special_of base.now) }
@@ -77,7 +65,7 @@ fn special(alloc: Global, base: &PropMap) -> Result<PropMap, Memory>
     Ok(made)
 }
 
-/// A unit with these settings and nothing beside them.
+/// A unit with these properties and nothing beside them.
 fn unit_item(alloc: Global, chp: &PropMap, unit: u16) -> Result<Item, Memory>
     requires { IsPropertyMap character_groups chp.now }
     ensures item { IfOk result (λ made. made ≡ item_of chp.now unit) }
@@ -110,7 +98,7 @@ pub(crate) fn mark_item(alloc: Global, chp: &PropMap, unit: u16, mark: Mark) -> 
     })
 }
 
-/// A paragraph mark of style 0 without settings. It takes no memory.
+/// A paragraph mark of style 0 without properties. It takes no memory.
 fn plain_end(alloc: Global) -> Item
     ensures item { result ≡ end_of }
     ensures maps { HasPropertyMaps result }
@@ -141,7 +129,7 @@ pub(crate) fn inserted_items(
     if text.len() == 0 {
         return first_items(alloc, units);
     }
-    let base = base_settings(alloc, text, at)?;
+    let base = base_properties(alloc, text, at)?;
     let made = Columns::new(alloc).add_units(units, base)?;
     Ok(made)
 }
@@ -158,7 +146,7 @@ fn first_items(alloc: Global, units: &[u16]) -> Result<Columns, Memory>
     Ok(made)
 }
 
-/// A field character with its byte, of special settings.
+/// A field character with its byte, of special properties.
 fn field_mark(alloc: Global, chp: &PropMap, unit: u16, byte: u8) -> Result<Item, Memory>
     requires { IsPropertyMap character_groups chp.now }
     ensures item { IfOk result (λ made. made ≡ record (item_of chp.now unit) { fld = Some byte }) }
@@ -174,7 +162,7 @@ fn field_mark(alloc: Global, chp: &PropMap, unit: u16, byte: u8) -> Result<Item,
     })
 }
 
-/// A text with a field character more, of these settings, with its byte.
+/// A text with a field character more, of these properties, with its byte.
 fn with_mark(
     alloc: Global,
     text: Columns,
@@ -192,7 +180,7 @@ fn with_mark(
     Ok(made)
 }
 
-/// A text with units more, of these settings.
+/// A text with units more, of these properties.
 fn with_units(alloc: Global, text: Columns, chp: &PropMap, units: &[u16]) -> Result<Columns, Memory>
     requires few { length text + length units.now < 2 ^ 32 }
     requires map { IsPropertyMap character_groups chp.now }
@@ -222,7 +210,7 @@ pub(crate) fn field_items(
     made
 }
 
-/// The same, where the settings of its three special units are there.
+/// A field, where the properties of its three special units are there.
 fn field_over(
     alloc: Global,
     base: &PropMap,
@@ -241,7 +229,7 @@ fn field_over(
     let coded = with_units(alloc, begun, base, code)?;
     let parted = with_mark(alloc, coded, special, FIELD_SEPARATOR, SEPARATOR_BYTE)?;
     let both = with_units(alloc, parted, base, shown)?;
-    let made = with_mark(alloc, both, special, FIELD_END, END_BYTE)?;
+    let made = with_mark(alloc, both, special, FIELD_END, FLD_END_FLAGS)?;
     Ok(made)
 }
 
@@ -251,7 +239,7 @@ pub(crate) fn note_reference(alloc: Global, base: &PropMap) -> Result<Columns, M
     ensures { IfOk result (λ made. made ≡ reference_of base.now ∷ []) }
 {
     let special = special(alloc, base)?;
-    let mut item = unit_item(alloc, &special, NOTE_UNIT)?;
+    let mut item = unit_item(alloc, &special, NOTE_REF)?;
     item.note = Some(NoteKind::Auto);
     let made = Columns::new(alloc).add(item)?;
     Ok(made)
@@ -268,7 +256,7 @@ pub(crate) fn note_items(alloc: Global, units: &[u16]) -> Result<Columns, Memory
     made
 }
 
-/// The same, where the settings of its units, which are none, are there.
+/// The text of a note, where the properties of its units, which are none, are there.
 fn note_over(alloc: Global, none: &PropMap, units: &[u16]) -> Result<Columns, Memory>
     requires none { none.now ≡ empty }
     requires few { length units.now ≤ most_units }
@@ -286,7 +274,7 @@ fn note_begin(alloc: Global, base: &PropMap) -> Result<Columns, Memory>
     ensures { IfOk result (λ made. made ≡ item_of (special_of base.now) 0x02 ∷ []) }
 {
     let special = special(alloc, base)?;
-    let item = unit_item(alloc, &special, NOTE_UNIT)?;
+    let item = unit_item(alloc, &special, NOTE_REF)?;
     let made = Columns::new(alloc).add(item)?;
     Ok(made)
 }

@@ -15,8 +15,8 @@ mod ranges;
 mod rows;
 
 pub use applying::{Edit, apply_plain, edit_of, test};
-pub use codes::has_right_codes;
-pub use edit_changes::{Change, Changes};
+pub use codes::has_valid_codes;
+pub use doc_patch::{Change, Changes};
 pub use edit_guards::Facts;
 pub use edit_script::{Cells, Command, Script, ScriptFault, read_script};
 pub use faults::EditFault;

@@ -2,14 +2,14 @@
 ghost use Rattle.std.specs.Prelude.{◌≡◌, ◌≤◌, [], ◌∷◌, length, IfOk, not};
 ghost use Rattle.std.specs.FinMap.{retain_keys};
 ghost use Rattle.prop_map.specs.Formed.{IsPropertyMap, StaysFormed, paragraph_groups, section_groups};
-ghost use Rattle.edit_changes.specs.Places.{mark_at as mark_there, section_at as section_there};
+ghost use Rattle.doc_patch.specs.Places.{mark_at as mark_there, section_at as section_there};
 ghost use Rattle.edit_ops.specs.Fresh.{is_table_code as of_table, split_mark as mark_split, split_item as item_split};
-ghost use Rattle.edit_ops.specs.Fresh.{section_item as item_of_section, settings_over as over};
+ghost use Rattle.edit_ops.specs.Fresh.{section_item as item_of_section, properties_over as over};
 
-use crate::fresh::{base_settings, mark_item};
+use crate::fresh::{base_properties, mark_item};
 use doc_bits::Memory;
 use doc_columns::Columns;
-use edit_changes::{mark_at, section_at, settings_over};
+use doc_patch::{mark_at, properties_over, section_at};
 use plain_doc::Mark;
 use prop_map::PropMap;
 use sprm_table::{Code, group};
@@ -29,7 +29,7 @@ fn is_table_code(code: u16) -> bool
     code == SPRM_P_F_TTP || group(Code(code)) == TABLE_GROUP
 }
 
-/// The settings without codes of tables.
+/// The properties without codes of tables.
 fn outside_tables(alloc: Global, pap: &PropMap) -> Result<PropMap, Memory>
     ensures map { IfOk result (λ made. made ≡ retain_keys pap.now (λ code. not (of_table code))) }
     ensures formed { IfOk result (λ made. StaysFormed paragraph_groups pap.now made) }
@@ -69,14 +69,14 @@ pub(crate) fn split_item(alloc: Global, text: &Columns, at: usize) -> Result<Col
     requires { at ≤ length text.now }
     ensures { IfOk result (λ made. made ≡ item_split text.now at ∷ []) }
 {
-    let base = base_settings(alloc, text, at)?;
+    let base = base_properties(alloc, text, at)?;
     let mark = split_mark(alloc, text, at)?;
     let item = mark_item(alloc, &base, PARAGRAPH_MARK, mark)?;
     let made = Columns::new(alloc).add(item)?;
     Ok(made)
 }
 
-/// The settings of a new section before the place: those of the section that holds it, changed.
+/// The properties of a new section before the place: those of the section that holds it, changed.
 fn new_section(alloc: Global, main: &Columns, at: usize, set: &PropMap) -> Result<PropMap, Memory>
     requires within { at ≤ length main.now }
     requires set { IsPropertyMap section_groups set.now }
@@ -90,7 +90,7 @@ fn new_section(alloc: Global, main: &Columns, at: usize, set: &PropMap) -> Resul
             Ok(made)
         }
         Some(base) => {
-            let made = settings_over(alloc, set, base)?;
+            let made = properties_over(alloc, set, base)?;
             Ok(made)
         }
     }
@@ -107,7 +107,7 @@ pub(crate) fn section_item(
     requires set { IsPropertyMap section_groups set.now }
     ensures { IfOk result (λ made. made ≡ item_of_section main.now at set.now ∷ []) }
 {
-    let base = base_settings(alloc, main, at)?;
+    let base = base_properties(alloc, main, at)?;
     let mark = split_mark(alloc, main, at)?;
     let mut item = mark_item(alloc, &base, SECTION_MARK, mark)?;
     item.sect = Some(new_section(alloc, main, at, set)?);

@@ -2,34 +2,34 @@
 ghost use Rattle.std.specs.Prelude.{◌≡◌, ◌+◌, ◌<◌, ◌≤◌, [], ◌∷◌, ◌++◌, length, replicate, IfOk, ⊤};
 ghost use Rattle.prop_map.specs.Formed.{IsPropertyMap, section_groups};
 ghost use Rattle.edit_script.specs.declared.commands.Command.TheVariants.{Insert};
-ghost use Rattle.edit_changes.specs.declared.changes.Change.TheVariants.{SpliceText, ModifyItems, SpliceNotes};
-ghost use Rattle.edit_changes.specs.declared.changes.Change.TheVariants.{SpliceHeads};
+ghost use Rattle.doc_patch.specs.declared.changes.Change.TheVariants.{SpliceText, ModifyItems, SpliceNotes};
+ghost use Rattle.doc_patch.specs.declared.changes.Change.TheVariants.{SpliceHeads};
 ghost use Rattle.doc_bits.specs.declared.places.Story.TheVariants.{Main};
-ghost use Rattle.edit_changes.specs.Places.{items_at as items_there, mark_place as place_of_mark};
-ghost use Rattle.edit_changes.specs.Places.{note_number as number_of_note, head_number as number_of_head};
+ghost use Rattle.doc_patch.specs.Places.{items_at as items_there, mark_place as place_of_mark};
+ghost use Rattle.doc_patch.specs.Places.{note_number as number_of_note, head_number as number_of_head};
 ghost use Rattle.edit_ops.specs.Ranges.{HasText, HasPlace, HasRange, EndsWithMark};
 ghost use Rattle.edit_ops.specs.Codes.{IsPutText, most_units};
 ghost use Rattle.plain_doc.specs.Sound.{IsSound};
 ghost use Rattle.edit_ops.specs.Causes.{CanBeTried};
 ghost use Rattle.edit_ops.specs.Edits.{changes_of as changes_by, erased as erased_in};
-ghost use Rattle.edit_ops.specs.Edits.{put_in as put_there, modified_at_mark};
+ghost use Rattle.edit_ops.specs.Edits.{insertion as put_there, modified_at_mark};
 ghost use Rattle.edit_ops.specs.Edits.{section_changes as changes_of_section};
-ghost use Rattle.edit_ops.specs.Fresh.{base_settings as base_of, note_reference as reference_of};
+ghost use Rattle.edit_ops.specs.Fresh.{base_properties as base_of, note_reference as reference_of};
 ghost use Rattle.edit_ops.specs.Fresh.{note_items as note_of, split_item as item_split, field_items as field_of};
 ghost use Rattle.edit_ops.specs.Fresh.{section_item as item_of_section};
 
 use crate::bookmarks::{with_bookmark, without_bookmark};
-use crate::fresh::{base_settings, field_items, inserted_items, note_items, note_reference};
+use crate::fresh::{base_properties, field_items, inserted_items, note_items, note_reference};
 use crate::marks::{section_item, split_item};
 use crate::rows::row_items;
 use crate::{Change, Changes, Command};
 use doc_bits::{Memory, Story};
 use doc_columns::{ColumnDocument, ColumnTexts, Columns};
-use edit_changes::{
-    clearing, head_number, mark_place, naming_style, note_number, section_place,
-    setting_characters, setting_paragraphs, text_of,
+use doc_patch::{
+    clearing, head_number, mark_place, naming_style, note_number, property_characters,
+    property_paragraphs, section_place, text_of,
 };
-use plain_doc::HEADS_A_SECTION;
+use plain_doc::HEADERS_PER_SECTION;
 use prop_map::{Modifier, PropMap};
 use std::alloc::Global;
 
@@ -45,16 +45,22 @@ pub fn changes_of(
     ensures { IfOk result (λ made. made ≡ changes_by document.now command.now) }
 {
     match command {
-        Command::Insert(story, at, text) => inserted(alloc, document, *story, *at, text.as_slice()),
+        Command::Insert(story, at, text) => insert_units(
+            alloc,
+            document,
+            *story,
+            *at,
+            text.as_slice(),
+        ),
         Command::Erase(story, from, to) => {
             erasure(alloc, document, *story, *from as usize, *to as usize)
         }
         Command::Char(story, from, to, set) => {
-            modify(alloc, *story, *from, *to, setting_characters(alloc, set)?)
+            modify(alloc, *story, *from, *to, property_characters(alloc, set)?)
         }
         Command::Plain(story, from, to) => modify(alloc, *story, *from, *to, clearing(alloc)),
         Command::Para(story, at, set) => {
-            let modifier = setting_paragraphs(alloc, set)?;
+            let modifier = property_paragraphs(alloc, set)?;
             at_mark(alloc, document, *story, *at, modifier)
         }
         Command::Style(story, at, istd) => {
@@ -63,37 +69,37 @@ pub fn changes_of(
         Command::Field(story, at, kind, code, shown) => {
             let text = text_of(document, *story);
             let items = field(alloc, text, *at, *kind, code.as_slice(), shown.as_slice())?;
-            put_in(alloc, *story, *at, items)
+            insertion(alloc, *story, *at, items)
         }
         Command::Note(at, text) => note(alloc, &document.main, *at, text.as_slice()),
         Command::Split(story, at) => split(alloc, document, *story, *at),
         Command::Merge(story, at) => merge(alloc, document, *story, *at),
         Command::Sect(at, new, set) => section(alloc, &document.main, *at as usize, *new, set),
         Command::Row(story, at, width, cells) => {
-            put_in(alloc, *story, *at, row_items(alloc, *width, cells)?)
+            insertion(alloc, *story, *at, row_items(alloc, *width, cells)?)
         }
-        Command::StyleChar(istd, set) => only(
+        Command::StyleChar(istd, set) => one_change(
             alloc,
             Change::SetStyleCharacters(*istd, set.copy(alloc)?),
         ),
-        Command::StylePara(istd, set) => only(
+        Command::StylePara(istd, set) => one_change(
             alloc,
             Change::SetStyleParagraphs(*istd, set.copy(alloc)?),
         ),
         Command::Bookmark(name, from, to) => {
             let list = with_bookmark(alloc, &document.bookmarks, name.as_slice(), *from, *to)?;
-            only(alloc, Change::SetBookmarks(list))
+            one_change(alloc, Change::SetBookmarks(list))
         }
         Command::Unmark(name) => {
             let list = without_bookmark(alloc, &document.bookmarks, name.as_slice())?;
-            only(alloc, Change::SetBookmarks(list))
+            one_change(alloc, Change::SetBookmarks(list))
         }
         Command::Save(_) => Ok(Changes::new(alloc)),
     }
 }
 
 /// A list of one change.
-fn only(alloc: Global, change: Change) -> Result<Changes, Memory>
+fn one_change(alloc: Global, change: Change) -> Result<Changes, Memory>
     ensures { IfOk result (λ made. made ≡ change ∷ []) }
 {
     let mut changes = Changes::new(alloc);
@@ -102,7 +108,7 @@ fn only(alloc: Global, change: Change) -> Result<Changes, Memory>
 }
 
 /// The changes, and one more behind them.
-fn and_then(changes: Changes, change: Change) -> Result<Changes, Memory>
+fn with_change(changes: Changes, change: Change) -> Result<Changes, Memory>
     ensures { IfOk result (λ made. made ≡ changes ++ change ∷ []) }
 {
     let mut made = changes;
@@ -111,10 +117,10 @@ fn and_then(changes: Changes, change: Change) -> Result<Changes, Memory>
 }
 
 /// Items put before a place of a text.
-fn put_in(alloc: Global, story: Story, at: u32, items: Columns) -> Result<Changes, Memory>
+fn insertion(alloc: Global, story: Story, at: u32, items: Columns) -> Result<Changes, Memory>
     ensures { IfOk result (λ made. made ≡ put_there story at items) }
 {
-    only(
+    one_change(
         alloc,
         Change::SpliceText(story, at as usize, at as usize, items),
     )
@@ -130,14 +136,14 @@ fn modify(
 ) -> Result<Changes, Memory>
     ensures { IfOk result (λ made. made ≡ ModifyItems story from to modifier ∷ []) }
 {
-    only(
+    one_change(
         alloc,
         Change::ModifyItems(story, from as usize, to as usize, modifier),
     )
 }
 
 /// Units put before a place of a text.
-fn inserted(
+fn insert_units(
     alloc: Global,
     document: &ColumnDocument,
     story: Story,
@@ -150,7 +156,7 @@ fn inserted(
 {
     let text = text_of(document, story);
     let items = inserted_items(alloc, text, at as usize, units)?;
-    put_in(alloc, story, at, items)
+    insertion(alloc, story, at, items)
 }
 
 /// A field put before a place of a text.
@@ -165,7 +171,7 @@ fn field(
     requires { length code.now + length shown.now ≤ most_units }
     ensures { IfOk result (λ made. made ≡ field_of (base_of text.now at) kind code.now shown.now) }
 {
-    let base = base_settings(alloc, text, at as usize)?;
+    let base = base_properties(alloc, text, at as usize)?;
     let items = field_items(alloc, &base, kind, code, shown)?;
     Ok(items)
 }
@@ -183,25 +189,25 @@ fn erasure(
 {
     match story {
         Story::Main => erasure_in_main(alloc, &document.main, from, to),
-        Story::Note(_) => only(
+        Story::Note(_) => one_change(
             alloc,
             Change::SpliceText(story, from, to, Columns::new(alloc)),
         ),
-        Story::Head(_) => only(
+        Story::Head(_) => one_change(
             alloc,
             Change::SpliceText(story, from, to, Columns::new(alloc)),
         ),
     }
 }
 
-/// The same of the main text.
+/// The items of a range of the main text taken away, with the notes and header texts that go with them.
 fn erasure_in_main(alloc: Global, main: &Columns, from: usize, to: usize) -> Result<Changes, Memory>
     requires { HasRange from to main.now }
     ensures { IfOk result (λ made. made ≡
         SpliceText Main from to [] ∷ SpliceNotes (number_of_note main.now from) (number_of_note main.now to) []
         ∷ SpliceHeads (number_of_head main.now from) (number_of_head main.now to) [] ∷ []) }
 {
-    let mut changes = only(
+    let mut changes = one_change(
         alloc,
         Change::SpliceText(Story::Main, from, to, Columns::new(alloc)),
     )?;
@@ -226,7 +232,7 @@ fn at_mark(
     ensures { IfOk result (λ made. made ≡ modified_at_mark document.now story at modifier) }
 {
     let mark = mark_place(text_of(document, story), at as usize);
-    only(alloc, Change::ModifyItems(story, mark, mark + 1, modifier))
+    one_change(alloc, Change::ModifyItems(story, mark, mark + 1, modifier))
 }
 
 /// A note, and the reference to it before a place of the main text.
@@ -238,28 +244,28 @@ fn note(alloc: Global, main: &Columns, at: u32, units: &[u16]) -> Result<Changes
         ∷ SpliceNotes (number_of_note main.now at) (number_of_note main.now at) (note_of units.now ∷ []) ∷ []) }
 {
     let notes = one_note(alloc, units)?;
-    noted(alloc, main, at, notes)
+    with_note(alloc, main, at, notes)
 }
 
-/// The same, where the text of the note is there.
-fn noted(alloc: Global, main: &Columns, at: u32, notes: ColumnTexts) -> Result<Changes, Memory>
+/// A note whose text is there, and the reference to it before a place of the main text.
+fn with_note(alloc: Global, main: &Columns, at: u32, notes: ColumnTexts) -> Result<Changes, Memory>
     requires { at < length main.now }
     ensures { IfOk result (λ made. made ≡
         SpliceText Main at at (reference_of (base_of main.now at) ∷ [])
         ∷ SpliceNotes (number_of_note main.now at) (number_of_note main.now at) notes ∷ []) }
 {
-    let first = referred(alloc, main, at)?;
+    let first = with_reference(alloc, main, at)?;
     let number = note_number(main, at as usize);
-    and_then(first, Change::SpliceNotes(number, number, notes))
+    with_change(first, Change::SpliceNotes(number, number, notes))
 }
 
 /// The reference to a note put before a place of the main text.
-fn referred(alloc: Global, main: &Columns, at: u32) -> Result<Changes, Memory>
+fn with_reference(alloc: Global, main: &Columns, at: u32) -> Result<Changes, Memory>
     ensures { IfOk result (λ made. made ≡ SpliceText Main at at (reference_of (base_of main.now at) ∷ []) ∷ []) }
 {
-    let base = base_settings(alloc, main, at as usize)?;
+    let base = base_properties(alloc, main, at as usize)?;
     let reference = note_reference(alloc, &base)?;
-    put_in(alloc, Story::Main, at, reference)
+    insertion(alloc, Story::Main, at, reference)
 }
 
 /// The text of a note, alone.
@@ -280,7 +286,7 @@ fn split(alloc: Global, document: &ColumnDocument, story: Story, at: u32) -> Res
         ≡ put_there story at (item_split (items_there document.now story) at ∷ [])) }
 {
     let items = split_item(alloc, text_of(document, story), at as usize)?;
-    put_in(alloc, story, at, items)
+    insertion(alloc, story, at, items)
 }
 
 /// The mark of the paragraph that holds the place taken away.
@@ -293,7 +299,7 @@ fn merge(alloc: Global, document: &ColumnDocument, story: Story, at: u32) -> Res
     erasure(alloc, document, story, mark, mark + 1)
 }
 
-/// The settings of a section changed, or a new section before the place.
+/// The properties of a section changed, or a new section before the place.
 fn section(
     alloc: Global,
     main: &Columns,
@@ -307,12 +313,12 @@ fn section(
 {
     if !new {
         let place = section_place(main, at);
-        return only(alloc, Change::SetSection(place, set.copy(alloc)?));
+        return one_change(alloc, Change::SetSection(place, set.copy(alloc)?));
     }
     let first = section_end(alloc, main, at, set)?;
     let heads = empty_heads(alloc)?;
     let number = head_number(main, at);
-    and_then(first, Change::SpliceHeads(number, number, heads))
+    with_change(first, Change::SpliceHeads(number, number, heads))
 }
 
 /// The mark that ends a new section put before the place.
@@ -322,7 +328,7 @@ fn section_end(alloc: Global, main: &Columns, at: usize, set: &PropMap) -> Resul
     ensures { IfOk result (λ made. made ≡ SpliceText Main at at (item_of_section main.now at set.now ∷ []) ∷ []) }
 {
     let item = section_item(alloc, main, at, set)?;
-    only(alloc, Change::SpliceText(Story::Main, at, at, item))
+    one_change(alloc, Change::SpliceText(Story::Main, at, at, item))
 }
 
 /// The header texts of a new section.
@@ -330,7 +336,7 @@ fn empty_heads(alloc: Global) -> Result<ColumnTexts, Memory>
     ensures { IfOk result (λ made. made ≡ replicate 6 []) }
 {
     let mut heads = ColumnTexts::new(alloc);
-    for _k in 0..HEADS_A_SECTION {
+    for _k in 0..HEADERS_PER_SECTION {
         heads.add(Columns::new(alloc))?;
     }
     Ok(heads)

@@ -8,7 +8,7 @@ use crate::Command;
 use crate::bookmarks::has_bookmark;
 use doc_bits::Story;
 use doc_columns::{ColumnDocument, Columns};
-use edit_changes::{find_text, has_mark, mark_place};
+use doc_patch::{find_text, has_mark, mark_place};
 use style_sheet::{Kind, StyleSheet};
 use text_codes::PARAGRAPH_MARK;
 
@@ -88,7 +88,7 @@ fn ends_with_mark(document: &ColumnDocument, story: Story, at: u32) -> bool
     }
 }
 
-/// The same of a text.
+/// Whether the paragraph of a text that holds the place ends with a paragraph mark.
 fn has_mark_at(text: &Columns, at: usize) -> bool
     ensures { IsTrue result ↔ EndsWithMark at text.now }
 {
@@ -111,7 +111,7 @@ fn begins_paragraph(document: &ColumnDocument, story: Story, at: u32) -> bool
     }
 }
 
-/// The same of a text.
+/// Whether a paragraph of a text begins at the place.
 fn begins_at(text: &Columns, at: usize) -> bool
     ensures { IsTrue result ↔ BeginsParagraph at text.now }
 {

@@ -5,7 +5,7 @@ ghost use Rattle.std.specs.FinMap.{empty, insert};
 ghost use Rattle.prop_map.specs.Formed.{IsPropertyMap, paragraph_groups};
 ghost use Rattle.plain_doc.specs.Document.{HasPropertyMaps};
 ghost use Rattle.edit_ops.specs.Codes.{IsPutRow, most_units};
-ghost use Rattle.edit_ops.specs.Fresh.{cell_settings as settings_of_cells, row_settings as settings_of_row};
+ghost use Rattle.edit_ops.specs.Fresh.{cell_properties as settings_of_cells, row_properties as settings_of_row};
 ghost use Rattle.edit_ops.specs.Fresh.{row_definition as definition_of, row_items as items_of, cell_items as items_in};
 ghost use Rattle.edit_ops.specs.Fresh.{mark_item as marked_item, mark_with};
 
@@ -15,27 +15,18 @@ use doc_bits::{Bytes, Memory};
 use doc_columns::Columns;
 use plain_doc::{Item, Mark};
 use prop_map::PropMap;
-use sprm_table::Code;
+use sprm_table::{SPRM_P_F_IN_TABLE, SPRM_P_F_TTP, SPRM_T_DEF_TABLE};
 use std::alloc::Global;
 use text_codes::CELL_MARK;
-
-/// [MS-DOC] sprmPFInTable.
-const SPRM_P_F_IN_TABLE: Code = Code(0x2416);
-
-/// [MS-DOC] sprmPFTtp.
-const SPRM_P_F_TTP: Code = Code(0x2417);
-
-/// [MS-DOC] sprmTDefTable.
-const SPRM_T_DEF_TABLE: Code = Code(0xD608);
 
 /// [MS-DOC] TC80: what the definition of a row says of a cell.
 const TC_LEN: usize = 20;
 
 /// The most of them that a row has.
-const MOST_TC_BYTES: usize = 1260;
+const MAX_TC_BYTES: usize = 1260;
 
-/// The settings of a paragraph in a table.
-fn cell_settings(alloc: Global) -> Result<PropMap, Memory>
+/// The properties of a paragraph in a table.
+fn cell_properties(alloc: Global) -> Result<PropMap, Memory>
     ensures map { IfOk result (λ made. made ≡ settings_of_cells) }
     ensures formed { IfOk result (IsPropertyMap paragraph_groups) }
 {
@@ -63,36 +54,36 @@ fn push_zeros(bytes: &mut Bytes, count: usize) -> Result<(), Memory>
     requires { count ≤ 1260 }
     ensures { OnOk result (bytes.new ≡ bytes.old ++ replicate count 0) }
 {
-    let zeros = [0u8; MOST_TC_BYTES];
+    let zeros = [0u8; MAX_TC_BYTES];
     bytes.push_all(&zeros[..count])?;
     Ok(())
 }
 
-/// The settings of the mark of a row.
-fn row_settings(alloc: Global, cells: u8, width: u16) -> Result<PropMap, Memory>
+/// The properties of the mark of a row.
+fn row_properties(alloc: Global, cells: u8, width: u16) -> Result<PropMap, Memory>
     requires cells { cells ≤ 63 }
     requires within { cells * width ≤ 32767 }
     ensures map { IfOk result (λ made. made ≡ settings_of_row cells width) }
     ensures formed { IfOk result (IsPropertyMap paragraph_groups) }
 {
     let definition = row_definition(alloc, cells, width)?;
-    let made = defined(alloc, definition.as_slice());
+    let made = mark_settings(alloc, definition.as_slice());
     drop(definition);
     made
 }
 
-/// The settings of the mark of a row with this definition.
-fn defined(alloc: Global, definition: &[u8]) -> Result<PropMap, Memory>
+/// The properties of the mark of a row with this definition.
+fn mark_settings(alloc: Global, definition: &[u8]) -> Result<PropMap, Memory>
     ensures { IfOk result
         (λ made. made ≡ insert (insert settings_of_cells 0x2417 (1 ∷ [])) 0xD608 definition.now) }
 {
-    let mut made = cell_settings(alloc)?;
+    let mut made = cell_properties(alloc)?;
     made.set(SPRM_P_F_TTP, &[1])?;
     made.set(SPRM_T_DEF_TABLE, definition)?;
     Ok(made)
 }
 
-/// The mark that ends a cell or a row, with these settings.
+/// The mark that ends a cell or a row, with these properties.
 fn table_mark(alloc: Global, pap: PropMap) -> Result<Item, Memory>
     requires { IsPropertyMap paragraph_groups pap }
     ensures item { IfOk result (λ made. made ≡ marked_item empty 0x07 (mark_with pap)) }
@@ -103,41 +94,41 @@ fn table_mark(alloc: Global, pap: PropMap) -> Result<Item, Memory>
     Ok(item)
 }
 
-/// A text with the items of a cell more: its units, and its mark, which has these settings.
+/// A text with the items of a cell more: its units, and its mark, which has these properties.
 fn add_cell(
     alloc: Global,
     items: Columns,
     units: &[u16],
-    settings: &PropMap,
+    properties: &PropMap,
 ) -> Result<Columns, Memory>
     requires few { length items + length units.now + 1 < 2 ^ 32 }
-    requires settings { settings.now ≡ settings_of_cells }
-    requires formed { IsPropertyMap paragraph_groups settings.now }
+    requires properties { properties.now ≡ settings_of_cells }
+    requires formed { IsPropertyMap paragraph_groups properties.now }
     ensures { IfOk result (λ made. made ≡ items ++ items_in units.now) }
 {
     let none = PropMap::new(alloc);
     let shown = items.add_units(units, none)?;
-    ended(alloc, shown, settings)
+    with_cell_mark(alloc, shown, properties)
 }
 
-/// A text with the mark of a cell more, which has a copy of these settings.
-fn ended(alloc: Global, text: Columns, settings: &PropMap) -> Result<Columns, Memory>
+/// A text with the mark of a cell more, which has a copy of these properties.
+fn with_cell_mark(alloc: Global, text: Columns, properties: &PropMap) -> Result<Columns, Memory>
     requires few { length text + 1 < 2 ^ 32 }
-    requires formed { IsPropertyMap paragraph_groups settings.now }
-    ensures { IfOk result (λ made. made ≡ text ++ marked_item empty 0x07 (mark_with settings.now) ∷ []) }
+    requires formed { IsPropertyMap paragraph_groups properties.now }
+    ensures { IfOk result (λ made. made ≡ text ++ marked_item empty 0x07 (mark_with properties.now) ∷ []) }
 {
-    let mark = mark_of_cell(alloc, settings)?;
+    let mark = mark_of_cell(alloc, properties)?;
     let made = text.add(mark)?;
     Ok(made)
 }
 
-/// The mark that ends a cell, with a copy of these settings.
-fn mark_of_cell(alloc: Global, settings: &PropMap) -> Result<Item, Memory>
-    requires { IsPropertyMap paragraph_groups settings.now }
-    ensures item { IfOk result (λ made. made ≡ marked_item empty 0x07 (mark_with settings.now)) }
+/// The mark that ends a cell, with a copy of these properties.
+fn mark_of_cell(alloc: Global, properties: &PropMap) -> Result<Item, Memory>
+    requires { IsPropertyMap paragraph_groups properties.now }
+    ensures item { IfOk result (λ made. made ≡ marked_item empty 0x07 (mark_with properties.now)) }
     ensures maps { IfOk result HasPropertyMaps }
 {
-    let pap = settings.copy(alloc)?;
+    let pap = properties.copy(alloc)?;
     let mark = table_mark(alloc, pap)?;
     Ok(mark)
 }
@@ -149,8 +140,8 @@ fn mark_of_row(alloc: Global, cells: u8, width: u16) -> Result<Item, Memory>
     ensures item { IfOk result (λ made. made ≡ marked_item empty 0x07 (mark_with (settings_of_row cells width))) }
     ensures maps { IfOk result HasPropertyMaps }
 {
-    let settings = row_settings(alloc, cells, width)?;
-    let mark = table_mark(alloc, settings)?;
+    let properties = row_properties(alloc, cells, width)?;
+    let mark = table_mark(alloc, properties)?;
     Ok(mark)
 }
 
@@ -172,24 +163,24 @@ fn all_cells(alloc: Global, cells: &Cells) -> Result<Columns, Memory>
     ensures items { IfOk result (λ made. made ≡ flat_map items_in cells.now) }
     ensures room { IfOk result (λ made. length made + 1 < 2 ^ 32) }
 {
-    let settings = cell_settings(alloc)?;
-    let items = cells_with(alloc, cells, &settings);
-    drop(settings);
+    let properties = cell_properties(alloc)?;
+    let items = cells_with(alloc, cells, &properties);
+    drop(properties);
     items
 }
 
-/// The same, where the settings of their marks are there.
-fn cells_with(alloc: Global, cells: &Cells, settings: &PropMap) -> Result<Columns, Memory>
+/// The cells of a row, where the properties of their marks are there.
+fn cells_with(alloc: Global, cells: &Cells, properties: &PropMap) -> Result<Columns, Memory>
     requires few { length cells.now ≤ 63 }
     requires units { sum_by length cells.now ≤ most_units }
-    requires settings { settings.now ≡ settings_of_cells }
-    requires formed { IsPropertyMap paragraph_groups settings.now }
+    requires properties { properties.now ≡ settings_of_cells }
+    requires formed { IsPropertyMap paragraph_groups properties.now }
     ensures items { IfOk result (λ made. made ≡ flat_map items_in cells.now) }
     ensures room { IfOk result (λ made. length made + 1 < 2 ^ 32) }
 {
     let mut items = Columns::new(alloc);
     for i in 0..cells.len() {
-        items = add_cell(alloc, items, cells.get(i).as_slice(), settings)?;
+        items = add_cell(alloc, items, cells.get(i).as_slice(), properties)?;
     }
     Ok(items)
 }

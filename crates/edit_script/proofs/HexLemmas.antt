@@ -34,7 +34,7 @@ ended : (bytes : List ℕ) → before bytes (bytes_of_digits []) ≡ Some bytes
 unfolding bytes_of_digits
 ended bytes = ap Some (append-nil bytes)
 
-two : (digits : List ℕ) (at : ℕ) → at + 1 < length digits → drop at digits ≡ get_or digits at 0 ∷ get_or digits
+pub two : (digits : List ℕ) (at : ℕ) → at + 1 < length digits → drop at digits ≡ get_or digits at 0 ∷ get_or digits
     (at + 1) 0 ∷ drop (at + 2) digits
 two digits at within =
     let next : at + 1 + 1 ≡ at + 2 = omega arith in

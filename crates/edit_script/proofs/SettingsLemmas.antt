@@ -1,4 +1,4 @@
--- The settings of an object are what its keys say.
+-- The properties of an object are what its keys say.
 use Rattle.std.proofs.Common.{◌≡◌, ◌⊎◌, inl, inr, ℕ, ◌+◌, ◌-◌, ◌*◌, ◌==◌, ◌<◌, ◌≤◌, Bool, true, false, cond, ◌&&◌}
 use Rattle.std.proofs.Common.{List, [], ◌∷◌, Option, Some, None, refl, sym, ap, ◌∙◌, subst, arith}
 use Rattle.std.specs.Prelude.{nat_le, if◌then◌else◌, bytes_eq, is_some, IsSome}
@@ -9,11 +9,12 @@ use Rattle.std.specs.FinMap.{empty, get, get-empty, insert, get-insert}
 use Rattle.std.proofs.lemmas.Bool.{eqb-true, eq-eqb, ne_eqb, leb-true}
 use Rattle.std.proofs.lemmas.Slice.Eq.{bytes_eq-Decides}
 use Rattle.serde_json.specs.Data.{Data, Members, no_members, member}
-use Rattle.prop_map.specs.Settings.{Settings}
+use Rattle.prop_map.specs.Settings.{Properties}
 use Rattle.edit_script.specs.Json.{◌>>=◌}
 use Rattle.edit_script.specs.Hex.{digit_of, byte_of_digits, code_of_digits}
-use Rattle.edit_script.specs.Values.{bytes_of, settings_put}
-use Rattle.edit_script.specs.Laws.{last_value, SettingsAreAsKeyed}
+use Rattle.edit_script.specs.Values.{bytes_of, properties_put}
+use Rattle.edit_script.specs.Laws.{last_value, PropertiesAreAsKeyed}
+use Rattle.doc_bits.proofs.TestLemmas.{both_true}
 
 -- ---- a code has one key
 
@@ -32,10 +33,6 @@ digit_one one other number (inl d) (inr e) = absurd (omega (arith, d.1, e.1))
 digit_one one other number (inr d) (inl e) = absurd (omega (arith, d.1, e.1))
 digit_one one other number (inr d) (inr e) = d.0 ∙ sym e.0
 
-both : (a b : Bool) → (a && b) ≡ true → (a ≡ true) × (b ≡ true)
-both true b e = (refl, e)
-both false b e = absurd (cc (e))
-
 digit_by : (figure letter : Bool) (character number : ℕ) → (figure ≡ true → (48 ≤ character) × (character ≤ 57)) →
     (letter ≡ true → (97 ≤ character) × (character ≤ 102)) → (if figure then Some (character - 48) else if letter
     then Some (character - 87) else None) ≡ Some number → IsDigit character number
@@ -50,18 +47,18 @@ digit_by false false character number f l e = absurd (cc (e))
 digit_is : (character number : ℕ) → digit_of character ≡ Some number → IsDigit character number
 digit_is character number =
     digit_by (nat_le 48 character && nat_le character 57) (nat_le 97 character && nat_le character 102) character number
-    (λ e. let k = both (nat_le 48 character) (nat_le character 57) e in (
+    (λ e. let k = both_true (nat_le 48 character) (nat_le character 57) e in (
       leb-true 48 character k.0,
       leb-true character
           57 k.1,
     ))
-    (λ e. let k = both (nat_le 97 character) (nat_le character 102) e in (
+    (λ e. let k = both_true (nat_le 97 character) (nat_le character 102) e in (
       leb-true 97 character k.0,
       leb-true character 102 k.1,
     ))
 
 -- what two steps found
-steps_found : {A B C : Type 0} (o : Option A) (p : Option B) (f : A → B → Option C) (made : C) →
+pub steps_found : {A B C : Type 0} (o : Option A) (p : Option B) (f : A → B → Option C) (made : C) →
     (o >>= λ a. p >>= λ b. f a b) ≡ Some made → (a : A) × (b : B) × (o ≡ Some a) × (p ≡ Some b) × (f a b ≡ Some made)
 steps_found None p f made e = absurd (cc (e))
 steps_found (Some a) None f made e = absurd (cc (e))
@@ -162,18 +159,18 @@ key_one one other code e f =
     let back = pair_one p.c p.d q.c q.d q.low (subst (IsPair p.c p.d) l p.second) q.second in
     p.is ∙ (λ i. front.first i ∷ front.second i ∷ back.first i ∷ back.second i ∷ []) ∙ sym q.is
 
--- ---- what a setting leaves in a map
+-- ---- what a property leaves in a map
 
-tied : (code other : ℕ) (same : Bool) → eq_by_cmp nat_cmp code other ≡ same → (set : Settings) (bytes : List ℕ) →
+tied : (code other : ℕ) (same : Bool) → eq_by_cmp nat_cmp code other ≡ same → (set : Properties) (bytes : List ℕ) →
     get (insert set other bytes) code ≡ cond same (Some bytes) (get set code)
 tied code other same e set bytes = get-insert nat_cmp_total set other bytes code ∙ ap (λ b. cond b (Some bytes)
     (get set code)) e
 
-get_same : (set : Settings) (code other : ℕ) (bytes : List ℕ) → code ≡ other → get (insert set other bytes) code ≡
+get_same : (set : Properties) (code other : ℕ) (bytes : List ℕ) → code ≡ other → get (insert set other bytes) code ≡
     Some bytes
 get_same set code other bytes e = tied code other true (unsigned_tied code other ∙ eq-eqb code other e) set bytes
 
-get_other : (set : Settings) (code other : ℕ) (bytes : List ℕ) → (code ≡ other → ⊥) → get (insert set other bytes)
+get_other : (set : Properties) (code other : ℕ) (bytes : List ℕ) → (code ≡ other → ⊥) → get (insert set other bytes)
     code ≡ get set code
 get_other set code other bytes apart = tied code other false (unsigned_tied code other ∙ ne_eqb code other apart) set
     bytes
@@ -198,11 +195,11 @@ code_is : (one other : List ℕ) (c d : ℕ) → one ≡ other → code_of_digit
     c ≡ d
 code_is one other c d same e f = ap (λ o. unwrap_or o 0) (sym e ∙ ap code_of_digits same ∙ f)
 
-put_says : (members : Members) (set made : Settings) (key : List ℕ) (code : ℕ) → code_of_digits key ≡ Some code →
-    settings_put members set ≡ Some made → Says (last_value key members) (get made code) (get set code)
-put_says no_members set made key code is e = ap (λ (o : Option Settings). get (unwrap_or o set) code) (sym e)
+put_says : (members : Members) (set made : Properties) (key : List ℕ) (code : ℕ) → code_of_digits key ≡ Some code →
+    properties_put members set ≡ Some made → Says (last_value key members) (get made code) (get set code)
+put_says no_members set made key code is e = ap (λ (o : Option Properties). get (unwrap_or o set) code) (sym e)
 put_says (member name value more) set made key code is e =
-    let k = steps_found (code_of_digits name) (bytes_of value) (λ c b. settings_put more (insert set c b)) made e in
+    let k = steps_found (code_of_digits name) (bytes_of value) (λ c b. properties_put more (insert set c b)) made e in
     let later = put_says more (insert set k.0 k.1) made key code is k.4 in
     says_by (last_value key more) (bytes_eq key name) value (get made code) (get (insert set k.0 k.1) code)
     (get set code) later
@@ -231,7 +228,7 @@ keyed_by : (same : Bool) (code : ℕ) (bytes b : List ℕ) (old : Option (List �
 keyed_by true code bytes b old has e = inl (has refl)
 keyed_by false code bytes b old has e = inr e
 
-keyed_more : (set : Settings) (name : List ℕ) (other : ℕ) (b : List ℕ) (code : ℕ) (bytes : List ℕ) →
+keyed_more : (set : Properties) (name : List ℕ) (other : ℕ) (b : List ℕ) (code : ℕ) (bytes : List ℕ) →
     code_of_digits name ≡ Some other → HasKey code ⊎ (get (insert set other b) code ≡ Some bytes) →
     HasKey code ⊎ (get set code ≡ Some bytes)
 keyed_more set name other b code bytes is (inl has) = inl has
@@ -242,11 +239,11 @@ keyed_more set name other b code bytes is (inr e) =
     )) (sym (tied code other (code == other) (unsigned_tied code
     other) set b) ∙ e)
 
-put_keyed : (members : Members) (set made : Settings) (code : ℕ) (bytes : List ℕ) → settings_put members set ≡ Some
+put_keyed : (members : Members) (set made : Properties) (code : ℕ) (bytes : List ℕ) → properties_put members set ≡ Some
     made → get made code ≡ Some bytes → HasKey code ⊎ (get set code ≡ Some bytes)
-put_keyed no_members set made code bytes e is = inr (ap (λ (o : Option Settings). get (unwrap_or o set) code) e ∙ is)
+put_keyed no_members set made code bytes e is = inr (ap (λ (o : Option Properties). get (unwrap_or o set) code) e ∙ is)
 put_keyed (member name value more) set made code bytes e is =
-    let k = steps_found (code_of_digits name) (bytes_of value) (λ c b. settings_put more (insert set c b)) made e in
+    let k = steps_found (code_of_digits name) (bytes_of value) (λ c b. properties_put more (insert set c b)) made e in
     keyed_more set name k.0 k.1 code bytes k.2 (put_keyed more (insert set k.0 k.1) made code bytes k.4 is)
 
 keyed_end : (code : ℕ) (bytes : List ℕ) → HasKey code ⊎ (get {R = nat_cmp} empty code ≡ Some bytes) → HasKey code
@@ -261,11 +258,11 @@ only_by (Some v) same head value P l s e = l e
 only_by None true head value P l s e = subst P (ap (λ o. unwrap_or o head) e) (s refl)
 only_by None false head value P l s e = absurd (cc (e))
 
-put_only : (members : Members) (set made : Settings) (key : List ℕ) (value : Data) → settings_put members set ≡ Some
+put_only : (members : Members) (set made : Properties) (key : List ℕ) (value : Data) → properties_put members set ≡ Some
     made → last_value key members ≡ Some value → IsSome (code_of_digits key) × IsSome (bytes_of value)
 put_only no_members set made key value e is = absurd (cc (is))
 put_only (member name head more) set made key value e is =
-    let k = steps_found (code_of_digits name) (bytes_of head) (λ c b. settings_put more (insert set c b)) made e in
+    let k = steps_found (code_of_digits name) (bytes_of head) (λ c b. properties_put more (insert set c b)) made e in
     only_by (last_value key more) (bytes_eq key name) head value (λ v. IsSome (code_of_digits key) × IsSome
     (bytes_of v))
     (λ later. put_only more (insert set k.0 k.1) made key value k.4 later)
@@ -275,8 +272,8 @@ put_only (member name head more) set made key value e is =
     ))
     is
 
-pub settings_are : SettingsAreAsKeyed
-settings_are members set e = record {
+pub properties_are : PropertiesAreAsKeyed
+properties_are members set e = record {
   said = λ key code is. said_by (last_value key members) (get set code) (subst (Says (last_value key members)
       (get set code)) (get-empty {X = List ℕ} nat_cmp code) (put_says members empty set key code is e));
   keyed = λ code bytes is. keyed_end code bytes (put_keyed members empty set code bytes e is);

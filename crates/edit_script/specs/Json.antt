@@ -2,8 +2,8 @@
 use Rattle.std.specs.Prelude.{◌≡◌, ℕ, List, [], ◌∷◌, Option, Some, None, Result, Ok, Err, ⊤, option_and_then, IsUtf8}
 use Rattle.serde_json.specs.Data.{Data, Items, no_items, item}
 use Rattle.serde_json.specs.Read.{read}
-use Rattle.edit_script.specs.declared.faults.Misfit.{Misfit}
-use Rattle.edit_script.specs.declared.faults.Misfit.TheVariants.{Shape, Memory}
+use Rattle.edit_script.specs.declared.faults.ShapeError.{ShapeError}
+use Rattle.edit_script.specs.declared.faults.ShapeError.TheVariants.{Shape, Memory}
 
 infixl 10 ◌>>=◌
 -- what the next step makes of what was found
@@ -29,7 +29,7 @@ each_of reads (item value more) = do
 
 -- what a reader answers: what the value is read as, or a misfit exactly where it has not the form; want of memory is
 -- free
-abbrev pub Gives : {A : Type 0} → Result A Misfit → Option A → Type 0
+abbrev pub Gives : {A : Type 0} → Result A ShapeError → Option A → Type 0
 Gives (Ok given) found = found ≡ Some given
 Gives (Err Shape) found = found ≡ None
 Gives (Err Memory) found = ⊤

@@ -3,13 +3,13 @@ use Rattle.std.specs.Prelude.{◌≡◌, ℕ, List, Option, Some, None, IsSome, 
 use Rattle.std.specs.Option.{option_or}
 use Rattle.std.specs.FinMap.{get}
 use Rattle.serde_json.specs.Data.{Data, Members, no_members, member, object}
-use Rattle.prop_map.specs.Settings.{Settings}
+use Rattle.prop_map.specs.Settings.{Properties}
 use Rattle.edit_script.specs.declared.commands.Command.{Command}
 use Rattle.edit_script.specs.declared.faults.ScriptFault.{ScriptFault}
 use Rattle.edit_script.specs.declared.faults.ScriptFault.TheVariants.{Json, Shape, TooLong, Memory}
 use Rattle.edit_script.specs.Json.{◌>>=◌}
 use Rattle.edit_script.specs.Hex.{code_of_digits}
-use Rattle.edit_script.specs.Values.{bytes_of, settings_of}
+use Rattle.edit_script.specs.Values.{bytes_of, properties_of}
 use Rattle.edit_script.specs.Scripts.{IsScript, IsScriptFault}
 
 -- bytes are a script of one list of commands at most
@@ -36,8 +36,8 @@ last_value key no_members = None
 last_value key (member name value more) = option_or (last_value key more) (if bytes_eq key name then Some value
     else None)
 
--- the settings are what the keys of the object say
-pub record AreAsKeyed (members : Members) (set : Settings) : Type 0 where
+-- the properties are what the keys of the object say
+pub record AreAsKeyed (members : Members) (set : Properties) : Type 0 where
   -- at the code of a key are the bytes of its value
   pub said : (key : List ℕ) (code : ℕ) → code_of_digits key ≡ Some code → get set code ≡ (last_value key members >>=
       bytes_of)
@@ -48,6 +48,6 @@ pub record AreAsKeyed (members : Members) (set : Settings) : Type 0 where
   pub only : (key : List ℕ) (value : Data) → last_value key members ≡ Some value → IsSome (code_of_digits key) ×
       IsSome (bytes_of value)
 
-abbrev pub SettingsAreAsKeyed : Type 0
-SettingsAreAsKeyed = (members : Members) (set : Settings) → settings_of (object members) ≡ Some set →
+abbrev pub PropertiesAreAsKeyed : Type 0
+PropertiesAreAsKeyed = (members : Members) (set : Properties) → properties_of (object members) ≡ Some set →
     AreAsKeyed members set

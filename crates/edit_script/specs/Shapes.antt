@@ -8,7 +8,7 @@ use Rattle.edit_script.specs.declared.commands.Command.TheVariants.{Note, Split,
 use Rattle.edit_script.specs.declared.commands.Command.TheVariants.{StylePara, Bookmark, Unmark, Save}
 use Rattle.edit_script.specs.Json.{◌>>=◌}
 use Rattle.edit_script.specs.Keys.{key, keys_in}
-use Rattle.edit_script.specs.Values.{position, short_number, byte_number, story_of, units_of, cells_of, settings_of}
+use Rattle.edit_script.specs.Values.{position, short_number, byte_number, story_of, units_of, cells_of, properties_of}
 use Rattle.edit_script.specs.Values.{mode_of}
 
 abbrev pub insert_of : Data → Option Command
@@ -30,7 +30,7 @@ char_of value = do
   story ← key (codes "story") story_of value
   from ← key (codes "from") position value
   to ← key (codes "to") position value
-  set ← key (codes "set") settings_of value
+  set ← key (codes "set") properties_of value
   Some (Char story from to set)
 
 abbrev pub plain_of : Data → Option Command
@@ -44,11 +44,11 @@ abbrev pub para_of : Data → Option Command
 para_of value = do
   story ← key (codes "story") story_of value
   at ← key (codes "at") position value
-  set ← key (codes "set") settings_of value
+  set ← key (codes "set") properties_of value
   Some (Para story at set)
 
-abbrev pub style_of : Data → Option Command
-style_of value = do
+abbrev pub style_command_of : Data → Option Command
+style_command_of value = do
   story ← key (codes "story") story_of value
   at ← key (codes "at") position value
   istd ← key (codes "istd") short_number value
@@ -85,7 +85,7 @@ abbrev pub sect_of : Data → Option Command
 sect_of value = do
   at ← key (codes "at") position value
   new ← key (codes "new") as_bool value
-  set ← key (codes "set") settings_of value
+  set ← key (codes "set") properties_of value
   Some (Sect at new set)
 
 abbrev pub row_of : Data → Option Command
@@ -99,13 +99,13 @@ row_of value = do
 abbrev pub style_char_of : Data → Option Command
 style_char_of value = do
   istd ← key (codes "istd") short_number value
-  set ← key (codes "set") settings_of value
+  set ← key (codes "set") properties_of value
   Some (StyleChar istd set)
 
 abbrev pub style_para_of : Data → Option Command
 style_para_of value = do
   istd ← key (codes "istd") short_number value
-  set ← key (codes "set") settings_of value
+  set ← key (codes "set") properties_of value
   Some (StylePara istd set)
 
 abbrev pub bookmark_of : Data → Option Command
@@ -133,7 +133,7 @@ command_with_name name value =
     if bytes_eq name (codes "char") && keys_in value == 5 then char_of value else
     if bytes_eq name (codes "plain") && keys_in value == 4 then plain_of value else
     if bytes_eq name (codes "para") && keys_in value == 4 then para_of value else
-    if bytes_eq name (codes "style") && keys_in value == 4 then style_of value else
+    if bytes_eq name (codes "style") && keys_in value == 4 then style_command_of value else
     if bytes_eq name (codes "field") && keys_in value == 6 then field_of value else
     if bytes_eq name (codes "note") && keys_in value == 3 then note_of value else
     if bytes_eq name (codes "split") && keys_in value == 3 then split_of value else

@@ -6,7 +6,7 @@ use Rattle.std.specs.FinMap.{empty, insert}
 use Rattle.serde_json.specs.Data.{Data, Members, no_members, member}
 use Rattle.serde_json.specs.Find.{as_array, as_number, as_object, as_str, as_u64}
 use Rattle.doc_bits.specs.declared.places.Story.{Story}
-use Rattle.prop_map.specs.Settings.{Settings}
+use Rattle.prop_map.specs.Settings.{Properties}
 use Rattle.edit_script.specs.Json.{◌>>=◌, each_of}
 use Rattle.edit_script.specs.Hex.{bytes_of_digits, code_of_digits}
 use Rattle.edit_script.specs.Stories.{below, story_with_name}
@@ -47,20 +47,20 @@ cells_of value = as_array value >>= each_of units_of
 abbrev pub bytes_of : Data → Option (List ℕ)
 bytes_of value = as_str value >>= bytes_of_digits
 
--- the settings where each member in turn was put into these: its key is a code, its value the bytes of the operand's
+-- the properties where each member in turn was put into these: its key is a code, its value the bytes of the operand's
 -- value
-abbrev pub settings_put : Members → Settings → Option Settings
-settings_put no_members set = Some set
-settings_put (member key value more) set = do
+abbrev pub properties_put : Members → Properties → Option Properties
+properties_put no_members set = Some set
+properties_put (member key value more) set = do
   code ← code_of_digits key
   bytes ← bytes_of value
-  settings_put more (insert set code bytes)
+  properties_put more (insert set code bytes)
 
--- the settings that an object spells
-abbrev pub settings_of : Data → Option Settings
-settings_of value = do
+-- the properties that an object spells
+abbrev pub properties_of : Data → Option Properties
+properties_of value = do
   members ← as_object value
-  settings_put members empty
+  properties_put members empty
 
 -- whether a save is a full one
 abbrev pub mode_with_name : List ℕ → Option Bool

@@ -18,7 +18,7 @@ pub enum ScriptFault {
 
 /// Why a value is not read: it has not the form that is wanted, or memory is refused.
 #[derive(Clone, Copy, Debug, Error)]
-pub enum Misfit {
+pub enum ShapeError {
     #[error("wrong shape")]
     Shape,
     #[error("out of memory")]
@@ -36,13 +36,13 @@ impl From<Memory> for ScriptFault {
     }
 }
 
-impl From<Memory> for Misfit {
+impl From<Memory> for ShapeError {
     ghost use Rattle.std.specs.Prelude.{◌≡◌};
-    ghost use Rattle.edit_script.specs.declared.faults.Misfit.TheVariants.{Memory};
+    ghost use Rattle.edit_script.specs.declared.faults.ShapeError.TheVariants.{Memory};
 
     ghost from_gives = { λ _ e. e ≡ Memory };
 
     fn from(_: Memory) -> Self {
-        Misfit::Memory
+        ShapeError::Memory
     }
 }

@@ -3,7 +3,7 @@ ghost use Rattle.std.specs.Prelude.{◌≡◌, ◌<◌, ◌∷◌, [], ◌++◌,
 ghost use Rattle.edit_script.specs.Json.{Gives};
 ghost use Rattle.edit_script.specs.Hex.{digit_of, byte_of_digits, bytes_of_digits, code_of_digits};
 
-use crate::Misfit;
+use crate::ShapeError;
 use doc_bits::{Bytes, Memory};
 use std::alloc::Global;
 
@@ -45,20 +45,20 @@ pub(crate) fn code_in(digits: &[u8]) -> Option<u16>
 }
 
 /// The bytes of a text of digits.
-pub(crate) fn bytes_from_digits(alloc: Global, digits: &[u8]) -> Result<Bytes, Misfit>
+pub(crate) fn bytes_from_digits(alloc: Global, digits: &[u8]) -> Result<Bytes, ShapeError>
     ensures { Gives result (bytes_of_digits digits.now) }
 {
     let mut bytes = Bytes::new(alloc);
     let mut at = 0;
     while digits.len() - at > 1 {
         match byte_of(digits[at], digits[at + 1]) {
-            None => return Err(Misfit::Shape),
+            None => return Err(ShapeError::Shape),
             Some(byte) => add(&mut bytes, byte)?,
         }
         at += 2;
     }
     if at < digits.len() {
-        return Err(Misfit::Shape);
+        return Err(ShapeError::Shape);
     }
     Ok(bytes)
 }

@@ -4,7 +4,7 @@ ghost use Rattle.serde_json.specs.Find.{get};
 ghost use Rattle.serde_json.specs.View.{view};
 ghost use Rattle.edit_script.specs.Keys.{keys_in};
 
-use crate::Misfit;
+use crate::ShapeError;
 use serde_json::Value;
 
 /// How many keys a value has: those of an object.
@@ -18,13 +18,13 @@ pub fn key_count(value: &Value) -> usize
 }
 
 /// The value at a key.
-pub fn member<'a>(value: &'a Value, name: &str) -> Result<&'a Value, Misfit>
+pub fn member<'a>(value: &'a Value, name: &str) -> Result<&'a Value, ShapeError>
     ensures { MatchResult result
         (λ found. get name.now (view value.now) ≡ Some (view found.now))
-        (λ fault. (fault ≡ Misfit.Shape) × (get name.now (view value.now) ≡ None)) }
+        (λ fault. (fault ≡ ShapeError.Shape) × (get name.now (view value.now) ≡ None)) }
 {
     match value.get(name) {
-        None => Err(Misfit::Shape),
+        None => Err(ShapeError::Shape),
         Some(found) => Ok(found),
     }
 }

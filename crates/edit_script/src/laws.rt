@@ -1,5 +1,5 @@
 // Laws over the definitions alone.
-ghost use Rattle.edit_script.specs.Laws.{ScriptIsOne, FaultIsOne, SettingsAreAsKeyed};
+ghost use Rattle.edit_script.specs.Laws.{ScriptIsOne, FaultIsOne, PropertiesAreAsKeyed};
 
 /// Bytes are a script of one list of commands at most.
 pub fn script_is_one()
@@ -11,7 +11,7 @@ pub fn script_fault_is_one()
     ensures { FaultIsOne }
 {}
 
-/// The settings of an object are what its keys say.
-pub fn settings_are_as_keyed()
-    ensures { SettingsAreAsKeyed }
+/// The properties of an object are what its keys say.
+pub fn properties_are_as_keyed()
+    ensures { PropertiesAreAsKeyed }
 {}

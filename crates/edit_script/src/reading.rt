@@ -6,12 +6,12 @@ ghost use Rattle.edit_script.specs.Json.{IsJson};
 ghost use Rattle.edit_script.specs.Scripts.{most_commands, IsScript, IsScriptFault, IsScriptOf, IsMembersFault};
 
 use crate::shapes::command_in;
-use crate::{Misfit, Script, ScriptFault};
+use crate::{Script, ScriptFault, ShapeError};
 use serde_json::{Error, Value};
 use std::alloc::Global;
 
 /// The most commands of a script.
-const MOST_COMMANDS: usize = 4096;
+const MAX_COMMANDS: usize = 4096;
 
 /// Reads a script: a JSON array of commands, the last of them a save. `Json` comes where the bytes are no JSON, else
 /// `Shape` with index 0 where they are no array, else `TooLong` where it has more than 4,096 members, else `Shape` with
@@ -52,15 +52,15 @@ fn fault_of(error: &Error) -> ScriptFault
 fn script_of(alloc: Global, members: &[Value]) -> Result<Script, ScriptFault>
     ensures { MatchResult result (IsScriptOf (map view members.now)) (IsMembersFault (map view members.now)) }
 {
-    if members.len() > MOST_COMMANDS {
+    if members.len() > MAX_COMMANDS {
         return Err(ScriptFault::TooLong);
     }
     let mut script = Script::new(alloc);
     for member in members {
         match command_in(alloc, member) {
             Ok(command) => script.add(command)?,
-            Err(Misfit::Shape) => return Err(shape_at(&script)),
-            Err(Misfit::Memory) => return Err(ScriptFault::Memory),
+            Err(ShapeError::Shape) => return Err(shape_at(&script)),
+            Err(ShapeError::Memory) => return Err(ScriptFault::Memory),
         }
     }
     if script.ends_with_save() {

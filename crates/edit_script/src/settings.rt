@@ -1,9 +1,9 @@
-// The settings that an object spells.
+// The properties that an object spells.
 ghost use Rattle.serde_json.specs.View.{view};
 ghost use Rattle.edit_script.specs.Json.{Gives};
-ghost use Rattle.edit_script.specs.Values.{settings_of};
+ghost use Rattle.edit_script.specs.Values.{properties_of};
 
-use crate::Misfit;
+use crate::ShapeError;
 use crate::hex::code_in;
 use crate::values::bytes_in;
 use prop_map::{Draft, PropMap};
@@ -11,17 +11,17 @@ use serde_json::Value;
 use sprm_table::Code;
 use std::alloc::Global;
 
-/// Settings: an object whose keys are codes of four digits, its values those of their operands, two digits a byte.
-pub fn settings_in(alloc: Global, value: &Value) -> Result<PropMap, Misfit>
-    ensures { Gives result (settings_of (view value.now)) }
+/// Properties: an object whose keys are codes of four digits, its values those of their operands, two digits a byte.
+pub fn properties_in(alloc: Global, value: &Value) -> Result<PropMap, ShapeError>
+    ensures { Gives result (properties_of (view value.now)) }
 {
     let Some(members) = value.as_object() else {
-        return Err(Misfit::Shape);
+        return Err(ShapeError::Shape);
     };
     let mut draft = Draft::new(alloc);
     for (key, value) in members.iter() {
         let Some(code) = code_in(key.as_bytes()) else {
-            return Err(Misfit::Shape);
+            return Err(ShapeError::Shape);
         };
         draft.put(Code(code), bytes_in(alloc, value)?)?;
     }

@@ -2,30 +2,30 @@
 ghost use Rattle.serde_json.specs.View.{view};
 ghost use Rattle.edit_script.specs.Json.{Gives};
 ghost use Rattle.edit_script.specs.Shapes.{command_of, command_with_name, insert_of, erase_of, char_of};
-ghost use Rattle.edit_script.specs.Shapes.{plain_of, para_of, style_of, field_of, note_of, split_of, merge_of};
+ghost use Rattle.edit_script.specs.Shapes.{plain_of, para_of, style_command_of, field_of, note_of, split_of, merge_of};
 ghost use Rattle.edit_script.specs.Shapes.{sect_of, row_of, style_char_of, style_para_of, save_of};
 ghost use Rattle.edit_script.specs.Shapes.{bookmark_of, unmark_of};
 
 use crate::keys::{key_count, member};
-use crate::settings::settings_in;
+use crate::settings::properties_in;
 use crate::texts::cells_in;
 use crate::values::{bool_in, byte_in, mode_in, position_in, short_in, story_in, units_in};
-use crate::{Command, Misfit};
+use crate::{Command, ShapeError};
 use serde_json::Value;
 use std::alloc::Global;
 
 /// The command that a value spells.
-pub(crate) fn command_in(alloc: Global, value: &Value) -> Result<Command, Misfit>
+pub(crate) fn command_in(alloc: Global, value: &Value) -> Result<Command, ShapeError>
     ensures { Gives result (command_of (view value.now)) }
 {
     match value.get("do").and_then(Value::as_str) {
-        None => Err(Misfit::Shape),
+        None => Err(ShapeError::Shape),
         Some(name) => command_named(alloc, name, value),
     }
 }
 
 /// The command of this name.
-fn command_named(alloc: Global, name: &str, value: &Value) -> Result<Command, Misfit>
+fn command_named(alloc: Global, name: &str, value: &Value) -> Result<Command, ShapeError>
     ensures { Gives result (command_with_name name.now (view value.now)) }
 {
     if name == "insert" && key_count(value) == 4 {
@@ -63,12 +63,12 @@ fn command_named(alloc: Global, name: &str, value: &Value) -> Result<Command, Mi
     } else if name == "save" && key_count(value) == 2 {
         save_in(value)
     } else {
-        Err(Misfit::Shape)
+        Err(ShapeError::Shape)
     }
 }
 
 /// `insert` puts the units of a text before an item.
-fn insert_in(alloc: Global, value: &Value) -> Result<Command, Misfit>
+fn insert_in(alloc: Global, value: &Value) -> Result<Command, ShapeError>
     ensures { Gives result (insert_of (view value.now)) }
 {
     let story = story_in(member(value, "story")?)?;
@@ -78,7 +78,7 @@ fn insert_in(alloc: Global, value: &Value) -> Result<Command, Misfit>
 }
 
 /// `erase` takes the items of a range away.
-fn erase_in(value: &Value) -> Result<Command, Misfit>
+fn erase_in(value: &Value) -> Result<Command, ShapeError>
     ensures { Gives result (erase_of (view value.now)) }
 {
     let story = story_in(member(value, "story")?)?;
@@ -87,19 +87,19 @@ fn erase_in(value: &Value) -> Result<Command, Misfit>
     Ok(Command::Erase(story, from, to))
 }
 
-/// `char` puts character settings over those of a range.
-fn char_in(alloc: Global, value: &Value) -> Result<Command, Misfit>
+/// `char` puts character properties over those of a range.
+fn char_in(alloc: Global, value: &Value) -> Result<Command, ShapeError>
     ensures { Gives result (char_of (view value.now)) }
 {
     let story = story_in(member(value, "story")?)?;
     let from = position_in(member(value, "from")?)?;
     let to = position_in(member(value, "to")?)?;
-    let set = settings_in(alloc, member(value, "set")?)?;
+    let set = properties_in(alloc, member(value, "set")?)?;
     Ok(Command::Char(story, from, to, set))
 }
 
-/// `plain` clears the character settings of a range.
-fn plain_in(value: &Value) -> Result<Command, Misfit>
+/// `plain` clears the character properties of a range.
+fn plain_in(value: &Value) -> Result<Command, ShapeError>
     ensures { Gives result (plain_of (view value.now)) }
 {
     let story = story_in(member(value, "story")?)?;
@@ -108,19 +108,19 @@ fn plain_in(value: &Value) -> Result<Command, Misfit>
     Ok(Command::Plain(story, from, to))
 }
 
-/// `para` puts paragraph settings over those of a mark.
-fn para_in(alloc: Global, value: &Value) -> Result<Command, Misfit>
+/// `para` puts paragraph properties over those of a mark.
+fn para_in(alloc: Global, value: &Value) -> Result<Command, ShapeError>
     ensures { Gives result (para_of (view value.now)) }
 {
     let story = story_in(member(value, "story")?)?;
     let at = position_in(member(value, "at")?)?;
-    let set = settings_in(alloc, member(value, "set")?)?;
+    let set = properties_in(alloc, member(value, "set")?)?;
     Ok(Command::Para(story, at, set))
 }
 
 /// `style` gives a mark a style.
-fn style_in(value: &Value) -> Result<Command, Misfit>
-    ensures { Gives result (style_of (view value.now)) }
+fn style_in(value: &Value) -> Result<Command, ShapeError>
+    ensures { Gives result (style_command_of (view value.now)) }
 {
     let story = story_in(member(value, "story")?)?;
     let at = position_in(member(value, "at")?)?;
@@ -129,7 +129,7 @@ fn style_in(value: &Value) -> Result<Command, Misfit>
 }
 
 /// `field` puts a field before an item.
-fn field_in(alloc: Global, value: &Value) -> Result<Command, Misfit>
+fn field_in(alloc: Global, value: &Value) -> Result<Command, ShapeError>
     ensures { Gives result (field_of (view value.now)) }
 {
     let story = story_in(member(value, "story")?)?;
@@ -141,7 +141,7 @@ fn field_in(alloc: Global, value: &Value) -> Result<Command, Misfit>
 }
 
 /// `note` puts a note, and a reference to it before an item of the main text.
-fn note_in(alloc: Global, value: &Value) -> Result<Command, Misfit>
+fn note_in(alloc: Global, value: &Value) -> Result<Command, ShapeError>
     ensures { Gives result (note_of (view value.now)) }
 {
     let at = position_in(member(value, "at")?)?;
@@ -150,7 +150,7 @@ fn note_in(alloc: Global, value: &Value) -> Result<Command, Misfit>
 }
 
 /// `split` puts a paragraph mark before an item.
-fn split_in(value: &Value) -> Result<Command, Misfit>
+fn split_in(value: &Value) -> Result<Command, ShapeError>
     ensures { Gives result (split_of (view value.now)) }
 {
     let story = story_in(member(value, "story")?)?;
@@ -159,7 +159,7 @@ fn split_in(value: &Value) -> Result<Command, Misfit>
 }
 
 /// `merge` takes a paragraph mark away.
-fn merge_in(value: &Value) -> Result<Command, Misfit>
+fn merge_in(value: &Value) -> Result<Command, ShapeError>
     ensures { Gives result (merge_of (view value.now)) }
 {
     let story = story_in(member(value, "story")?)?;
@@ -167,18 +167,18 @@ fn merge_in(value: &Value) -> Result<Command, Misfit>
     Ok(Command::Merge(story, at))
 }
 
-/// `sect` puts a section mark before an item, or settings over those of a section.
-fn sect_in(alloc: Global, value: &Value) -> Result<Command, Misfit>
+/// `sect` puts a section mark before an item, or properties over those of a section.
+fn sect_in(alloc: Global, value: &Value) -> Result<Command, ShapeError>
     ensures { Gives result (sect_of (view value.now)) }
 {
     let at = position_in(member(value, "at")?)?;
     let new = bool_in(member(value, "new")?)?;
-    let set = settings_in(alloc, member(value, "set")?)?;
+    let set = properties_in(alloc, member(value, "set")?)?;
     Ok(Command::Sect(at, new, set))
 }
 
 /// `row` puts a row of a table before an item.
-fn row_in(alloc: Global, value: &Value) -> Result<Command, Misfit>
+fn row_in(alloc: Global, value: &Value) -> Result<Command, ShapeError>
     ensures { Gives result (row_of (view value.now)) }
 {
     let story = story_in(member(value, "story")?)?;
@@ -188,26 +188,26 @@ fn row_in(alloc: Global, value: &Value) -> Result<Command, Misfit>
     Ok(Command::Row(story, at, width, cells))
 }
 
-/// `stylechar` puts character settings over those of a style.
-fn style_char_in(alloc: Global, value: &Value) -> Result<Command, Misfit>
+/// `stylechar` puts character properties over those of a style.
+fn style_char_in(alloc: Global, value: &Value) -> Result<Command, ShapeError>
     ensures { Gives result (style_char_of (view value.now)) }
 {
     let istd = short_in(member(value, "istd")?)?;
-    let set = settings_in(alloc, member(value, "set")?)?;
+    let set = properties_in(alloc, member(value, "set")?)?;
     Ok(Command::StyleChar(istd, set))
 }
 
-/// `stylepara` puts paragraph settings over those of a style.
-fn style_para_in(alloc: Global, value: &Value) -> Result<Command, Misfit>
+/// `stylepara` puts paragraph properties over those of a style.
+fn style_para_in(alloc: Global, value: &Value) -> Result<Command, ShapeError>
     ensures { Gives result (style_para_of (view value.now)) }
 {
     let istd = short_in(member(value, "istd")?)?;
-    let set = settings_in(alloc, member(value, "set")?)?;
+    let set = properties_in(alloc, member(value, "set")?)?;
     Ok(Command::StylePara(istd, set))
 }
 
 /// `bookmark` puts a bookmark over a range of the main text.
-fn bookmark_in(alloc: Global, value: &Value) -> Result<Command, Misfit>
+fn bookmark_in(alloc: Global, value: &Value) -> Result<Command, ShapeError>
     ensures { Gives result (bookmark_of (view value.now)) }
 {
     let name = units_in(alloc, member(value, "name")?)?;
@@ -217,7 +217,7 @@ fn bookmark_in(alloc: Global, value: &Value) -> Result<Command, Misfit>
 }
 
 /// `unmark` takes a bookmark away.
-fn unmark_in(alloc: Global, value: &Value) -> Result<Command, Misfit>
+fn unmark_in(alloc: Global, value: &Value) -> Result<Command, ShapeError>
     ensures { Gives result (unmark_of (view value.now)) }
 {
     let name = units_in(alloc, member(value, "name")?)?;
@@ -225,7 +225,7 @@ fn unmark_in(alloc: Global, value: &Value) -> Result<Command, Misfit>
 }
 
 /// `save` saves the document.
-fn save_in(value: &Value) -> Result<Command, Misfit>
+fn save_in(value: &Value) -> Result<Command, ShapeError>
     ensures { Gives result (save_of (view value.now)) }
 {
     let mode = mode_in(member(value, "mode")?)?;

@@ -4,16 +4,16 @@ ghost use Rattle.edit_script.specs.Json.{Gives};
 ghost use Rattle.edit_script.specs.Values.{cells_of};
 
 use crate::values::units_in;
-use crate::{Cells, Misfit};
+use crate::{Cells, ShapeError};
 use serde_json::Value;
 use std::alloc::Global;
 
 /// The texts of an array.
-pub(crate) fn cells_in(alloc: Global, value: &Value) -> Result<Cells, Misfit>
+pub(crate) fn cells_in(alloc: Global, value: &Value) -> Result<Cells, ShapeError>
     ensures { Gives result (cells_of (view value.now)) }
 {
     let Some(values) = value.as_array() else {
-        return Err(Misfit::Shape);
+        return Err(ShapeError::Shape);
     };
     let mut cells = Cells::new(alloc);
     for value in values.iter() {

@@ -7,7 +7,7 @@ ghost use Rattle.edit_script.specs.Json.{Gives};
 ghost use Rattle.edit_script.specs.Values.{whole_number, position, short_number, byte_number, story_of};
 ghost use Rattle.edit_script.specs.Values.{units_of, utf16, bytes_of, mode_with_name, mode_of};
 
-use crate::Misfit;
+use crate::ShapeError;
 use crate::hex::bytes_from_digits;
 use crate::stories::story_named;
 use doc_bits::{Bytes, Memory, Story, Units};
@@ -24,66 +24,66 @@ fn number_below(limit: u64, value: &Value) -> Option<u64>
 }
 
 /// A place in a text.
-pub fn position_in(value: &Value) -> Result<u32, Misfit>
+pub fn position_in(value: &Value) -> Result<u32, ShapeError>
     ensures read { Gives result (position (view value.now)) }
-    ensures no_memory { ¬ (IsErrOf result Misfit.Memory) }
+    ensures no_memory { ¬ (IsErrOf result ShapeError.Memory) }
 {
     match number_below(1 << 32, value) {
-        None => Err(Misfit::Shape),
+        None => Err(ShapeError::Shape),
         Some(number) => Ok(number as u32),
     }
 }
 
 /// A number of 16 bits.
-pub fn short_in(value: &Value) -> Result<u16, Misfit>
+pub fn short_in(value: &Value) -> Result<u16, ShapeError>
     ensures read { Gives result (short_number (view value.now)) }
-    ensures no_memory { ¬ (IsErrOf result Misfit.Memory) }
+    ensures no_memory { ¬ (IsErrOf result ShapeError.Memory) }
 {
     match number_below(1 << 16, value) {
-        None => Err(Misfit::Shape),
+        None => Err(ShapeError::Shape),
         Some(number) => Ok(number as u16),
     }
 }
 
 /// A number of 8 bits.
-pub fn byte_in(value: &Value) -> Result<u8, Misfit>
+pub fn byte_in(value: &Value) -> Result<u8, ShapeError>
     ensures read { Gives result (byte_number (view value.now)) }
-    ensures no_memory { ¬ (IsErrOf result Misfit.Memory) }
+    ensures no_memory { ¬ (IsErrOf result ShapeError.Memory) }
 {
     match number_below(1 << 8, value) {
-        None => Err(Misfit::Shape),
+        None => Err(ShapeError::Shape),
         Some(number) => Ok(number as u8),
     }
 }
 
 /// True or false.
-pub fn bool_in(value: &Value) -> Result<bool, Misfit>
+pub fn bool_in(value: &Value) -> Result<bool, ShapeError>
     ensures read { Gives result (as_bool (view value.now)) }
-    ensures no_memory { ¬ (IsErrOf result Misfit.Memory) }
+    ensures no_memory { ¬ (IsErrOf result ShapeError.Memory) }
 {
     match value.as_bool() {
-        None => Err(Misfit::Shape),
+        None => Err(ShapeError::Shape),
         Some(answer) => Ok(answer),
     }
 }
 
 /// A text of a document, by its name.
-pub fn story_in(value: &Value) -> Result<Story, Misfit>
+pub fn story_in(value: &Value) -> Result<Story, ShapeError>
     ensures read { Gives result (story_of (view value.now)) }
-    ensures no_memory { ¬ (IsErrOf result Misfit.Memory) }
+    ensures no_memory { ¬ (IsErrOf result ShapeError.Memory) }
 {
     match value.as_str().and_then(story_named) {
-        None => Err(Misfit::Shape),
+        None => Err(ShapeError::Shape),
         Some(story) => Ok(story),
     }
 }
 
 /// The units of a text.
-pub fn units_in(alloc: Global, value: &Value) -> Result<Units, Misfit>
+pub fn units_in(alloc: Global, value: &Value) -> Result<Units, ShapeError>
     ensures { Gives result (units_of (view value.now)) }
 {
     match value.as_str() {
-        None => Err(Misfit::Shape),
+        None => Err(ShapeError::Shape),
         Some(text) => Ok(units_of_text(alloc, text)?),
     }
 }
@@ -108,21 +108,21 @@ fn push_character(units: &mut Units, character: char) -> Result<(), Memory>
 }
 
 /// The bytes of a text of digits.
-pub fn bytes_in(alloc: Global, value: &Value) -> Result<Bytes, Misfit>
+pub fn bytes_in(alloc: Global, value: &Value) -> Result<Bytes, ShapeError>
     ensures { Gives result (bytes_of (view value.now)) }
 {
     match value.as_str() {
-        None => Err(Misfit::Shape),
+        None => Err(ShapeError::Shape),
         Some(digits) => bytes_from_digits(alloc, digits.as_bytes()),
     }
 }
 
 /// Whether a save is a full one.
-pub(crate) fn mode_in(value: &Value) -> Result<bool, Misfit>
+pub(crate) fn mode_in(value: &Value) -> Result<bool, ShapeError>
     ensures { Gives result (mode_of (view value.now)) }
 {
     match value.as_str().and_then(mode_named) {
-        None => Err(Misfit::Shape),
+        None => Err(ShapeError::Shape),
         Some(full) => Ok(full),
     }
 }

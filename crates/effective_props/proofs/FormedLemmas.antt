@@ -7,7 +7,7 @@ use Rattle.std.specs.List.{All, cons_option, last_or, fold}
 use Rattle.std.specs.FinMap.{get}
 use Rattle.sprm_table.specs.Codes.{class_of}
 use Rattle.sprm_table.specs.Operands.{size_of, IsSizeOf}
-use Rattle.prop_map.specs.Settings.{Settings}
+use Rattle.prop_map.specs.Settings.{Properties}
 use Rattle.doc_bits.specs.Number.{AreBytes}
 use Rattle.doc_bits.proofs.ByteListLemmas.{one_byte}
 use Rattle.prop_map.specs.Formed.{IsMapEntry, IsPropertyMap}
@@ -16,21 +16,21 @@ use Rattle.effective_props.proofs.PlaceLemmas.{some_is}
 use Rattle.effective_props.specs.Values.{tabs_code, is_toggle, values_at, value_of, effective_value, IsEffectiveMap}
 
 -- each value that is there may stand at the code
-abbrev pub IfSetting : ℕ → ℕ → Option (List ℕ) → Type 0
-IfSetting groups code o = (value : List ℕ) → o ≡ Some value → IsMapEntry groups (code, value)
+abbrev pub IfProperty : ℕ → ℕ → Option (List ℕ) → Type 0
+IfProperty groups code o = (value : List ℕ) → o ≡ Some value → IsMapEntry groups (code, value)
 
 -- other bytes of the same length may stand there too
 same_length : (groups code : ℕ) (a b : List ℕ) → length a ≡ length b → AreBytes b → IsMapEntry groups (code, a) →
     IsMapEntry groups (code, b)
 same_length groups code a b e bytes h = record {
-  setting = record {
+  property = record {
     entry = record {
-      some = h.setting.entry.some;
-      word = h.setting.entry.word;
-      size = subst (λ n. IsSizeOf (size_of code) n) e h.setting.entry.size;
+      some = h.property.entry.some;
+      word = h.property.entry.word;
+      size = subst (λ n. IsSizeOf (size_of code) n) e h.property.entry.size;
     };
-    held = h.setting.held;
-    sets = h.setting.sets;
+    held = h.property.held;
+    sets = h.property.sets;
   };
   bytes = bytes;
 }
@@ -57,13 +57,13 @@ length_byte value byte e = eqb-true (length value) 1 (first_of (length value == 
     first_of true b e = refl
     first_of false b e = e
 
-setting_toggled : (groups code : ℕ) (before : Option (List ℕ)) (value : List ℕ) → IfSetting groups code before →
-    IsMapEntry groups (code, value) → IfSetting groups code (toggled before value)
-setting_toggled groups code before value old h =
-    elim (is_keep value) as (λ b. IfSetting groups code (cond b before (cond (is_turn value) (Some (opposite before))
+property_toggled : (groups code : ℕ) (before : Option (List ℕ)) (value : List ℕ) → IfProperty groups code before →
+    IsMapEntry groups (code, value) → IfProperty groups code (toggled before value)
+property_toggled groups code before value old h =
+    elim (is_keep value) as (λ b. IfProperty groups code (cond b before (cond (is_turn value) (Some (opposite before))
     (Some value)))) [
       | true ↦ old
-      | false ↦ elim (is_turn value) as (λ b. is_turn value ≡ b → IfSetting groups code
+      | false ↦ elim (is_turn value) as (λ b. is_turn value ≡ b → IfProperty groups code
           (cond b (Some (opposite before)) (Some value))) [
             | true ↦ λ turn v e. subst (λ w. IsMapEntry groups (code, w)) (some_is (opposite before) v e) (same_length
                 groups code value (opposite before) (length_byte value 0x81 turn ∙ sym (length_opposite before))
@@ -72,30 +72,30 @@ setting_toggled groups code before value old h =
           ] refl
     ]
 
-setting_fold : (groups code : ℕ) (values : List (List ℕ)) (before : Option (List ℕ)) → IfSetting groups code before →
-    All (λ v. IsMapEntry groups (code, v)) values → IfSetting groups code (fold toggled before values)
-setting_fold groups code [] before old all = old
-setting_fold groups code (v ∷ values) before old all =
-    setting_fold groups code values (toggled before v) (setting_toggled groups code before v old
+property_fold : (groups code : ℕ) (values : List (List ℕ)) (before : Option (List ℕ)) → IfProperty groups code before →
+    All (λ v. IsMapEntry groups (code, v)) values → IfProperty groups code (fold toggled before values)
+property_fold groups code [] before old all = old
+property_fold groups code (v ∷ values) before old all =
+    property_fold groups code values (toggled before v) (property_toggled groups code before v old
     (All-head (λ w. IsMapEntry groups (code, w)) v values all)) (All-tail (λ w. IsMapEntry groups (code, w)) v
     values all)
 
-setting_last : (groups code : ℕ) (values : List (List ℕ)) (before : Option (List ℕ)) → IfSetting groups code before →
-    All (λ v. IsMapEntry groups (code, v)) values → IfSetting groups code (last_or before values)
-setting_last groups code [] before old all = old
-setting_last groups code (v ∷ values) before old all =
-    setting_last groups code values (Some v) (λ w e. subst (λ x. IsMapEntry groups (code, x)) (some_is v w e)
+property_last : (groups code : ℕ) (values : List (List ℕ)) (before : Option (List ℕ)) → IfProperty groups code before →
+    All (λ v. IsMapEntry groups (code, v)) values → IfProperty groups code (last_or before values)
+property_last groups code [] before old all = old
+property_last groups code (v ∷ values) before old all =
+    property_last groups code values (Some v) (λ w e. subst (λ x. IsMapEntry groups (code, x)) (some_is v w e)
     (All-head (λ w. IsMapEntry groups (code, w)) v values all)) (All-tail (λ w. IsMapEntry groups (code, w)) v
     values all)
 
-setting_none : (groups code : ℕ) → IfSetting groups code None
-setting_none groups code value e = cc
+property_none : (groups code : ℕ) → IfProperty groups code None
+property_none groups code value e = cc
 
-settings_at : (groups code : ℕ) (layers : List Settings) → All (IsPropertyMap groups) layers →
+properties_at : (groups code : ℕ) (layers : List Properties) → All (IsPropertyMap groups) layers →
     All (λ v. IsMapEntry groups (code, v)) (values_at layers code)
-settings_at groups code [] all = All-nil (λ v. IsMapEntry groups (code, v))
-settings_at groups code (layer ∷ layers) all =
-    let rest = settings_at groups code layers (All-tail (IsPropertyMap groups) layer layers all) in
+properties_at groups code [] all = All-nil (λ v. IsMapEntry groups (code, v))
+properties_at groups code (layer ∷ layers) all =
+    let rest = properties_at groups code layers (All-tail (IsPropertyMap groups) layer layers all) in
     let here = All-head (IsPropertyMap groups) layer layers all in
     elim (get layer code) as (λ o. get layer code ≡ o → All (λ v. IsMapEntry groups (code, v)) (cons_option o
     (values_at layers code))) [
@@ -103,11 +103,11 @@ settings_at groups code (layer ∷ layers) all =
       | Some v ↦ λ e. All-cons (λ w. IsMapEntry groups (code, w)) v (values_at layers code) (here code v e) rest
     ] refl
 
-pub effective_formed : (groups : ℕ) (layers : List Settings) (map : Settings) → All (IsPropertyMap groups) layers →
+pub effective_formed : (groups : ℕ) (layers : List Properties) (map : Properties) → All (IsPropertyMap groups) layers →
     IsEffectiveMap layers map → IsPropertyMap groups map
 effective_formed groups layers m all is code value e =
     let values = values_at layers code in
-    let settings = settings_at groups code layers all in
+    let properties = properties_at groups code layers all in
     let there : effective_value layers code ≡ Some value = sym (is code) ∙ e in
     elim (code == tabs_code) as (λ b. cond b None (value_of code values) ≡ Some value → IsMapEntry groups (
       code,
@@ -116,7 +116,7 @@ effective_formed groups layers m all is code value e =
       | true ↦ λ t. cc
       | false ↦ elim (is_toggle (class_of code)) as (λ b. cond b (toggle_value values) (last_or None values) ≡ Some
           value → IsMapEntry groups (code, value)) [
-            | true ↦ setting_fold groups code values None (setting_none groups code) settings value
-            | false ↦ setting_last groups code values None (setting_none groups code) settings value
+            | true ↦ property_fold groups code values None (property_none groups code) properties value
+            | false ↦ property_last groups code values None (property_none groups code) properties value
           ]
     ] there

@@ -14,7 +14,7 @@ use Rattle.std.specs.Map.{keys_of, lookup}
 use Rattle.std.specs.FinMap.{find, is_sorted, entries, from_sorted, get-from_sorted, entries-from_sorted, same_map}
 use Rattle.std.specs.FinMap.{nat_cmp-IsAntisymmetric, int_cmp-IsAntisymmetric}
 use Rattle.std.specs.FinMap.Entries.{below_all}
-use Rattle.prop_map.specs.Settings.{Settings}
+use Rattle.prop_map.specs.Settings.{Properties}
 use Rattle.prop_map.proofs.EntriesLemmas.{of_true}
 use Rattle.style_sheet.specs.declared.styles.Style.{Style}
 use Rattle.style_sheet.specs.Sheet.{Sheet}
@@ -22,7 +22,8 @@ use Rattle.style_sheet.specs.Chain.{kind_at}
 use Rattle.style_sheet.proofs.OneChainLemmas.{base_chains_agree}
 use Rattle.effective_props.specs.declared.tabs.Tab.{Tab}
 use Rattle.effective_props.specs.Values.{IsEffectiveMap}
-use Rattle.effective_props.specs.Layers.{paragraph_settings, character_settings, settings_of_styles, AreChainLayers}
+use Rattle.effective_props.specs.Layers.{paragraph_properties, character_properties, properties_of_styles}
+use Rattle.effective_props.specs.Layers.{AreChainLayers}
 use Rattle.effective_props.specs.Layers.{AreNamedLayers, named_style}
 use Rattle.effective_props.specs.Stops.{AreStops}
 use Rattle.effective_props.specs.StopSteps.{tab_of}
@@ -84,7 +85,7 @@ found_too one other p kind ascending among e =
     lookup_from_place int_eq_equiv (map pair other) there.0 p kind (IsDistinct-from_sorted int_cmp
     (keys_of (map pair other)) ascending) entry
 
-ascending_pairs : (layers : List Settings) (tabs : List Tab) → AreStops layers tabs → IsStrictlySortedBy int_cmp
+ascending_pairs : (layers : List Properties) (tabs : List Tab) → AreStops layers tabs → IsStrictlySortedBy int_cmp
     (keys_of (map pair tabs))
 ascending_pairs layers tabs h = subst (λ ps. IsStrictlySortedBy int_cmp ps) (sym (keys_pairs tabs)) h.ascending
 
@@ -107,18 +108,18 @@ stops_one layers one other h k =
 
 -- ---- one list of layers
 
-chain_layers_one : (settings : Option Style → Settings) (sheet : Sheet) (istd : ℕ) (a b : List Settings) →
-    AreChainLayers settings sheet istd a → AreChainLayers settings sheet istd b → a ≡ b
-chain_layers_one settings sheet istd a b h k =
-    h.are ∙ (ap (settings_of_styles settings sheet) (base_chains_agree sheet istd h.chain k.chain h.bases k.bases) ∙
+chain_layers_one : (properties : Option Style → Properties) (sheet : Sheet) (istd : ℕ) (a b : List Properties) →
+    AreChainLayers properties sheet istd a → AreChainLayers properties sheet istd b → a ≡ b
+chain_layers_one properties sheet istd a b h k =
+    h.are ∙ (ap (properties_of_styles properties sheet) (base_chains_agree sheet istd h.chain k.chain h.bases k.bases) ∙
     sym k.are)
 
-named_layers_one : (sheet : Sheet) (named : Option ℕ) (a b : List Settings) → AreNamedLayers sheet named a →
+pub named_layers_one : (sheet : Sheet) (named : Option ℕ) (a b : List Properties) → AreNamedLayers sheet named a →
     AreNamedLayers sheet named b → a ≡ b
 named_layers_one sheet None a b h k = h ∙ sym k
 named_layers_one sheet (Some istd) a b h k =
     elim (kind_at sheet istd == 2) as (λ t. (kind_at sheet istd == 2) ≡ t → a ≡ b) [
-      | true ↦ λ e. let is = eqb-true (kind_at sheet istd) 2 e in chain_layers_one character_settings sheet istd a b
+      | true ↦ λ e. let is = eqb-true (kind_at sheet istd) 2 e in chain_layers_one character_properties sheet istd a b
           (h.0 is) (k.0 is)
       | false ↦ λ e. let not_so : kind_at sheet istd ≢ 2 = (λ is. absurd (cc (eq-eqb (kind_at sheet istd) 2 is, e)))
           in h.1 not_so ∙ sym (k.1 not_so)
@@ -126,7 +127,8 @@ named_layers_one sheet (Some istd) a b h k =
 
 pub character_one : EffectiveCharacterIsOne
 character_one sheet istd direct one other h k =
-    let style = chain_layers_one character_settings sheet istd h.are.of_style k.are.of_style h.are.style k.are.style in
+    let style = chain_layers_one character_properties sheet istd h.are.of_style k.are.of_style h.are.style k.are.style
+    in
     let named = named_layers_one sheet (named_style direct) h.are.of_named k.are.of_named h.are.named k.are.named in
     let layers : h.layers ≡ k.layers = h.are.are ∙ (ap (λ l. l ++ (h.are.of_named ++ direct ∷ [])) style ∙
     (ap (λ l. k.are.of_style ++ (l ++ direct ∷ [])) named ∙ sym k.are.are)) in
@@ -134,7 +136,8 @@ character_one sheet istd direct one other h k =
 
 pub paragraph_one : EffectiveParagraphIsOne
 paragraph_one sheet istd direct one other h k =
-    let style = chain_layers_one paragraph_settings sheet istd h.are.of_style k.are.of_style h.are.style k.are.style in
+    let style = chain_layers_one paragraph_properties sheet istd h.are.of_style k.are.of_style h.are.style k.are.style
+    in
     let layers : h.layers ≡ k.layers = h.are.are ∙ (ap (λ l. l ++ direct ∷ []) style ∙ sym k.are.are) in
     let map_is = map_one k.layers one.map other.map (subst (λ l. IsEffectiveMap l one.map) layers h.values) k.values in
     let tabs_are = stops_one k.layers one.tabs other.tabs (subst (λ l. AreStops l one.tabs) layers h.stops) k.stops in

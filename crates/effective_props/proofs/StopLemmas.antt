@@ -3,7 +3,7 @@ use Rattle.std.proofs.Common.{◌≡◌, ◌≢◌, ◌⊎◌, inl, inr, ℕ, �
 use Rattle.std.proofs.Common.{ap, ◌∙◌, arith, subst}
 use Rattle.std.proofs.lemmas.Bool.{cases_lt}
 use Rattle.std.specs.List.{slice_get}
-use Rattle.prop_map.specs.Settings.{Settings}
+use Rattle.prop_map.specs.Settings.{Properties}
 use Rattle.effective_props.specs.declared.tabs.Tab.{Tab}
 use Rattle.effective_props.specs.TabChange.{deleted_count, deleted_position, added_count, added_position, added_kind}
 use Rattle.effective_props.specs.TabChange.{Adds, Mentions}
@@ -14,10 +14,10 @@ use Rattle.effective_props.proofs.PlaceLemmas.{some_is}
 
 -- ---- a layer has one change at most
 
-one_change : (layer : Settings) (a b : List ℕ) → HasTabChange layer a → HasTabChange layer b → a ≡ b
+one_change : (layer : Properties) (a b : List ℕ) → HasTabChange layer a → HasTabChange layer b → a ≡ b
 one_change layer a b h k = some_is a b (sym h.there ∙ k.there)
 
-none_mentions : (layer : Settings) (value : List ℕ) (p : ℤ) → HasTabChange layer value → ((i : ℕ) → i < deleted_count
+none_mentions : (layer : Properties) (value : List ℕ) (p : ℤ) → HasTabChange layer value → ((i : ℕ) → i < deleted_count
     value → deleted_position value i ≢ p) → ((i : ℕ) → i < added_count value → added_position value i ≢ p) →
     ¬ (MentionsStop layer p)
 none_mentions layer value p change deletes adds m =
@@ -30,7 +30,7 @@ none_mentions layer value p change deletes adds m =
 
 -- ---- the stops of one more layer
 
-pub kept_stop : (layers : List Settings) (layer : Settings) (tab : Tab) → HasStop layers tab →
+pub kept_stop : (layers : List Properties) (layer : Properties) (tab : Tab) → HasStop layers tab →
     ¬ (MentionsStop layer tab.at) → HasStop (layers ++ layer ∷ []) tab
 kept_stop layers layer tab h none = record {
   number = h.number;
@@ -53,7 +53,7 @@ kept_stop layers layer tab h none = record {
       ];
 }
 
-pub new_stop : (layers : List Settings) (layer : Settings) (value : List ℕ) (tab : Tab) → HasTabChange layer value →
+pub new_stop : (layers : List Properties) (layer : Properties) (value : List ℕ) (tab : Tab) → HasTabChange layer value →
     Adds value tab → HasStop (layers ++ layer ∷ []) tab
 new_stop layers layer value tab change adds = record {
   number = length layers;
@@ -66,7 +66,7 @@ new_stop layers layer value tab change adds = record {
 }
 
 -- a stop of one more layer is one that the layer adds, or one that was there and that it does not mention
-pub which_stop : (layers : List Settings) (layer : Settings) (tab : Tab) → HasStop (layers ++ layer ∷ []) tab →
+pub which_stop : (layers : List Properties) (layer : Properties) (tab : Tab) → HasStop (layers ++ layer ∷ []) tab →
     ((value : List ℕ) × (HasTabChange layer value × Adds value tab)) ⊎ ((¬ (MentionsStop layer tab.at)) × HasStop
     layers tab)
 which_stop layers layer tab h =
@@ -96,7 +96,7 @@ which_stop layers layer tab h =
 
 -- ---- the tree has exactly the stops of the layers
 
-pub record HoldsStops (layers : List Settings) (stops : StopTree) : Type 0 where
+pub record HoldsStops (layers : List Properties) (stops : StopTree) : Type 0 where
   pub found : (p : ℤ) (kind : ℕ) → stop_at stops p ≡ Some kind → HasStop layers (record { at = p; kind = kind })
   pub there : (tab : Tab) → HasStop layers tab → stop_at stops tab.at ≡ Some tab.kind
 
@@ -114,7 +114,8 @@ adds_at : (value : List ℕ) (p : ℤ) (place kind : ℕ) → IsLastPlace (added
     added_kind value place ≡ kind → Adds value (record { at = p; kind = kind })
 adds_at value p place kind h is = record { number = place; within = h.within; at = h.at; kind = is; last = h.last }
 
-changed_found : (layers : List Settings) (layer : Settings) (value : List ℕ) (old new : StopTree) (p : ℤ) (kind : ℕ) →
+changed_found : (layers : List Properties) (layer : Properties) (value : List ℕ) (old new : StopTree) (p : ℤ) (kind : ℕ)
+    →
     HoldsStops layers old → HasTabChange layer value → ChangesBy value old new → stop_at new p ≡ Some kind →
     HasStop (layers ++ layer ∷ []) (record { at = p; kind = kind })
 changed_found layers layer value old new p kind holds change by is =
@@ -132,7 +133,7 @@ changed_found layers layer value old new p kind holds change by is =
       ]
     ]
 
-changed_there : (layers : List Settings) (layer : Settings) (value : List ℕ) (old new : StopTree) (tab : Tab) →
+changed_there : (layers : List Properties) (layer : Properties) (value : List ℕ) (old new : StopTree) (tab : Tab) →
     HoldsStops layers old → HasTabChange layer value → ChangesBy value old new → HasStop (layers ++ layer ∷ []) tab →
     stop_at new tab.at ≡ Some tab.kind
 changed_there layers layer value old new tab holds change by h =
@@ -165,7 +166,7 @@ changed_there layers layer value old new tab holds change by h =
       ]
     ]
 
-pub stops_more : (layers : List Settings) (layer : Settings) (old new : StopTree) → HoldsStops layers old →
+pub stops_more : (layers : List Properties) (layer : Properties) (old new : StopTree) → HoldsStops layers old →
     ChangesByLayer layer old new → HoldsStops (layers ++ layer ∷ []) new
 stops_more layers layer old new holds changes =
     elim changes [

@@ -7,6 +7,7 @@ use Rattle.std.proofs.lemmas.List.Sums.{fold-append, sum_by-cons}
 use Rattle.std.specs.List.{fold, count_by}
 use Rattle.effective_props.specs.Toggles.{is_byte, is_keep, is_turn, opposite, toggled, toggle_value}
 use Rattle.effective_props.specs.Laws.{is_relative, AreRelative, turned, ToggleIsSaidByLastValue}
+use Rattle.doc_bits.proofs.NumberLemmas.{zero_more}
 
 -- turning round three times is turning round once
 opposite_thrice : (before : Option (List ℕ)) → opposite (Some (opposite (Some (opposite before)))) ≡ opposite before
@@ -71,9 +72,6 @@ count_more value values b e = sum_by-cons (λ x. cond (is_turn x) 1 0) value val
 one_before : (n : ℕ) → 1 + n ≡ n + 1
 one_before n = omega arith
 
-none_before : (n : ℕ) → 0 + n ≡ n
-none_before n = omega arith
-
 pub turned_all : (values : List (List ℕ)) (before : Option (List ℕ)) → AreRelative values → fold toggled before values
     ≡ turned (count_by is_turn values) before
 turned_all [] before all = refl
@@ -87,7 +85,7 @@ turned_all (value ∷ values) before all =
           ap (λ b. fold toggled (cond b before (cond (is_turn value) (Some (opposite before)) (Some value))) values)
           keep
           ∙ (turned_all values before rest ∙ ap (λ m. turned m before) (sym (count_more value values false
-          (keep_no_turn value keep) ∙ none_before n)))
+          (keep_no_turn value keep) ∙ zero_more n)))
       | false ↦ λ keep.
           let turn : is_turn value ≡ true = ap (λ b. b || is_turn value) (sym keep) ∙ here in
           ap (λ b. fold toggled (cond b before (cond (is_turn value) (Some (opposite before)) (Some value))) values)

@@ -1,8 +1,8 @@
 -- Values laid over one another.
 use Rattle.std.proofs.Common.{◌≡◌, ℕ, ◌+◌, ◌<◌, ◌==◌, Bool, true, false, not, cond, List, [], ◌∷◌, ◌++◌, length, take}
 use Rattle.std.proofs.Common.{get_or, Option, Some, None, IsTrue, refl, sym, ap, ◌∙◌, subst, arith, append_assoc}
-use Rattle.std.proofs.Common.{length-append, length-take}
-use Rattle.std.proofs.lemmas.List.{take_more, take_at, get_or-take, get_or_at, get_or_default, append-nil}
+use Rattle.std.proofs.Common.{length-append}
+use Rattle.std.proofs.lemmas.List.{take_more, take_at, get_or_at, append-nil}
 use Rattle.std.proofs.lemmas.List.Elements.{filter_map-append}
 use Rattle.std.proofs.lemmas.List.Sums.{fold-append}
 use Rattle.std.proofs.lemmas.Bool.{eqb-true}
@@ -12,16 +12,16 @@ use Rattle.std.specs.List.{filter_map, last_or}
 use Rattle.std.specs.FinMap.{empty, get, get-empty, insert, find, is_sorted, get-insert}
 use Rattle.std.specs.FinMap.Entries.{find-append}
 use Rattle.sprm_table.specs.Codes.{class_of}
-use Rattle.prop_map.specs.Settings.{Settings}
+use Rattle.prop_map.specs.Settings.{Properties}
 use Rattle.prop_map.specs.Entries.{Entries}
-use Rattle.prop_map.proofs.EntriesLemmas.{of_true, rises, find_gap}
 use Rattle.effective_props.specs.Toggles.{toggled}
 use Rattle.effective_props.specs.Values.{tabs_code, is_toggle, values_at, value_of, effective_value}
 use Rattle.effective_props.specs.ValueSteps.{value_over, layer_over, IsValueOver}
+use Rattle.prop_map.proofs.ChangeLemmas.{find-earlier}
 
 -- ---- one value
 
-pub put_over : (code other : ℕ) (old : Settings) (value made : List ℕ) → (code == tabs_code) ≡ false →
+pub put_over : (code other : ℕ) (old : Properties) (value made : List ℕ) → (code == tabs_code) ≡ false →
     Some made ≡ value_over code (get old code) value → get (insert old code made) other ≡ cond (other == code)
     (layer_over code (get old code) (Some value)) (get old other)
 put_over code other old value made plain is =
@@ -32,14 +32,6 @@ put_over code other old value made plain is =
 
 -- ---- the values of one layer, in the order of their codes
 
-pub find-before : (es : Entries) (i : ℕ) (d : ℕ × List ℕ) → IsTrue (is_sorted nat_cmp es) → i < length es →
-    find nat_cmp (get_or es i d).0 (take i es) ≡ None
-find-before es i d h within =
-    let long : length (take i es) ≡ i = omega (arith, length-take i es) in
-    find_gap i (get_or es i d).0 (take i es) (omega arith)
-    (λ j e l. rw (get_or-take i es j e l, get_or_default es i d e within) (rises es j i e (of_true _ h) l within))
-    (λ j e low l. absurd (omega arith))
-
 -- the entries so far with one more
 pub find-more : (es : Entries) (i : ℕ) (d : ℕ × List ℕ) (code : ℕ) → IsTrue (is_sorted nat_cmp es) → i < length es →
     find nat_cmp code (take (i + 1) es) ≡ cond (code == (get_or es i d).0) (Some (get_or es i d).1) (find nat_cmp code
@@ -47,14 +39,14 @@ pub find-more : (es : Entries) (i : ℕ) (d : ℕ × List ℕ) (code : ℕ) → 
 find-more es i d code h within =
     let e = get_or es i d in
     ap (find nat_cmp code) (take_more es i d within)
-    ∙ (find-append nat_cmp nat_cmp_total (take i es) e.0 e.1 code (find-before es i d h within)
+    ∙ (find-append nat_cmp nat_cmp_total (take i es) e.0 e.1 code (find-earlier es i d h within)
     ∙ ap (λ b. cond b (Some e.1) (find nat_cmp code (take i es))) (unsigned_tied code e.0))
 
 -- the first i entries of a layer were laid over what was there
-abbrev pub LaysUpTo : Entries → Settings → Settings → Type 0
+abbrev pub LaysUpTo : Entries → Properties → Properties → Type 0
 LaysUpTo es old now = (code : ℕ) → get now code ≡ layer_over code (get old code) (find nat_cmp code es)
 
-pub lay_more : (es : Entries) (i : ℕ) (d : ℕ × List ℕ) (old now new : Settings) → IsTrue (is_sorted nat_cmp es) →
+pub lay_more : (es : Entries) (i : ℕ) (d : ℕ × List ℕ) (old now new : Properties) → IsTrue (is_sorted nat_cmp es) →
     i < length es → LaysUpTo (take i es) old now → IsValueOver (get_or es i d).0 (get_or es i d).1 now new →
     LaysUpTo (take (i + 1) es) old new
 lay_more es i d old now new h within upto step code =
@@ -63,21 +55,21 @@ lay_more es i d old now new h within upto step code =
     (get now code) ≡ layer_over code (get old code) (cond b (Some e.1) (find nat_cmp code (take i es)))) [
       | true ↦ λ is.
           let key = eqb-true code e.0 is in
-          let here = upto e.0 ∙ ap (layer_over e.0 (get old e.0)) (find-before es i d h within) in
+          let here = upto e.0 ∙ ap (layer_over e.0 (get old e.0)) (find-earlier es i d h within) in
           ap (λ o. layer_over e.0 o (Some e.1)) here ∙ ap (λ k. layer_over k (get old k) (Some e.1)) (sym key)
       | false ↦ λ is. upto code
     ] refl ∙ ap (layer_over code (get old code)) (sym (find-more es i d code h within)))
 
 -- how far the entries of a layer were laid over what was there
-pub record HasLaidUpTo (all : Entries) (old : Settings) (left : Entries) (now : Settings) : Type 0 where
+pub record HasLaidUpTo (all : Entries) (old : Properties) (left : Entries) (now : Properties) : Type 0 where
   pub done : Entries
   pub joined : all ≡ done ++ left
   pub laid : LaysUpTo done old now
 
-pub none_laid : (all left : Entries) (old : Settings) → all ≡ left → HasLaidUpTo all old left old
+pub none_laid : (all left : Entries) (old : Properties) → all ≡ left → HasLaidUpTo all old left old
 none_laid all left old e = record { done = []; joined = e; laid = λ code. refl }
 
-pub laid_next : (all left : Entries) (old now new : Settings) (code : ℕ) (value : List ℕ) →
+pub laid_next : (all left : Entries) (old now new : Properties) (code : ℕ) (value : List ℕ) →
     IsTrue (is_sorted nat_cmp all) → HasLaidUpTo all old ((code, value) ∷ left) now → IsValueOver code value now new →
     HasLaidUpTo all old left new
 laid_next all left old now new code value sorted h step =
@@ -99,7 +91,7 @@ laid_next all left old now new code value sorted h step =
           (subst (λ (x : ℕ × List ℕ). IsValueOver x.0 x.1 now new) (sym here) step));
     }
 
-pub laid_whole : (all : Entries) (old now : Settings) → HasLaidUpTo all old [] now → LaysUpTo all old now
+pub laid_whole : (all : Entries) (old now : Properties) → HasLaidUpTo all old [] now → LaysUpTo all old now
 laid_whole all old now h = subst (λ l. LaysUpTo l old now) (sym (h.joined ∙ append-nil h.done)) h.laid
 
 -- ---- one more layer
@@ -121,10 +113,10 @@ value_of_more code values value =
     toggle_of : List (List ℕ) → Option (List ℕ)
     toggle_of vs = value_of 0x0835 vs
 
-pub effective_more : (layers : List Settings) (layer : Settings) (code : ℕ) → effective_value (layers ++ layer ∷ [])
+pub effective_more : (layers : List Properties) (layer : Properties) (code : ℕ) → effective_value (layers ++ layer ∷ [])
     code ≡ layer_over code (effective_value layers code) (get layer code)
 effective_more layers layer code =
-    let f : Settings → Option (List ℕ) = λ m. get m code in
+    let f : Properties → Option (List ℕ) = λ m. get m code in
     let values = values_at layers code in
     ap (λ vs. cond (code == tabs_code) None (value_of code vs)) (filter_map-append f layers (layer ∷ []))
     ∙ elim (get layer code) as (λ o. cond (code == tabs_code) None (value_of code (values ++ cons o)) ≡ layer_over
@@ -144,7 +136,7 @@ pub false_of : (b : Bool) → true ≡ not b → b ≡ false
 false_of true e = cc
 false_of false e = refl
 
-pub none_put : (made : Settings) (code : ℕ) → made ≡ empty → get made code ≡ None
+pub none_put : (made : Properties) (code : ℕ) → made ≡ empty → get made code ≡ None
 none_put made code e = ap (λ m. get m code) e ∙ get-empty nat_cmp code
 
 no_value : Option (List ℕ)
@@ -156,6 +148,6 @@ either_none true c = refl
 either_none false true = refl
 either_none false false = refl
 
-pub effective_none : (made : Settings) (code : ℕ) → made ≡ empty → get made code ≡ effective_value [] code
+pub effective_none : (made : Properties) (code : ℕ) → made ≡ empty → get made code ≡ effective_value [] code
 unfolding no_value
 effective_none made code e = none_put made code e ∙ either_none (code == tabs_code) (is_toggle (class_of code))

@@ -4,7 +4,7 @@ use Rattle.std.specs.Prelude.{if◌then◌else◌}
 use Rattle.std.specs.List.{All, count_by}
 use Rattle.std.specs.FinMap.{get}
 use Rattle.sprm_table.specs.Codes.{class_of}
-use Rattle.prop_map.specs.Settings.{Settings}
+use Rattle.prop_map.specs.Settings.{Properties}
 use Rattle.style_sheet.specs.Sheet.{Sheet}
 use Rattle.effective_props.specs.declared.tabs.Tab.{Tab}
 use Rattle.effective_props.specs.declared.effective.ParaEffect.{ParaEffect}
@@ -40,36 +40,36 @@ ToggleIsSaidByLastValue = (values : List (List ℕ)) → IsSaidByLastValue value
 
 -- the effective value at a code that is no toggle is that of the last layer that has it; where none has it there is
 -- none
-pub record IsDecidedByLastLayer (layers : List Settings) (code : ℕ) : Type 0 where
+pub record IsDecidedByLastLayer (layers : List Properties) (code : ℕ) : Type 0 where
   pub set :
-      (front back : List Settings) (layer : Settings) (value : List ℕ) → layers ≡ front ++ layer ∷ back →
+      (front back : List Properties) (layer : Properties) (value : List ℕ) → layers ≡ front ++ layer ∷ back →
       get layer code ≡ Some value → All (λ other. get other code ≡ None) back → effective_value layers code ≡ Some value
   pub none : All (λ layer. get layer code ≡ None) layers → effective_value layers code ≡ None
 
 abbrev pub LastLayerDecides : Type 0
 LastLayerDecides =
-    (layers : List Settings) (code : ℕ) → code ≢ tabs_code → is_toggle (class_of code) ≡ false →
+    (layers : List Properties) (code : ℕ) → code ≢ tabs_code → is_toggle (class_of code) ≡ false →
     IsDecidedByLastLayer layers code
 
 -- layers make one map
 abbrev pub EffectiveMapIsOne : Type 0
 EffectiveMapIsOne =
-    (layers : List Settings) (one other : Settings) → IsEffectiveMap layers one → IsEffectiveMap layers other →
+    (layers : List Properties) (one other : Properties) → IsEffectiveMap layers one → IsEffectiveMap layers other →
     one ≡ other
 
 -- layers make one list of tab stops
 abbrev pub StopsAreOne : Type 0
 StopsAreOne =
-    (layers : List Settings) (one other : List Tab) → AreStops layers one → AreStops layers other → one ≡ other
+    (layers : List Properties) (one other : List Tab) → AreStops layers one → AreStops layers other → one ≡ other
 
--- a character has one map of effective settings
+-- a character has one map of effective properties
 abbrev pub EffectiveCharacterIsOne : Type 0
 EffectiveCharacterIsOne =
-    (sheet : Sheet) (istd : ℕ) (direct one other : Settings) →
+    (sheet : Sheet) (istd : ℕ) (direct one other : Properties) →
     IsEffectiveCharacter sheet istd direct one → IsEffectiveCharacter sheet istd direct other → one ≡ other
 
--- a paragraph mark has one map of effective settings, and one list of tab stops
+-- a paragraph mark has one map of effective properties, and one list of tab stops
 abbrev pub EffectiveParagraphIsOne : Type 0
 EffectiveParagraphIsOne =
-    (sheet : Sheet) (istd : ℕ) (direct : Settings) (one other : ParaEffect) →
+    (sheet : Sheet) (istd : ℕ) (direct : Properties) (one other : ParaEffect) →
     IsEffectiveParagraph sheet istd direct one → IsEffectiveParagraph sheet istd direct other → one ≡ other

@@ -2,7 +2,7 @@
 use Rattle.std.specs.Prelude.{◌≡◌, ◌≢◌, ◌⊎◌, ℕ, ℤ, ◌<◌, List, Option, Some, None}
 use Rattle.std.specs.Ordering.{int_cmp}
 use Rattle.std.specs.BTreeMap.{BTreeMap, get}
-use Rattle.prop_map.specs.Settings.{Settings}
+use Rattle.prop_map.specs.Settings.{Properties}
 use Rattle.effective_props.specs.declared.tabs.Tab.{Tab}
 use Rattle.effective_props.specs.TabChange.{deleted_count, deleted_position, added_count, added_position, added_kind}
 use Rattle.effective_props.specs.Stops.{HasTabChange}
@@ -37,7 +37,7 @@ pub record ChangesBy (value : List ℕ) (old new : StopTree) : Type 0 where
   pub adds : AddsUpTo value (added_count value) between new
 
 -- the layer has no change, or its change is done
-abbrev pub ChangesByLayer : Settings → StopTree → StopTree → Type 0
+abbrev pub ChangesByLayer : Properties → StopTree → StopTree → Type 0
 ChangesByLayer layer old new =
     (((value : List ℕ) → ¬ (HasTabChange layer value)) × ((position : ℤ) → stop_at new position ≡ stop_at old
     position)) ⊎

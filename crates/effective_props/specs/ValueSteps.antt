@@ -2,7 +2,7 @@
 use Rattle.std.specs.Prelude.{◌≡◌, ℕ, ◌==◌, List, Option, Some, None, if◌then◌else◌}
 use Rattle.std.specs.FinMap.{get}
 use Rattle.sprm_table.specs.Codes.{class_of}
-use Rattle.prop_map.specs.Settings.{Settings}
+use Rattle.prop_map.specs.Settings.{Properties}
 use Rattle.effective_props.specs.Toggles.{toggled}
 use Rattle.effective_props.specs.Values.{tabs_code, is_toggle}
 
@@ -16,10 +16,10 @@ layer_over code before None = before
 layer_over code before (Some value) = if code == tabs_code then before else value_over code before value
 
 -- the map with one more value
-abbrev pub IsValueOver : ℕ → List ℕ → Settings → Settings → Type 0
+abbrev pub IsValueOver : ℕ → List ℕ → Properties → Properties → Type 0
 IsValueOver code value old new =
     (other : ℕ) → get new other ≡ (if other == code then layer_over code (get old code) (Some value) else get old other)
 
 -- the map with one more layer
-abbrev pub IsLayerOver : Settings → Settings → Settings → Type 0
+abbrev pub IsLayerOver : Properties → Properties → Properties → Type 0
 IsLayerOver layer old new = (code : ℕ) → get new code ≡ layer_over code (get old code) (get layer code)

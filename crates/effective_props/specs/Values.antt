@@ -1,12 +1,12 @@
 -- The effective value at a code, by the values that the layers have there. The first layer is the root of a chain of
--- styles, the last one the direct settings.
+-- styles, the last one the direct properties.
 use Rattle.std.specs.Prelude.{◌≡◌, ℕ, Bool, true, false, ◌==◌, List, Option, None, if◌then◌else◌}
 use Rattle.std.specs.List.{filter_map, last_or}
 use Rattle.std.specs.FinMap.{get}
 use Rattle.sprm_table.specs.declared.codes.Class.{Class}
 use Rattle.sprm_table.specs.declared.codes.Class.TheVariants.{Plain, Toggle, Clear, Style, Refused}
 use Rattle.sprm_table.specs.Codes.{class_of}
-use Rattle.prop_map.specs.Settings.{Settings}
+use Rattle.prop_map.specs.Settings.{Properties}
 use Rattle.effective_props.specs.Toggles.{toggle_value}
 
 -- [MS-DOC] sprmPChgTabsPapx
@@ -21,7 +21,7 @@ is_toggle Style = false
 is_toggle Refused = false
 
 -- the values that the layers have at a code, in the order of the layers
-abbrev pub values_at : List Settings → ℕ → List (List ℕ)
+abbrev pub values_at : List Properties → ℕ → List (List ℕ)
 values_at layers code = filter_map (λ layer. get layer code) layers
 
 -- what values of one code make together: those of a toggle act in turn, and of others the last one counts
@@ -29,9 +29,9 @@ abbrev pub value_of : ℕ → List (List ℕ) → Option (List ℕ)
 value_of code values = if is_toggle (class_of code) then toggle_value values else last_or None values
 
 -- the effective value at a code; changes of tab stops make stops, and no value
-abbrev pub effective_value : List Settings → ℕ → Option (List ℕ)
+abbrev pub effective_value : List Properties → ℕ → Option (List ℕ)
 effective_value layers code = if code == tabs_code then None else value_of code (values_at layers code)
 
 -- the map has the effective value of each code
-abbrev pub IsEffectiveMap : List Settings → Settings → Type 0
+abbrev pub IsEffectiveMap : List Properties → Properties → Type 0
 IsEffectiveMap layers map = (code : ℕ) → get map code ≡ effective_value layers code

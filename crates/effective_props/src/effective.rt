@@ -1,4 +1,4 @@
-// Effective settings.
+// Effective properties.
 ghost use Rattle.std.specs.Prelude.{◌≡◌, IfOk};
 ghost use Rattle.prop_map.specs.Formed.{IsPropertyMap, character_groups, paragraph_groups};
 ghost use Rattle.style_sheet.specs.Chain.{kind_at, HasSoundBases};
@@ -13,16 +13,16 @@ use prop_map::PropMap;
 use std::alloc::Global;
 use style_sheet::StyleSheet;
 
-/// The effective settings of a paragraph mark.
+/// The effective properties of a paragraph mark.
 #[derive(Drop)]
 pub struct ParaEffect {
-    /// The settings. Changes of tab stops are not among them.
+    /// The properties. Changes of tab stops are not among them.
     pub map: PropMap,
     /// The tab stops, ascending by position, each position once.
     pub tabs: Tabs,
 }
 
-/// The effective settings of a character in a paragraph of the style `istd`.
+/// The effective properties of a character in a paragraph of the style `istd`.
 pub fn effective_char(
     alloc: Global,
     sheet: &StyleSheet,
@@ -42,7 +42,7 @@ pub fn effective_char(
     Ok(map)
 }
 
-/// The effective settings of a paragraph mark of the style `istd`.
+/// The effective properties of a paragraph mark of the style `istd`.
 pub fn effective_para(
     alloc: Global,
     sheet: &StyleSheet,

@@ -23,12 +23,12 @@ pub fn stops_are_one()
     ensures { StopsAreOne }
 {}
 
-/// A character has one map of effective settings.
+/// A character has one map of effective properties.
 pub fn effective_character_is_one()
     ensures { EffectiveCharacterIsOne }
 {}
 
-/// A paragraph mark has one map of effective settings, and one list of tab stops.
+/// A paragraph mark has one map of effective properties, and one list of tab stops.
 pub fn effective_paragraph_is_one()
     ensures { EffectiveParagraphIsOne }
 {}

@@ -1,21 +1,19 @@
-// The layers of settings, the root of the paragraph's style at the bottom.
+// The layers of properties, the root of the paragraph's style at the bottom.
 ghost use Rattle.std.specs.Prelude.{◌≡◌, ◌↔◌, ◌<◌, [], ◌∷◌, ◌++◌, IsTrue, IfOk, OnOk};
 ghost use Rattle.std.specs.Option.{option_map};
 ghost use Rattle.prop_map.specs.Formed.{IsPropertyMap, character_groups};
 ghost use Rattle.style_sheet.specs.Chain.{kind_at, HasSoundBases};
-ghost use Rattle.effective_props.specs.Layers.{named_style, settings_of_styles, AreCharacterLayers, AreParagraphLayers};
-ghost use Rattle.effective_props.specs.LayerParts.{settings_in, AddsChain, AddsNamed};
+ghost use Rattle.effective_props.specs.Layers.{named_style, properties_of_styles, AreCharacterLayers};
+ghost use Rattle.effective_props.specs.Layers.{AreParagraphLayers};
+ghost use Rattle.effective_props.specs.LayerParts.{properties_in, AddsChain, AddsNamed};
 
 use doc_bits::{Memory, get16};
 use prop_map::PropMap;
-use sprm_table::Code;
+use sprm_table::SPRM_C_ISTD;
 use std::alloc::Global;
 use style_sheet::{Chain, Kind, Style, StyleSheet};
 
-/// Names the style of a character.
-const SPRM_C_ISTD: Code = Code(0x4A30);
-
-/// Which settings of a style.
+/// Which properties of a style.
 #[derive(Clone, Copy)]
 enum Part {
     Paragraph,
@@ -58,7 +56,7 @@ pub(crate) fn paragraph_layers(
     Ok(layers)
 }
 
-/// Adds the direct settings as the last layer.
+/// Adds the direct properties as the last layer.
 fn add_direct(alloc: Global, direct: &PropMap, layers: &mut Vec<PropMap>) -> Result<(), Memory>
     ensures { OnOk result (layers.new.items ≡ layers.old.items ++ direct.now ∷ []) }
 {
@@ -66,7 +64,7 @@ fn add_direct(alloc: Global, direct: &PropMap, layers: &mut Vec<PropMap>) -> Res
     Ok(())
 }
 
-/// Adds the layers of the character style that the direct settings name, where there is one.
+/// Adds the layers of the character style that the direct properties name, where there is one.
 fn add_named(
     alloc: Global,
     sheet: &StyleSheet,
@@ -101,7 +99,7 @@ fn is_character_style(sheet: &StyleSheet, istd: u16) -> bool
     }
 }
 
-/// Adds the settings of each style of a chain, from its root.
+/// Adds the properties of each style of a chain, from its root.
 fn add_chain(
     alloc: Global,
     sheet: &StyleSheet,
@@ -118,7 +116,7 @@ fn add_chain(
     Ok(())
 }
 
-/// Adds the settings of each of these styles. A copy of a map shares its entries.
+/// Adds the properties of each of these styles. A copy of a map shares its entries.
 fn add_styles(
     alloc: Global,
     sheet: &StyleSheet,
@@ -127,17 +125,17 @@ fn add_styles(
     layers: &mut Vec<PropMap>,
 ) -> Result<(), Memory>
     ensures { OnOk result
-        (layers.new.items ≡ layers.old.items ++ settings_of_styles (settings_in part) sheet.now chain.now) }
+        (layers.new.items ≡ layers.old.items ++ properties_of_styles (properties_in part) sheet.now chain.now) }
 {
     for i in 0..chain.len() {
-        layers.push(settings_of(alloc, sheet.get(chain.get(i)), part)?)?;
+        layers.push(properties_of(alloc, sheet.get(chain.get(i)), part)?)?;
     }
     Ok(())
 }
 
-/// The settings of a style, where it is there and has some.
-fn settings_of(alloc: Global, style: Option<&Style>, part: Part) -> Result<PropMap, Memory>
-    ensures { IfOk result (λ map. map ≡ settings_in part (option_map (λ s. s.now) style.entry)) }
+/// The properties of a style, where it is there and has some.
+fn properties_of(alloc: Global, style: Option<&Style>, part: Part) -> Result<PropMap, Memory>
+    ensures { IfOk result (λ map. map ≡ properties_in part (option_map (λ s. s.now) style.entry)) }
 {
     let Some(style) = style else {
         return Ok(PropMap::new(alloc));

@@ -1,4 +1,4 @@
-//! Effective settings: what the styles of a paragraph, the character style and the direct settings
+//! Effective properties: what the styles of a paragraph, the character style and the direct properties
 //! make together, layer by layer, and the tab stops.
 #![tactic(auto)]
 
@@ -17,3 +17,4 @@ pub use laws::{
     last_layer_decides, stops_are_one, toggle_is_said_by_last_value,
 };
 pub use tabs::{Tab, Tabs};
+pub use toggles::{TOGGLE_AS_STYLE, TOGGLE_OPPOSITE, is_byte};

@@ -7,10 +7,10 @@ ghost use Rattle.effective_props.specs.Stops.{AreStops};
 ghost use Rattle.effective_props.specs.StopSteps.{ChangesByLayer, DeletesUpTo, AddsUpTo, tab_of};
 
 use crate::tab_change::TabChange;
-use crate::values::SPRM_P_CHG_TABS_PAPX;
 use crate::{Tab, Tabs};
 use doc_bits::Memory;
 use prop_map::PropMap;
+use sprm_table::SPRM_P_CHG_TABS_PAPX;
 use std::alloc::Global;
 use std::collections::BTreeMap;
 

@@ -4,19 +4,19 @@ ghost use Rattle.std.specs.Option.{option_map};
 ghost use Rattle.effective_props.specs.Toggles.{is_byte, opposite, toggled};
 
 /// Keeps what the layers before have.
-const KEEP: u8 = 0x80;
+pub const TOGGLE_AS_STYLE: u8 = 0x80;
 
 /// Turns it round.
-const TURN: u8 = 0x81;
+pub const TOGGLE_OPPOSITE: u8 = 0x81;
 
 /// What a toggle's value makes of the value so far, where that changes.
 pub(crate) fn toggle<'a>(before: Option<&'a [u8]>, value: &'a [u8]) -> Option<&'a [u8]>
     ensures { option_map (λ v. v.now) result ≡ toggled (option_map (λ v. v.now) before.entry) value.now }
 {
-    if is_byte(value, KEEP) {
+    if is_byte(value, TOGGLE_AS_STYLE) {
         return before;
     }
-    if is_byte(value, TURN) {
+    if is_byte(value, TOGGLE_OPPOSITE) {
         return Some(opposite(before));
     }
     Some(value)
@@ -33,7 +33,7 @@ fn opposite<'a>(before: Option<&'a [u8]>) -> &'a [u8]
 }
 
 /// Whether the value is this one byte.
-fn is_byte(value: &[u8], byte: u8) -> bool
+pub fn is_byte(value: &[u8], byte: u8) -> bool
     ensures { result ≡ is_byte value.now byte }
 {
     value.len() == 1 && value[0] == byte

@@ -7,11 +7,8 @@ ghost use Rattle.effective_props.specs.ValueSteps.{value_over, IsValueOver, IsLa
 use crate::toggles::toggle;
 use doc_bits::{Bytes, Memory};
 use prop_map::{Draft, PropMap};
-use sprm_table::{Class, Code, class};
+use sprm_table::{Class, Code, SPRM_P_CHG_TABS_PAPX, class};
 use std::alloc::Global;
-
-/// Changes the tab stops of a paragraph.
-pub(crate) const SPRM_P_CHG_TABS_PAPX: Code = Code(0xC60D);
 
 /// The effective values of the layers, the first of them at the bottom.
 pub(crate) fn values_of(alloc: Global, layers: &[PropMap]) -> Result<PropMap, Memory>

@@ -8,7 +8,7 @@ use Rattle.std.proofs.Common.{Bool, true, false, Some, None, length, map, replic
 use Rattle.std.specs.Option.{unwrap_or}
 use Rattle.std.proofs.lemmas.Bool.{cases_lt}
 use Rattle.std.proofs.lemmas.Option.{none-some, same_Some}
-use Rattle.std.proofs.lemmas.List.{length-append, length-replicate, append_assoc, append-nil}
+use Rattle.std.proofs.lemmas.List.{length-append, append_assoc, append-nil}
 use Rattle.std.proofs.lemmas.List.{replicate-append-replicate}
 use Rattle.std.proofs.lemmas.List.Elements.{All-nil, All-cons, All-append, All-head, All-tail}
 use Rattle.std.proofs.lemmas.List.Sums.{sum_by-cons}
@@ -16,7 +16,7 @@ use Rattle.doc_bits.specs.Together.{AreTogether}
 use Rattle.doc_bits.specs.declared.places.Story.{Story}
 use Rattle.doc_bits.specs.declared.places.Story.TheVariants.{Main, Note as NoteText, Head as HeadText}
 use Rattle.sprm_table.specs.Sprm.{Prl}
-use Rattle.prop_map.specs.Settings.{Settings}
+use Rattle.prop_map.specs.Settings.{Properties}
 use Rattle.prop_map.proofs.EntriesLemmas.{entries-empty}
 use Rattle.plain_doc.specs.declared.item.Item.{Item}
 use Rattle.plain_doc.specs.declared.item.Mark.{Mark}
@@ -29,27 +29,30 @@ use Rattle.edit_script.specs.declared.commands.Command.{Command}
 use Rattle.edit_script.specs.declared.commands.Command.TheVariants.{Insert, Erase, Char, Plain, Para, Style, Field}
 use Rattle.edit_script.specs.declared.commands.Command.TheVariants.{Note, Split, Merge, Sect, Row, StyleChar}
 use Rattle.edit_script.specs.declared.commands.Command.TheVariants.{StylePara, Bookmark, Unmark, Save}
-use Rattle.edit_changes.specs.declared.changes.Change.{Change}
-use Rattle.edit_changes.specs.declared.changes.Change.TheVariants.{SpliceText, ModifyItems, SetSection, SpliceNotes}
-use Rattle.edit_changes.specs.declared.changes.Change.TheVariants.{SpliceHeads, SetStyleCharacters, SetStyleParagraphs}
-use Rattle.edit_changes.specs.declared.changes.Change.TheVariants.{SetBookmarks}
-use Rattle.edit_changes.specs.Places.{items_at, mark_place, section_place, note_number, head_number}
+use Rattle.doc_patch.specs.declared.changes.Change.{Change}
+use Rattle.doc_patch.specs.declared.changes.Change.TheVariants.{SpliceText, ModifyItems, SetSection, SpliceNotes}
+use Rattle.doc_patch.specs.declared.changes.Change.TheVariants.{SpliceHeads, SetStyleCharacters, SetStyleParagraphs}
+use Rattle.doc_patch.specs.declared.changes.Change.TheVariants.{SetBookmarks}
+use Rattle.doc_patch.specs.Places.{items_at, mark_place, section_place, note_number, head_number}
 use Rattle.edit_ops.specs.Ranges.{IsInRange, HasText, HasPlace, BeginsParagraph}
 use Rattle.edit_ops.specs.Fresh.{unit_item, unit_items, plain_end, special, mark_with, note_reference, note_items}
-use Rattle.edit_ops.specs.Fresh.{inserted_items, base_settings, field_items, split_item, section_item, row_items}
+use Rattle.edit_ops.specs.Fresh.{inserted_items, base_properties, field_items, split_item, section_item, row_items}
 use Rattle.edit_ops.specs.EditFacts.{edit_facts, items_added}
 use Rattle.edit_ops.specs.Bookmarks.{new_bookmark, with_bookmark, without_bookmark}
-use Rattle.edit_ops.specs.Edits.{erased, section_changes, changes_of, setting_characters, setting_paragraphs, clearing}
+use Rattle.edit_ops.specs.Edits.{erased, section_changes, changes_of, property_characters, property_paragraphs}
+use Rattle.edit_ops.specs.Edits.{clearing}
 use Rattle.edit_ops.specs.Edits.{naming_style}
 use Rattle.edit_ops.specs.Runs.{run_count, texts_put, most_runs}
 use Rattle.edit_ops.proofs.RunLemmas.{few_runs}
-use Rattle.edited_text.specs.AddedText.{marked_block}
-use Rattle.edited_text.specs.EditSteps.{HasGrownBy, IsBlockOf, NamesEmptyStory, items_put}
+use Rattle.session_text.specs.AddedText.{marked_block}
+use Rattle.session_text.specs.EditSteps.{HasGrownBy, IsBlockOf, NamesEmptyStory, items_put}
 use Rattle.save_bounds.specs.SharedPages.{pages_begun, marks_of, is_bare_mark, page_bound}
 use Rattle.save_bounds.proofs.MarkRunLemmas.{both_marks}
 use Rattle.save_bounds.proofs.PageBoundLemmas.{page_bounds_are_fewer, page_bounds_add, bare_marks_share}
-use Rattle.fast_save.proofs.GrownLemmas.{together_tail, joined_sum}
+use Rattle.fast_save.proofs.GrownLemmas.{together_tail}
 use Rattle.edit_ops.proofs.RunLemmas.{HasChp, one_run, units_have}
+use Rattle.session_text.proofs.PutLemmas.{length-marked}
+use Rattle.session_text.proofs.GrowLemmas.{length-joined as joined_sum}
 
 abbrev pub bytes_of : List Item → ℕ
 bytes_of items = 2 * length items + 512 * page_bound items
@@ -164,11 +167,11 @@ ends_bare (suc count) =
       few = omega (arith, few);
     }
 
-unit_marks : (chp : Settings) (units : List ℕ) → marks_of (unit_items chp units) ≡ []
+unit_marks : (chp : Properties) (units : List ℕ) → marks_of (unit_items chp units) ≡ []
 unit_marks chp [] = refl
 unit_marks chp (unit ∷ units) = unit_marks chp units
 
--- units without settings and some plain marks: a page of characters and one of paragraphs
+-- units without properties and some plain marks: a page of characters and one of paragraphs
 plain_text : (units : List ℕ) (count : ℕ) → count ≤ 29 → page_bound (unit_items empty units ++ ends_of count) ≤ 2
 plain_text units count small =
     let items = unit_items empty units ++ ends_of count in
@@ -239,7 +242,7 @@ erased_unmarked document (HeadText number) from to =
     let change = SpliceText (HeadText number) from to [] in
     one_unmarked document change (nothing_unmarked document change refl)
 
-section_unmarked : (document : Document) (at : ℕ) (new : Bool) (set : Settings) →
+section_unmarked : (document : Document) (at : ℕ) (new : Bool) (set : Properties) →
     All (IsUnmarked document) (section_changes document.main at new set)
 section_unmarked document at false set =
     let change = SetSection (section_place document.main at) set in
@@ -251,11 +254,6 @@ section_unmarked document at true set =
     (one_unmarked document heads (nothing_unmarked document heads refl))
 
 -- ---- an insertion into an empty header text, and a note
-
--- some items, and the marks behind them
-block_length : (items : List Item) (marks : ℕ) → length (marked_block items marks) ≡ length items + marks
-block_length items marks =
-    omega (arith, length-append items (replicate marks extra_mark), length-replicate marks extra_mark)
 
 -- units, plain marks and the marks behind them
 more_ends : (units : List ℕ) (count marks : ℕ) →
@@ -276,7 +274,7 @@ first_bytes document story at units items block are is =
     let whole : block ≡ unit_items empty units ++ ends_of (2 + is.marks) =
     same ∙ (ap (λ (list : List Item). list ++ replicate is.marks extra_mark) are ∙ more_ends units 2 is.marks) in
     let pages = plain_text units (2 + is.marks) (omega (arith, few)) in
-    omega (arith, ap length same, block_length items is.marks, few, ap page_bound whole, pages)
+    omega (arith, ap length same, length-marked items is.marks, few, ap page_bound whole, pages)
 
 note_bytes : (document : Document) (number : ℕ) (units : List ℕ) (block : List Item) →
     IsBlockOf document (SpliceNotes number number (note_items units ∷ [])) block →
@@ -292,7 +290,7 @@ note_bytes document number units block is =
     let both = page_bounds_add (first ∷ []) rest in
     let one = one_unit first refl in
     let pages = plain_text units (1 + is.marks) (omega (arith, few)) in
-    omega (arith, ap length same, block_length (note_items units) is.marks, few, ap page_bound whole, both, one, pages)
+    omega (arith, ap length same, length-marked (note_items units) is.marks, few, ap page_bound whole, both, one, pages)
 
 one_block : (document : Document) (change : Change) (blocks : List (List Item)) (most : ℕ) →
     ((block : List Item) → IsBlockOf document change block → bytes_of block ≤ most) →
@@ -318,7 +316,7 @@ two_blocks document change next (block ∷ blocks) most rest within later togeth
     let both = bytes-append block (joined_texts blocks) in
     omega (arith, first, more, both)
 
-reference_bytes : (document : Document) (at : ℕ) (base : Settings) (block : List Item) →
+reference_bytes : (document : Document) (at : ℕ) (base : Properties) (block : List Item) →
     IsBlockOf document (SpliceText Main at at (note_reference base ∷ [])) block → bytes_of block ≤ 2 + 512
 reference_bytes document at base block is =
     let same =
@@ -388,7 +386,7 @@ added_within document (Insert (HeadText k) at text) range blocks together =
 added_within document (Erase story from to) range blocks together =
     by_unmarked document (Erase story from to) blocks together (erased_unmarked document story from to)
 added_within document (Char story from to set) range blocks together =
-    let change = ModifyItems story from to (setting_characters set) in
+    let change = ModifyItems story from to (property_characters set) in
     by_unmarked document (Char story from to set) blocks together
     (one_unmarked document change (nothing_unmarked document change refl))
 added_within document (Plain story from to) range blocks together =
@@ -397,7 +395,7 @@ added_within document (Plain story from to) range blocks together =
     (one_unmarked document change (nothing_unmarked document change refl))
 added_within document (Para story at set) range blocks together =
     let mark = mark_place (items_at document story) at in
-    let change = ModifyItems story mark (mark + 1) (setting_paragraphs set) in
+    let change = ModifyItems story mark (mark + 1) (property_paragraphs set) in
     by_unmarked document (Para story at set) blocks together
     (one_unmarked document change (nothing_unmarked document change refl))
 added_within document (Style story at istd) range blocks together =
@@ -407,11 +405,11 @@ added_within document (Style story at istd) range blocks together =
     (one_unmarked document change (nothing_unmarked document change refl))
 added_within document (Field story at type code shown) range blocks together =
     by_unmarked document (Field story at type code shown) blocks together
-    (put_unmarked document story at (field_items (base_settings (items_at document story) at) type code shown)
+    (put_unmarked document story at (field_items (base_properties (items_at document story) at) type code shown)
     (HasPlace at) (λ other is. is) range)
 added_within document (Note at text) range blocks together =
     let number = note_number document.main at in
-    let base = base_settings document.main at in
+    let base = base_properties document.main at in
     let bytes =
     two_blocks document (SpliceText Main at at (note_reference base ∷ []))
     (SpliceNotes number number (note_items text ∷ [])) blocks (2 + 512) (2 * length (note_items text) + 4 + 512 * 3)

@@ -12,7 +12,7 @@ use Rattle.std.proofs.lemmas.List.FromFn.{length-range_with_len}
 use Rattle.std.proofs.Math.Nat.{mul-le-mul_left}
 use Rattle.doc_bits.specs.Together.{AreTogether}
 use Rattle.doc_bits.proofs.ListLemmas.{get-map}
-use Rattle.prop_map.specs.Settings.{Settings}
+use Rattle.prop_map.specs.Settings.{Properties}
 use Rattle.cfb_streams.specs.Names.{wd_name, table_name}
 use Rattle.fib_form.specs.Fib.{fib_pair, table_part}
 use Rattle.fib_form.specs.FibFields.{fib_fields}
@@ -30,32 +30,32 @@ use Rattle.plain_doc.specs.declared.document.Document.{Document}
 use Rattle.plain_doc.specs.Collected.{sections_of}
 use Rattle.plain_doc.specs.Document.{IsFormedText}
 use Rattle.plain_doc.specs.Formed.{IsFormed}
-use Rattle.doc_load.specs.FileRules.{table_stream_name}
+use Rattle.file_rules.specs.FileRules.{table_stream_name}
 use Rattle.full_save.specs.WordDocument.{table_stream}
-use Rattle.save_laws.specs.Saves.{HasSettingsAt}
+use Rattle.save_laws.specs.Saves.{HasPropertiesAt}
 use Rattle.save_bounds.specs.ClxLengths.{HaveShortPrcs}
 use Rattle.save_bounds.specs.FastSizes.{reckoned_sectors}
 use Rattle.save_bounds.proofs.ClxLemmas.{clx_is_short, reckoned_prcs_are_short}
 use Rattle.save_bounds.proofs.TableLemmas.{tables_are_short}
-use Rattle.append_save.specs.Appended.{old_stream, old_wd, old_table, old_bins, bins_end, added_pages, page_count}
-use Rattle.append_save.specs.Appended.{first_page}
-use Rattle.append_save.specs.Appended.{pages_end}
-use Rattle.append_save.specs.Appended.{fast_bins, fast_bin_table, fast_text, fast_table}
-use Rattle.append_save.specs.AppendedLengths.{IsCounted as IsCountedSave}
-use Rattle.append_save.specs.Kept.{CanBeAppended}
-use Rattle.append_save.specs.KeptBins.{bin_of, bins_of, kept_bins}
-use Rattle.append_save.specs.RenewedStreams.{bytes_named}
-use Rattle.append_save.specs.Saves.{FastSave}
-use Rattle.append_save.proofs.FilledTable.{table_within}
-use Rattle.append_save.proofs.PlannedLemmas.{length-planned_seds}
-use Rattle.append_save.proofs.RunLengths.{pages_are_few}
-use Rattle.append_save.proofs.StreamLemmas.{named_is}
-use Rattle.edited_text.specs.SessionText.{IsSectionPlan}
-use Rattle.edited_text.proofs.StartLemmas.{settings_are_listed}
+use Rattle.fast_save_layout.specs.Appended.{old_stream, old_wd, old_table, old_bins, bins_end, added_pages, page_count}
+use Rattle.fast_save_layout.specs.Appended.{first_page}
+use Rattle.fast_save_layout.specs.Appended.{pages_end}
+use Rattle.fast_save_layout.specs.Appended.{fast_bins, fast_bin_table, fast_text, fast_table}
+use Rattle.fast_save_layout.specs.AppendedLengths.{IsSaveCounted as IsCountedSave}
+use Rattle.fast_save_layout.specs.Kept.{CanBeAppended}
+use Rattle.fast_save_layout.specs.KeptBins.{bin_of, bins_of, kept_bins}
+use Rattle.fast_save_layout.specs.RenewedStreams.{bytes_named}
+use Rattle.fast_save_layout.specs.Saves.{FastSave}
+use Rattle.fast_save_layout.proofs.FilledTable.{table_within}
+use Rattle.fast_save_layout.proofs.PlannedLemmas.{length-planned_seds}
+use Rattle.fast_save_layout.proofs.RunLengths.{pages_are_few}
+use Rattle.fast_save_layout.proofs.StreamLemmas.{named_is}
+use Rattle.session_text.specs.SessionText.{IsSectionPlan}
+use Rattle.session_text.proofs.StartLemmas.{properties_are_listed}
 use Rattle.fast_save.specs.declared.ledgers.Counts.{Counts}
 use Rattle.fast_save.specs.declared.parts.SessionParts.{SessionParts}
 use Rattle.fast_save.specs.Ledgers.{modifier_bytes, bytes_reckoned, sector_bound}
-use Rattle.fast_save.specs.Session.{IsCounted, saved_stream}
+use Rattle.fast_save.specs.Session.{IsSessionCounted, saved_stream}
 use Rattle.fast_save.specs.Started.{IsReadFile}
 use Rattle.fast_save.specs.Fast.{IsCountedText, CanSaveFast, save_in, save_counts}
 use Rattle.fast_save.proofs.OpenLemmas.{named_short}
@@ -124,7 +124,7 @@ range_short xs from to = omega (arith, length-take (to - from) (drop from xs), l
 
 -- the text as it was added: what is counted of a session is what a save needs
 pub counted_as_added : (file : List ℕ) (document : Document) (parts : SessionParts) (counts : Counts) →
-    IsCounted file parts counts → IsCountedText file parts counts
+    IsSessionCounted file parts counts → IsCountedText file parts counts
 counted_as_added file document parts counts is =
     let few = pages_are_few (save_in file document parts) in
     record {
@@ -241,15 +241,15 @@ module _ {old : List ℕ} (document : Document) (parts : SessionParts) (can : Ca
       let most = mul-le-mul_left (12 + modifier_bytes can.counts) can.counted.pieces in
       omega (arith, least, most, small.clx)
 
-  settings_of : AreTogether (λ place section. ForSome place (λ fc. HasSettingsAt can.session.held.parts.text.wd fc
+  properties_of : AreTogether (λ place section. ForSome place (λ fc. HasPropertiesAt can.session.held.parts.text.wd fc
       section.1))
       parts.text.sections.items (sections_of document.main)
-  settings_of =
+  properties_of =
       let wd = can.session.held.parts.text.wd in
-      let second : (ℕ × Settings) → Settings = λ section. section.1 in
-      let sections : List (ℕ × Settings) = sections_of document.main in
+      let second : (ℕ × Properties) → Properties = λ section. section.1 in
+      let sections : List (ℕ × Properties) = sections_of document.main in
       let together : AreTogether (IsSectionPlan wd) parts.text.sections.items (map second sections) =
-      subst (AreTogether (IsSectionPlan wd) parts.text.sections.items) (settings_are_listed document.main)
+      subst (AreTogether (IsSectionPlan wd) parts.text.sections.items) (properties_are_listed document.main)
       can.session.sections in
       record {
         len = together.len ∙ length-map sections second;
@@ -261,7 +261,7 @@ module _ {old : List ℕ} (document : Document) (parts : SessionParts) (can : Ca
       ^ 31
   table_small clx printed =
       let seds = length-planned_seds 0 (pages_end the_save) parts.text.sections.items (sections_of document.main)
-      settings_of.len in
+      properties_of.len in
       let short = tables_are_short document (fast_text the_save clx) seds in
       let text = small.text in
       let pages = can.counted.text in
@@ -283,7 +283,7 @@ module _ {old : List ℕ} (document : Document) (parts : SessionParts) (can : Ca
     text = can.session.text.places;
     short = can.session.text.short;
     fit = can.session.fit;
-    sections = settings_of;
+    sections = properties_of;
     pieces = pieces;
     few = omega (arith, can.counted.pieces, can.judged.pieces);
     few_added = omega (arith, can.counted.text, small.text);

@@ -4,11 +4,11 @@ use Rattle.std.specs.List.{flat_map, sum_by}
 use Rattle.std.specs.FinMap.{empty}
 use Rattle.std.proofs.Common.{◌≡◌, ◌∙◌, ◌∷◌, ◌++◌, ◌+◌, ◌≤◌, [], refl, ap, Bool, true, false}
 use Rattle.std.proofs.Common.{length, replicate, arith, All}
-use Rattle.std.proofs.lemmas.List.Elements.{filter_map-append, All-cons, All-nil}
+use Rattle.std.proofs.lemmas.List.Elements.{All-cons, All-nil}
 use Rattle.doc_bits.specs.declared.places.Story.{Story}
 use Rattle.doc_bits.specs.declared.places.Story.TheVariants.{Main, Note as NoteText, Head as HeadText}
 use Rattle.text_codes.specs.Paragraph.{cell_mark}
-use Rattle.prop_map.specs.Settings.{Settings}
+use Rattle.prop_map.specs.Settings.{Properties}
 use Rattle.prop_map.specs.Modifiers.{no_modifier, printed_modifier}
 use Rattle.prop_map.specs.Printing.{printed_list}
 use Rattle.prop_map.proofs.EntriesLemmas.{entries-empty}
@@ -20,65 +20,64 @@ use Rattle.edit_script.specs.declared.commands.Command.{Command}
 use Rattle.edit_script.specs.declared.commands.Command.TheVariants.{Insert, Erase, Char, Plain, Para, Style, Field}
 use Rattle.edit_script.specs.declared.commands.Command.TheVariants.{Note, Split, Merge, Sect, Row, StyleChar}
 use Rattle.edit_script.specs.declared.commands.Command.TheVariants.{StylePara, Bookmark, Unmark, Save}
-use Rattle.edit_changes.specs.declared.changes.Change.{Change}
-use Rattle.edit_changes.specs.declared.changes.Change.TheVariants.{SpliceText, SetSection, SpliceNotes, SpliceHeads}
-use Rattle.edit_changes.specs.declared.changes.Change.TheVariants.{SetStyleCharacters, SetStyleParagraphs}
-use Rattle.edit_changes.specs.declared.changes.Change.TheVariants.{SetBookmarks}
-use Rattle.edit_changes.specs.Places.{items_at, mark_place, section_place, note_number, head_number}
-use Rattle.edit_ops.specs.Fresh.{unit_items, mark_item, mark_with, plain_end, cell_items, row_items, row_settings}
-use Rattle.edit_ops.specs.Fresh.{cell_settings, field_items, field_mark, base_settings, note_items, note_reference}
+use Rattle.doc_patch.specs.declared.changes.Change.{Change}
+use Rattle.doc_patch.specs.declared.changes.Change.TheVariants.{SpliceText, SetSection, SpliceNotes, SpliceHeads}
+use Rattle.doc_patch.specs.declared.changes.Change.TheVariants.{SetStyleCharacters, SetStyleParagraphs}
+use Rattle.doc_patch.specs.declared.changes.Change.TheVariants.{SetBookmarks}
+use Rattle.doc_patch.specs.Places.{items_at, mark_place, section_place, note_number, head_number}
+use Rattle.edit_ops.specs.Fresh.{unit_items, mark_item, mark_with, plain_end, cell_items, row_items, row_properties}
+use Rattle.edit_ops.specs.Fresh.{cell_properties, field_items, field_mark, base_properties, note_items, note_reference}
 use Rattle.edit_ops.specs.Fresh.{split_item, section_item, inserted_items}
 use Rattle.edit_ops.specs.Bookmarks.{new_bookmark, with_bookmark, without_bookmark}
-use Rattle.edit_ops.specs.Edits.{erased, section_changes, changes_of, setting_characters, setting_paragraphs}
+use Rattle.edit_ops.specs.Edits.{erased, section_changes, changes_of, property_characters, property_paragraphs}
 use Rattle.edit_ops.specs.Edits.{clearing, naming_style}
-use Rattle.edit_ops.specs.Codes.{HasRightCodes}
+use Rattle.edit_ops.specs.Codes.{HasValidCodes}
 use Rattle.edit_ops.specs.Runs.{most_runs, most_runs_of_section}
-use Rattle.edited_text.specs.SessionText.{section_settings}
-use Rattle.edited_text.specs.EditSteps.{ActsOnNone, growth_of, sections_put}
+use Rattle.session_text.specs.SessionText.{section_properties}
+use Rattle.session_text.specs.EditSteps.{ActsOnNone, growth_of, sections_put}
 use Rattle.fast_save.specs.Ledgers.{is_formatting, modifier_growth, sections_set}
+use Rattle.session_text.proofs.SectionLemmas.{properties-append}
 
--- ---- settings of sections
+-- ---- properties of sections
 
-sections-append : (one other : List Item) → section_settings (one ++ other) ≡ section_settings one ++ section_settings
-    other
-sections-append one other = filter_map-append (λ (item : Item). item.sect) one other
-
-in_units : (chp : Settings) (units : List ℕ) → section_settings (unit_items chp units) ≡ []
+in_units : (chp : Properties) (units : List ℕ) → section_properties (unit_items chp units) ≡ []
 in_units chp [] = refl
 in_units chp (unit ∷ units) = in_units chp units
 
-behind_units : (chp : Settings) (units : List ℕ) (rest : List Item) → section_settings rest ≡ [] →
-    section_settings (unit_items chp units ++ rest) ≡ []
+behind_units : (chp : Properties) (units : List ℕ) (rest : List Item) → section_properties rest ≡ [] →
+    section_properties (unit_items chp units ++ rest) ≡ []
 behind_units chp units rest none =
-    sections-append (unit_items chp units) rest ∙ (ap (λ (s : List Settings). s ++ section_settings rest)
+    properties-append (unit_items chp units) rest ∙ (ap (λ (s : List Properties). s ++ section_properties rest)
     (in_units chp units) ∙ none)
 
-in_inserted : (none : Bool) (base : Settings) (units : List ℕ) →
-    section_settings (if none then unit_items empty units ++ plain_end ∷ plain_end ∷ [] else unit_items base units) ≡ []
+in_inserted : (none : Bool) (base : Properties) (units : List ℕ) →
+    section_properties (if none then unit_items empty units ++ plain_end ∷ plain_end ∷ [] else unit_items base units) ≡
+    []
 in_inserted true base units = behind_units empty units (plain_end ∷ plain_end ∷ []) refl
 in_inserted false base units = in_units base units
 
-in_field : (base : Settings) (type : ℕ) (code shown : List ℕ) → section_settings (field_items base type code shown) ≡ []
+in_field : (base : Properties) (type : ℕ) (code shown : List ℕ) → section_properties (field_items base type code shown)
+    ≡ []
 in_field base type code shown =
     let end = field_mark base 0x15 0x80 ∷ [] in
     let behind = unit_items base shown ++ end in
     behind_units base code (field_mark base 0x14 0xFF ∷ behind) (behind_units base shown end refl)
 
-in_cells : (cells : List (List ℕ)) → section_settings (flat_map cell_items cells) ≡ []
+in_cells : (cells : List (List ℕ)) → section_properties (flat_map cell_items cells) ≡ []
 in_cells [] = refl
 in_cells (cell ∷ cells) =
-    sections-append (cell_items cell) (flat_map cell_items cells)
-    ∙ (ap (λ (s : List Settings). s ++ section_settings (flat_map cell_items cells)) (behind_units empty cell
-    (mark_item empty cell_mark (mark_with cell_settings) ∷ []) refl)
+    properties-append (cell_items cell) (flat_map cell_items cells)
+    ∙ (ap (λ (s : List Properties). s ++ section_properties (flat_map cell_items cells)) (behind_units empty cell
+    (mark_item empty cell_mark (mark_with cell_properties) ∷ []) refl)
     ∙ in_cells cells)
 
-in_row : (width : ℕ) (cells : List (List ℕ)) → section_settings (row_items width cells) ≡ []
+in_row : (width : ℕ) (cells : List (List ℕ)) → section_properties (row_items width cells) ≡ []
 in_row width cells =
-    let end = mark_item empty cell_mark (mark_with (row_settings (length cells) width)) in
-    sections-append (flat_map cell_items cells) (end ∷ [])
-    ∙ ap (λ (s : List Settings). s ++ section_settings (end ∷ [])) (in_cells cells)
+    let end = mark_item empty cell_mark (mark_with (row_properties (length cells) width)) in
+    properties-append (flat_map cell_items cells) (end ∷ [])
+    ∙ ap (λ (s : List Properties). s ++ section_properties (end ∷ [])) (in_cells cells)
 
-none_in : (items : List Item) → section_settings items ≡ [] → length (section_settings items) ≤ 0
+none_in : (items : List Item) → section_properties items ≡ [] → length (section_properties items) ≤ 0
 none_in items none = omega (arith, ap length none)
 
 erased_sections : (document : Document) (story : Story) (from to : ℕ) → sum_by sections_put (erased document story
@@ -87,7 +86,7 @@ erased_sections document Main from to = omega arith
 erased_sections document (NoteText number) from to = omega arith
 erased_sections document (HeadText number) from to = omega arith
 
-set_sections : (main : List Item) (at : ℕ) (new : Bool) (set : Settings) →
+set_sections : (main : List Item) (at : ℕ) (new : Bool) (set : Properties) →
     sum_by sections_put (section_changes main at new set) ≤ 1
 set_sections main at false set = omega arith
 set_sections main at true set = omega arith
@@ -96,7 +95,8 @@ pub sections_few : (document : Document) (command : Command) →
     sum_by sections_put (changes_of document command) ≤ sections_set command
 sections_few document (Insert story at text) =
     let items = items_at document story in
-    let none = none_in (inserted_items items at text) (in_inserted (length items == 0) (base_settings items at) text) in
+    let none = none_in (inserted_items items at text) (in_inserted (length items == 0) (base_properties items at) text)
+    in
     omega (arith, none)
 sections_few document (Erase story from to) = erased_sections document story from to
 sections_few document (Char story from to set) = omega arith
@@ -104,7 +104,7 @@ sections_few document (Plain story from to) = omega arith
 sections_few document (Para story at set) = omega arith
 sections_few document (Style story at istd) = omega arith
 sections_few document (Field story at type code shown) =
-    let base = base_settings (items_at document story) at in
+    let base = base_properties (items_at document story) at in
     let none = none_in (field_items base type code shown) (in_field base type code shown) in
     omega (arith, none)
 sections_few document (Note at text) = omega arith
@@ -125,11 +125,13 @@ sections_few document (Save full) = omega arith
 none_printed : length (printed_list no_modifier.chp) ≡ 0
 none_printed = rw entries-empty refl
 
-characters_printed : (set : Settings) → length (printed_modifier (setting_characters set)) ≡ length (printed_list set)
-characters_printed set = omega (arith, modifier_parts (setting_characters set), none_printed)
+characters_printed : (set : Properties) → length (printed_modifier (property_characters set)) ≡ length (printed_list
+    set)
+characters_printed set = omega (arith, modifier_parts (property_characters set), none_printed)
 
-paragraphs_printed : (set : Settings) → length (printed_modifier (setting_paragraphs set)) ≡ length (printed_list set)
-paragraphs_printed set = omega (arith, modifier_parts (setting_paragraphs set), none_printed)
+paragraphs_printed : (set : Properties) → length (printed_modifier (property_paragraphs set)) ≡ length (printed_list
+    set)
+paragraphs_printed set = omega (arith, modifier_parts (property_paragraphs set), none_printed)
 
 clear_printed : length (printed_modifier clearing) ≡ 3
 clear_printed = omega (arith, modifier_parts clearing, none_printed, length-clear)
@@ -137,17 +139,13 @@ clear_printed = omega (arith, modifier_parts clearing, none_printed, length-clea
 style_printed : (istd : ℕ) → length (printed_modifier (naming_style istd)) ≡ 4
 style_printed istd = omega (arith, modifier_parts (naming_style istd), none_printed, length-style istd)
 
--- a file of one piece without a modifier
-pub no_modifier_printed : length (printed_modifier no_modifier) ≡ 0
-no_modifier_printed = omega (arith, modifier_parts no_modifier, none_printed)
-
 erased_growth : (document : Document) (story : Story) (from to : ℕ) → sum_by growth_of (erased document story from to)
     ≤ 0
 erased_growth document Main from to = omega arith
 erased_growth document (NoteText number) from to = omega arith
 erased_growth document (HeadText number) from to = omega arith
 
-section_growth : (main : List Item) (at : ℕ) (new : Bool) (set : Settings) →
+section_growth : (main : List Item) (at : ℕ) (new : Bool) (set : Properties) →
     sum_by growth_of (section_changes main at new set) ≤ 0
 section_growth main at false set = omega arith
 section_growth main at true set = omega arith
@@ -188,7 +186,7 @@ erased_acts document Main from to =
 erased_acts document (NoteText number) from to = one_acts (SpliceText (NoteText number) from to []) tt
 erased_acts document (HeadText number) from to = one_acts (SpliceText (HeadText number) from to []) tt
 
-section_acts : (main : List Item) (at : ℕ) (new : Bool) (set : Settings) → All ActsOnNone (section_changes main at new
+section_acts : (main : List Item) (at : ℕ) (new : Bool) (set : Properties) → All ActsOnNone (section_changes main at new
     set)
 section_acts main at false set = one_acts (SetSection (section_place main at) set) tt
 section_acts main at true set =
@@ -197,10 +195,10 @@ section_acts main at true set =
 
 note_acts : (main : List Item) (notes at : ℕ) (text : List ℕ) →
     All ActsOnNone
-    (SpliceText Main at at (note_reference (base_settings main at) ∷ []) ∷ SpliceNotes notes notes (note_items text ∷
+    (SpliceText Main at at (note_reference (base_properties main at) ∷ []) ∷ SpliceNotes notes notes (note_items text ∷
     []) ∷ [])
 note_acts main notes at text =
-    two_act (SpliceText Main at at (note_reference (base_settings main at) ∷ []))
+    two_act (SpliceText Main at at (note_reference (base_properties main at) ∷ []))
     (SpliceNotes notes notes (note_items text ∷ [])) tt tt
 
 put_acts : (story : Story) (at : ℕ) (items : List Item) → All ActsOnNone (SpliceText story at at items ∷ [])
@@ -216,7 +214,7 @@ others_act_on_none document (Plain story from to) other = absurd (cc other)
 others_act_on_none document (Para story at set) other = absurd (cc other)
 others_act_on_none document (Style story at istd) other = absurd (cc other)
 others_act_on_none document (Field story at type code shown) other =
-    put_acts story at (field_items (base_settings (items_at document story) at) type code shown)
+    put_acts story at (field_items (base_properties (items_at document story) at) type code shown)
 others_act_on_none document (Note at text) other = note_acts document.main (note_number document.main at) at text
 others_act_on_none document (Split story at) other = put_acts story at (split_item (items_at document story) at ∷ [])
 others_act_on_none document (Merge story at) other =
@@ -237,7 +235,7 @@ section_runs : (new : Bool) → most_runs_of_section new ≤ 65
 section_runs true = omega arith
 section_runs false = omega arith
 
-pub few_reckoned : (command : Command) → HasRightCodes command → most_runs command ≤ 65
+pub few_reckoned : (command : Command) → HasValidCodes command → most_runs command ≤ 65
 few_reckoned (Insert story at text) right = omega arith
 few_reckoned (Erase story from to) right = omega arith
 few_reckoned (Char story from to set) right = omega arith

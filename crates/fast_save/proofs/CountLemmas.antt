@@ -6,8 +6,8 @@ use Rattle.std.proofs.lemmas.List.{length-map}
 use Rattle.std.proofs.lemmas.List.Sums.{fold_more, sum_by-cons}
 use Rattle.std.proofs.lemmas.Option.{none-some, same_Some, slice_get_within, get_or_from_slice_get}
 use Rattle.doc_bits.proofs.ListLemmas.{get-map}
-use Rattle.std.proofs.Common.{◌≡◌, ◌∙◌, ◌∷◌, ◌+◌, ◌*◌, ◌-◌, ◌^◌, ◌<◌, ◌≤◌, ◌||◌, [], refl, sym, ap, subst, Bool}
-use Rattle.std.proofs.Common.{true, false, Some, length, map, arith, All}
+use Rattle.std.proofs.Common.{◌≡◌, ◌∙◌, ◌∷◌, ◌+◌, ◌*◌, ◌-◌, ◌^◌, ◌<◌, ◌≤◌, [], refl, sym, ap, subst}
+use Rattle.std.proofs.Common.{false, Some, length, map, arith, All}
 use Rattle.std.proofs.lemmas.List.Elements.{All-nil, All-cons, All-head, All-tail}
 use Rattle.cfb_sectors.specs.Opening.{IsWhole}
 use Rattle.prop_map.specs.declared.modifiers.Modifier.{Modifier}
@@ -16,24 +16,25 @@ use Rattle.piece_table.specs.Piece.{TextPiece, IsTextPiece, ArePieces, total_len
 use Rattle.piece_table.proofs.PrcPrintLemmas.{printed_short}
 use Rattle.plain_doc.specs.declared.document.Document.{Document}
 use Rattle.edit_script.specs.declared.commands.Command.{Command}
-use Rattle.edit_ops.specs.Codes.{HasRightCodes}
+use Rattle.edit_ops.specs.Codes.{HasValidCodes}
 use Rattle.edit_ops.specs.Runs.{most_runs}
 use Rattle.edit_ops.specs.Edits.{changes_of}
 use Rattle.plain_doc.specs.Stretches.{stretches}
 use Rattle.save_bounds.specs.SharedPages.{pages_begun, page_bound}
-use Rattle.edited_text.specs.SessionText.{HaveFitModifiers, HaveNoModifiers, HaveModifiersWithin, unwritten_count}
-use Rattle.edited_text.specs.EditSteps.{growth_of, pieces_added}
-use Rattle.edited_text.specs.TextEdits.{IsTextEdit, IsSectionsEdit}
+use Rattle.session_text.specs.SessionText.{HaveFitModifiers, HaveNoModifiers, HaveModifiersWithin, unwritten_count}
+use Rattle.session_text.specs.EditSteps.{growth_of, pieces_added}
+use Rattle.session_text.specs.TextEdits.{IsTextEdit, IsSectionsEdit}
 use Rattle.fast_save.specs.declared.ledgers.Counts.{Counts}
 use Rattle.fast_save.specs.declared.parts.SessionParts.{SessionParts}
 use Rattle.fast_save.specs.Ledgers.{AreCountsOf, most_printed, is_formatting, modifier_growth}
 use Rattle.fast_save.specs.Ledgers.{after_edit}
 use Rattle.cfb_sectors.specs.Header.{sector_count}
-use Rattle.fast_save.specs.Session.{IsCounted, bin_length}
+use Rattle.fast_save.specs.Session.{IsSessionCounted, bin_length}
 use Rattle.fast_save.specs.Edited.{HasRoom}
 use Rattle.fast_save.proofs.OpenLemmas.{flat_modifiers}
 use Rattle.fast_save.proofs.AddedBytes.{bytes_of}
 use Rattle.fast_save.proofs.CommandLemmas.{sections_few, growth_few, others_act_on_none, few_reckoned, few_sections}
+use Rattle.doc_bits.proofs.TestLemmas.{neither}
 
 -- ---- at the start
 
@@ -60,7 +61,7 @@ no_pages = refl
 
 pub counted_at_start : (file : List ℕ) (parts : SessionParts) (counts : Counts) → IsWhole file →
     AreCountsOf parts.text.pieces.pieces (sector_count file) (bin_length parts.fib) counts →
-    parts.text.added.items ≡ [] → unwritten_count parts.text.sections.items ≡ 0 → IsCounted file parts counts
+    parts.text.added.items ≡ [] → unwritten_count parts.text.sections.items ≡ 0 → IsSessionCounted file parts counts
 counted_at_start file parts counts whole is fresh written =
     let pieces = parts.text.pieces.pieces in
     record {
@@ -130,10 +131,6 @@ few_pieces pieces are =
 
 -- ---- after an edit
 
-or_false : (one other : Bool) → (one || other) ≡ false → (one ≡ false) × (other ≡ false)
-or_false true other none = absurd (cc none)
-or_false false other none = (refl, none)
-
 -- a modifier that fits a page is printed in few bytes
 fit_printed : (most : ℕ) (pieces : List TextPiece) → HaveFitModifiers pieces → HaveModifiersWithin most pieces →
     HaveModifiersWithin (min most (2 ^ 64 - 1)) pieces
@@ -147,7 +144,7 @@ within_more : (less more : ℕ) (pieces : List TextPiece) → less ≤ more → 
 within_more less more pieces upto within = λ k d below. let low = within k d below in omega (arith, low, upto)
 
 module _ (file : List ℕ) (document : Document) (command : Command) (old new : SessionParts) (counts : Counts)
-    (is : IsCounted file old counts) (room : HasRoom counts) (right : HasRightCodes command)
+    (is : IsSessionCounted file old counts) (room : HasRoom counts) (right : HasValidCodes command)
     (text : IsTextEdit document (changes_of document command) old.text new.text)
     (sections : IsSectionsEdit document (changes_of document command) old.text.sections.items new.text.sections.items)
   where
@@ -165,7 +162,7 @@ module _ (file : List ℕ) (document : Document) (command : Command) (old new : 
 
     modified_after : (units : ℕ) → (after units).modified ≡ false → HaveNoModifiers new.text.pieces.pieces
     modified_after units none =
-        let both = or_false counts.modified (is_formatting command) none in
+        let both = neither counts.modified (is_formatting command) none in
         text.modified (others_act_on_none document command both.1) (is.modified both.0)
 
     pub counted_after : HaveFitModifiers new.text.pieces.pieces → length new.text.pieces.pieces ≤ 500001 →
@@ -174,7 +171,7 @@ module _ (file : List ℕ) (document : Document) (command : Command) (old new : 
         length new.text.added.items ≤ length old.text.added.items + units + most_runs command →
         page_bound new.text.added.items ≤ page_bound old.text.added.items + most_runs command →
         bytes_of new.text.added.items ≤ bytes_of old.text.added.items + 2 * units + 512 * most_runs command →
-        IsCounted file new (after units)
+        IsSessionCounted file new (after units)
     counted_after fit few_pieces added fib units low grown more bytes =
         let pieces = text.pieces in
         let runs = few_reckoned command right in

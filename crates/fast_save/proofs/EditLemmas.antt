@@ -7,36 +7,36 @@ use Rattle.piece_table.specs.Piece.{TextPiece, flat_pieces}
 use Rattle.plain_doc.specs.declared.item.Item.{Item}
 use Rattle.plain_doc.specs.declared.document.Document.{Document}
 use Rattle.edit_script.specs.declared.commands.Command.{Command}
-use Rattle.edit_changes.specs.declared.changes.Change.{Change}
-use Rattle.edit_changes.specs.declared.changes.Change.TheVariants.{SpliceText, ModifyItems, SetSection, SpliceNotes}
-use Rattle.edit_changes.specs.declared.changes.Change.TheVariants.{SpliceHeads, SetStyleCharacters, SetStyleParagraphs}
-use Rattle.edit_changes.specs.declared.changes.Change.TheVariants.{SetBookmarks}
-use Rattle.edit_changes.specs.Changes.{changed, all_changed, with_text, map_range, modified_item}
+use Rattle.doc_patch.specs.declared.changes.Change.{Change}
+use Rattle.doc_patch.specs.declared.changes.Change.TheVariants.{SpliceText, ModifyItems, SetSection, SpliceNotes}
+use Rattle.doc_patch.specs.declared.changes.Change.TheVariants.{SpliceHeads, SetStyleCharacters, SetStyleParagraphs}
+use Rattle.doc_patch.specs.declared.changes.Change.TheVariants.{SetBookmarks}
+use Rattle.doc_patch.specs.Changes.{changed, all_changed, with_text, map_range, modified_item}
 use Rattle.edit_ops.specs.Causes.{IsAcceptedEdit}
 use Rattle.edit_ops.specs.Edits.{changes_of, document_after}
 use Rattle.std.specs.Prelude.{All}
-use Rattle.plain_doc.specs.RulesOfItems.{HasShortSettings}
+use Rattle.plain_doc.specs.RulesOfItems.{HasShortProperties}
 use Rattle.save_laws.specs.declared.ends.Ends.{Ends}
 use Rattle.save_laws.specs.Ends.{ends_of}
 use Rattle.save_laws.specs.Places.{PagedStream}
 use Rattle.save_laws.specs.FastSaves.{StandsInSession}
 use Rattle.save_bounds.specs.SharedPages.{page_bound}
-use Rattle.edited_text.specs.declared.added.Added.{Added}
-use Rattle.edited_text.specs.AddedText.{plan_of}
-use Rattle.edited_text.specs.OldUnits.{IsOldBounded, OldUnitsAreBounded}
+use Rattle.session_text.specs.declared.added.Added.{Added}
+use Rattle.session_text.specs.AddedText.{plan_of}
+use Rattle.session_text.specs.OldUnits.{IsOldBounded, OldUnitsAreBounded}
 use Rattle.save_laws.specs.Slots.{whole_text}
 use Rattle.doc_bits.specs.Together.{AreTogether}
-use Rattle.edited_text.specs.SessionText.{IsSessionText, IsSameText, HaveFitModifiers, HaveNoModifiers}
-use Rattle.edited_text.specs.SessionText.{HaveModifiersWithin, ArePlannedSections, unwritten_count}
+use Rattle.session_text.specs.SessionText.{IsSessionText, IsSameText, HaveFitModifiers, HaveNoModifiers}
+use Rattle.session_text.specs.SessionText.{HaveModifiersWithin, ArePlannedSections, unwritten_count}
 use Rattle.fast_save.specs.declared.ledgers.Counts.{Counts}
-use Rattle.edited_text.specs.TextEdits.{IsTextEdit, IsSectionsEdit}
+use Rattle.session_text.specs.TextEdits.{IsTextEdit, IsSectionsEdit}
 use Rattle.cfb_streams.specs.Names.{wd_name}
 use Rattle.fib_form.specs.FibFields.{fib_fields}
 use Rattle.fast_save.specs.declared.parts.SessionParts.{SessionParts}
 use Rattle.fast_save.specs.Started.{IsReadFile}
 use Rattle.fast_save.specs.Edited.{HasRoom}
 use Rattle.fast_save.proofs.OpenLemmas.{named_short}
-use Rattle.fast_save.specs.Session.{IsSession, IsCounted, saved_stream, bin_length}
+use Rattle.fast_save.specs.Session.{IsSession, IsSessionCounted, saved_stream, bin_length}
 
 -- ---- what is carried along stays
 
@@ -107,7 +107,7 @@ wd_short file document parts is =
     held.has_parts.has_text.has_wd
 
 pub has_room : (file : List ℕ) (document : Document) (parts : SessionParts) (counts : Counts) →
-    IsSession file document parts → IsCounted file parts counts → HasRoom counts →
+    IsSession file document parts → IsSessionCounted file parts counts → HasRoom counts →
     parts.text.added.base + (2 * length parts.text.added.items + 3000000) < 2 ^ 32
 has_room file document parts counts is counted room =
     omega (arith, wd_short file document parts is, is.base, counted.added, room)
@@ -132,7 +132,7 @@ module _ (file : List ℕ) (document : Document) (old new : SessionParts) (same 
         (subst
         (λ (e : Ends). StandsInSession stream (plan_of old.text.added) old.text.pieces.pieces document (ends_of e))
         (sym same.ends) is.places));
-    short = subst (λ (added : Added). All HasShortSettings added.items) (sym same.added) is.short;
+    short = subst (λ (added : Added). All HasShortProperties added.items) (sym same.added) is.short;
     base = omega (arith, is.base, ap (λ (added : Added). added.base) same.added);
   }
 
@@ -171,7 +171,7 @@ module _ (file : List ℕ) (document : Document) (old new : SessionParts) (same 
     contents = container ∙ is.contents;
   }
 
-  pub counted_stays : (counts : Counts) → IsCounted file old counts → IsCounted file new counts
+  pub counted_stays : (counts : Counts) → IsSessionCounted file old counts → IsSessionCounted file new counts
   counted_stays counts is = record {
     pieces = omega (arith, is.pieces, ap (λ (p : List TextPiece). length p) same.pieces);
     modified = λ no. subst HaveNoModifiers (sym same.pieces) (is.modified no);

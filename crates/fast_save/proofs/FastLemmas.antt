@@ -5,7 +5,7 @@ use Rattle.std.proofs.Common.{length}
 use Rattle.std.proofs.Common.{arith}
 use Rattle.cfb_sectors.specs.Header.{sector_count}
 use Rattle.cfb_streams.specs.Names.{wd_name}
-use Rattle.cfb_append.specs.InPlace.{StaysInPlace}
+use Rattle.cfb_in_place.specs.InPlace.{StaysInPlace}
 use Rattle.fib_form.specs.FibFields.{FibFields, fib_fields}
 use Rattle.fib_form.specs.declared.table_parts.TablePart.TheVariants.{PlcfBteChpx, PlcfBtePapx}
 use Rattle.fkp_pages.specs.declared.kind.PageKind.TheVariants.{Chpx, Papx}
@@ -13,8 +13,8 @@ use Rattle.piece_table.specs.Piece.{TextPiece, ArePieces, flat_pieces}
 use Rattle.plain_doc.specs.declared.document.Document.{Document}
 use Rattle.plain_doc.specs.Document.{IsFormedText}
 use Rattle.plain_doc.specs.Formed.{IsFormed}
-use Rattle.plain_doc.proofs.RightLemmas.{sound_is_right}
-use Rattle.doc_load.specs.FileRules.{FileText, source_of}
+use Rattle.plain_doc.proofs.RightLemmas.{sound_is_valid}
+use Rattle.file_rules.specs.FileRules.{FileText, source_of}
 use Rattle.full_save.specs.WordDocument.{table_stream}
 use Rattle.doc_read.specs.Opened.{OpenedFile}
 use Rattle.save_laws.specs.declared.ends.Ends.{Ends}
@@ -30,22 +30,22 @@ use Rattle.save_laws.proofs.FullByRuns.{slot_there}
 use Rattle.save_laws.proofs.HeldLemmas.{files_hold}
 use Rattle.save_laws.proofs.SavedLemmas.{Save as SavedCopy, part_is}
 use Rattle.save_bounds.specs.SharedPages.{page_bound}
-use Rattle.append_save.specs.declared.fault.AppendFault.TheVariants.{Sixteenth, TooLarge}
-use Rattle.append_save.specs.Saves.{FastSave, plan_of}
-use Rattle.append_save.specs.Appended.{old_wd, old_stream, fast_fib, fast_wd, fast_table, change_of, table_name_of}
-use Rattle.append_save.specs.Appended.{fast_bin_table, fast_saved_text}
-use Rattle.append_save.specs.FastByRuns.{AreBoundedBefore}
-use Rattle.append_save.specs.Answers.{IsAnew, IsAppended, IsAppendFault, IsInPlace}
-use Rattle.append_save.proofs.FastByRuns.{fast_saves_are_bounded}
-use Rattle.append_save.proofs.ReadyLemmas.{Ready}
-use Rattle.append_save.proofs.SavedInPlace.{stays}
-use Rattle.append_save.proofs.ShortLemmas.{appended_saves_are_short, appended_files_are_short, counted_saves_fit}
-use Rattle.edited_text.specs.SessionText.{HaveNoModifiers, HaveModifiersWithin, unwritten_count}
+use Rattle.fast_save_layout.specs.declared.fault.AppendFault.TheVariants.{Sixteenth, TooLarge}
+use Rattle.fast_save_layout.specs.Saves.{FastSave, plan_of}
+use Rattle.fast_save_layout.specs.Appended.{old_wd, old_stream, fast_fib, fast_wd, fast_table, change_of, table_name_of}
+use Rattle.fast_save_layout.specs.Appended.{fast_bin_table, fast_saved_text}
+use Rattle.fast_save_layout.specs.FastByRuns.{AreBoundedBefore}
+use Rattle.fast_save_layout.specs.Answers.{IsAnew, IsAppended, IsAppendFault, IsInPlace}
+use Rattle.fast_save_layout.proofs.FastByRuns.{fast_saves_are_bounded}
+use Rattle.fast_save_layout.proofs.ReadyLemmas.{Ready}
+use Rattle.fast_save_layout.proofs.SavedInPlace.{stays}
+use Rattle.fast_save_layout.proofs.ShortLemmas.{appended_saves_are_short, appended_files_are_short, counted_saves_fit}
+use Rattle.session_text.specs.SessionText.{HaveNoModifiers, HaveModifiersWithin, unwritten_count}
 use Rattle.fast_save.specs.declared.fast_parts.FastParts.{FastParts}
 use Rattle.fast_save.specs.declared.ledgers.Counts.{Counts}
 use Rattle.fast_save.specs.declared.parts.SessionParts.{SessionParts}
 use Rattle.fast_save.specs.Ledgers.{modifier_bytes, sector_bound, after_fast}
-use Rattle.fast_save.specs.Session.{IsBoundedFile, IsSession, IsCounted, saved_stream, bin_length}
+use Rattle.fast_save.specs.Session.{IsBoundedFile, IsSession, IsSessionCounted, saved_stream, bin_length}
 use Rattle.fast_save.specs.Started.{IsOpenFile}
 use Rattle.fast_save.specs.Fast.{CanSaveFast, IsFastFile, AreFastParts, IsSavedFast, IsBehind, IsWithin, counts_over}
 use Rattle.fast_save.specs.Fast.{KeepsSectors, KeepsOtherSectors, IsInOwnSectors, save_in, save_counts}
@@ -196,7 +196,7 @@ module _ {old : List ℕ} (document : Document) (parts : SessionParts) (can : Ca
       table = fast_table save made.clx;
       contents = made.contents;
       formed = formed;
-      right = sound_is_right document can.session.sound;
+      right = sound_is_valid document can.session.sound;
       is = fast_saves_are_saves document (old_stream save) (plan_of save) (fast_saved_text save made.clx)
           (fast_table save made.clx) made.contents made.saved;
     }
@@ -329,7 +329,7 @@ module _ {old : List ℕ} (document : Document) (parts : SessionParts) (can : Ca
   bound = sector_bound can.counts (length (table_stream document))
 
   pub counted_after_fast : can.counts.bin_bytes + 16 * can.counts.runs ≤ 6976000 →
-      IsCounted file new (after_fast bound can.counts)
+      IsSessionCounted file new (after_fast bound can.counts)
   counted_after_fast low =
       let sectors = made.within.sectors in
       let bins = made.within.bins in

@@ -38,8 +38,9 @@ use Rattle.full_save.proofs.NameOrder.{same_as_itself}
 use Rattle.full_save.proofs.PutStreams.{IsPutAmong, length-put, put_there, kept_there, each_put, put_ascend}
 use Rattle.full_save.proofs.PutStreams.{put_are_streams, total-put}
 use Rattle.full_save.proofs.PutStreams.{put_among, put_left_out, all_pass}
-use Rattle.append_save.proofs.StreamLemmas.{contents_has, contents_clsid, contents_carried}
+use Rattle.fast_save_layout.proofs.StreamLemmas.{contents_has, contents_clsid, contents_carried}
 use Rattle.full_save.proofs.FitLemmas.{stream_short}
+use Rattle.full_save.proofs.LayoutLemmas.{other_names}
 
 -- ---- the two streams that a save makes
 
@@ -61,9 +62,6 @@ units_small name all k = elim (cases_lt k (length name)) [
       (All-get_or (λ unit. ltb unit 65536 ≡ true) name k 0 low
       (AllPass-from_list_all (λ unit. ltb unit 65536) name all))
 ]
-
-other_names : ¬ AreSameNames wd_name second_table_name
-other_names same = let long = same.long in omega (arith, long)
 
 -- ---- the streams of the layout
 

@@ -20,10 +20,10 @@ use Rattle.full_save.specs.Text.{text_items}
 use Rattle.full_save.specs.WordDocument.{wd_stream, table_stream, text_at, full_fib}
 use Rattle.full_save.specs.Layout.{full_save_image}
 use Rattle.full_save.proofs.LaidOut.{LaidOut, fib_read, few_items}
-use Rattle.plain_doc.proofs.RightLemmas.{sound_is_right}
+use Rattle.plain_doc.proofs.RightLemmas.{sound_is_valid}
 use Rattle.fib_form.specs.declared.table_parts.TablePart.TheVariants.{Clx}
-use Rattle.doc_load.specs.FileRules.{FileText, source_of, table_stream_name}
-use Rattle.doc_load.proofs.NameLemmas.{named_one}
+use Rattle.file_rules.specs.FileRules.{FileText, source_of, table_stream_name}
+use Rattle.file_rules.proofs.NameLemmas.{named_one}
 use Rattle.doc_read.proofs.ExistText.{named_bytes}
 use Rattle.doc_read.proofs.ExistFits.{text_fits}
 use Rattle.doc_read.proofs.ExistParts.{part_bytes_are}
@@ -33,7 +33,7 @@ use Rattle.fast_save.specs.Ledgers.{AreCountsOf, AreUnmodified, most_printed, af
 use Rattle.fast_save.specs.Started.{IsOpenFile}
 use Rattle.fast_save.proofs.FullFileLemmas.{full_saves_are_read, within}
 use Rattle.fast_save.proofs.OpenLemmas.{container_holds, table_holds}
-use Rattle.fast_save.proofs.CommandLemmas.{no_modifier_printed}
+use Rattle.session_text.proofs.TextLemmas.{none_printed}
 
 -- a FIB that breaks no rule has no fault
 pub no_fib_fault : (wd : List ℕ) (rule place : ℕ) → Hold (fib_rules wd) → IsFirst (fib_rules wd) rule place → ⊥
@@ -50,7 +50,7 @@ abbrev laid_out : (document : Document) → IsSavable document → LaidOut
 laid_out document is = record {
   document = document;
   formed = is.formed;
-  right = sound_is_right document is.sound;
+  right = sound_is_valid document is.sound;
   short = short_table document is;
 }
 
@@ -110,7 +110,7 @@ module _ (document : Document) (is : IsSavable document) (bytes : AreBytes (full
       omega (arith, same, all, total, one)
 
   pub image_some : 1 ≤ length (text_items document)
-  image_some = (few_items document (sound_is_right document is.sound)).some
+  image_some = (few_items document (sound_is_valid document is.sound)).some
 
   -- it is opened as the streams that it has, the FIB of the layout, and one piece
   abbrev pub full_open : (fib : FibFields) (contents : Contents) (pieces : List TextPiece) → HasContents image
@@ -144,7 +144,7 @@ one_none at len =
     (All-nil (λ (piece : TextPiece). piece.modifier ≡ no_modifier))
 
 one_printed : (at len : ℕ) → most_printed (one_piece at len) ≡ 0
-one_printed at len = ap (max 0) no_modifier_printed
+one_printed at len = ap (max 0) none_printed
 
 pub counts_in_full : (at len sectors bin_bytes : ℕ) (counts : Counts) →
     AreCountsOf (one_piece at len) sectors bin_bytes counts → counts ≡ after_full sectors bin_bytes

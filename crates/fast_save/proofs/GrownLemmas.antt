@@ -14,20 +14,21 @@ use Rattle.plain_doc.specs.declared.document.Document.{Document}
 use Rattle.plain_doc.specs.Collected.{joined_texts}
 use Rattle.plain_doc.proofs.TextListLemmas.{length-joined}
 use Rattle.full_save.specs.Text.{extra_mark}
-use Rattle.prop_map.specs.Settings.{Settings}
+use Rattle.prop_map.specs.Settings.{Properties}
 use Rattle.edit_script.specs.declared.commands.Command.{Command}
 use Rattle.edit_script.specs.declared.commands.Command.TheVariants.{Insert, Erase, Char, Plain, Para, Style, Field}
 use Rattle.edit_script.specs.declared.commands.Command.TheVariants.{Note, Split, Merge, Sect, Row, StyleChar}
 use Rattle.edit_script.specs.declared.commands.Command.TheVariants.{StylePara, Bookmark, Unmark, Save}
-use Rattle.edit_changes.specs.declared.changes.Change.{Change}
-use Rattle.edit_changes.specs.declared.changes.Change.TheVariants.{SpliceText, SpliceNotes}
+use Rattle.doc_patch.specs.declared.changes.Change.{Change}
+use Rattle.doc_patch.specs.declared.changes.Change.TheVariants.{SpliceText, SpliceNotes}
 use Rattle.edit_ops.specs.EditFacts.{edit_facts, items_added}
-use Rattle.edit_changes.specs.Places.{items_at, mark_place, note_number}
-use Rattle.edit_ops.specs.Fresh.{inserted_items, field_items, base_settings, note_reference, note_items, split_item}
+use Rattle.doc_patch.specs.Places.{items_at, mark_place, note_number}
+use Rattle.edit_ops.specs.Fresh.{inserted_items, field_items, base_properties, note_reference, note_items, split_item}
 use Rattle.edit_ops.specs.Fresh.{row_items}
 use Rattle.edit_ops.specs.Edits.{erased, section_changes, changes_of}
 use Rattle.edit_ops.specs.Runs.{most_runs, most_runs_of_section}
-use Rattle.edited_text.specs.EditSteps.{HasGrownBy, IsBlockOf, items_put}
+use Rattle.session_text.specs.EditSteps.{HasGrownBy, IsBlockOf, items_put}
+use Rattle.session_text.proofs.GrowLemmas.{length-joined as joined_sum}
 
 -- ---- the block of a change
 
@@ -79,16 +80,6 @@ short_blocks document (change ∷ changes) (block ∷ blocks) together =
 
 -- ---- the changes of a command
 
-pub joined_sum : (texts : List (List Item)) → length (joined_texts texts) ≡ sum_by length texts
-joined_sum [] = refl
-joined_sum (text ∷ texts) =
-    omega (
-      arith,
-      length-joined text texts,
-      joined_sum texts,
-      sum_by-cons (λ (other : List Item). length other) text texts,
-    )
-
 one_joined : (text : List Item) → length (joined_texts (text ∷ [])) ≡ length text
 one_joined text = omega (arith, length-joined text [])
 
@@ -112,7 +103,7 @@ erased_blocks document Main from to = omega arith
 erased_blocks document (NoteText number) from to = omega arith
 erased_blocks document (HeadText number) from to = omega arith
 
-section_blocks : (main : List Item) (at : ℕ) (new : Bool) (set : Settings) →
+section_blocks : (main : List Item) (at : ℕ) (new : Bool) (set : Properties) →
     sum_by block_most (section_changes main at new set)
     ≤ sum_by items_added (section_changes main at new set) + most_runs_of_section new
 section_blocks main at false set = omega arith
@@ -129,11 +120,11 @@ few_blocks document (Plain story from to) = omega arith
 few_blocks document (Para story at set) = omega arith
 few_blocks document (Style story at istd) = omega arith
 few_blocks document (Field story at type code shown) =
-    let put = put_block story at at (field_items (base_settings (items_at document story) at) type code shown) in
+    let put = put_block story at at (field_items (base_properties (items_at document story) at) type code shown) in
     omega (arith, put)
 few_blocks document (Note at text) =
     let number = note_number document.main at in
-    let put = put_block Main at at (note_reference (base_settings document.main at) ∷ []) in
+    let put = put_block Main at at (note_reference (base_properties document.main at) ∷ []) in
     let note = note_block number number (note_items text ∷ []) in
     omega (arith, put, note)
 few_blocks document (Split story at) =

@@ -30,10 +30,10 @@ use Rattle.doc_parts.specs.declared.fault.PartFault.{PartFault}
 use Rattle.doc_parts.specs.declared.fault.PartFault.TheVariants.{Rule as WrongPart}
 use Rattle.doc_parts.specs.Table.{IsPartFault}
 use Rattle.doc_parts.specs.Sections.{AreSections, section_rules}
-use Rattle.doc_load.specs.Source.{part_bytes, part_place, story_length}
-use Rattle.doc_load.specs.SectionRules.{HasSections}
-use Rattle.doc_load.proofs.PartLemmas.{pair-read}
-use Rattle.doc_load.proofs.OneLemmas.{sections_one}
+use Rattle.file_rules.specs.Source.{part_bytes, part_place, story_length}
+use Rattle.file_rules.specs.SectionRules.{HasSections}
+use Rattle.file_rules.proofs.PartLemmas.{pair-read}
+use Rattle.file_rules.proofs.OneLemmas.{sections_one}
 use Rattle.prop_map.specs.declared.modifiers.Modifier.{Modifier}
 use Rattle.piece_table.specs.Piece.{TextPiece, UnitPlace, unit_bytes, unit_places, flat_pieces}
 use Rattle.piece_table.specs.Clx.{ClxParts}
@@ -41,10 +41,10 @@ use Rattle.piece_table.specs.ClxRules.{clx_rules, text_bounds, IsLongPrc, FitsPa
 use Rattle.piece_table.proofs.ClxLemmas.{parts_unique}
 use Rattle.piece_table.proofs.FitLemmas.{pieces_fit}
 use Rattle.plain_doc.specs.declared.document.Document.{Document}
-use Rattle.doc_load.specs.FileRules.{source_of, clx_of, wd_rules, table_rules, table_stream_name}
-use Rattle.doc_load.specs.FileRules.{loading_rules, file_rules}
-use Rattle.doc_load.proofs.NameLemmas.{named_one}
-use Rattle.doc_load.proofs.RightPlaces.{hold_out}
+use Rattle.file_rules.specs.FileRules.{source_of, clx_of, wd_rules, table_rules, table_stream_name}
+use Rattle.file_rules.specs.FileRules.{loading_rules, file_rules}
+use Rattle.file_rules.proofs.NameLemmas.{named_one}
+use Rattle.file_rules.proofs.RightPlaces.{hold_out}
 use Rattle.doc_read.specs.CarriedParts.{AreWithinBounds}
 use Rattle.doc_read.specs.Holds.{FileParts, HasFileParts, HoldsDocument}
 use Rattle.doc_read.proofs.ExistText.{named_bytes}
@@ -52,7 +52,7 @@ use Rattle.doc_read.specs.Opened.{OpenedFile}
 use Rattle.doc_read.proofs.ContentsBounds.{contents-bounded}
 use Rattle.doc_read.proofs.ExistFits.{text_held}
 use Rattle.save_laws.proofs.GivenFiles.{held_rules}
-use Rattle.edited_text.specs.SessionText.{HaveFitModifiers}
+use Rattle.session_text.specs.SessionText.{HaveFitModifiers}
 use Rattle.fast_save.specs.Started.{IsOpenFile, IsReadFile}
 
 abbrev pub read_file : (opened : OpenedFile) → IsOpenFile opened → IsReadFile opened.contents opened.fib

@@ -10,7 +10,7 @@ use Rattle.fib_form.specs.declared.fault.FibFault.{FibFault}
 use Rattle.plain_doc.specs.declared.document.Document.{Document}
 use Rattle.plain_doc.specs.Sound.{IsSound}
 use Rattle.plain_doc.proofs.MainLemmas.{main_ends}
-use Rattle.plain_doc.proofs.RightLemmas.{sound_is_right}
+use Rattle.plain_doc.proofs.RightLemmas.{sound_is_valid}
 use Rattle.fast_save.proofs.FullLemmas.{no_fib_fault}
 
 pub ok_then : {T E : Type 0} (r : Result T E) (P Q : T → Type 0) → ((x : T) → P x → Q x) → IfOk r P → IfOk r Q
@@ -33,4 +33,4 @@ fib_is_read wd (Err fault) holds read = absurd (no_fib_fault wd fault.rule fault
 
 -- the main text of a sound document has an item
 pub some_item : (document : Document) → IsSound document → 0 < length document.main
-some_item document sound = let last = main_ends document (sound_is_right document sound) in last.some
+some_item document sound = let last = main_ends document (sound_is_valid document sound) in last.some

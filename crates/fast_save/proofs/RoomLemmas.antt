@@ -9,21 +9,21 @@ use Rattle.std.proofs.lemmas.List.Sums.{sum_by-append, sum_by-cons}
 use Rattle.std.proofs.lemmas.Option.{slice_get_within}
 use Rattle.doc_bits.specs.declared.places.Story.{Story}
 use Rattle.doc_bits.specs.declared.places.Story.TheVariants.{Main, Note as NoteText, Head as HeadText}
-use Rattle.prop_map.specs.Settings.{Settings}
+use Rattle.prop_map.specs.Settings.{Properties}
 use Rattle.plain_doc.specs.declared.item.Item.{Item}
 use Rattle.plain_doc.specs.declared.document.Document.{Document}
 use Rattle.plain_doc.specs.RulesOfSheet.{item_count}
-use Rattle.plain_doc.proofs.RightLemmas.{sound_is_right}
+use Rattle.plain_doc.proofs.RightLemmas.{sound_is_valid}
 use Rattle.edit_script.specs.declared.commands.Command.{Command}
 use Rattle.edit_script.specs.declared.commands.Command.TheVariants.{Insert, Erase, Char, Plain, Para, Style, Field}
 use Rattle.edit_script.specs.declared.commands.Command.TheVariants.{Note, Split, Merge, Sect, Row, StyleChar}
 use Rattle.edit_script.specs.declared.commands.Command.TheVariants.{StylePara, Bookmark, Unmark, Save}
-use Rattle.edit_changes.specs.Places.{items_at, mark_place, note_number}
+use Rattle.doc_patch.specs.Places.{items_at, mark_place, note_number}
 use Rattle.edit_ops.specs.Ranges.{HasText, IsInRange}
-use Rattle.edit_changes.specs.declared.changes.Change.TheVariants.{SpliceText}
-use Rattle.edit_changes.specs.Changes.{changed, put_changed}
+use Rattle.doc_patch.specs.declared.changes.Change.TheVariants.{SpliceText}
+use Rattle.doc_patch.specs.Changes.{changed, put_changed}
 use Rattle.edit_ops.specs.Causes.{IsAcceptedEdit}
-use Rattle.edit_ops.specs.Fresh.{inserted_items, field_items, base_settings, note_items, split_item}
+use Rattle.edit_ops.specs.Fresh.{inserted_items, field_items, base_properties, note_items, split_item}
 use Rattle.edit_ops.specs.Fresh.{row_items}
 use Rattle.edit_ops.specs.Edits.{erased, section_changes, document_after}
 use Rattle.edit_ops.specs.EditFacts.{edit_facts, items_added}
@@ -88,7 +88,7 @@ erased_adds document Main from to = omega arith
 erased_adds document (NoteText number) from to = omega arith
 erased_adds document (HeadText number) from to = omega arith
 
-section_adds : (main : List Item) (at : ℕ) (new : Bool) (set : Settings) →
+section_adds : (main : List Item) (at : ℕ) (new : Bool) (set : Properties) →
     sum_by items_added (section_changes main at new set) ≤ 1
 section_adds main at false set = omega arith
 section_adds main at true set = omega arith
@@ -104,7 +104,7 @@ units_within document (Plain story from to) range = omega arith
 units_within document (Para story at set) range = omega arith
 units_within document (Style story at istd) range = omega arith
 units_within document (Field story at type code shown) range =
-    let items = field_items (base_settings (items_at document story) at) type code shown in
+    let items = field_items (base_properties (items_at document story) at) type code shown in
     let put = put_in_text document story at at items _ range in
     omega (arith, put)
 units_within document (Note at text) range =
@@ -131,7 +131,7 @@ units_within document (Save full) range = omega arith
 pub few_units : (document : Document) (command : Command) → IsAcceptedEdit document command →
     (edit_facts document command).units_in ≤ 499999
 few_units document command accepted =
-    let few = (sound_is_right (document_after document command) accepted.sound).few in
+    let few = (sound_is_valid (document_after document command) accepted.sound).few in
     let within = units_within document command accepted.tried.range in
     omega (arith, few, within)
 

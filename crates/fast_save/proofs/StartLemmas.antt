@@ -12,7 +12,7 @@ use Rattle.cfb_streams.specs.Contents.{Contents}
 use Rattle.fib_form.specs.FibFields.{FibFields, fib_fields}
 use Rattle.doc_parts.specs.declared.lists.Sed.{Sed}
 use Rattle.plain_doc.specs.declared.document.Document.{Document}
-use Rattle.plain_doc.specs.RulesOfItems.{HasShortSettings}
+use Rattle.plain_doc.specs.RulesOfItems.{HasShortProperties}
 use Rattle.piece_table.specs.Piece.{TextPiece, flat_pieces}
 use Rattle.doc_read.specs.Opened.{OpenedFile, IsOpened}
 use Rattle.save_laws.specs.GivenFiles.{StandsTogether}
@@ -20,10 +20,10 @@ use Rattle.save_laws.specs.Slots.{StoryEnds, whole_text}
 use Rattle.save_laws.specs.Ends.{ends_of}
 use Rattle.save_laws.specs.FastSaves.{StandsInSession}
 use Rattle.save_laws.proofs.GivenFiles.{given_files_stand, given_sections_are_saved}
-use Rattle.edited_text.specs.AddedText.{plan_of}
-use Rattle.edited_text.specs.OldUnits.{OldUnitsAreBounded}
-use Rattle.edited_text.specs.SessionText.{IsSessionText, HaveFitModifiers, ArePlannedSections, unwritten_count}
-use Rattle.edited_text.proofs.StartLemmas.{saved_texts_stand, saved_sections_stand}
+use Rattle.session_text.specs.AddedText.{plan_of}
+use Rattle.session_text.specs.OldUnits.{OldUnitsAreBounded}
+use Rattle.session_text.specs.SessionText.{IsSessionText, HaveFitModifiers, ArePlannedSections, unwritten_count}
+use Rattle.session_text.proofs.StartLemmas.{saved_texts_stand, saved_sections_stand}
 use Rattle.fast_save.specs.declared.parts.SessionParts.{SessionParts}
 use Rattle.fast_save.specs.declared.ledgers.Counts.{Counts}
 use Rattle.fast_save.specs.Ledgers.{AreCountsOf}
@@ -75,7 +75,7 @@ module _ (opened : OpenedFile) (opening : IsOpenFile opened) (parts : SessionPar
   begun_text : IsSessionText (saved_stream opening.is.holds) opened.document parts.text
   begun_text = record {
     places = begun_places;
-    short = subst (All HasShortSettings) (sym are.items) (All-nil HasShortSettings);
+    short = subst (All HasShortProperties) (sym are.items) (All-nil HasShortProperties);
     base = omega (arith, are.base, base_behind (length opening.is.holds.parts.text.wd));
   }
 

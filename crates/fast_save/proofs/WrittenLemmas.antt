@@ -12,15 +12,15 @@ use Rattle.plain_doc.specs.Document.{IsFormedText}
 use Rattle.plain_doc.specs.Formed.{IsFormed}
 use Rattle.save_laws.specs.Ends.{ends_of}
 use Rattle.save_laws.specs.Slots.{whole_text}
-use Rattle.append_save.specs.AddedPages.{HasParagraphBins, HavePages}
-use Rattle.append_save.proofs.ReadyLemmas.{Ready, paragraphs_within, paragraphs_named, old_table_is}
-use Rattle.edited_text.specs.SessionText.{ArePlannedSections, unwritten_count}
-use Rattle.edited_text.specs.WrittenAgain.{IsWrittenAgain}
-use Rattle.edited_text.specs.declared.old_pieces.OldPieces.{OldPieces}
-use Rattle.edited_text.specs.declared.old_pieces.OldPieces.TheVariants.{Kept, Marking, Modified}
-use Rattle.edited_text.specs.declared.session_text.SessionText.{SessionText}
-use Rattle.edited_text.proofs.GrowLemmas.{sound_count, whole_length}
-use Rattle.edited_text.proofs.StartLemmas.{text_counted}
+use Rattle.fast_save_layout.specs.AddedPages.{HasParagraphBins, HavePages}
+use Rattle.fast_save_layout.proofs.ReadyLemmas.{Ready, paragraphs_within, paragraphs_named, old_table_is}
+use Rattle.session_text.specs.SessionText.{ArePlannedSections, unwritten_count}
+use Rattle.session_text.specs.WrittenAgain.{IsWrittenAgain}
+use Rattle.session_text.specs.declared.old_pieces.OldPieces.{OldPieces}
+use Rattle.session_text.specs.declared.old_pieces.OldPieces.TheVariants.{Kept, Marking, Modified}
+use Rattle.session_text.specs.declared.session_text.SessionText.{SessionText}
+use Rattle.session_text.proofs.GrowLemmas.{sound_count, whole_length}
+use Rattle.session_text.proofs.StartLemmas.{text_counted}
 use Rattle.fast_save.specs.declared.ledgers.Counts.{Counts}
 use Rattle.fast_save.specs.declared.parts.SessionParts.{SessionParts}
 use Rattle.fast_save.specs.Session.{IsSession, saved_stream}

@@ -4,9 +4,9 @@ use Rattle.doc_bits.specs.Number.{AreBytes}
 use Rattle.cfb_sectors.specs.Header.{sector_count}
 use Rattle.cfb_streams.specs.Names.{wd_name}
 use Rattle.cfb_streams.specs.Contents.{Contents}
-use Rattle.cfb_append.specs.Change.{StreamChange}
-use Rattle.cfb_append.specs.Contract.{IsSavedInPlace}
-use Rattle.cfb_append.specs.InPlace.{StaysInPlace}
+use Rattle.cfb_in_place.specs.Change.{StreamChange}
+use Rattle.cfb_in_place.specs.Contract.{IsSavedInPlace}
+use Rattle.cfb_in_place.specs.InPlace.{StaysInPlace}
 use Rattle.cfb_layout.specs.Counts.{most_sectors}
 use Rattle.cfb_layout.specs.Sectors.{units_for}
 use Rattle.fib_form.specs.FibFields.{fib_fields}
@@ -19,9 +19,9 @@ use Rattle.save_laws.specs.Slots.{StoryEnds, story_counts}
 use Rattle.save_laws.specs.KeptPages.{KeepsBytes}
 use Rattle.save_laws.specs.Places.{fib_end}
 use Rattle.save_bounds.specs.FastSizes.{SaveCounts}
-use Rattle.append_save.specs.Saves.{FastSave}
-use Rattle.append_save.specs.AddedPages.{paragraph_bins, pages_behind}
-use Rattle.edited_text.specs.SessionText.{HaveNoModifiers, HaveModifiersWithin, unwritten_count}
+use Rattle.fast_save_layout.specs.Saves.{FastSave}
+use Rattle.fast_save_layout.specs.AddedPages.{paragraph_bins, pages_behind}
+use Rattle.session_text.specs.SessionText.{HaveNoModifiers, HaveModifiersWithin, unwritten_count}
 use Rattle.fast_save.specs.declared.fast.FastFault.{FastFault}
 use Rattle.fast_save.specs.declared.fast.FastFault.TheVariants.{Sixteenth, TooManyPieces, TooLarge, Memory}
 use Rattle.fast_save.specs.declared.fast_parts.FastParts.{FastParts}
@@ -42,7 +42,7 @@ abbrev pub most_pieces : ℕ
 most_pieces = 16384
 
 -- the counts do not refuse it: fewer than fifteen quick saves in a row, few pieces, and few sectors
-pub record IsJudged (quick_saves : ℕ) (counts : Counts) (table_bytes : ℕ) : Type 0 where
+pub record IsWithinCounts (quick_saves : ℕ) (counts : Counts) (table_bytes : ℕ) : Type 0 where
   pub saves : quick_saves < most_quick_saves
   pub pieces : counts.pieces + most_pieces_added ≤ most_pieces
   pub sectors : sector_bound counts table_bytes ≤ most_sectors
@@ -122,7 +122,7 @@ pub record CanSaveFast (file : List ℕ) (document : Document) (parts : SessionP
   pub counts : Counts
   pub session : IsSession file document parts
   pub counted : IsCountedText file parts counts
-  pub judged : IsJudged parts.fib.quick_saves counts (length (table_stream document))
+  pub judged : IsWithinCounts parts.fib.quick_saves counts (length (table_stream document))
 
 -- ---- what a session has of the file after it
 
@@ -132,7 +132,7 @@ pub record IsHeldFile (file : List ℕ) (document : Document) : Type 0 where
   pub holds : HoldsDocument file document
   pub sound : IsSound document
 
--- where text may be added, whether marks stand behind the stories, where the settings of sections stand, the FIB and
+-- where text may be added, whether marks stand behind the stories, where the properties of sections stand, the FIB and
 -- the
 -- streams
 pub record AreFastParts {file : List ℕ} {document : Document} (holds : HoldsDocument file document)
@@ -211,7 +211,7 @@ pub record StaysBounded (old : List ℕ) {new : List ℕ} {document : Document} 
 -- what is reckoned over the old file; WordDocument stays in its sectors, and so do the other streams; there is one quick save more, as its FIB says,
 -- and the counts are those after a fast save
 pub record IsSavedFast (old new : SessionView) : Type 0 where
-  pub judged : IsJudged old.quick_saves old.counts (length (table_stream old.document))
+  pub judged : IsWithinCounts old.quick_saves old.counts (length (table_stream old.document))
   pub accepted : IsAccepted new.bytes
   pub holds : HoldsDocument new.bytes old.document
   pub document : new.document ≡ old.document

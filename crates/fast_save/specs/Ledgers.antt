@@ -14,8 +14,8 @@ use Rattle.fast_save.specs.declared.ledgers.Counts.{Counts}
 use Rattle.fast_save.specs.declared.ledgers.Ledgers.{Ledgers}
 
 -- a count after some more
-abbrev pub raised : ℕ → ℕ → ℕ
-raised count more = min (count + more) (2 ^ 64 - 1)
+abbrev pub saturating_sum : ℕ → ℕ → ℕ
+saturating_sum count more = min (count + more) (2 ^ 64 - 1)
 
 -- the command composes the modifiers of pieces with another
 abbrev pub is_formatting : Command → Bool
@@ -37,7 +37,7 @@ is_formatting (Bookmark name from to) = false
 is_formatting (Unmark name) = false
 is_formatting (Save full) = false
 
--- the bytes by which a modifier grows that the command composes: its settings, sprmCPlain, or sprmPIstd
+-- the bytes by which a modifier grows that the command composes: its properties, sprmCPlain, or sprmPIstd
 abbrev pub modifier_growth : Command → ℕ
 modifier_growth (Insert story at text) = 0
 modifier_growth (Erase story from to) = 0
@@ -84,19 +84,19 @@ most_pieces_added = 4
 -- after an accepted edit that adds so many units
 abbrev pub after_edit : Command → ℕ → Counts → Counts
 after_edit command units counts = record counts {
-  pieces = raised counts.pieces most_pieces_added;
+  pieces = saturating_sum counts.pieces most_pieces_added;
   modified = counts.modified || is_formatting command;
-  printed = raised counts.printed (modifier_growth command);
-  units = raised counts.units units;
-  sections = raised counts.sections (sections_set command);
-  runs = raised counts.runs (most_runs command);
+  printed = saturating_sum counts.printed (modifier_growth command);
+  units = saturating_sum counts.units units;
+  sections = saturating_sum counts.sections (sections_set command);
+  runs = saturating_sum counts.runs (most_runs command);
 }
 
 -- after a fast save that is reckoned to have so many sectors: the pieces stay, and the bin tables have grown
 abbrev pub after_fast : ℕ → Counts → Counts
 after_fast sectors counts = record counts {
   sectors = sectors;
-  bin_bytes = raised counts.bin_bytes (16 * counts.runs + 256);
+  bin_bytes = saturating_sum counts.bin_bytes (16 * counts.runs + 256);
   units = 0;
   sections = 0;
   runs = 0;
@@ -135,7 +135,7 @@ after_full sectors bin_bytes = record {
   runs = 0;
 }
 
--- the bytes that the modifier of a piece may need: 742 for full settings, a style and a clear, and 46 beside them
+-- the bytes that the modifier of a piece may need: 742 for full properties, a style and a clear, and 46 beside them
 abbrev pub modifier_bytes : Counts → ℕ
 modifier_bytes counts = if counts.modified then min 788 (46 + counts.printed) else 0
 

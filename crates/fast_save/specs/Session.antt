@@ -10,16 +10,16 @@ use Rattle.fib_form.specs.TableParts.{pair_of}
 use Rattle.piece_table.specs.Piece.{flat_pieces}
 use Rattle.plain_doc.specs.declared.document.Document.{Document}
 use Rattle.plain_doc.specs.Sound.{IsSound}
-use Rattle.doc_load.specs.FileRules.{source_of}
+use Rattle.file_rules.specs.FileRules.{source_of}
 use Rattle.doc_read.specs.Holds.{HoldsDocument, IsAccepted}
 use Rattle.save_laws.specs.Places.{PagedStream}
 use Rattle.save_laws.specs.GivenFiles.{stream_of}
 use Rattle.save_laws.specs.ByRuns.{AreBounded, text_ends}
 use Rattle.save_laws.specs.Slots.{StoryEnds, whole_text, story_counts}
 use Rattle.save_bounds.specs.SharedPages.{page_bound}
-use Rattle.edited_text.specs.OldUnits.{OldUnitsAreBounded}
-use Rattle.edited_text.specs.SessionText.{IsSessionText, HaveFitModifiers, HaveNoModifiers, HaveModifiersWithin}
-use Rattle.edited_text.specs.SessionText.{ArePlannedSections, unwritten_count}
+use Rattle.session_text.specs.OldUnits.{OldUnitsAreBounded}
+use Rattle.session_text.specs.SessionText.{IsSessionText, HaveFitModifiers, HaveNoModifiers, HaveModifiersWithin}
+use Rattle.session_text.specs.SessionText.{ArePlannedSections, unwritten_count}
 use Rattle.fast_save.specs.declared.ledgers.Counts.{Counts}
 use Rattle.fast_save.specs.declared.parts.SessionParts.{SessionParts}
 
@@ -69,8 +69,8 @@ pub record IsSession (file : List ℕ) (document : Document) (parts : SessionPar
 
 -- none of the counts is less than what it counts: the pieces and their modifiers, the sectors of the file, the bytes of
 -- its bin tables, the items that were added, the pages that their runs take at most, the bytes of both, and the
--- sections whose settings are still to be written
-pub record IsCounted (file : List ℕ) (parts : SessionParts) (counts : Counts) : Type 0 where
+-- sections whose properties are still to be written
+pub record IsSessionCounted (file : List ℕ) (parts : SessionParts) (counts : Counts) : Type 0 where
   pub pieces : length parts.text.pieces.pieces ≤ counts.pieces
   pub modified : counts.modified ≡ false → HaveNoModifiers parts.text.pieces.pieces
   pub printed : HaveModifiersWithin counts.printed parts.text.pieces.pieces

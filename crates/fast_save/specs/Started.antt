@@ -8,7 +8,7 @@ use Rattle.fib_form.specs.FibFields.{FibFields, fib_fields}
 use Rattle.doc_parts.specs.declared.lists.Sed.{Sed}
 use Rattle.full_save.specs.WordDocument.{full_fib}
 use Rattle.full_save.specs.Layout.{full_save_image}
-use Rattle.doc_load.specs.FileRules.{file_rules}
+use Rattle.file_rules.specs.FileRules.{file_rules}
 use Rattle.doc_read.specs.Holds.{FileParts, HasFileParts, HoldsDocument, IsAccepted}
 use Rattle.doc_read.specs.Opened.{OpenedFile, IsOpened}
 use Rattle.fast_save.specs.Ledgers.{AreCountsOf, after_full}
@@ -29,7 +29,7 @@ pub record IsReadFile (contents : Contents) (fib : FibFields) : Type 0 where
   pub contents_are : contents ≡ parts.contents
   pub fib_is : fib ≡ fib_fields parts.text.wd
 
--- where the settings of sections stand, each at its fcSepx
+-- where the properties of sections stand, each at its fcSepx
 abbrev pub written_places : List Sed → List (Option ℕ)
 written_places seds = map (λ sed. Some sed.sepx) seds
 

@@ -6,15 +6,15 @@ use Rattle.cfb_layout.specs.Sectors.{units_for}
 use Rattle.piece_table.specs.Piece.{PieceTable, TextPiece}
 use Rattle.plain_doc.specs.declared.document.Document.{Document}
 use Rattle.full_save.specs.WordDocument.{table_stream}
-use Rattle.edited_text.specs.WrittenAgain.{IsWrittenAgain}
-use Rattle.edited_text.specs.declared.old_pieces.OldPieces.{OldPieces}
-use Rattle.edited_text.specs.declared.old_pieces.OldPieces.TheVariants.{Kept, Marking, Modified}
-use Rattle.edited_text.specs.declared.session_text.SessionText.{SessionText}
+use Rattle.session_text.specs.WrittenAgain.{IsWrittenAgain}
+use Rattle.session_text.specs.declared.old_pieces.OldPieces.{OldPieces}
+use Rattle.session_text.specs.declared.old_pieces.OldPieces.TheVariants.{Kept, Marking, Modified}
+use Rattle.session_text.specs.declared.session_text.SessionText.{SessionText}
 use Rattle.fast_save.specs.declared.ledgers.Counts.{Counts}
 use Rattle.fast_save.specs.declared.parts.SessionParts.{SessionParts}
 use Rattle.fast_save.specs.declared.written.WrittenFile.{WrittenFile}
 use Rattle.fast_save.specs.Session.{IsSession}
-use Rattle.fast_save.specs.Fast.{IsCountedText, IsJudged, CanSaveFast, IsFastFile, written_pages}
+use Rattle.fast_save.specs.Fast.{IsCountedText, IsWithinCounts, CanSaveFast, IsFastFile, written_pages}
 
 -- what a session has, with another text
 abbrev pub with_text : SessionParts → SessionText → SessionParts
@@ -60,7 +60,7 @@ IsTextToWrite document parts counts (Some text) =
 pub record CanWrite (file : List ℕ) (document : Document) (parts : SessionParts) (counts : Counts) : Type 0 where
   pub session : IsSession file document parts
   pub counted : IsCountedText file parts counts
-  pub judged : IsJudged parts.fib.quick_saves counts (length (table_stream document))
+  pub judged : IsWithinCounts parts.fib.quick_saves counts (length (table_stream document))
 
 abbrev pub can_save : {file : List ℕ} {document : Document} {parts : SessionParts} {counts : Counts} →
     CanWrite file document parts counts → CanSaveFast file document parts

@@ -6,7 +6,7 @@ ghost use Rattle.full_save.specs.Layout.{full_save_image, FitsCompoundFile, IsTo
 
 use doc_bits::{Bytes, Memory};
 use doc_columns::{ColumnDocument, columns_are_formed};
-use full_save::{SaveFault, full_by_columns};
+use full_save::{SaveFault, full_of_columns};
 use plain_doc::{Document, documents_are_formed};
 use std::alloc::Global;
 
@@ -28,6 +28,6 @@ pub(crate) fn file_in_full(alloc: Global, document: &ColumnDocument) -> Result<B
         (IsTooLarge document.now) }
 {
     columns_are_formed(document);
-    let file = full_by_columns(alloc, document)?;
+    let file = full_of_columns(alloc, document)?;
     Ok(file)
 }

@@ -9,30 +9,25 @@ ghost use Rattle.full_save.specs.WordDocument.{table_stream};
 ghost use Rattle.fast_save.specs.declared.fast.FastFault.TheVariants.{Sixteenth, TooManyPieces, TooLarge};
 ghost use Rattle.fast_save.specs.declared.fast.FastFault.TheVariants.{Memory as NoMemory};
 ghost use Rattle.fast_save.specs.Ledgers.{sector_bound};
-ghost use Rattle.fast_save.specs.Fast.{IsFastFault, IsJudged, CanSaveFast, IsFastFile, most_pieces};
+ghost use Rattle.fast_save.specs.Fast.{IsFastFault, IsWithinCounts, CanSaveFast, IsFastFile, most_pieces};
 
 use crate::ledgers::Counts;
 use crate::parts::SessionParts;
-use append_save::{AppendFault, EditedText, SavedFile, append};
+use cfb_layout::MAX_SECTORS;
 use doc_bits::{Bytes, Memory};
 use doc_columns::{ColumnDocument, columns_are_formed};
-use edited_text::SessionText;
-use fib_form::Fib;
-use full_save::table_len_by_columns;
+use fast_save_layout::{AppendFault, EditedText, SavedFile, append};
+use fib_form::{Fib, MAX_QUICK_SAVES};
+use full_save::table_len_of_columns;
+use session_text::SessionText;
 use std::alloc::Global;
 use thiserror::Error;
-
-/// The most quick saves in a row.
-const MAX_QUICK_SAVES: u8 = 15;
 
 /// The most pieces of a fast save.
 const MAX_PIECES: u64 = 16_384;
 
 /// The pieces that one more edit may add.
 const PIECES_LEFT: u64 = 4;
-
-/// The most sectors of a file.
-const MAX_SECTORS: u64 = 13_952;
 
 /// Why a session is not saved fast.
 #[derive(Clone, Copy, Debug, Error)]
@@ -62,7 +57,7 @@ impl From<Memory> for FastFault {
 }
 
 /// The sectors that are reckoned for a fast save of a document, unless it is refused.
-pub(crate) fn judged(
+pub(crate) fn check_save(
     alloc: Global,
     document: &ColumnDocument,
     fib: &Fib,
@@ -71,18 +66,18 @@ pub(crate) fn judged(
     requires sound { IsSound document.now }
     requires saves { fib.now.quick_saves ≤ 15 }
     ensures { MatchResult result
-        (λ sectors. IsJudged fib.now.quick_saves counts.now (length (table_stream document.now))
+        (λ sectors. IsWithinCounts fib.now.quick_saves counts.now (length (table_stream document.now))
         × (sectors ≡ sector_bound counts.now (length (table_stream document.now))))
         (IsFastFault fib.now.quick_saves counts.now (length (table_stream document.now))) }
 {
-    few_saves(fib)?;
-    few_pieces(counts)?;
-    let len = table_len_by_columns(alloc, document)?;
-    few_sectors(counts, len)
+    check_save_count(fib)?;
+    check_piece_count(counts)?;
+    let len = table_len_of_columns(alloc, document)?;
+    check_sectors(counts, len)
 }
 
 /// Refuses the sixteenth fast save in a row.
-fn few_saves(fib: &Fib) -> Result<(), FastFault>
+fn check_save_count(fib: &Fib) -> Result<(), FastFault>
     requires { fib.now.quick_saves ≤ 15 }
     ensures { MatchResult result (λ _. fib.now.quick_saves < 15)
         (λ fault. (fault ≡ Sixteenth 15) × (fib.now.quick_saves ≡ 15)) }
@@ -95,7 +90,7 @@ fn few_saves(fib: &Fib) -> Result<(), FastFault>
 }
 
 /// Refuses too many pieces.
-fn few_pieces(counts: &Counts) -> Result<(), FastFault>
+fn check_piece_count(counts: &Counts) -> Result<(), FastFault>
     ensures { MatchResult result (λ _. counts.now.pieces + 4 ≤ most_pieces)
         (λ fault. (fault ≡ TooManyPieces counts.now.pieces) × (most_pieces < counts.now.pieces + 4)) }
 {
@@ -107,7 +102,7 @@ fn few_pieces(counts: &Counts) -> Result<(), FastFault>
 }
 
 /// The sectors that are reckoned, where they are in a file.
-fn few_sectors(counts: &Counts, table_bytes: u64) -> Result<u64, FastFault>
+fn check_sectors(counts: &Counts, table_bytes: u64) -> Result<u64, FastFault>
     ensures { MatchResult result
         (λ sectors. (sectors ≡ sector_bound counts.now table_bytes)
         × (sector_bound counts.now table_bytes ≤ most_sectors))
@@ -122,7 +117,7 @@ fn few_sectors(counts: &Counts, table_bytes: u64) -> Result<u64, FastFault>
 }
 
 /// The file of a document whose text is this one, saved behind the file that is there.
-pub(crate) fn appended(
+pub(crate) fn append_text(
     alloc: Global,
     bytes: &[u8],
     document: &ColumnDocument,

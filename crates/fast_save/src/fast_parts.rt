@@ -3,7 +3,7 @@ ghost use Rattle.std.specs.Prelude.{IfOk};
 ghost use Rattle.fast_save.specs.Fast.{IsHeldFile, AreFastParts};
 
 use crate::full_parts::{load, read_fib};
-use crate::parts::{named, section_places, text_base};
+use crate::parts::{required_stream, section_places, text_base};
 use crate::stories::ends_behind;
 use cfb_streams::{Container, word_document};
 use doc_bits::Memory;
@@ -12,7 +12,7 @@ use fib_form::Fib;
 use save_laws::Ends;
 use std::alloc::Global;
 
-/// Where text may be added, whether marks stand behind the stories, where the settings of sections stand, and the FIB
+/// Where text may be added, whether marks stand behind the stories, where the properties of sections stand, and the FIB
 /// and the streams.
 #[derive(Drop)]
 pub(crate) struct FastParts {
@@ -34,8 +34,8 @@ impl FastParts {
         ensures { IfOk result (λ parts. (held : IsHeldFile file.now document.now) → AreFastParts held.holds parts) }
     {
         let container = load(alloc, file)?;
-        let fib = read_fib(named(&container, word_document()));
-        let base = text_base(named(&container, word_document()));
+        let fib = read_fib(required_stream(&container, word_document()));
+        let base = text_base(required_stream(&container, word_document()));
         let ends = ends_behind(document, &fib);
         let places = section_places(alloc, &fib, &container)?;
         Ok(FastParts {

@@ -9,21 +9,19 @@ ghost use Rattle.full_save.specs.Text.{text_items};
 ghost use Rattle.full_save.specs.WordDocument.{full_fib, text_at as begin_of_text};
 ghost use Rattle.full_save.specs.Layout.{full_save_image};
 ghost use Rattle.fast_save.specs.Laws.{IsSavable};
-ghost use Rattle.edited_text.specs.SessionText.{unwritten_count};
+ghost use Rattle.session_text.specs.SessionText.{unwritten_count};
 ghost use Rattle.fast_save.specs.Session.{IsSession};
 
-use crate::parts::{SessionParts, named};
+use crate::parts::{SessionParts, required_stream};
 use cfb_streams::{CfbFault, Container, word_document};
 use doc_bits::Memory;
 use doc_columns::ColumnDocument;
 use fib_form::Fib;
+use full_save::TEXT_START;
 use piece_table::PieceList;
 use std::alloc::Global;
 
-/// Where the text of a full save begins in `WordDocument`.
-const TEXT_AT: u32 = 1024;
-
-/// The parts of the full save of a document: one piece, and no section whose settings are still to be written.
+/// The parts of the full save of a document: one piece, and no section whose properties are still to be written.
 pub(crate) fn parts_in_full(
     alloc: Global,
     document: &ColumnDocument,
@@ -39,8 +37,8 @@ pub(crate) fn parts_in_full(
     ensures written { IfOk result (λ parts. unwritten_count parts.text.sections.items ≡ 0) }
 {
     let container = load(alloc, file)?;
-    let fib = read_fib(named(&container, word_document()));
-    let pieces = PieceList::one(alloc, TEXT_AT, fib.text_len())?;
+    let fib = read_fib(required_stream(&container, word_document()));
+    let pieces = PieceList::one(alloc, TEXT_START, fib.text_len())?;
     SessionParts::of_file(alloc, document, fib, container, pieces)
 }
 

@@ -1,7 +1,7 @@
 // The ledgers of a session: what decides whether a fast save is refused.
 ghost use Rattle.std.specs.Prelude.{◌≡◌, ◌↔◌, ◌≤◌, false};
-ghost use Rattle.edit_ops.specs.Codes.{HasRightCodes};
-ghost use Rattle.fast_save.specs.Ledgers.{raised as raised_count, after_edit as counts_after_edit};
+ghost use Rattle.edit_ops.specs.Codes.{HasValidCodes};
+ghost use Rattle.fast_save.specs.Ledgers.{saturating_sum as raised_count, after_edit as counts_after_edit};
 ghost use Rattle.fast_save.specs.Ledgers.{after_fast as counts_after_fast, sector_bound as bound_of_sectors};
 ghost use Rattle.fast_save.specs.Ledgers.{modifier_bytes as bytes_of_modifier, ledgers_of, AreCountsOf};
 ghost use Rattle.fast_save.specs.Ledgers.{most_printed as longest_printed, AreUnmodified};
@@ -11,7 +11,7 @@ use edit_ops::Command;
 use piece_table::PieceList;
 
 /// The most pieces that one command adds.
-const MOST_PIECES_ADDED: u64 = 4;
+const MAX_PIECES_ADDED: u64 = 4;
 
 /// What a session counts. A fast save is refused by these numbers and the table stream of a full save alone, so that a
 /// refusal can be told beforehand.
@@ -75,18 +75,18 @@ impl Counts {
 
     /// The counts after an accepted edit that adds so many units.
     pub(crate) fn after_edit(self, command: &Command, units: u32) -> Counts
-        requires { HasRightCodes command.now }
+        requires { HasValidCodes command.now }
         ensures { result ≡ counts_after_edit command.now units self }
     {
         Counts {
-            pieces: raised(self.pieces, MOST_PIECES_ADDED),
+            pieces: saturating_sum(self.pieces, MAX_PIECES_ADDED),
             modified: self.modified || is_formatting(command),
-            printed: raised(self.printed, modifier_growth(command)),
+            printed: saturating_sum(self.printed, modifier_growth(command)),
             sectors: self.sectors,
             bin_bytes: self.bin_bytes,
-            units: raised(self.units, units as u64),
-            sections: raised(self.sections, sections_set(command)),
-            runs: raised(self.runs, most_runs(command)),
+            units: saturating_sum(self.units, units as u64),
+            sections: saturating_sum(self.sections, sections_set(command)),
+            runs: saturating_sum(self.runs, most_runs(command)),
         }
     }
 
@@ -94,13 +94,13 @@ impl Counts {
     pub(crate) fn after_fast(self, sectors: u64) -> Counts
         ensures { result ≡ counts_after_fast sectors self }
     {
-        let grown = raised(self.runs.saturating_mul(16), 256);
+        let grown = saturating_sum(self.runs.saturating_mul(16), 256);
         Counts {
             pieces: self.pieces,
             modified: self.modified,
             printed: self.printed,
             sectors,
-            bin_bytes: raised(self.bin_bytes, grown),
+            bin_bytes: saturating_sum(self.bin_bytes, grown),
             units: 0,
             sections: 0,
             runs: 0,
@@ -153,7 +153,7 @@ impl Counts {
 }
 
 /// A count after some more. It stands still at its type's end.
-fn raised(count: u64, more: u64) -> u64
+fn saturating_sum(count: u64, more: u64) -> u64
     ensures { result ≡ raised_count count more }
 {
     count.saturating_add(more)

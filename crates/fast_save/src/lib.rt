@@ -2,7 +2,6 @@
 //! that is edited beside the pieces of its text.
 #![tactic(auto)]
 
-mod beside;
 mod by_items;
 mod fast;
 mod fast_parts;
@@ -15,7 +14,7 @@ mod session;
 mod stories;
 mod written;
 
-pub use cfb_append::{Change, appended};
+pub use cfb_in_place::{Change, appended};
 pub use fast::FastFault;
 pub use laws::{
     edits_add_little, equal_files_have_one_save, full_saves_are_canonical, full_saves_are_fixed,

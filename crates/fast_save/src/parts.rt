@@ -1,7 +1,7 @@
 // What a session has beside its document: the text, and what a save reads of the file.
 ghost use Rattle.std.specs.Prelude.{◌≡◌, ℕ, ◌+◌, ◌^◌, ◌<◌, ◌≤◌, [], List, length, slice_range, IfOk};
 ghost use Rattle.cfb_streams.specs.Contents.{HasNamed};
-ghost use Rattle.edited_text.specs.SessionText.{unwritten_count};
+ghost use Rattle.session_text.specs.SessionText.{unwritten_count};
 ghost use Rattle.fast_save.specs.Session.{IsSession, text_base as base_behind, bin_length};
 ghost use Rattle.fast_save.specs.Started.{IsOpenFile, IsReadFile, written_places};
 
@@ -10,9 +10,9 @@ use cfb_streams::{Container, table_name, word_document};
 use doc_bits::Memory;
 use doc_columns::ColumnDocument;
 use doc_parts::{PartFault, Seds, sections};
-use edited_text::SessionText;
 use fib_form::{Fib, TablePart};
 use piece_table::PieceList;
+use session_text::SessionText;
 use std::alloc::Global;
 
 /// The text beside the document, and the FIB and the streams of the file that was given or last saved.
@@ -49,7 +49,7 @@ impl SessionParts {
         ensures fresh { IfOk result (λ parts. parts.text.added.items ≡ []) }
         ensures written { IfOk result (λ parts. unwritten_count parts.text.sections.items ≡ 0) }
     {
-        let base = text_base(named(&container, word_document()));
+        let base = text_base(required_stream(&container, word_document()));
         let ends = ends_behind(document, &fib);
         let places = section_places(alloc, &fib, &container)?;
         Ok(SessionParts {
@@ -77,7 +77,7 @@ pub(crate) fn bin_bytes(fib: &Fib) -> u64
 }
 
 /// The bytes of a stream that is there.
-pub(crate) fn named<'a>(container: &'a Container, name: &[u16]) -> &'a [u8]
+pub(crate) fn required_stream<'a>(container: &'a Container, name: &[u16]) -> &'a [u8]
     requires { (bytes : List ℕ) × HasNamed container.now.streams name.now bytes }
     ensures { HasNamed container.now.streams name.now result.now }
 {
@@ -93,7 +93,7 @@ pub(crate) fn text_base(wd: &[u8]) -> u32
     512 * pages
 }
 
-/// Where the settings of the sections of a file stand.
+/// Where the properties of the sections of a file stand.
 pub(crate) fn section_places(
     alloc: Global,
     fib: &Fib,
@@ -103,7 +103,7 @@ pub(crate) fn section_places(
     ensures { IfOk result (λ places. (file : IsReadFile container.now fib.now) →
         places.items ≡ written_places file.parts.lists.sections) }
 {
-    let table = named(container, table_name(fib.which_table()));
+    let table = required_stream(container, table_name(fib.which_table()));
     let pair = fib.pair(TablePart::PlcfSed.pair());
     let plc = part_of(table, pair);
     match sections(alloc, plc, pair.0, fib.ccp(0)) {
@@ -125,7 +125,7 @@ fn part_of(table: &[u8], pair: (u32, u32)) -> &[u8]
     &table[from..to]
 }
 
-/// The places of the settings of sections.
+/// The places of the properties of sections.
 fn places_of(alloc: Global, seds: &Seds) -> Result<Vec<Option<u32>>, Memory>
     ensures { IfOk result (λ places. places.items ≡ written_places seds.now) }
 {

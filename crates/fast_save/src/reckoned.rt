@@ -1,7 +1,7 @@
 // What is reckoned for a command, whatever the document is.
 ghost use Rattle.std.specs.Prelude.{◌≡◌};
 ghost use Rattle.edit_ops.specs.Runs.{most_runs as runs_reckoned, most_runs_of_section};
-ghost use Rattle.edit_ops.specs.Codes.{HasRightCodes};
+ghost use Rattle.edit_ops.specs.Codes.{HasValidCodes};
 ghost use Rattle.fast_save.specs.Ledgers.{is_formatting as formats, modifier_growth as growth};
 ghost use Rattle.fast_save.specs.Ledgers.{sections_set as settings_put};
 
@@ -34,7 +34,7 @@ pub(crate) fn is_formatting(command: &Command) -> bool
 
 /// The bytes by which a modifier grows that a command composes.
 pub(crate) fn modifier_growth(command: &Command) -> u64
-    requires { HasRightCodes command.now }
+    requires { HasValidCodes command.now }
     ensures { result ≡ growth command.now }
 {
     match command {
@@ -83,9 +83,9 @@ pub(crate) fn sections_set(command: &Command) -> u64
     }
 }
 
-/// The runs of equal settings that are reckoned for what a command puts.
+/// The runs of equal properties that are reckoned for what a command puts.
 pub(crate) fn most_runs(command: &Command) -> u64
-    requires { HasRightCodes command.now }
+    requires { HasValidCodes command.now }
     ensures { result ≡ runs_reckoned command.now }
 {
     match command {
@@ -109,7 +109,7 @@ pub(crate) fn most_runs(command: &Command) -> u64
     }
 }
 
-/// The runs that are reckoned for a new section, or for the settings of one that is there.
+/// The runs that are reckoned for a new section, or for the properties of one that is there.
 fn most_runs_of(new: bool) -> u64
     ensures { result ≡ most_runs_of_section new }
 {

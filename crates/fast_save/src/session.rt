@@ -4,7 +4,7 @@ ghost use Rattle.cfb_sectors.specs.Header.{sector_count};
 ghost use Rattle.plain_doc.specs.Sound.{IsSound};
 ghost use Rattle.full_save.specs.WordDocument.{table_stream};
 ghost use Rattle.full_save.specs.Layout.{FitsCompoundFile, IsTooLarge};
-ghost use Rattle.doc_load.specs.Faults.{IsReadFault};
+ghost use Rattle.file_rules.specs.Faults.{IsReadFault};
 ghost use Rattle.doc_read.specs.Holds.{IsAccepted, all_rules};
 ghost use Rattle.doc_read.specs.Opened.{IsOpened};
 ghost use Rattle.edit_ops.specs.Causes.{IsAcceptedEdit, IsEditFault};
@@ -16,21 +16,20 @@ ghost use Rattle.fast_save.specs.Edited.{HasRoom, IsPlanned, session_after};
 ghost use Rattle.fast_save.specs.Started.{IsStarted, session_after_full};
 ghost use Rattle.fast_save.specs.Fast.{IsFastFault, IsSavedFast};
 
-use crate::beside::beside;
 use crate::by_items::{file_in_full, items_of};
-use crate::fast::{FastFault, judged};
+use crate::fast::{FastFault, check_save};
 use crate::fast_parts::FastParts;
 use crate::full_parts::parts_in_full;
 use crate::ledgers::{Counts, Ledgers};
 use crate::parts::{SessionParts, bin_bytes, pieces_are_few};
 use crate::written::{put_pieces, written_file};
-use doc_bits::{Bytes, Memory};
+use doc_bits::{Bytes, Memory, with_result};
 use doc_columns::{ColumnDocument, Columns};
 use doc_read::{ColumnFile, ReadFault, open};
 use edit_ops::{Command, Edit, EditFault, Facts, edit_of};
-use edited_text::Added;
-use full_save::{SaveFault, table_len_by_columns};
+use full_save::{SaveFault, table_len_of_columns};
 use plain_doc::Document;
+use session_text::Added;
 use std::alloc::Global;
 use std::marker::Model;
 
@@ -45,7 +44,7 @@ pub struct Session {
 }
 
 impl Model for Session {
-    ghost use Rattle.fast_save.specs.Session.{SessionView, IsSession, IsCounted};
+    ghost use Rattle.fast_save.specs.Session.{SessionView, IsSession, IsSessionCounted};
     ghost use Rattle.fast_save.specs.Codes.{session_code};
 
     ghost Value = { SessionView };
@@ -59,7 +58,7 @@ impl Model for Session {
       quick_saves = s.parts.fib.quick_saves;
     } };
 
-    ghost invariant = { λ s. IsSession s.file s.document s.parts × IsCounted s.file s.parts s.counts };
+    ghost invariant = { λ s. IsSession s.file s.document s.parts × IsSessionCounted s.file s.parts s.counts };
 }
 
 impl Session {
@@ -87,7 +86,7 @@ impl Session {
     {
         let (document, fib, container, pieces) = opened.into_parts();
         let made = SessionParts::of_file(alloc, &document, fib, container, pieces);
-        let (document, parts) = beside(document, made)?;
+        let (document, parts) = with_result(document, made)?;
         let counts = counts_of(&parts, file);
         Ok(Session {
             alloc,
@@ -131,7 +130,7 @@ impl Session {
         } = edit;
         let made = self.parts.text.edit(self.alloc, &self.document, &changes);
         drop(changes);
-        let (document, _) = beside(document, made)?;
+        let (document, _) = with_result(document, made)?;
         pieces_are_few(&self.parts.text.pieces);
         self.counts = self.counts.after_edit(command, facts.units_in);
         self.document = document;
@@ -160,7 +159,7 @@ impl Session {
     {
         let file = file_in_full(self.alloc, &self.document)?;
         let made = parts_in_full(self.alloc, &self.document, file.as_slice());
-        let (image, parts) = beside(file, made)?;
+        let (image, parts) = with_result(file, made)?;
         self.counts = counts_of(&parts, image.as_slice());
         self.parts = parts;
         self.file = image;
@@ -173,7 +172,7 @@ impl Session {
         ensures err { IfErr result (λ fault. (self.new ≡ self.old)
             × IsFastFault self.old.quick_saves self.old.counts (length (table_stream self.old.document)) fault) }
     {
-        let sectors = judged(self.alloc, &self.document, &self.parts.fib, &self.counts)?;
+        let sectors = check_save(self.alloc, &self.document, &self.parts.fib, &self.counts)?;
         let written = written_file(
             self.alloc,
             self.file.as_slice(),
@@ -239,7 +238,7 @@ impl Session {
         ensures { IfOk result (λ ledgers. ledgers ≡
             ledgers_of self.now.counts (length (table_stream self.now.document))) }
     {
-        let len = table_len_by_columns(self.alloc, &self.document)?;
+        let len = table_len_of_columns(self.alloc, &self.document)?;
         Ok(self.counts.ledgers(len))
     }
 }

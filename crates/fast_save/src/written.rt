@@ -1,18 +1,18 @@
 // The text that a fast save writes: one that is written again, where it takes no more than is reckoned.
 ghost use Rattle.std.specs.Prelude.{◌≡◌, ◌↔◌, ◌+◌, ◌*◌, ◌≤◌, IsTrue, IfOk, MatchResult, MatchOption, length};
-ghost use Rattle.append_save.specs.AddedPages.{HasParagraphBins, HavePages};
+ghost use Rattle.fast_save_layout.specs.AddedPages.{HasParagraphBins, HavePages};
 ghost use Rattle.fast_save.specs.declared.fast.FastFault.TheVariants.{Memory as NoMemory};
 ghost use Rattle.fast_save.specs.Written.{CanWrite, HasFewPages, IsFitting, IsTooMuch, IsTextToWrite, IsTextOfFewer};
 ghost use Rattle.fast_save.specs.Written.{IsWrittenFile, with_text, pieces_after};
 
-use crate::fast::{FastFault, appended, text_is_formed};
+use crate::fast::{FastFault, append_text, text_is_formed};
 use crate::ledgers::Counts;
 use crate::parts::SessionParts;
-use append_save::{EditedText, SavedFile, added_pages};
 use doc_bits::{Bytes, Memory};
 use doc_columns::ColumnDocument;
-use edited_text::{OldPieces, SessionText};
+use fast_save_layout::{EditedText, SavedFile, added_pages};
 use piece_table::PieceList;
+use session_text::{OldPieces, SessionText};
 use std::alloc::Global;
 
 /// The bytes of a page.
@@ -39,12 +39,12 @@ pub(crate) fn written_file(
 {
     match text_to_write(alloc, bytes, document, parts, counts)? {
         Some(text) => {
-            let file = appended(alloc, bytes, document, parts, &text)?;
+            let file = append_text(alloc, bytes, document, parts, &text)?;
             let pieces = Some(text.pieces);
             Ok(WrittenFile { file, pieces })
         }
         None => {
-            let file = appended(alloc, bytes, document, parts, &parts.text)?;
+            let file = append_text(alloc, bytes, document, parts, &parts.text)?;
             Ok(WrittenFile { file, pieces: None })
         }
     }
@@ -62,7 +62,7 @@ fn text_to_write(
     requires { CanWrite bytes.now document.now parts.now counts.now }
     ensures { IfOk result (IsTextToWrite document.now parts.now counts.now) }
 {
-    let whole = fitting(alloc, bytes, document, parts, counts, OldPieces::Modified)?;
+    let whole = rewritten_if_it_fits(alloc, bytes, document, parts, counts, OldPieces::Modified)?;
     match whole {
         Some(text) => Ok(Some(text)),
         None => text_of_fewer(alloc, bytes, document, parts, counts),
@@ -81,15 +81,15 @@ fn text_of_fewer(
     requires { CanWrite bytes.now document.now parts.now counts.now }
     ensures { IfOk result (IsTextOfFewer document.now parts.now counts.now) }
 {
-    let marking = fitting(alloc, bytes, document, parts, counts, OldPieces::Marking)?;
+    let marking = rewritten_if_it_fits(alloc, bytes, document, parts, counts, OldPieces::Marking)?;
     match marking {
         Some(text) => Ok(Some(text)),
-        None => fitting(alloc, bytes, document, parts, counts, OldPieces::Kept),
+        None => rewritten_if_it_fits(alloc, bytes, document, parts, counts, OldPieces::Kept),
     }
 }
 
 /// The text written again, where it takes no more than is reckoned.
-fn fitting(
+fn rewritten_if_it_fits(
     alloc: Global,
     bytes: &[u8],
     document: &ColumnDocument,
@@ -103,12 +103,12 @@ fn fitting(
 {
     text_is_formed(document, &parts.text);
     let text = parts.text.written_again(alloc, document, which)?;
-    let few = has_few_pages(alloc, bytes, parts, &text, counts)?;
+    let few = fits_the_bound(alloc, bytes, parts, &text, counts)?;
     if few { Ok(Some(text)) } else { Ok(None) }
 }
 
 /// Whether the pages of a text and the bytes of its units are no more than is reckoned.
-fn has_few_pages(
+fn fits_the_bound(
     alloc: Global,
     bytes: &[u8],
     parts: &SessionParts,

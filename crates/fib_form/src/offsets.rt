@@ -106,4 +106,4 @@ pub const PLC_SPA_HDR: usize = 41;
 pub const PLCFEND_REF: usize = 46;
 
 /// The bytes of a Plc without an entry.
-pub const MOST_PLC: u32 = 4;
+pub const MAX_PLC: u32 = 4;

@@ -52,7 +52,7 @@ impl Pairs {
         self.items[n]
     }
 
-    /// The same pairs.
+    /// A copy of the pairs.
     pub(crate) fn copy(&self) -> Pairs
         ensures { result ≡ self.now }
     {

@@ -13,21 +13,21 @@ use crate::offsets::*;
 use crate::{Fib, FibFault, Form, KeptFib, Pairs};
 use doc_bits::{get16, get32};
 
-const RULE_SIZE: u8 = 16;
+pub const RULE_SIZE: u8 = 16;
 
-const RULE_IDENT: u8 = 17;
+pub const RULE_IDENT: u8 = 17;
 
-const RULE_N_FIB: u8 = 18;
+pub const RULE_N_FIB: u8 = 18;
 
-const RULE_HIDDEN: u8 = 19;
+pub const RULE_HIDDEN: u8 = 19;
 
-const RULE_GLOSSARY: u8 = 20;
+pub const RULE_GLOSSARY: u8 = 20;
 
-const RULE_FORM: u8 = 21;
+pub const RULE_FORM: u8 = 21;
 
 const RULE_OTHER_STORIES: u8 = 22;
 
-const RULE_TEXT_LENGTH: u8 = 23;
+pub const RULE_TEXT_LENGTH: u8 = 23;
 
 const RULE_REFUSED_PARTS: u8 = 24;
 
@@ -38,13 +38,13 @@ impl Fib {
             (λ fib. Hold (fib_rules wd.now) × (fib ≡ fib_fields wd.now))
             (λ fault. IsFirst (fib_rules wd.now) fault.rule fault.offset) }
     {
-        judge(wd)?;
+        check(wd)?;
         Ok(fields(wd))
     }
 }
 
 /// Names the first broken rule, at its least place.
-fn judge(wd: &[u8]) -> Result<(), FibFault>
+fn check(wd: &[u8]) -> Result<(), FibFault>
     ensures { MatchResult result
         (λ _. Hold (fib_rules wd.now))
         (λ fault. IsFirst (fib_rules wd.now) fault.rule fault.offset) }
@@ -215,11 +215,11 @@ fn refused_part(wd: &[u8]) -> Option<u32>
     requires { form_size Early ≤ length wd.now }
     ensures { LeastOrNone (HasRefusedPart wd.now) result }
 {
-    if is_long(wd, PLC_SPA_MOM, MOST_PLC) {
+    if is_long(wd, PLC_SPA_MOM, MAX_PLC) {
         Some(pair_place(PLC_SPA_MOM))
-    } else if is_long(wd, PLC_SPA_HDR, MOST_PLC) {
+    } else if is_long(wd, PLC_SPA_HDR, MAX_PLC) {
         Some(pair_place(PLC_SPA_HDR))
-    } else if is_long(wd, PLCFEND_REF, MOST_PLC) {
+    } else if is_long(wd, PLCFEND_REF, MAX_PLC) {
         Some(pair_place(PLCFEND_REF))
     } else {
         None

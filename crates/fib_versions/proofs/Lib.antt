@@ -1,3 +1,2 @@
 pub mod EarlyLemmas
-pub mod NameLemmas
 pub mod VersionLemmas

@@ -12,22 +12,9 @@ use doc_bits::{get16, get32};
 use fib_form::{
     CB_RG_FC_LCB, CCP_ATN, CCP_FTN, CCP_HDD, CCP_TEXT, CSLW, CSLW_WORD97, CSW, CSW_WORD97,
     EARLY_SIZE, F_ENCRYPTED, F_GLSY, F_OBFUSCATED, FLAGS, FibFault, IDENT, MAX_CCP, N_FIB,
-    PAIR_COUNT, RG_FC_LCB, W_IDENT, bit_of,
+    PAIR_COUNT, RG_FC_LCB, RULE_FORM, RULE_GLOSSARY, RULE_HIDDEN, RULE_IDENT, RULE_N_FIB,
+    RULE_SIZE, RULE_TEXT_LENGTH, W_IDENT, bit_of,
 };
-
-const RULE_SIZE: u8 = 16;
-
-const RULE_IDENT: u8 = 17;
-
-const RULE_N_FIB: u8 = 18;
-
-const RULE_HIDDEN: u8 = 19;
-
-const RULE_GLOSSARY: u8 = 20;
-
-const RULE_FORM: u8 = 21;
-
-const RULE_TEXT_LENGTH: u8 = 23;
 
 /// nFib of the first program that writes this form.
 const OLDEST_FIB: u16 = 0x00C0;
@@ -44,13 +31,13 @@ impl<'a> AnyFib<'a> {
             (λ fib. (fib ≡ wd.now) × Hold (version_rules wd.now))
             (λ fault. IsFirst (version_rules wd.now) fault.rule fault.offset) }
     {
-        judge(wd)?;
+        check(wd)?;
         Ok(AnyFib { wd })
     }
 }
 
 /// Names the first broken rule, at its least place.
-fn judge(wd: &[u8]) -> Result<(), FibFault>
+fn check(wd: &[u8]) -> Result<(), FibFault>
     ensures { MatchResult result
         (λ _. Hold (version_rules wd.now))
         (λ fault. IsFirst (version_rules wd.now) fault.rule fault.offset) }

@@ -6,10 +6,11 @@ use Rattle.std.specs.Prelude.{codes, if◌then◌else◌}
 use Rattle.std.specs.List.{flat_map}
 use Rattle.std.proofs.lemmas.Bool.{agree_below_at, and_parts, eqb-true, leb-true, ltb-true, not-true}
 use Rattle.text_codes.specs.Shown.{hex_digit, is_pair, pair_code}
-use Rattle.field_links.specs.Characters.{character_alone, characters, is_surrogate, is_utf16, is_whole}
+use Rattle.field_links.specs.Characters.{character_alone, characters, is_utf16, is_whole}
 use Rattle.field_links.specs.Urls.{anchor_character, anchor_text, hex_text, is_anchor_character}
 use Rattle.field_links.specs.Laws.{AnchorsDiffer}
 use Rattle.field_links.proofs.UrlLemmas.{numbered, numbered-low}
+use Rattle.text_codes.specs.Halves.{is_surrogate}
 
 -- ---- digits
 

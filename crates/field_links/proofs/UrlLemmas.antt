@@ -13,6 +13,7 @@ use Rattle.field_links.specs.Urls.{anchor_character, anchor_name, begins, fragme
 use Rattle.field_links.specs.Urls.{is_alphanumeric, is_anchor_character, is_between, is_url_character, local_url, lower}
 use Rattle.field_links.specs.Urls.{percent_byte, percent_character, percent_text, upper_hex_digit, url_of}
 use Rattle.field_links.specs.Laws.{IsLocalUrl, IsSchemeUrl, LinksAreAllowed}
+use Rattle.doc_bits.proofs.TestLemmas.{and_true, or_first, or_second}
 
 -- ---- characters
 
@@ -102,10 +103,6 @@ name_allowed units = all_in (λ c. is_anchor_character c || c == 46) anchor_char
 
 -- ---- schemes
 
-or_second : (a b : Bool) → b ≡ true → (a || b) ≡ true
-or_second true b e = refl
-or_second false b e = e
-
 -- a unit below the surrogates is a character
 characters-low : (unit : ℕ) (units : List ℕ) → unit < 0xD800 → characters (unit ∷ units) ≡ unit ∷ characters units
 unfolding characters
@@ -127,19 +124,11 @@ record StaysInUrl (unit : ℕ) : Type 0 where
   ascii : unit < 128
   stays : is_url_character unit ≡ true
 
-both_true : (a b : Bool) → a ≡ true → b ≡ true → (a && b) ≡ true
-both_true true b e f = f
-both_true false b e f = absurd (cc (e))
-
 capital_stays : (code : ℕ) → is_between 65 90 code ≡ true → StaysInUrl code
 capital_stays code e =
     let ends = and_parts (nat_le 65 code) (nat_le code 90) e in
     let below = leb-true code 90 ends.1 in
     record { ascii = omega (arith, below); stays = rw e refl }
-
-or_first : (a b : Bool) → a ≡ true → (a || b) ≡ true
-or_first true b e = refl
-or_first false b e = absurd (cc (e))
 
 small_is_url : (code : ℕ) → is_between 97 122 code ≡ true → is_url_character code ≡ true
 small_is_url code e =
@@ -178,7 +167,7 @@ begins-percent (letter ∷ scheme) (unit ∷ units) rest known e =
     let stays = letter_stays unit letter letters.0 parts.0 in
     let more = begins-percent scheme units rest letters.1 parts.1 in
     ap (λ text. begins (letter ∷ scheme) (text ++ rest)) (percent-plain unit units stays.ascii stays.stays)
-    ∙ both_true (lower unit == letter) (begins scheme (percent_text units ++ rest)) parts.0 more
+    ∙ and_true (lower unit == letter) (begins scheme (percent_text units ++ rest)) parts.0 more
 
 -- one of five
 any_of_five : (a b c d e : Bool) (v w x y z : Bool) → (a ≡ true → v ≡ true) → (b ≡ true → w ≡ true) → (c ≡ true → x ≡

@@ -11,10 +11,6 @@ use Rattle.field_links.specs.Words.{is_solidus, plain, quoted, words_from}
 use Rattle.field_links.specs.Kept.{HasFirstWord, IsUnitAt, behind, behind_plain, behind_quoted, front, is_in_quotes}
 use Rattle.field_links.specs.Kept.{plain_front, quoted_front}
 
-pub nil_from_length : (xs : List ℕ) → length xs ≡ 0 → xs ≡ []
-nil_from_length [] e = refl
-nil_from_length (x ∷ xs) e = absurd (omega (arith, e))
-
 -- ---- the first unit of a word
 
 pub none_of_none : (extent : Extent) (xs : List ℕ) → length xs ≡ 0 → front extent xs ≡ []

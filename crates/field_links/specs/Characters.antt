@@ -1,9 +1,7 @@
 -- The characters of units of UTF-16.
-use Rattle.std.specs.Prelude.{ℕ, nat_le, nat_lt, Bool, true, not, ◌&&◌, List, [], ◌∷◌, if◌then◌else◌}
+use Rattle.std.specs.Prelude.{ℕ, nat_lt, Bool, true, not, ◌&&◌, List, [], ◌∷◌, if◌then◌else◌}
 use Rattle.text_codes.specs.Shown.{is_pair, pair_code}
-
-abbrev pub is_surrogate : ℕ → Bool
-is_surrogate unit = nat_le 0xD800 unit && nat_lt unit 0xE000
+use Rattle.text_codes.specs.Halves.{is_surrogate}
 
 -- a unit in no pair
 abbrev pub character_alone : ℕ → ℕ

@@ -4,18 +4,10 @@ ghost use Rattle.field_links.specs.OpenFields.{after_unit, is_in_results, is_lin
 ghost use Rattle.field_links.specs.OpenFields.{begun, separated, ended, has_begun};
 
 use std::marker::Model;
+use text_codes::{FIELD_BEGIN, FIELD_END, FIELD_SEPARATOR};
 
 /// How many fields may be open at once.
 const MAX_OPEN: usize = 128;
-
-/// [MS-DOC] The unit that begins a field.
-const FIELD_BEGIN: u16 = 0x13;
-
-/// [MS-DOC] The unit between an instruction and a result.
-const FIELD_SEPARATOR: u16 = 0x14;
-
-/// [MS-DOC] The unit that ends a field.
-const FIELD_END: u16 = 0x15;
 
 /// [MS-DOC] flt: the type of HYPERLINK.
 const HYPERLINK: u8 = 0x58;

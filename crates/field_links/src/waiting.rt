@@ -13,12 +13,12 @@ use std::marker::Model;
 use text_codes::hex_digit;
 
 /// The most characters that one character becomes: four bytes of three.
-const MOST: usize = 12;
+const MAX_WAITING: usize = 12;
 
 /// The last one waits at the front of the array, so that the first one is taken from its end.
 #[derive(Drop)]
 pub(crate) struct Waiting {
-    characters: [char; MOST],
+    characters: [char; MAX_WAITING],
     len: usize,
 }
 
@@ -38,7 +38,7 @@ impl Waiting {
         ensures { result ≡ [] }
     {
         Waiting {
-            characters: ['\0'; MOST],
+            characters: ['\0'; MAX_WAITING],
             len: 0,
         }
     }
@@ -92,7 +92,7 @@ impl Waiting {
         }
     }
 
-    /// The same in a URL.
+    /// Lets those wait that a character becomes in a URL.
     fn put_percent(&mut self, character: char)
         requires { self.old ≡ [] }
         ensures { self.new ≡ percent_character character }
@@ -120,7 +120,7 @@ impl Waiting {
         self.push('%');
     }
 
-    /// The same in the name of an anchor.
+    /// Lets those wait that a character becomes in the name of an anchor.
     fn put_anchor(&mut self, character: char)
         requires { self.old ≡ [] }
         ensures { self.new ≡ anchor_character character }

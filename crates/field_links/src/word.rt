@@ -104,7 +104,7 @@ impl<'a> FieldWord<'a> {
         word.behind_end()
     }
 
-    /// The same where no unit of the word is left.
+    /// What follows the word in its instruction, where no unit of the word is left.
     fn behind_end(&self) -> &'a [u16]
         requires { units_of self.now ≡ [] }
         ensures rest { result.now ≡ rest_of self.now }
@@ -142,7 +142,7 @@ fn unit_place(rest: &[u16], extent: Extent) -> Option<usize>
     }
 }
 
-/// The same outside of quotes.
+/// Where the first unit of a word outside of quotes is.
 fn plain_place(rest: &[u16]) -> Option<usize>
     requires { 0 < length rest.now }
     ensures { MatchOption result (front Extent.Plain rest.now ≡ []) (IsUnitAt Extent.Plain rest.now) }
@@ -156,7 +156,7 @@ fn plain_place(rest: &[u16]) -> Option<usize>
     Some(0)
 }
 
-/// The same between quotes.
+/// Where the first unit of a word between quotes is.
 fn quoted_place(rest: &[u16]) -> Option<usize>
     requires { 0 < length rest.now }
     ensures { MatchOption result (front Extent.Quoted rest.now ≡ []) (IsUnitAt Extent.Quoted rest.now) }

@@ -202,17 +202,17 @@ page_finds kind runs j fc d fits order small up low high =
 
 -- ---- what the list of a run has
 
-pub lists_have_settings : (kind : PageKind) (run : Run) → IsWritableRun kind run → run.istd < 2 ^ 16 →
+pub lists_have_properties : (kind : PageKind) (run : Run) → IsWritableRun kind run → run.istd < 2 ^ 16 →
     IsListOfRun kind run (run_list kind run)
-lists_have_settings Chpx run h small = record {
+lists_have_properties Chpx run h small = record {
   istd = λ e. absurd (cc);
-  settings = print_is run.map (
+  properties = print_is run.map (
     run_groups Chpx,
     h.formed,
   );
 }
-lists_have_settings Papx run h small = record {
+lists_have_properties Papx run h small = record {
   istd = λ e. number_at-number_bytes 2 run.istd (printed_list run.map) small;
-  settings = subst (λ l. IsPrintOf run.map l) (sym (drop_at (number_bytes 2 run.istd) (printed_list run.map) 2
+  properties = subst (λ l. IsPrintOf run.map l) (sym (drop_at (number_bytes 2 run.istd) (printed_list run.map) 2
       (length-number_bytes 2 run.istd))) (print_is run.map (run_groups Papx, h.formed));
 }

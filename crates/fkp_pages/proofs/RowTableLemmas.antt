@@ -13,7 +13,7 @@ use Rattle.fkp_pages.specs.Runs.{run_groups, run_list, IsWritableRun, HasFileNum
 use Rattle.fkp_pages.specs.PageBytes.{last_fc}
 use Rattle.fkp_pages.specs.InARow.{row_of}
 use Rattle.fkp_pages.specs.Rows.{IsInRun, IsRow, row_bins, row_table}
-use Rattle.fkp_pages.proofs.FoundLemmas.{lists_have_settings}
+use Rattle.fkp_pages.proofs.FoundLemmas.{lists_have_properties}
 use Rattle.fkp_pages.proofs.FoundPages.{places_have_lists}
 use Rattle.fkp_pages.proofs.OrderLemmas.{last_fc_is}
 use Rattle.fkp_pages.proofs.PrintedBinLemmas.{printed_page, printed_table}
@@ -23,9 +23,9 @@ use Rattle.fkp_pages.proofs.RowLemmas.{length-numbered_bins, page_is, pages_stan
 pub run_list_accepted : (kind : PageKind) (run : Run) → IsWritableRun kind run → run.istd < 2 ^ 16 →
     IsAcceptedList (drop (least_list kind) (run_list kind run)) (run_groups kind)
 run_list_accepted Chpx run writable small =
-    (lists_have_settings Chpx run writable small).settings.accepted (run_groups Chpx)
+    (lists_have_properties Chpx run writable small).properties.accepted (run_groups Chpx)
 run_list_accepted Papx run writable small =
-    (lists_have_settings Papx run writable small).settings.accepted (run_groups Papx)
+    (lists_have_properties Papx run writable small).properties.accepted (run_groups Papx)
 
 -- ---- a row
 

@@ -7,7 +7,7 @@ use Rattle.doc_bits.specs.Number.{number_bytes}
 use Rattle.doc_bits.proofs.NumberLemmas.{length-number_bytes}
 use Rattle.prop_map.specs.Printing.{printed_list}
 use Rattle.std.specs.FinMap.{entries, empty, empty_of_len, len-entries}
-use Rattle.prop_map.specs.Settings.{Settings}
+use Rattle.prop_map.specs.Settings.{Properties}
 use Rattle.prop_map.proofs.EntriesLemmas.{entries-empty}
 use Rattle.fkp_pages.specs.declared.kind.PageKind.{PageKind}
 use Rattle.fkp_pages.specs.declared.kind.PageKind.TheVariants.{Chpx, Papx}
@@ -24,13 +24,13 @@ same_test true false h = sym (h.0 refl)
 same_test false true h = h.1 refl
 
 -- a map without entries is the empty map
-pub empty_map : (m : Settings) → IsTrue (length (entries m) == 0) ↔ m ≡ empty
+pub empty_map : (m : Properties) → IsTrue (length (entries m) == 0) ↔ m ≡ empty
 empty_map m = (
   λ t. empty_of_len m (len-entries m ∙ eqb-true (length (entries m)) 0 t),
   λ e. eq-eqb (length (entries m)) 0 (ap length (ap entries e ∙ entries-empty)),
 )
 
-pub is_empty_map : (m : Settings) (test : Bool) → IsTrue test ↔ m ≡ empty → test ≡ (length (entries m) == 0)
+pub is_empty_map : (m : Properties) (test : Bool) → IsTrue test ↔ m ≡ empty → test ≡ (length (entries m) == 0)
 is_empty_map m test h = same_test test (length (entries m) == 0) (
   λ t. (empty_map m).1 (h.0 t),
   λ t. h.1 ((empty_map m).0 t),

@@ -24,13 +24,13 @@ abbrev pub sprms_of : PageKind → List ℕ → List ℕ
 sprms_of Chpx list = list
 sprms_of Papx list = drop 2 list
 
--- the list has the style number of a paragraph, and acting with its sprms on the empty map gives the settings of the
+-- the list has the style number of a paragraph, and acting with its sprms on the empty map gives the properties of the
 -- run
 pub record IsListOfRun (kind : PageKind) (run : Run) (list : List ℕ) : Type 0 where
   pub istd : kind ≡ Papx → u16_at list 0 ≡ run.istd
-  pub settings : IsPrintOf run.map (sprms_of kind list)
+  pub properties : IsPrintOf run.map (sprms_of kind list)
 
--- a page answers with the list of the run: with none where the run has no settings and a paragraph the style 0, else
+-- a page answers with the list of the run: with none where the run has no properties and a paragraph the style 0, else
 -- with its range
 pub record FindsRun (kind : PageKind) (page : List ℕ) (fc : ℕ) (run : Run) : Type 0 where
   pub size : length page ≡ 512
@@ -90,8 +90,8 @@ PlacesHaveLists =
     slice_get runs i ≡ Some run → run.from ≤ fc → fc < run.to →
     HasListAt kind table placement.wd fc (run_list kind run)
 
--- the list of a run has its style number and its settings
-abbrev pub ListsHaveSettings : Type 0
-ListsHaveSettings =
+-- the list of a run has its style number and its properties
+abbrev pub ListsHaveProperties : Type 0
+ListsHaveProperties =
     (kind : PageKind) (run : Run) → IsWritableRun kind run → run.istd < 2 ^ 16 → IsListOfRun kind run (run_list kind
     run)

@@ -24,7 +24,7 @@ abbrev pub run_list : PageKind → Run → List ℕ
 run_list Chpx run = printed_list run.map
 run_list Papx run = number_bytes 2 run.istd ++ printed_list run.map
 
--- a run for which no list is written: it has no settings, and a paragraph's style is 0
+-- a run for which no list is written: it has no properties, and a paragraph's style is 0
 abbrev pub IsBareRun : PageKind → Run → Type 0
 IsBareRun Chpx run = run.map ≡ empty
 IsBareRun Papx run = (run.istd ≡ 0) × (run.map ≡ empty)

@@ -1,5 +1,5 @@
 -- [MS-DOC] Chpx, PapxInFkp: what is written for a run.
--- Profile: nothing is written for a run without settings, whose style is 0 if it is a paragraph.
+-- Profile: nothing is written for a run without properties, whose style is 0 if it is a paragraph.
 use Rattle.std.specs.Prelude.{ℕ, Bool, ◌==◌, ◌&&◌, if◌then◌else◌, List, [], length}
 use Rattle.std.specs.FinMap.{entries}
 use Rattle.fkp_pages.specs.declared.kind.PageKind.{PageKind}
@@ -8,7 +8,7 @@ use Rattle.fkp_pages.specs.declared.lists.Run.{Run}
 use Rattle.fkp_pages.specs.Fkp.{spelled_list}
 use Rattle.fkp_pages.specs.Runs.{run_list}
 
--- whether the run has no settings, and a paragraph the style 0
+-- whether the run has no properties, and a paragraph the style 0
 abbrev pub is_bare : PageKind → Run → Bool
 is_bare Chpx run = length (entries run.map) == 0
 is_bare Papx run = (run.istd == 0) && (length (entries run.map) == 0)

@@ -8,10 +8,10 @@ use doc_bits::{Bytes, Memory, get32};
 use std::alloc::Global;
 
 /// The bytes of a number of a page.
-const NUMBER_LEN: usize = 4;
+pub const PN_LEN: usize = 4;
 
 /// The bits of an entry that number a page.
-const PAGE_BITS: u32 = 0x3F_FFFF;
+pub const PN_BITS: u32 = 0x3F_FFFF;
 
 /// A range of a bin table: byte places from `from` to before `to`, and the number of their page.
 #[derive(Clone, Copy)]
@@ -45,7 +45,7 @@ pub fn bin_range(bin: &[u8], fc: u32) -> Option<BinRange>
             Some(BinRange {
                 from: get32(bin, 4 * k),
                 to: get32(bin, 4 * (k + 1)),
-                page: get32(bin, 4 * (count + 1) + NUMBER_LEN * k) & PAGE_BITS,
+                page: get32(bin, 4 * (count + 1) + PN_LEN * k) & PN_BITS,
             })
         }
     }
@@ -56,7 +56,7 @@ fn range_count(bin: &[u8]) -> usize
     requires { IsBinTable bin.now }
     ensures { result ≡ bin_count bin.now }
 {
-    (bin.len() - 4) / (4 + NUMBER_LEN)
+    (bin.len() - 4) / (4 + PN_LEN)
 }
 
 /// Which range holds the place: the fcs ascend, so half of those that are left go at each turn.

@@ -20,7 +20,7 @@ pub enum PageKind {
 pub enum RunAnswer {
     /// The range of the property list; of a paragraph's style number and list.
     Found { from: usize, to: usize },
-    /// The run has no settings; a paragraph's style is 0.
+    /// The run has no properties; a paragraph's style is 0.
     Empty,
     /// No run holds the place.
     NoRun,

@@ -16,7 +16,7 @@ mod runs;
 mod writable;
 mod written;
 
-pub use bin_table::{BinRange, bin_at, bin_range, write_bin};
+pub use bin_table::{BinRange, PN_BITS, PN_LEN, bin_at, bin_range, write_bin};
 pub use counting::{chpx_page_count, papx_page_count};
 pub use kind::{PAGE_LEN, PageKind, RunAnswer};
 pub use laws::{
@@ -25,7 +25,7 @@ pub use laws::{
 pub use lists::{Bin, Bins, ChpRuns, PapRuns, Run, Starts};
 pub use packing::Pages;
 pub use page_laws::{
-    lists_have_settings, longer_tables_name_both, packing_is_one, pages_are_one, pages_are_whole,
+    lists_have_properties, longer_tables_name_both, packing_is_one, pages_are_one, pages_are_whole,
     pages_stand_in_a_row, places_have_lists, row_is_printable, run_fits_alone, runs_are_found,
     runs_have_pages,
 };
@@ -35,4 +35,4 @@ pub use reading::{
     papx_stretch,
 };
 pub use runs::RunCursor;
-pub use writable::{are_chp_runs, are_pap_runs};
+pub use writable::{are_chp_runs, are_pap_runs, groups_of_runs};

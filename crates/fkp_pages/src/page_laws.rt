@@ -3,7 +3,7 @@ ghost use Rattle.fkp_pages.specs.Pages.{PackingIsOne, PagesAreOne, RunFitsAlone,
 ghost use Rattle.fkp_pages.specs.Packed.{RunsHavePages};
 ghost use Rattle.fkp_pages.specs.InARow.{PagesStandInARow, RowIsPrintable};
 ghost use Rattle.fkp_pages.specs.Rows.{LongerTablesNameBoth};
-ghost use Rattle.fkp_pages.specs.Found.{RunsAreFound, PlacesHaveLists, ListsHaveSettings};
+ghost use Rattle.fkp_pages.specs.Found.{RunsAreFound, PlacesHaveLists, ListsHaveProperties};
 
 /// Runs are put onto pages in one way at most.
 pub fn packing_is_one()
@@ -55,7 +55,7 @@ pub fn longer_tables_name_both()
     ensures { LongerTablesNameBoth }
 {}
 
-/// The list of a run has its style number, and acting with it on the empty map gives its settings.
-pub fn lists_have_settings()
-    ensures { ListsHaveSettings }
+/// The list of a run has its style number, and acting with it on the empty map gives its properties.
+pub fn lists_have_properties()
+    ensures { ListsHaveProperties }
 {}

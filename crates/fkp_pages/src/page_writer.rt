@@ -9,7 +9,7 @@ ghost use Rattle.fkp_pages.specs.PageBytes.{zeros, lowered, entries_end, FitsPag
 
 use crate::kind::PageKind;
 use crate::lists::Run;
-use crate::written::{written, written_len};
+use crate::written::{write_run, written_len};
 use doc_bits::{Bytes, Memory};
 use std::alloc::Global;
 
@@ -47,7 +47,7 @@ pub(crate) fn push_page(
     let mut lists = [0u8; FIRST_LIMIT];
     let mut limit = FIRST_LIMIT;
     for run in runs {
-        let properties = written(alloc, run, kind)?;
+        let properties = write_run(alloc, run, kind)?;
         let list = properties.as_slice();
         let offset = offset_below(limit, list.len());
         write_at(&mut lists, offset, list);

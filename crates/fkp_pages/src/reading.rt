@@ -48,7 +48,7 @@ pub fn chpx_stretch(page: &[u8], fc: u32) -> Stretch
     next_stretch(PageKind::Chpx, page, fc, RunCursor::start()).stretch
 }
 
-/// The same of a page of paragraph runs.
+/// What a page of paragraph runs answers at a byte place, and how far around the place.
 pub fn papx_stretch(page: &[u8], fc: u32) -> Stretch
     requires { length page.now ≡ 512 }
     ensures { HasStretch Papx page.now fc result }
@@ -56,7 +56,8 @@ pub fn papx_stretch(page: &[u8], fc: u32) -> Stretch
     next_stretch(PageKind::Papx, page, fc, RunCursor::start()).stretch
 }
 
-/// The same of a page of this kind, from a cursor on where it serves. A reader of a whole text needs one call for each
+/// What a page of this kind answers at a byte place, from a cursor on where it serves. A reader of a whole text needs
+/// one call for each
 /// stretch, and where its places ascend each call looks at one run.
 #[inline(always)]
 pub fn next_stretch(kind: PageKind, page: &[u8], fc: u32, cursor: RunCursor) -> Met

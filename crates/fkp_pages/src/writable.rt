@@ -55,14 +55,14 @@ fn is_writable(run: &Run, kind: PageKind) -> bool
     if run.from >= run.to {
         return false;
     }
-    if !run.map.is_held(groups_of(kind)) {
+    if !run.map.is_held(groups_of_runs(kind)) {
         return false;
     }
     run.map.printed_len() <= most_printed(kind)
 }
 
 /// The groups of sprms that runs of a kind hold.
-fn groups_of(kind: PageKind) -> u8
+pub fn groups_of_runs(kind: PageKind) -> u8
     ensures { result ≡ run_groups kind }
 {
     match kind {

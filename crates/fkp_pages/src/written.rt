@@ -13,7 +13,7 @@ use std::alloc::Global;
 const ISTD_LEN: usize = 2;
 
 /// The bytes that are written for a run.
-pub(crate) fn written(alloc: Global, run: &Run, kind: PageKind) -> Result<Bytes, Memory>
+pub(crate) fn write_run(alloc: Global, run: &Run, kind: PageKind) -> Result<Bytes, Memory>
     requires { IsWritableRun kind run.now }
     ensures { IfOk result (λ bytes. bytes ≡ written kind run.now) }
 {

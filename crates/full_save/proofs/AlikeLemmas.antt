@@ -7,7 +7,7 @@ use Rattle.std.proofs.lemmas.List.{length-map, take_more}
 use Rattle.std.proofs.lemmas.Option.{slice_get_within, get_or_from_slice_get, same_Some}
 use Rattle.doc_bits.proofs.ListLemmas.{get-map}
 use Rattle.run_lists.specs.declared.runs.Run.{Run}
-use Rattle.run_lists.specs.Spread.{spread, extent}
+use Rattle.run_lists.specs.Spread.{expanded, total_len}
 use Rattle.run_lists.proofs.SpreadLemmas.{length-spread, count_within}
 use Rattle.run_lists.proofs.CutLemmas.{value_in_run}
 use Rattle.plain_doc.specs.declared.item.Item.{Item}
@@ -43,21 +43,21 @@ alike_rest what value text place count are some =
 
 -- those of a run
 pub alike_run : {A : Type 0} (what : Item → A) (text : List Item) (runs : List (Run A)) (k : ℕ) (run : Run A) →
-    spread runs ≡ map what text → slice_get runs k ≡ Some run →
-    HaveAlike what run.value text (extent (take k runs)) run.count
+    expanded runs ≡ map what text → slice_get runs k ≡ Some run →
+    HaveAlike what run.value text (total_len (take k runs)) run.count
 alike_run {A} what text runs k run spelt here =
     let within : k < length runs = slice_get_within runs k run here in
     let is : get_or runs k run ≡ run = get_or_from_slice_get runs k run run here in
     let count : (get_or runs k run).count ≡ run.count = ap (λ (r : Run A). r.count) is in
-    let all : length (spread runs) ≡ length (map what text) = ap length spelt in
+    let all : length (expanded runs) ≡ length (map what text) = ap length spelt in
     record {
       within = omega
           (arith, count_within runs k run within, length-spread runs, all, length-map text what, count);
       each = λ j item low high there.
-          let left : ℕ = j - extent (take k runs) in
-          let at : extent (take k runs) + left ≡ j = omega (arith, low) in
-          let value : slice_get (spread runs) j ≡ Some run.value =
-          subst (λ (n : ℕ). slice_get (spread runs) n ≡ Some run.value) at
+          let left : ℕ = j - total_len (take k runs) in
+          let at : total_len (take k runs) + left ≡ j = omega (arith, low) in
+          let value : slice_get (expanded runs) j ≡ Some run.value =
+          subst (λ (n : ℕ). slice_get (expanded runs) n ≡ Some run.value) at
           (value_in_run runs k left run here (omega (arith, low, high))) in
           same_Some (what item) run.value
           (sym (get-map what text j item there) ∙ (ap (λ (xs : List A). slice_get xs j) (sym spelt) ∙ value));

@@ -21,7 +21,7 @@ use Rattle.plain_doc.specs.declared.document.Document.{Document}
 use Rattle.plain_doc.specs.Collected.{joined_texts, sections_of}
 use Rattle.plain_doc.specs.Document.{IsFormedItem}
 use Rattle.plain_doc.specs.Formed.{IsFormed}
-use Rattle.plain_doc.specs.RightDocument.{IsRightDocument}
+use Rattle.plain_doc.specs.RightDocument.{IsValidDocument}
 use Rattle.plain_doc.specs.Stretches.{stretches}
 use Rattle.plain_doc.proofs.CutLemmas.{are_stretches}
 use Rattle.full_save.specs.declared.text.SavedText.{SavedText}
@@ -66,15 +66,15 @@ last_fc-text_runs kind at items some =
 
 -- ---- of a document
 
--- each section of the main text has settings that a Sepx can hold
-pub sections_savable : (d : Document) → IsFormed d → IsRightDocument d → All HasSavableSection d.main
-sections_savable d formed right = All-from_slice_get HasSavableSection d.main (λ k item here settings has.
+-- each section of the main text has properties that a Sepx can hold
+pub sections_savable : (d : Document) → IsFormed d → IsValidDocument d → All HasSavableSection d.main
+sections_savable d formed right = All-from_slice_get HasSavableSection d.main (λ k item here properties has.
     let item_formed = All_at IsFormedItem d.main k item formed.main.each here in
     let short = (right.texts Main d.main refl).short k item here in
-    record { formed = (section_groups, item_formed.maps.sect settings has); short = short.sect settings has })
+    record { formed = (section_groups, item_formed.maps.sect properties has); short = short.sect properties has })
 
 -- the ranges of its pages can be printed
-pub bins_printable : (kind : PageKind) (d : Document) (number : ℕ) → IsFormed d → IsRightDocument d →
+pub bins_printable : (kind : PageKind) (d : Document) (number : ℕ) → IsFormed d → IsValidDocument d →
     number + length (document_pages kind d).starts ≤ 2 ^ 22 →
     ArePrintableBins (numbered_bins number (document_pages kind d).starts) (text_at + 2 * length (text_items d))
 bins_printable kind d number formed right small =
@@ -100,7 +100,7 @@ body_is d =
     ∙ append_assoc text chp (pap ++ sepxes (sections_of d.main))
 
 -- where they end
-pub pages_end_is : (d : Document) → IsFormed d → IsRightDocument d → text_at + length (text_and_pages d) ≡ pages_end d
+pub pages_end_is : (d : Document) → IsFormed d → IsValidDocument d → text_at + length (text_and_pages d) ≡ pages_end d
 pages_end_is d formed right =
     let text = padded 512 0 (text_bytes d) in
     let chp = (document_pages Chpx d).bytes in
@@ -111,7 +111,7 @@ pages_end_is d formed right =
     let pap_size = length-pages Papx d formed right in
     omega (arith, units, whole, chp_size, pap_size, length-append (text ++ chp) pap, length-append text chp)
 
-pub pages_short : (d : Document) → IsFormed d → IsRightDocument d → length (text_and_pages d) < 2 ^ 30
+pub pages_short : (d : Document) → IsFormed d → IsValidDocument d → length (text_and_pages d) < 2 ^ 30
 pages_short d formed right =
     let body = short_body d formed right in
     let len = ap length (body_is d) in

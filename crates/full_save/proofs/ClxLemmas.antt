@@ -43,7 +43,7 @@ pub one_clx : (len : ℕ) (bytes : List ℕ) → IsPrintedClx (one_piece text_at
 one_clx len bytes clx =
     from_parts len clx.prcs clx.pcds bytes clx.each clx.count (clx.pcd 0 (the_piece len) refl) clx.spelt
 
-none_printed : length (printed_list empty) ≡ 0
+pub none_printed : length (printed_list empty) ≡ 0
 none_printed = rw entries-empty refl
 
 pub one_printable : (len : ℕ) → IsPrintable (one_piece text_at len)

@@ -7,15 +7,15 @@ use Rattle.std.proofs.Common.{get_or, Option, Some, None, arith}
 use Rattle.std.proofs.lemmas.List.{length-map}
 use Rattle.std.proofs.lemmas.Option.{slice_get_within, get_or_from_slice_get}
 use Rattle.doc_bits.proofs.ListLemmas.{there_is, All_at}
-use Rattle.prop_map.specs.Settings.{Settings}
+use Rattle.prop_map.specs.Settings.{Properties}
 use Rattle.doc_parts.specs.declared.lists.Sed.{Sed}
 use Rattle.run_lists.specs.declared.runs.Run.{Run}
-use Rattle.run_lists.specs.Spread.{spread, extent}
+use Rattle.run_lists.specs.Spread.{expanded, total_len}
 use Rattle.run_lists.proofs.SpreadLemmas.{length-spread, extent_all, extent_more}
 use Rattle.plain_doc.specs.declared.item.Item.{Item}
 use Rattle.plain_doc.specs.Collected.{collected, field_of}
-use Rattle.doc_columns.specs.declared.beside.Beside.{Beside}
-use Rattle.doc_columns.specs.Beside.{beside_of}
+use Rattle.doc_columns.specs.declared.attached.Attached.{Attached}
+use Rattle.doc_columns.specs.Attached.{attached_of}
 use Rattle.full_save.specs.Alike.{HaveAlike}
 use Rattle.full_save.specs.Lists.{IsListedUpTo}
 use Rattle.full_save.specs.Sections.{HasSavableSection, IsSavableSection, SectionsSoFar, AreSepxesUpTo, left_from}
@@ -70,7 +70,7 @@ sepxes_none main base old place (suc count) so are done =
     let j : ℕ = place + count in
     let below : j < length main = omega (arith, within) in
     let there = there_at main j below in
-    let sect : Item → Option Settings = λ item. item.sect in
+    let sect : Item → Option Properties = λ item. item.sect in
     let none : (get_or main j there.item).sect ≡ None =
     ap sect there.same ∙ are.each j there.item (omega arith) (omega arith) there.here in
     let before = sepxes_none main base old place count so (alike_fewer sect None main place count are) done in
@@ -87,26 +87,26 @@ no_field text place count are = record {
 }
 
 -- at the end of the runs the walk is at the end of the text
-pub at_end : (text : List Item) (runs : List (Run Beside)) (k place : ℕ) → spread runs ≡ map beside_of text →
-    length runs ≤ k → place ≡ extent (take k runs) → length text ≤ place
+pub at_end : (text : List Item) (runs : List (Run Attached)) (k place : ℕ) → expanded runs ≡ map attached_of text →
+    length runs ≤ k → place ≡ total_len (take k runs) → length text ≤ place
 at_end text runs k place spelt all here =
-    omega (arith, here, extent_all runs k all, length-spread runs, ap length spelt, length-map text beside_of)
+    omega (arith, here, extent_all runs k all, length-spread runs, ap length spelt, length-map text attached_of)
 
 -- a run stands in the text
-pub run_inside : (text : List Item) (runs : List (Run Beside)) (k place : ℕ) (run : Run Beside) →
-    spread runs ≡ map beside_of text → slice_get runs k ≡ Some run → place ≡ extent (take k runs) →
-    HaveAlike beside_of run.value text place run.count
+pub run_inside : (text : List Item) (runs : List (Run Attached)) (k place : ℕ) (run : Run Attached) →
+    expanded runs ≡ map attached_of text → slice_get runs k ≡ Some run → place ≡ total_len (take k runs) →
+    HaveAlike attached_of run.value text place run.count
 run_inside text runs k place run spelt here at =
-    subst (λ (n : ℕ). HaveAlike beside_of run.value text n run.count) (sym at)
-    (alike_run beside_of text runs k run spelt here)
+    subst (λ (n : ℕ). HaveAlike attached_of run.value text n run.count) (sym at)
+    (alike_run attached_of text runs k run spelt here)
 
 -- where the next run begins
-pub run_after : (runs : List (Run Beside)) (k place : ℕ) (run : Run Beside) → slice_get runs k ≡ Some run →
-    place ≡ extent (take k runs) → place + run.count ≡ extent (take (k + 1) runs)
+pub run_after : (runs : List (Run Attached)) (k place : ℕ) (run : Run Attached) → slice_get runs k ≡ Some run →
+    place ≡ total_len (take k runs) → place + run.count ≡ total_len (take (k + 1) runs)
 run_after runs k place run here at =
     let below = slice_get_within runs k run here in
     let is = get_or_from_slice_get runs k run run here in
-    let count : (get_or runs k run).count ≡ run.count = ap (λ (r : Run Beside). r.count) is in
+    let count : (get_or runs k run).count ≡ run.count = ap (λ (r : Run Attached). r.count) is in
     omega (arith, at, extent_more runs k run below, count)
 
 -- nothing is listed yet
@@ -117,14 +117,14 @@ listed_begins {B = B} what entry from text old =
     record { rest = ap (λ (n : ℕ). old ++ map entry (collected what n text)) zero }
 
 -- the sections of a run can be saved, where all of the text can
-pub some_savable : (main : List Item) (beside : Beside) (place count : ℕ) → All HasSavableSection main →
-    HaveAlike beside_of beside main place count → 0 < count → ForSome beside.sect IsSavableSection
-some_savable main beside place count savable are some =
+pub some_savable : (main : List Item) (attached : Attached) (place count : ℕ) → All HasSavableSection main →
+    HaveAlike attached_of attached main place count → 0 < count → ForSome attached.sect IsSavableSection
+some_savable main attached place count savable are some =
     let within = are.within in
     let there = there_at main place (omega (arith, within, some)) in
-    let same : there.item.sect ≡ beside.sect =
-    ap (λ (b : Beside). b.sect) (are.each place there.item (omega arith) (omega (arith, some)) there.here) in
-    subst (λ (sect : Option Settings). ForSome sect IsSavableSection) same
+    let same : there.item.sect ≡ attached.sect =
+    ap (λ (b : Attached). b.sect) (are.each place there.item (omega arith) (omega (arith, some)) there.here) in
+    subst (λ (sect : Option Properties). ForSome sect IsSavableSection) same
     (All_at HasSavableSection main place there.item savable there.here)
 
 -- no section is done yet
@@ -140,30 +140,30 @@ sepxes_begin main base out seds none = record {
 
 -- the items of a run up to a place are listed, whatever text of this kind the run is of
 pub record AreListedIn {A B : Type 0} (what : Item → Option A) (entry : ℕ × A → B) (from : ℕ)
-    (IsSuch : List Item → Type 0) (beside : Beside) (place count at : ℕ) (old new : List B) : Type 0 where
+    (IsSuch : List Item → Type 0) (attached : Attached) (place count at : ℕ) (old new : List B) : Type 0 where
   pub low : place ≤ at
   pub high : at ≤ place + count
   pub goes :
-      (text : List Item) (start : List B) → IsSuch text → HaveAlike beside_of beside text place count →
+      (text : List Item) (start : List B) → IsSuch text → HaveAlike attached_of attached text place count →
       IsListedUpTo what entry from text place start old → IsListedUpTo what entry from text at start new
 
 pub none_listed : {A B : Type 0} (what : Item → Option A) (entry : ℕ × A → B) (from : ℕ)
-    (IsSuch : List Item → Type 0) (beside : Beside) (place count : ℕ) (old : List B) →
-    AreListedIn what entry from IsSuch beside place count place old old
-none_listed what entry from IsSuch beside place count old = record {
+    (IsSuch : List Item → Type 0) (attached : Attached) (place count : ℕ) (old : List B) →
+    AreListedIn what entry from IsSuch attached place count place old old
+none_listed what entry from IsSuch attached place count old = record {
   low = omega arith;
   high = omega arith;
   goes = λ text start such are listed. listed;
 }
 
 pub one_listed : {A B : Type 0} (what : Item → Option A) (entry : ℕ × A → B) (from : ℕ)
-    (IsSuch : List Item → Type 0) (beside : Beside) (place count at : ℕ) (old mid new : List B) (value : Item → A) →
-    at < place + count → ((item : Item) → beside_of item ≡ beside → what item ≡ Some (value item)) →
+    (IsSuch : List Item → Type 0) (attached : Attached) (place count at : ℕ) (old mid new : List B) (value : Item → A) →
+    at < place + count → ((item : Item) → attached_of item ≡ attached → what item ≡ Some (value item)) →
     ((text : List Item) (item : Item) → IsSuch text → slice_get text at ≡ Some item →
     new ≡ mid ++ entry (from + at, value item) ∷ []) →
-    AreListedIn what entry from IsSuch beside place count at old mid →
-    AreListedIn what entry from IsSuch beside place count (at + 1) old new
-one_listed what entry from IsSuch beside place count at old mid new value below has puts listed =
+    AreListedIn what entry from IsSuch attached place count at old mid →
+    AreListedIn what entry from IsSuch attached place count (at + 1) old new
+one_listed what entry from IsSuch attached place count at old mid new value below has puts listed =
     let from_place = listed.low in
     record {
       low = omega (arith, from_place);

@@ -1,4 +1,4 @@
--- The runs of characters and of paragraphs, some items with the same settings further.
+-- The runs of characters and of paragraphs, some items with the same properties further.
 use Rattle.std.specs.Prelude.{slice_get}
 use Rattle.std.proofs.Common.{◌≡◌, ◌≢◌, ◌∙◌, ap, sym, subst, ℕ, zero, suc, ◌+◌, ◌-◌, ◌*◌, ◌<◌, ◌≤◌, List, [], ◌∷◌, ◌++◌}
 use Rattle.std.proofs.Common.{length}
@@ -6,9 +6,9 @@ use Rattle.std.proofs.Common.{map, take, get_or, Option, Some, None, arith, leng
 use Rattle.std.proofs.lemmas.List.{append-nil, take_all, length-map, length-take}
 use Rattle.std.proofs.lemmas.Option.{slice_get_within, get_or_from_slice_get}
 use Rattle.doc_bits.proofs.ListLemmas.{there_is}
-use Rattle.prop_map.specs.Settings.{Settings}
+use Rattle.prop_map.specs.Settings.{Properties}
 use Rattle.run_lists.specs.declared.runs.Run.{Run as ValueRun}
-use Rattle.run_lists.specs.Spread.{spread, extent}
+use Rattle.run_lists.specs.Spread.{expanded, total_len}
 use Rattle.run_lists.proofs.SpreadLemmas.{length-spread, extent-nil, extent_all, extent_more, count_within}
 use Rattle.plain_doc.specs.declared.item.Mark.{Mark}
 use Rattle.plain_doc.specs.declared.item.Item.{Item}
@@ -32,7 +32,7 @@ characters_more at done text place (suc count) runs are so =
     let within = are.within in
     let j : ℕ = place + count in
     let there = there_is text j (omega (arith, within)) in
-    let chp : Item → Settings = λ item. item.chp in
+    let chp : Item → Properties = λ item. item.chp in
     let before = characters_more at done text place count runs (alike_fewer chp runs.chp text place count are) so in
     let same : runs.chp ≡ there.0.chp = sym (are.each j there.0 (omega arith) (omega arith) there.1) in
     let after = characters_go_on at (done ++ take j text) there.0 runs same before in
@@ -40,8 +40,8 @@ characters_more at done text place (suc count) runs are so =
     subst (λ (n : ℕ). AreCharactersSoFar at (done ++ take n text) runs) e
     (subst (λ (xs : List Item). AreCharactersSoFar at xs runs) (text_next done text j there.0 there.1) after)
 
--- where a run begins, it may have any settings
-pub characters_begin : (at end : ℕ) (done : List Item) (old : CharacterRuns) (chp : Settings) →
+-- where a run begins, it may have any properties
+pub characters_begin : (at end : ℕ) (done : List Item) (old : CharacterRuns) (chp : Properties) →
     end ≡ at + 2 * length done → old.from ≡ end → AreCharactersSoFar at done old →
     AreCharactersSoFar at done (record { closed = old.closed; from = old.from; chp = chp })
 characters_begin at end done old chp here from so =
@@ -53,7 +53,7 @@ characters_begin at end done old chp here from so =
       last = λ item there. absurd (omega (arith, none, slice_get_within so.part (length so.part - 1) item there));
     }
 
--- items with other settings
+-- items with other properties
 pub characters_changed : (at end : ℕ) (done text : List Item) (place count : ℕ) (old new : CharacterRuns) →
     1 ≤ count → end ≡ at + 2 * length (done ++ take place text) → old.from ≢ end → old.chp ≢ new.chp →
     HaveAlike (λ (item : Item). item.chp) new.chp text place count →
@@ -66,7 +66,7 @@ characters_changed at end done text place count old new some here apart other ar
     let has : there.0.chp ≡ new.chp = are.each place there.0 (omega arith) (omega (arith, some)) there.1 in
     let first = characters_change at end (done ++ take place text) there.0 old new here apart
     (λ same. other (same ∙ has)) closed from (sym has) so in
-    let chp : Item → Settings = λ item. item.chp in
+    let chp : Item → Properties = λ item. item.chp in
     let rest = characters_more at done text (place + 1) (count - 1) new
     (alike_rest chp new.chp text place count are some)
     (subst (λ (xs : List Item). AreCharactersSoFar at xs new) (text_next done text place there.0 there.1) first) in
@@ -106,15 +106,15 @@ paragraphs_more at done text place (suc count) runs are so =
 -- the runs before a number are gone through, and the next one begins at `at`
 pub record IsWalked {A R : Type 0} (So : ℕ → List Item → R → Type 0) (what : Item → A) (runs : List (ValueRun A))
     (start k at : ℕ) (old new : R) : Type 0 where
-  pub place : at ≡ start + 2 * extent (take k runs)
+  pub place : at ≡ start + 2 * total_len (take k runs)
   pub goes :
-      (base : ℕ) (done text : List Item) → start ≡ base + 2 * length done → spread runs ≡ map what text →
-      So base done old → So base (done ++ take (extent (take k runs)) text) new
+      (base : ℕ) (done text : List Item) → start ≡ base + 2 * length done → expanded runs ≡ map what text →
+      So base done old → So base (done ++ take (total_len (take k runs)) text) new
 
 pub walk_begins : {A R : Type 0} (So : ℕ → List Item → R → Type 0) (what : Item → A) (runs : List (ValueRun A))
     (start : ℕ) (old : R) → IsWalked So what runs start 0 start old old
 walk_begins {A} So what runs start old =
-    let none : extent (take 0 runs) ≡ 0 = extent-nil A in
+    let none : total_len (take 0 runs) ≡ 0 = extent-nil A in
     record {
       place = omega (arith, none);
       goes = λ base done text here spelt so.
@@ -132,7 +132,7 @@ walk_next {A} So what runs start k at run old mid new here step walked =
     let below = slice_get_within runs k run here in
     let is = get_or_from_slice_get runs k run run here in
     let count : (get_or runs k run).count ≡ run.count = ap (λ (r : ValueRun A). r.count) is in
-    let more : extent (take (k + 1) runs) ≡ extent (take k runs) + run.count =
+    let more : total_len (take (k + 1) runs) ≡ total_len (take k runs) + run.count =
     omega (arith, extent_more runs k run below, count) in
     let place = walked.place in
     record {
@@ -141,22 +141,22 @@ walk_next {A} So what runs start k at run old mid new here step walked =
           let first = walked.goes base done text begins spelt so in
           let alike = alike_run what text runs k run spelt here in
           subst (λ (n : ℕ). So base (done ++ take n text) new) (sym more)
-          (step base done text (extent (take k runs)) (omega (arith, place, begins)) alike first);
+          (step base done text (total_len (take k runs)) (omega (arith, place, begins)) alike first);
     }
 
 pub walk_ends : {A R : Type 0} (So : ℕ → List Item → R → Type 0) (what : Item → A) (runs : List (ValueRun A))
     (start k at : ℕ) (old new : R) → length runs ≤ k → IsWalked So what runs start k at old new →
-    (base : ℕ) (done text : List Item) → start ≡ base + 2 * length done → spread runs ≡ map what text →
+    (base : ℕ) (done text : List Item) → start ≡ base + 2 * length done → expanded runs ≡ map what text →
     So base done old → So base (done ++ text) new
 walk_ends So what runs start k at old new all walked base done text begins spelt so =
-    let long : length text ≤ extent (take k runs) =
+    let long : length text ≤ total_len (take k runs) =
     omega (arith, extent_all runs k all, length-spread runs, ap length spelt, length-map text what) in
-    subst (λ (xs : List Item). So base (done ++ xs) new) (take_all (extent (take k runs)) text long)
+    subst (λ (xs : List Item). So base (done ++ xs) new) (take_all (total_len (take k runs)) text long)
     (walked.goes base done text begins spelt so)
 
 -- a run ends within the list
 pub run_fits : {A : Type 0} (runs : List (ValueRun A)) (k : ℕ) (run : ValueRun A) → slice_get runs k ≡ Some run →
-    extent (take k runs) + run.count ≤ extent runs
+    total_len (take k runs) + run.count ≤ total_len runs
 run_fits {A} runs k run here =
     let below = slice_get_within runs k run here in
     let is = get_or_from_slice_get runs k run run here in

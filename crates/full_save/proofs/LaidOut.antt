@@ -23,7 +23,7 @@ use Rattle.plain_doc.specs.declared.item.Item.{Item}
 use Rattle.plain_doc.specs.declared.document.Document.{Document}
 use Rattle.plain_doc.specs.Collected.{sections_of}
 use Rattle.plain_doc.specs.Formed.{IsFormed}
-use Rattle.plain_doc.specs.RightDocument.{IsRightDocument}
+use Rattle.plain_doc.specs.RightDocument.{IsValidDocument}
 use Rattle.full_save.specs.Text.{text_items}
 use Rattle.full_save.specs.WordDocument.{text_at, text_bytes, document_runs, document_pages}
 use Rattle.full_save.specs.WordDocument.{first_character_page, first_paragraph_page, pages_end, wd_body, full_text}
@@ -42,7 +42,7 @@ use Rattle.full_save.proofs.StreamLengths.{short_body}
 pub record LaidOut : Type 0 where
   pub document : Document
   pub formed : IsFormed document
-  pub right : IsRightDocument document
+  pub right : IsValidDocument document
   pub short : length (table_stream document) < 2 ^ 32
 
 -- ---- WordDocument in its parts

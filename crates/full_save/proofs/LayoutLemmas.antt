@@ -13,7 +13,7 @@ use Rattle.fib_form.specs.FibBytes.{written_fib}
 use Rattle.plain_doc.specs.declared.document.Document.{Document}
 use Rattle.plain_doc.specs.Carried.{AreCarriedStreams}
 use Rattle.plain_doc.specs.Formed.{IsFormed}
-use Rattle.plain_doc.specs.RightDocument.{IsRightDocument}
+use Rattle.plain_doc.specs.RightDocument.{IsValidDocument}
 use Rattle.full_save.specs.Streams.{put_stream, saved_streams}
 use Rattle.full_save.specs.WordDocument.{text_at, least_length, wd_body, full_fib, wd_stream, table_stream}
 use Rattle.full_save.specs.Layout.{layout_streams, FitsCompoundFile}
@@ -29,7 +29,7 @@ the_wd bytes = record { name = wd_name; bytes = bytes }
 abbrev the_table : List ℕ → NamedBytes
 the_table bytes = record { name = second_table_name; bytes = bytes }
 
-other_names : ¬ AreSameNames wd_name second_table_name
+pub other_names : ¬ AreSameNames wd_name second_table_name
 other_names same = let long = same.long in omega (arith, long)
 
 -- the two streams are put among those that are carried
@@ -80,7 +80,7 @@ length-wd_stream document =
     omega arith
 
 -- the layout of any document
-pub layout_are : (document : Document) → IsFormed document → IsRightDocument document →
+pub layout_are : (document : Document) → IsFormed document → IsValidDocument document →
     ArePut (table_stream document) (wd_stream document) document.carried.streams
 layout_are document formed right =
     let body = short_body document formed right in
@@ -97,7 +97,7 @@ total_short streams are =
     omega arith
 
 -- where the file fits, the table stream is short
-pub fits_short : (document : Document) → IsFormed document → IsRightDocument document → FitsCompoundFile document →
+pub fits_short : (document : Document) → IsFormed document → IsValidDocument document → FitsCompoundFile document →
     length (table_stream document) < 2 ^ 32
 unfolding layout_streams
 fits_short document formed right fits =

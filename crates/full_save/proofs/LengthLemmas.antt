@@ -44,9 +44,9 @@ use Rattle.plain_doc.specs.declared.document.Document.{Document}
 use Rattle.plain_doc.specs.Collected.{joined_texts, collected, field_of, fields_of, refs_of, sections_of, is_auto}
 use Rattle.plain_doc.specs.TextLists.{cuts_of}
 use Rattle.plain_doc.specs.Formed.{IsFormed}
-use Rattle.plain_doc.specs.RightDocument.{IsRightDocument}
+use Rattle.plain_doc.specs.RightDocument.{IsValidDocument}
 use Rattle.plain_doc.proofs.CollectedLemmas.{length-cuts_from}
-use Rattle.doc_columns.specs.Beside.{beside_of}
+use Rattle.doc_columns.specs.Attached.{attached_of}
 use Rattle.full_save.specs.declared.measures.Measure.TheVariants.{Notes, Sections, Fields, SepxBytes}
 use Rattle.full_save.specs.declared.lengths.PageCounts.{PageCounts}
 use Rattle.full_save.specs.declared.made_parts.MadeParts.{MadeParts}
@@ -117,7 +117,7 @@ table_long form size list end count each long =
 
 -- ---- each part
 
-some_field : (item : Item) → one_if (is_some (field_of item)) ≡ measured Fields (beside_of item)
+some_field : (item : Item) → one_if (is_some (field_of item)) ≡ measured Fields (attached_of item)
 some_field item = by_fld item.unit item.fld
   where
     by_fld : (unit : ℕ) (fld : Option ℕ) →
@@ -131,7 +131,7 @@ pub fields_long : (items : List Item) (end : ℕ) →
 fields_long items end =
     let make : ℕ × (ℕ × ℕ) → Fld = λ e. record { cp = e.0; unit = e.1.0; byte = e.1.1 } in
     let count = length-map (collected field_of 0 items) make
-    ∙ length-collected field_of (λ (item : Item). measured Fields (beside_of item)) 0 items some_field in
+    ∙ length-collected field_of (λ (item : Item). measured Fields (attached_of item)) 0 items some_field in
     let n = text_measure Fields items in
     table_long fld_form 2 (fields_of items) end n (λ fld. refl) count ∙ ap (plc_length n) (omega arith)
 
@@ -141,7 +141,7 @@ refs_long main end =
     let note : Item → Option NoteKind = λ item. item.note in
     let make : ℕ × NoteKind → NoteRef = λ e. record { cp = e.0; auto = is_auto e.1 } in
     let count = length-map (collected note 0 main) make
-    ∙ length-collected note (λ (item : Item). measured Notes (beside_of item)) 0 main (λ item. refl) in
+    ∙ length-collected note (λ (item : Item). measured Notes (attached_of item)) 0 main (λ item. refl) in
     let n = text_measure Notes main in
     table_long ref_form 2 (refs_of main) end n
     (λ reference. length-number_bytes 2 (if reference.auto then 1 else 0)) count
@@ -153,7 +153,7 @@ pub sections_long : (main : List Item) (place end : ℕ) →
 sections_long main place end =
     let seds = seds_from 0 place (sections_of main) in
     let count = length-seds 0 place (sections_of main)
-    ∙ length-collected (λ (item : Item). item.sect) (λ (item : Item). measured Sections (beside_of item)) 0 main
+    ∙ length-collected (λ (item : Item). item.sect) (λ (item : Item). measured Sections (attached_of item)) 0 main
     (λ item. refl) in
     let n = text_measure Sections main in
     let each : (sed : Sed) → length (sed_form.bytes_of sed) ≡ 12 = λ sed.
@@ -380,7 +380,7 @@ seen_long d seen pages same counted = table_stream_long d ∙ sym (λ i. table_l
 
 -- ---- WordDocument
 
-pub wd_stream_long : (d : Document) → IsFormed d → IsRightDocument d →
+pub wd_stream_long : (d : Document) → IsFormed d → IsValidDocument d →
     length (wd_stream d) ≡ wd_length (length (text_items d)) (pages_counted d) d.main
 unfolding wd_body
 wd_stream_long d formed right =

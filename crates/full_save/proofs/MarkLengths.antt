@@ -16,12 +16,12 @@ use Rattle.doc_parts.specs.PrintedBookmarks.{starts_of, printed_starts, printed_
 use Rattle.doc_parts.proofs.NumberingLemmas.{length-ends}
 use Rattle.doc_parts.proofs.BookmarkBackLemmas.{length-front, length-starts}
 use Rattle.plain_doc.specs.declared.document.Document.{Document}
-use Rattle.plain_doc.specs.RightDocument.{IsRightDocument}
+use Rattle.plain_doc.specs.RightDocument.{IsValidDocument}
 use Rattle.full_save.specs.TableText.{FitParts}
 use Rattle.full_save.proofs.EntryLengths.{length-printed}
 
 -- the bookmarks of a sound document fit the parts
-pub fit_parts : (document : Document) → IsRightDocument document → FitParts document.bookmarks
+pub fit_parts : (document : Document) → IsValidDocument document → FitParts document.bookmarks
 fit_parts document right = record {
   few = right.few_bookmarks;
   short = All-weaker (IsFormedBookmark (length document.main)) (λ (b : Bookmark). length b.name ≤ 255)

@@ -13,18 +13,18 @@ use Rattle.std.proofs.lemmas.Option.{slice_get_within, get_or_from_slice_get}
 use Rattle.doc_bits.specs.Number.{number_bytes}
 use Rattle.doc_bits.proofs.ListLemmas.{All_at, All-from_slice_get, from_map}
 use Rattle.doc_bits.proofs.NumberLemmas.{length-number_bytes}
-use Rattle.prop_map.specs.Settings.{Settings}
+use Rattle.prop_map.specs.Settings.{Properties}
 use Rattle.prop_map.specs.Printing.{printed_list}
 use Rattle.style_sheet.specs.Counted.{written_counted}
 use Rattle.doc_parts.specs.declared.bookmark_order.Bookmark.{Bookmark}
 use Rattle.doc_parts.proofs.NumberingLemmas.{sum_by-of_map}
 use Rattle.run_lists.specs.declared.runs.Run.{Run}
-use Rattle.run_lists.specs.Spread.{spread, extent}
+use Rattle.run_lists.specs.Spread.{expanded, total_len}
 use Rattle.run_lists.proofs.SpreadLemmas.{spread-nil, spread_push, extent_more}
 use Rattle.plain_doc.specs.declared.item.Item.{Item}
 use Rattle.plain_doc.specs.Collected.{entry_before, collected, joined_texts}
-use Rattle.doc_columns.specs.declared.beside.Beside.{Beside}
-use Rattle.doc_columns.specs.Beside.{beside_of}
+use Rattle.doc_columns.specs.declared.attached.Attached.{Attached}
+use Rattle.doc_columns.specs.Attached.{attached_of}
 use Rattle.full_save.specs.declared.measures.Measure.{Measure}
 use Rattle.full_save.specs.declared.measures.Measure.TheVariants.{Fields, SepxBytes}
 use Rattle.full_save.specs.Sections.{is_plain_section, sepx_bytes, sepxes}
@@ -35,65 +35,67 @@ use Rattle.full_save.proofs.ListLemmas.{drop_here}
 -- ---- runs
 
 -- the first runs count so much
-pub record AreMeasured (measure : Measure) (runs : List (Run Beside)) (k sum : ℕ) : Type 0 where
-  pub is : sum ≡ sum_by (measured measure) (spread (take k runs))
-  pub bound : sum ≤ 503 * extent (take k runs)
+pub record AreMeasured (measure : Measure) (runs : List (Run Attached)) (k sum : ℕ) : Type 0 where
+  pub is : sum ≡ sum_by (measured measure) (expanded (take k runs))
+  pub bound : sum ≤ 503 * total_len (take k runs)
 
-pub none_measured : (measure : Measure) (runs : List (Run Beside)) → AreMeasured measure runs 0 0
+pub none_measured : (measure : Measure) (runs : List (Run Attached)) → AreMeasured measure runs 0 0
 none_measured measure runs = record {
-  is = sym (ap (sum_by (measured measure)) (spread-nil Beside));
+  is = sym (ap (sum_by (measured measure)) (spread-nil Attached));
   bound = omega arith;
 }
 
-pub one_measured : (measure : Measure) (runs : List (Run Beside)) (k sum more : ℕ) (run : Run Beside) →
+pub one_measured : (measure : Measure) (runs : List (Run Attached)) (k sum more : ℕ) (run : Run Attached) →
     slice_get runs k ≡ Some run → more ≡ run.count * measured measure run.value → more ≤ run.count * 503 →
     AreMeasured measure runs k sum → AreMeasured measure runs (k + 1) (sum + more)
 one_measured measure runs k sum more run here is bound so =
     let f = measured measure in
     let below = slice_get_within runs k run here in
     let same : get_or runs k run ≡ run = get_or_from_slice_get runs k run run here in
-    let count : (get_or runs k run).count ≡ run.count = ap (λ (r : Run Beside). r.count) same in
+    let count : (get_or runs k run).count ≡ run.count = ap (λ (r : Run Attached). r.count) same in
     let front : take (k + 1) runs ≡ take k runs ++ run ∷ [] =
-    take_more runs k run below ∙ ap (λ (r : Run Beside). take k runs ++ r ∷ []) same in
+    take_more runs k run below ∙ ap (λ (r : Run Attached). take k runs ++ r ∷ []) same in
     let before = so.bound in
     record {
       is = (λ i. so.is i + (is ∙ sym (sum_by-replicate f run.count run.value)) i)
-          ∙ sym (sum_by-append f (spread (take k runs)) (replicate run.count run.value))
-          ∙ ap (sum_by f) (sym (ap spread front ∙ spread_push (take k runs) run));
+          ∙ sym (sum_by-append f (expanded (take k runs)) (replicate run.count run.value))
+          ∙ ap (sum_by f) (sym (ap expanded front ∙ spread_push (take k runs) run));
       bound = omega (arith, before, bound, count, extent_more runs k run below);
     }
 
-pub all_measured : (measure : Measure) (runs : List (Run Beside)) (k sum : ℕ) → length runs ≤ k →
+pub all_measured : (measure : Measure) (runs : List (Run Attached)) (k sum : ℕ) → length runs ≤ k →
     AreMeasured measure runs k sum → AreMeasured measure runs (length runs) sum
 all_measured measure runs k sum all so =
     let same : take k runs ≡ take (length runs) runs =
     take_all k runs all ∙ sym (take_all (length runs) runs (omega arith)) in
     record {
-      is = so.is ∙ ap (λ (rs : List (Run Beside)). sum_by (measured measure) (spread rs)) same;
-      bound = subst (λ (rs : List (Run Beside)). sum ≤ 503 * extent rs) same so.bound;
+      is = so.is ∙ ap (λ (rs : List (Run Attached)). sum_by (measured measure) (expanded rs)) same;
+      bound = subst (λ (rs : List (Run Attached)). sum ≤ 503 * total_len rs) same so.bound;
     }
 
 -- what stands beside the items of a text is measurable
-pub beside_measurable : (measure : Measure) (text : List Item) (besides : List Beside) → besides ≡ map beside_of text →
-    All (λ (item : Item). IsMeasurable measure (beside_of item)) text → All (IsMeasurable measure) besides
-beside_measurable measure text besides is all =
+pub attached_measurable : (measure : Measure) (text : List Item) (attachments : List Attached) → attachments ≡ map
+    attached_of text →
+    All (λ (item : Item). IsMeasurable measure (attached_of item)) text → All (IsMeasurable measure) attachments
+attached_measurable measure text attachments is all =
     subst (All (IsMeasurable measure)) (sym is)
-    (All-from_slice_get (IsMeasurable measure) (map beside_of text) (λ k beside here.
-    let from = from_map beside_of text k beside here in
+    (All-from_slice_get (IsMeasurable measure) (map attached_of text) (λ k attached here.
+    let from = from_map attached_of text k attached here in
     subst (IsMeasurable measure) from.1.1
-    (All_at (λ (item : Item). IsMeasurable measure (beside_of item)) text k from.0 all from.1.0)))
+    (All_at (λ (item : Item). IsMeasurable measure (attached_of item)) text k from.0 all from.1.0)))
 
 -- a text counts what stands beside its items
-pub beside_measure : (measure : Measure) (text : List Item) (besides : List Beside) → besides ≡ map beside_of text →
-    sum_by (measured measure) besides ≡ text_measure measure text
-beside_measure measure text besides is =
-    ap (sum_by (measured measure)) is ∙ sum_by-of_map (measured measure) beside_of text
+pub attached_measure : (measure : Measure) (text : List Item) (attachments : List Attached) → attachments ≡ map
+    attached_of text →
+    sum_by (measured measure) attachments ≡ text_measure measure text
+attached_measure measure text attachments is =
+    ap (sum_by (measured measure)) is ∙ sum_by-of_map (measured measure) attached_of text
 
 -- where no Sepxes are measured, all is measurable
 pub plain_measurable : (measure : Measure) (text : List Item) → ¬ (measure ≡ SepxBytes) →
-    All (λ (item : Item). IsMeasurable measure (beside_of item)) text
+    All (λ (item : Item). IsMeasurable measure (attached_of item)) text
 plain_measurable measure text other =
-    All-from_slice_get (λ (item : Item). IsMeasurable measure (beside_of item)) text
+    All-from_slice_get (λ (item : Item). IsMeasurable measure (attached_of item)) text
     (λ k item here is. absurd (other is))
 
 -- ---- texts
@@ -117,7 +119,7 @@ one_text_measured texts k units fields more count text here long is bound so =
     ap joined_texts (drop_here texts k [] below) ∙ ap (λ (t : List Item). t ++ rest) same in
     let length_left = ap length left ∙ length-append text rest in
     let fields_left = ap (text_measure Fields) left
-    ∙ sum_by-append (λ (item : Item). measured Fields (beside_of item)) text rest in
+    ∙ sum_by-append (λ (item : Item). measured Fields (attached_of item)) text rest in
     let u = so.units_are in
     let f = so.fields_are in
     let b = so.bound in
@@ -144,10 +146,10 @@ length-collected what has from (item ∷ items) each =
     ∙ (λ i. each item i + length-collected what has (from + 1) items each i)
     ∙ sym (sum_by-cons has item items)
 
-entry_sepxes : (o : Option Settings) (cp : ℕ) (rest : List (ℕ × Settings)) →
+entry_sepxes : (o : Option Properties) (cp : ℕ) (rest : List (ℕ × Properties)) →
     length (sepxes (entry_before o cp rest)) ≡ sepx_length o + length (sepxes rest)
 entry_sepxes None cp rest = omega arith
-entry_sepxes (Some settings) cp rest = length-append (sepx_bytes settings) (sepxes rest)
+entry_sepxes (Some properties) cp rest = length-append (sepx_bytes properties) (sepxes rest)
 
 -- the Sepxes of a text are as long as its sections count
 pub length-sepxes_from : (from : ℕ) (main : List Item) →
@@ -157,7 +159,7 @@ length-sepxes_from from [] = refl
 length-sepxes_from from (item ∷ items) =
     entry_sepxes item.sect from (collected (λ (item : Item). item.sect) (from + 1) items)
     ∙ ap (λ (n : ℕ). sepx_length item.sect + n) (length-sepxes_from (from + 1) items)
-    ∙ sym (sum_by-cons (λ (item : Item). measured SepxBytes (beside_of item)) item items)
+    ∙ sym (sum_by-cons (λ (item : Item). measured SepxBytes (attached_of item)) item items)
 
 -- the pad of so many bytes, by what is left of them
 pad_long : (left : ℕ) → left < 2 → length {A = ℕ} (if left == 0 then [] else 0 ∷ []) ≡ left
@@ -179,12 +181,12 @@ length-counted_list bytes =
       length-number_bytes 2 (length bytes),
     )
 
--- the Sepx of a section that has settings
-pub sepx_long : (settings : Settings) (plain : Bool) → is_plain_section settings ≡ plain → false ≡ plain →
-    length (sepx_bytes settings) ≡ 2 + length (printed_list settings) + length (printed_list settings) % 2
-sepx_long settings plain is not =
-    let bytes : Bool → List ℕ = λ b. if b then [] else written_counted (printed_list settings) in
-    ap (λ (b : Bool). length (bytes b)) (is ∙ sym not) ∙ length-counted_list (printed_list settings)
+-- the Sepx of a section that has properties
+pub sepx_long : (properties : Properties) (plain : Bool) → is_plain_section properties ≡ plain → false ≡ plain →
+    length (sepx_bytes properties) ≡ 2 + length (printed_list properties) + length (printed_list properties) % 2
+sepx_long properties plain is not =
+    let bytes : Bool → List ℕ = λ b. if b then [] else written_counted (printed_list properties) in
+    ap (λ (b : Bool). length (bytes b)) (is ∙ sym not) ∙ length-counted_list (printed_list properties)
 
 -- ---- bookmarks
 

@@ -3,7 +3,7 @@ use Rattle.std.proofs.Common.{◌≡◌, ◌≤◌, ◌<◌, ◌+◌, ◌-◌, �
 use Rattle.std.proofs.Common.{[], ◌∷◌, ◌++◌, length, take, drop, get_or, Some, slice_get, arith}
 use Rattle.std.specs.Prelude.{slice_range, option_map}
 use Rattle.std.proofs.Common.{length-drop}
-use Rattle.std.proofs.lemmas.List.{append_assoc, take_more, get_or-drop, drop-drop}
+use Rattle.std.proofs.lemmas.List.{append_assoc, take_more, get_or-drop}
 use Rattle.std.proofs.lemmas.Bool.{cases_Bool, cases_lt}
 use Rattle.std.proofs.lemmas.Option.{slice_get_within, slice_get-get_or, same_Some}
 use Rattle.cfb_streams.specs.Contents.{NamedBytes, AreStreams}
@@ -13,6 +13,7 @@ use Rattle.cfb_layout.specs.Layout.{lengths_of}
 use Rattle.full_save.specs.Streams.{is_name_before, saved_streams, IsPlaceFor}
 use Rattle.full_save.proofs.NameOrder.{before_is, before_from}
 use Rattle.full_save.proofs.StreamLemmas.{streams_front, saved_in_parts}
+use Rattle.doc_bits.proofs.ListLemmas.{range_split}
 
 take_none : {A : Type 0} (b : ℕ) → let none : List A = [] in take b none ≡ none
 take_none zero = refl
@@ -26,17 +27,6 @@ take_split {A = A} (suc a) b [] =
 take_split (suc a) b (x ∷ xs) =
     let e : suc a + b ≡ suc (a + b) = omega arith in
     ap (λ (n : ℕ). take n (x ∷ xs)) e ∙ ap (λ (ys : List _). x ∷ ys) (take_split a b xs)
-
--- a part of a list in two
-pub range_split : {A : Type 0} (xs : List A) (from i to : ℕ) → from ≤ i → i ≤ to →
-    slice_range xs from to ≡ slice_range xs from i ++ slice_range xs i to
-range_split xs from i to low high =
-    let e : to - from ≡ (i - from) + (to - i) = omega arith in
-    let at : from + (i - from) ≡ i = omega arith in
-    ap (λ (n : ℕ). take n (drop from xs)) e
-    ∙ (take_split (i - from) (to - i) (drop from xs)
-    ∙ ap (λ (ys : List _). slice_range xs from i ++ take (to - i) ys) (drop-drop (i - from) from xs ∙ ap
-    (λ (n : ℕ). drop n xs) at))
 
 -- a part with one element more
 pub range_next : {A : Type 0} (xs : List A) (from i : ℕ) (d : A) → from ≤ i → i < length xs →

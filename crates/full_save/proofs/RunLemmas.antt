@@ -1,6 +1,6 @@
 -- Runs that are closed as a text is gone through.
-use Rattle.std.proofs.Common.{◌≡◌, ◌≤◌, ◌<◌, ◌+◌, ◌-◌, ◌*◌, ◌∙◌, ap, refl, sym, inl, inr, ℕ, suc, Bool, true, false}
-use Rattle.std.proofs.Common.{List, [], ◌∷◌, ◌++◌, length, slice_get, Option, Some, None, arith}
+use Rattle.std.proofs.Common.{◌≡◌, ◌≤◌, ◌<◌, ◌+◌, ◌-◌, ◌*◌, ◌∙◌, ap, refl, sym, inl, inr, ℕ, Bool, true, false}
+use Rattle.std.proofs.Common.{List, [], ◌∷◌, ◌++◌, length, slice_get, arith}
 use Rattle.std.proofs.lemmas.List.{append_assoc, length-append, append-nil, nil_from_length}
 use Rattle.std.proofs.lemmas.Bool.{cases_lt}
 use Rattle.std.proofs.Math.Seq.{take-append_seam, drop-append_seam}
@@ -8,22 +8,12 @@ use Rattle.doc_bits.proofs.ListLemmas.{slice_get_push, slice_get_before}
 use Rattle.fkp_pages.specs.declared.kind.PageKind.{PageKind}
 use Rattle.fkp_pages.specs.declared.lists.Run.{Run}
 use Rattle.plain_doc.specs.declared.item.Item.{Item}
-use Rattle.plain_doc.specs.Stretches.{stretches, joins_next, IsJoined, goes_over, BeginsStretch}
+use Rattle.plain_doc.specs.Stretches.{stretches, IsJoined, goes_over, BeginsStretch}
 use Rattle.plain_doc.proofs.StretchLemmas.{stretches-first, stretches-nil}
 use Rattle.full_save.specs.Runs.{joins_run, run_at, runs_from, text_runs}
 use Rattle.full_save.specs.RunsSoFar.{AreRunsSoFar}
-
--- what stands behind a list
-pub slice_get_behind : {A : Type 0} (xs ys : List A) (k : ℕ) → slice_get (xs ++ ys) (length xs + k) ≡ slice_get ys k
-slice_get_behind [] ys k = let e : 0 + k ≡ k = omega arith in ap (slice_get ys) e
-slice_get_behind (x ∷ xs) ys k =
-    let e : suc (length xs) + k ≡ suc (length xs + k) = omega arith in
-    ap (slice_get (x ∷ (xs ++ ys))) e ∙ slice_get_behind xs ys k
-
--- the last element joins no next one where there is none
-pub joins_none : {A : Type 0} (joins : A → A → Bool) (x : Option A) → joins_next joins x None ≡ false
-joins_none joins None = refl
-joins_none joins (Some x) = refl
+use Rattle.doc_bits.proofs.TogetherLemmas.{from_behind}
+use Rattle.plain_doc.proofs.CutLemmas.{joins_nothing}
 
 -- a part whose elements join, and whose last one does not join what follows, is the first stretch
 pub first_cut :
@@ -39,7 +29,7 @@ first_cut joins part more some joined ends =
           let here : k < length part = omega arith in
           rw (slice_get_before part more k here, slice_get_before part more (k + 1) h) (joined k h);
       ends =
-          rw (slice_get_before part more (length part - 1) last, next, slice_get_behind part more 0) ends;
+          rw (slice_get_before part more (length part - 1) last, next, from_behind part more 0) ends;
     } in
     stretches-first joins (part ++ more) (length part) begins
     ∙ rw (take-append_seam part more, drop-append_seam part more) refl
@@ -140,7 +130,7 @@ pub last_closed :
     closed ++ run_at kind from part ∷ [] ≡ text_runs kind at done
 unfolding runs_from
 last_closed kind at done closed from part some runs =
-    let none = joins_none (joins_run kind) (slice_get part (length part - 1)) in
+    let none = joins_nothing (joins_run kind) (slice_get part (length part - 1)) in
     let cut = close_part kind closed from part [] some runs.joined none in
     let nothing = stretches-nil (joins_run kind) in
     sym (append-nil (closed ++ run_at kind from part ∷ []))

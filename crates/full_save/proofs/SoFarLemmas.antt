@@ -6,18 +6,18 @@ use Rattle.std.specs.FinMap.{empty}
 use Rattle.std.proofs.lemmas.List.{length-append}
 use Rattle.std.proofs.lemmas.Option.{same_Some}
 use Rattle.doc_bits.proofs.ListLemmas.{slice_get_push, there_is}
-use Rattle.prop_map.specs.Settings.{Settings}
+use Rattle.prop_map.specs.Settings.{Properties}
 use Rattle.fkp_pages.specs.declared.kind.PageKind.{PageKind}
 use Rattle.fkp_pages.specs.declared.kind.PageKind.TheVariants.{Chpx, Papx}
 use Rattle.fkp_pages.specs.declared.lists.Run.{Run}
 use Rattle.plain_doc.specs.declared.item.Mark.{Mark}
 use Rattle.plain_doc.specs.declared.item.Item.{Item}
-use Rattle.plain_doc.specs.Settings.{is_alike, is_inside, same_settings}
+use Rattle.plain_doc.specs.Settings.{is_alike, is_inside, same_properties}
 use Rattle.plain_doc.specs.Stretches.{joins_next, goes_over}
-use Rattle.plain_doc.proofs.SettingsLemmas.{same_settings-Decides}
+use Rattle.plain_doc.proofs.SettingsLemmas.{same_properties-Decides}
 use Rattle.full_save.specs.declared.runs.CharacterRuns.{CharacterRuns}
 use Rattle.full_save.specs.declared.runs.ParagraphRuns.{ParagraphRuns}
-use Rattle.full_save.specs.Runs.{item_settings, mark_settings, run_at, text_runs}
+use Rattle.full_save.specs.Runs.{item_properties, mark_properties, run_at, text_runs}
 use Rattle.full_save.specs.RunsSoFar.{RunsSoFar, AreRunsSoFar, EndsWith, AreCharactersSoFar, AreParagraphsSoFar}
 use Rattle.full_save.proofs.RunLemmas.{joined_more, grow_part, close_before, close_behind, all_closed, last_closed}
 
@@ -35,16 +35,16 @@ ends_push IsSuch part x such item here = subst IsSuch (same_Some x item (sym (la
 
 -- a run by what it has
 run_is :
-    (kind : PageKind) (from end : ℕ) (part : List Item) (settings : ℕ × Settings) →
-    item_settings kind (slice_get part (length part - 1)) ≡ settings → end ≡ from + 2 * length part →
-    run_at kind from part ≡ record { from = from; to = end; istd = settings.0; map = settings.1 }
-run_is kind from end part settings has place =
-    let run : ℕ × Settings → ℕ → Run = λ s to. record { from = from; to = to; istd = s.0; map = s.1 } in
-    ap (λ (s : ℕ × Settings). run s (from + 2 * length part)) has ∙ ap (λ (to : ℕ). run settings to) (sym place)
+    (kind : PageKind) (from end : ℕ) (part : List Item) (properties : ℕ × Properties) →
+    item_properties kind (slice_get part (length part - 1)) ≡ properties → end ≡ from + 2 * length part →
+    run_at kind from part ≡ record { from = from; to = end; istd = properties.0; map = properties.1 }
+run_is kind from end part properties has place =
+    let run : ℕ × Properties → ℕ → Run = λ s to. record { from = from; to = to; istd = s.0; map = s.1 } in
+    ap (λ (s : ℕ × Properties). run s (from + 2 * length part)) has ∙ ap (λ (to : ℕ). run properties to) (sym place)
 
 -- ---- characters
 
--- an item with the settings of the last run
+-- an item with the properties of the last run
 pub characters_go_on :
     (at : ℕ) (done : List Item) (item : Item) (runs : CharacterRuns) → runs.chp ≡ item.chp →
     AreCharactersSoFar at done runs → AreCharactersSoFar at (done ++ item ∷ []) runs
@@ -53,7 +53,7 @@ characters_go_on at done item runs same so =
     let last = last_is so.part some in
     let chp : last.0.chp ≡ item.chp = so.last last.0 last.1 ∙ same in
     ap (λ (o : Option Item). joins_next is_alike o (Some item)) last.1
-    ∙ (same_settings-Decides last.0.chp item.chp).1 chp in
+    ∙ (same_properties-Decides last.0.chp item.chp).1 chp in
     record {
       part = so.part ++ item ∷ [];
       are = grow_part Chpx at done runs.closed runs.from so.part item (joined_more is_alike so.part item so.are.joined
@@ -74,7 +74,7 @@ false_from : (b : Bool) → ¬ (b ≡ true) → b ≡ false
 false_from true h = absurd (h refl)
 false_from false h = refl
 
--- an item with other settings
+-- an item with other properties
 pub characters_change :
     (at end : ℕ) (done : List Item) (item : Item) (old new : CharacterRuns) → end ≡ at + 2 * length done →
     old.from ≢ end → old.chp ≢ item.chp →
@@ -87,13 +87,13 @@ characters_change at end done item old new here apart other closed from chp so =
     let stands = so.are.stands in
     let last = last_is so.part some in
     let has : last.0.chp ≡ old.chp = so.last last.0 last.1 in
-    let not_alike : ¬ (same_settings last.0.chp item.chp ≡ true) = λ same.
-    other (sym has ∙ (same_settings-Decides last.0.chp item.chp).0 same) in
+    let not_alike : ¬ (same_properties last.0.chp item.chp ≡ true) = λ same.
+    other (sym has ∙ (same_properties-Decides last.0.chp item.chp).0 same) in
     let ends : goes_over is_alike so.part (item ∷ []) ≡ false =
-    ap (λ (o : Option Item). joins_next is_alike o (Some item)) last.1 ∙ false_from (same_settings last.0.chp
+    ap (λ (o : Option Item). joins_next is_alike o (Some item)) last.1 ∙ false_from (same_properties last.0.chp
     item.chp) not_alike in
     let run = run_is Chpx old.from end so.part (0, old.chp)
-    (ap (item_settings Chpx) last.1 ∙ ap (λ (s : Settings). (0, s)) has) (omega arith) in
+    (ap (item_properties Chpx) last.1 ∙ ap (λ (s : Properties). (0, s)) has) (omega arith) in
     let before = close_before Chpx at done old.closed old.from end so.part item some ends here so.are in
     let closed_is : new.closed ≡ old.closed ++ run_at Chpx old.from so.part ∷ [] =
     closed ∙ ap (λ (r : Run). old.closed ++ r ∷ []) (sym run) in
@@ -133,7 +133,7 @@ characters_left at end done runs closed here apart is so =
     let last = last_is so.part some in
     let has : last.0.chp ≡ runs.chp = so.last last.0 last.1 in
     let run = run_is Chpx runs.from end so.part (0, runs.chp)
-    (ap (item_settings Chpx) last.1 ∙ ap (λ (s : Settings). (0, s)) has) (omega arith) in
+    (ap (item_properties Chpx) last.1 ∙ ap (λ (s : Properties). (0, s)) has) (omega arith) in
     is ∙ (ap (λ (r : Run). runs.closed ++ r ∷ []) (sym run) ∙ last_closed Chpx at done runs.closed runs.from so.part
     some so.are)
 
@@ -183,7 +183,7 @@ paragraphs_end at end done item mark old new here has closed from so =
     let stands = grown.stands in
     let some : 1 ≤ length part = omega (arith, length-append so.part (item ∷ [])) in
     let run = run_is Papx old.from end part (mark.istd, mark.pap)
-    (ap (item_settings Papx) (last_push so.part item) ∙ ap mark_settings has) (omega arith) in
+    (ap (item_properties Papx) (last_push so.part item) ∙ ap mark_properties has) (omega arith) in
     let behind = close_behind Papx at (done ++ item ∷ []) old.closed old.from end part some
     (λ more. marked so.part more item mark has) here grown in
     let closed_is : new.closed ≡ old.closed ++ run_at Papx old.from part ∷ [] =
@@ -223,6 +223,6 @@ paragraphs_left at end done runs closed here apart is so =
     let stands = so.are.stands in
     let last = last_is so.part some in
     let run = run_is Papx runs.from end so.part (0, empty)
-    (ap (item_settings Papx) last.1 ∙ ap mark_settings (so.last last.0 last.1)) (omega arith) in
+    (ap (item_properties Papx) last.1 ∙ ap mark_properties (so.last last.0 last.1)) (omega arith) in
     is ∙ (ap (λ (r : Run). runs.closed ++ r ∷ []) (sym run) ∙ last_closed Papx at done runs.closed runs.from so.part
     some so.are)

@@ -12,7 +12,7 @@ use Rattle.std.proofs.lemmas.List.{length-map, length-replicate}
 use Rattle.std.proofs.lemmas.List.Elements.{All-head, All-tail}
 use Rattle.doc_bits.specs.Number.{number_bytes, numbers}
 use Rattle.doc_bits.proofs.NumberLemmas.{length-number_bytes, length-numbers}
-use Rattle.prop_map.specs.Settings.{Settings}
+use Rattle.prop_map.specs.Settings.{Properties}
 use Rattle.prop_map.specs.Printing.{printed_list}
 use Rattle.fib_form.specs.TableEntries.{TableEntry, entry}
 use Rattle.fkp_pages.specs.declared.kind.PageKind.{PageKind}
@@ -47,7 +47,7 @@ use Rattle.plain_doc.specs.Collected.{refs_of, is_auto}
 use Rattle.plain_doc.specs.TextLists.{cuts_of}
 use Rattle.plain_doc.specs.Carried.{ArePartsShort}
 use Rattle.plain_doc.specs.Formed.{IsFormed, carried_parts}
-use Rattle.plain_doc.specs.RightDocument.{IsRightDocument}
+use Rattle.plain_doc.specs.RightDocument.{IsValidDocument}
 use Rattle.plain_doc.specs.Stretches.{stretches}
 use Rattle.plain_doc.proofs.CollectedLemmas.{length-cuts_from}
 use Rattle.plain_doc.proofs.CutLemmas.{are_stretches}
@@ -89,7 +89,7 @@ few_runs kind at items =
     omega (arith, few, length-runs_from kind at parts, ap length cut.whole)
 
 -- nor pages
-pub few_pages : (kind : PageKind) (document : Document) → IsFormed document → IsRightDocument document →
+pub few_pages : (kind : PageKind) (document : Document) → IsFormed document → IsValidDocument document →
     length (document_pages kind document).starts ≤ length (text_items document)
 few_pages kind document formed right =
     let few = (whole_pages kind document formed right).few in
@@ -103,7 +103,7 @@ few_before None cp rest = omega arith
 few_before (Some value) cp rest = omega arith
 
 -- no more entries than items
-few_collected : {A : Type 0} (what : Item → Option A) (from : ℕ) (items : List Item) →
+pub few_collected : {A : Type 0} (what : Item → Option A) (from : ℕ) (items : List Item) →
     length (collected what from items) ≤ length items
 unfolding collected
 few_collected what from [] = omega arith
@@ -129,15 +129,16 @@ length-counted bytes =
     let b = length-append bytes pad in
     omega (arith, a, b, length-number_bytes 2 (length bytes), length-pad bytes)
 
-pub length-sepx : (settings : Settings) → length (printed_list settings) ≤ 500 → length (sepx_bytes settings) ≤ 503
-length-sepx settings short =
+pub length-sepx : (properties : Properties) → length (printed_list properties) ≤ 500 → length (sepx_bytes properties) ≤
+    503
+length-sepx properties short =
     let none : List ℕ = [] in
-    cond_both (is_plain_section settings) none (written_counted (printed_list settings))
+    cond_both (is_plain_section properties) none (written_counted (printed_list properties))
     (λ (bytes : List ℕ). length bytes ≤ 503)
-    (λ plain. omega arith) (λ listed. omega (arith, short, length-counted (printed_list settings)))
+    (λ plain. omega arith) (λ listed. omega (arith, short, length-counted (printed_list properties)))
 
-length-sepxes : (sections : List (ℕ × Settings)) →
-    ((k : ℕ) (section : ℕ × Settings) → slice_get sections k ≡ Some section → length (printed_list section.1) ≤ 500) →
+length-sepxes : (sections : List (ℕ × Properties)) →
+    ((k : ℕ) (section : ℕ × Properties) → slice_get sections k ≡ Some section → length (printed_list section.1) ≤ 500) →
     length (sepxes sections) ≤ 503 * length sections
 length-sepxes [] short = omega arith
 length-sepxes (section ∷ sections) short =
@@ -145,10 +146,10 @@ length-sepxes (section ∷ sections) short =
     let rest = length-sepxes sections (λ k other here. short (suc k) other here) in
     omega (arith, first, rest, length-append (sepx_bytes section.1) (sepxes sections))
 
-short_sections : (document : Document) → IsRightDocument document →
+short_sections : (document : Document) → IsValidDocument document →
     length (sepxes (sections_of document.main)) ≤ 503 * length document.main
 short_sections document right =
-    let short : (k : ℕ) (section : ℕ × Settings) → slice_get (sections_of document.main) k ≡ Some section →
+    let short : (k : ℕ) (section : ℕ × Properties) → slice_get (sections_of document.main) k ≡ Some section →
     length (printed_list section.1) ≤ 500 = λ k section here.
     let from = collected_from (λ (item : Item). item.sect) 0 document.main k section here in
     let item_short = (right.texts Main document.main refl).short from.index from.item from.here in
@@ -158,7 +159,7 @@ short_sections document right =
 
 -- ---- WordDocument
 
-pub short_body : (document : Document) → IsFormed document → IsRightDocument document →
+pub short_body : (document : Document) → IsFormed document → IsValidDocument document →
     length (wd_body document) < 2 ^ 30
 unfolding wd_body
 short_body document formed right =
@@ -232,7 +233,7 @@ texts_short joined texts len =
           (λ cp. omega arith) (omega arith),
     )
 
-pub length-seds : (start place : ℕ) (sections : List (ℕ × Settings)) →
+pub length-seds : (start place : ℕ) (sections : List (ℕ × Properties)) →
     length (seds_from start place sections) ≡ length sections
 unfolding seds_from
 length-seds start place [] = refl
@@ -263,7 +264,7 @@ bins_short bins end =
     let d = length-map bins (λ (bin : Bin). bin.page) in
     omega (arith, a, b, c, d, length-numbers (firsts ++ end ∷ []), length-numbers pages)
 
-table_short : (kind : PageKind) (document : Document) (number : ℕ) → IsFormed document → IsRightDocument document →
+table_short : (kind : PageKind) (document : Document) (number : ℕ) → IsFormed document → IsValidDocument document →
     length (bin_table kind (document_runs kind document) number) ≤ 8 * length (text_items document) + 4
 table_short kind document number formed right =
     let starts = (document_pages kind document).starts in
@@ -390,7 +391,7 @@ last_entries d =
     ∷ entry 74 d.carried.lfo
     ∷ []
 
-pub short_table : (document : Document) → IsFormed document → IsRightDocument document →
+pub short_table : (document : Document) → IsFormed document → IsValidDocument document →
     length (table_stream document) < 2 ^ 46
 unfolding table_stream
 short_table d formed right =

@@ -1,4 +1,4 @@
--- The runs of a text: each item is in one with its settings, and pages can be written of them.
+-- The runs of a text: each item is in one with its properties, and pages can be written of them.
 use Rattle.std.specs.Prelude.{slice_get, is_some, All}
 use Rattle.std.specs.Option.{ForSome}
 use Rattle.std.specs.FinMap.{empty}
@@ -10,7 +10,7 @@ use Rattle.std.proofs.lemmas.Bool.{cases_lt, true≢false}
 use Rattle.std.proofs.lemmas.List.Elements.{All-nil, All-cons, All-head, All-tail}
 use Rattle.std.proofs.lemmas.Option.{slice_get_within, same_Some, none-some}
 use Rattle.doc_bits.proofs.ListLemmas.{there_is, All_at, All-from_slice_get}
-use Rattle.prop_map.specs.Settings.{Settings}
+use Rattle.prop_map.specs.Settings.{Properties}
 use Rattle.prop_map.specs.Formed.{IsPropertyMap, character_groups, paragraph_groups}
 use Rattle.prop_map.specs.Printing.{printed_list}
 use Rattle.prop_map.proofs.ActingLemmas.{IsPropertyMap-empty}
@@ -25,8 +25,8 @@ use Rattle.plain_doc.specs.Collected.{joined_texts}
 use Rattle.plain_doc.specs.Stretches.{stretches, joins_next, IsJoined}
 use Rattle.plain_doc.specs.Settings.{is_alike, is_inside}
 use Rattle.plain_doc.proofs.CutLemmas.{are_stretches}
-use Rattle.plain_doc.proofs.SettingsLemmas.{same_settings-Decides}
-use Rattle.full_save.specs.Runs.{joins_run, mark_settings, item_settings, run_at, runs_from, text_runs}
+use Rattle.plain_doc.proofs.SettingsLemmas.{same_properties-Decides}
+use Rattle.full_save.specs.Runs.{joins_run, mark_properties, item_properties, run_at, runs_from, text_runs}
 use Rattle.fkp_pages.specs.Rows.{IsInRun}
 use Rattle.plain_doc.proofs.TextListLemmas.{in_joined}
 
@@ -115,7 +115,7 @@ joined_next joins part k item next joined here there =
     subst (λ o. joins_next joins (Some item) o ≡ true) there
     (subst (λ o. joins_next joins o (slice_get part (k + 1)) ≡ true) here is)
 
--- so many items later the settings of characters are the same
+-- so many items later the properties of characters are the same
 alike_later : (part : List Item) (k n : ℕ) (item later : Item) → IsJoined is_alike part →
     slice_get part k ≡ Some item → slice_get part (k + n) ≡ Some later → item.chp ≡ later.chp
 alike_later part k zero item later joined here there =
@@ -129,9 +129,9 @@ alike_later part k (suc n) item later joined here there =
     let next : slice_get part (k + n + 1) ≡ Some later = subst (λ m. slice_get part m ≡ Some later) e there in
     let joins = joined_next is_alike part (k + n) before.0 later joined before.1 next in
     alike_later part k n item before.0 joined here before.1
-    ∙ (same_settings-Decides before.0.chp later.chp).0 joins
+    ∙ (same_properties-Decides before.0.chp later.chp).0 joins
 
--- each item is in a run of characters that has its settings
+-- each item is in a run of characters that has its properties
 pub character_run : (at : ℕ) (items : List Item) (i : ℕ) (item : Item) → slice_get items i ≡ Some item →
     (run : Run) × (IsInRun (text_runs Chpx at items) (at + 2 * i) run × (run.map ≡ item.chp))
 character_run at items i item here =
@@ -148,7 +148,7 @@ character_run at items i item here =
     alike_later found.part found.offset (length found.part - 1 - found.offset) item last.0 joined found.here there in
     let run = run_at Chpx (at + 2 * length (joined_texts (take found.number parts))) found.part in (
       run,
-      (in_run Chpx at parts i item found, ap (λ o. (item_settings Chpx o).1) last.1 ∙ sym same),
+      (in_run Chpx at parts i item found, ap (λ o. (item_properties Chpx o).1) last.1 ∙ sym same),
     )
 
 -- an item with a mark is the last of its paragraph
@@ -165,7 +165,7 @@ marked_last part k item mark joined here marked =
       | inr all ↦ omega (arith, within, all)
     ]
 
--- each item with a mark is in a run of paragraphs that has the mark's style and settings
+-- each item with a mark is in a run of paragraphs that has the mark's style and properties
 pub paragraph_run : (at : ℕ) (items : List Item) (i : ℕ) (item : Item) (mark : Mark) →
     slice_get items i ≡ Some item → item.mark ≡ Some mark →
     (run : Run) × (IsInRun (text_runs Papx at items) (at + 2 * i) run × ((run.istd ≡ mark.istd) × (run.map ≡ mark.pap)))
@@ -178,13 +178,13 @@ paragraph_run at items i item mark here marked =
     let e : found.offset ≡ length found.part - 1 = omega (arith, last) in
     let there : slice_get found.part (length found.part - 1) ≡ Some item =
     subst (λ n. slice_get found.part n ≡ Some item) e found.here in
-    let settings : item_settings Papx (slice_get found.part (length found.part - 1)) ≡ (mark.istd, mark.pap) =
-    ap (item_settings Papx) there ∙ ap mark_settings marked in
+    let properties : item_properties Papx (slice_get found.part (length found.part - 1)) ≡ (mark.istd, mark.pap) =
+    ap (item_properties Papx) there ∙ ap mark_properties marked in
     let run = run_at Papx (at + 2 * length (joined_texts (take found.number parts))) found.part in (
       run,
       (
         in_run Papx at parts i item found,
-        (ap (λ (s : ℕ × Settings). s.0) settings, ap (λ (s : ℕ × Settings). s.1) settings),
+        (ap (λ (s : ℕ × Properties). s.0) properties, ap (λ (s : ℕ × Properties). s.1) properties),
       ),
     )
 
@@ -195,46 +195,47 @@ pub record IsWritableMark (mark : Mark) : Type 0 where
   pub formed : IsPropertyMap paragraph_groups mark.pap
   pub short : length (printed_list mark.pap) ≤ 480
 
--- its unit and its settings have their bits and fit a page
+-- its unit and its properties have their bits and fit a page
 pub record IsWritableItem (item : Item) : Type 0 where
   pub unit : item.unit < 2 ^ 16
   pub formed : IsPropertyMap character_groups item.chp
   pub short : length (printed_list item.chp) ≤ 255
   pub mark : ForSome item.mark IsWritableMark
 
--- the settings of a run
-record AreRunSettings (kind : PageKind) (settings : ℕ × Settings) : Type 0 where
-  istd : settings.0 < 2 ^ 16
-  formed : IsPropertyMap (run_groups kind) settings.1
-  short : length (printed_list settings.1) ≤ most_printed kind
+-- the properties of a run
+record AreRunProperties (kind : PageKind) (properties : ℕ × Properties) : Type 0 where
+  istd : properties.0 < 2 ^ 16
+  formed : IsPropertyMap (run_groups kind) properties.1
+  short : length (printed_list properties.1) ≤ most_printed kind
 
-no_settings : (kind : PageKind) → AreRunSettings kind (0, empty)
-no_settings Chpx =
+no_properties : (kind : PageKind) → AreRunProperties kind (0, empty)
+no_properties Chpx =
     record {
       istd = omega arith;
       formed = IsPropertyMap-empty (run_groups Chpx);
       short = rw entries-empty (omega arith);
     }
-no_settings Papx =
+no_properties Papx =
     record {
       istd = omega arith;
       formed = IsPropertyMap-empty (run_groups Papx);
       short = rw entries-empty (omega arith);
     }
 
-of_mark : (mark : Option Mark) → ForSome mark IsWritableMark → AreRunSettings Papx (mark_settings mark)
-of_mark None writable = no_settings Papx
+of_mark : (mark : Option Mark) → ForSome mark IsWritableMark → AreRunProperties Papx (mark_properties mark)
+of_mark None writable = no_properties Papx
 of_mark (Some mark) writable =
     let is = writable mark refl in record { istd = is.istd; formed = is.formed; short = is.short }
 
-of_item : (kind : PageKind) (item : Item) → IsWritableItem item → AreRunSettings kind (item_settings kind (Some item))
+of_item : (kind : PageKind) (item : Item) → IsWritableItem item → AreRunProperties kind (item_properties kind (Some
+    item))
 of_item Chpx item writable = record { istd = omega arith; formed = writable.formed; short = writable.short }
 of_item Papx item writable = of_mark item.mark writable.mark
 
 -- a part that is not empty and whose last item can be written
 record IsWritablePart (kind : PageKind) (part : List Item) : Type 0 where
   some : 0 < length part
-  settings : AreRunSettings kind (item_settings kind (slice_get part (length part - 1)))
+  properties : AreRunProperties kind (item_properties kind (slice_get part (length part - 1)))
 
 part_writable : (kind : PageKind) (part : List Item) → 0 < length part →
     ((k : ℕ) (item : Item) → slice_get part k ≡ Some item → IsWritableItem item) → IsWritablePart kind part
@@ -242,8 +243,8 @@ part_writable kind part some writable =
     let last = there_is part (length part - 1) (omega (arith, some)) in
     record {
       some = some;
-      settings =
-          subst (λ o. AreRunSettings kind (item_settings kind o)) (sym last.1)
+      properties =
+          subst (λ o. AreRunProperties kind (item_properties kind o)) (sym last.1)
           (of_item kind last.0 (writable (length part - 1) last.0 last.1));
     }
 
@@ -270,7 +271,7 @@ runs_writable kind at (part ∷ parts) writable =
     let is = All-head (IsWritablePart kind) part parts writable in
     let some = is.some in
     All-cons (IsWritableRun kind) (run_at kind at part) (runs_from kind (at + 2 * length part) parts)
-    (record { order = omega (arith, some); formed = is.settings.formed; short = is.settings.short })
+    (record { order = omega (arith, some); formed = is.properties.formed; short = is.properties.short })
     (runs_writable kind (at + 2 * length part) parts (All-tail (IsWritablePart kind) part parts writable))
 
 runs_touch : (kind : PageKind) (at : ℕ) (parts : List (List Item)) (k : ℕ) (run next : Run) →
@@ -298,7 +299,7 @@ runs_numbers kind at (part ∷ parts) writable small =
     let is = All-head (IsWritablePart kind) part parts writable in
     let len = length-append part (joined_texts parts) in
     All-cons HasFileNumbers (run_at kind at part) (runs_from kind (at + 2 * length part) parts)
-    (record { from = omega (arith, small, len); to = omega (arith, small, len); istd = is.settings.istd })
+    (record { from = omega (arith, small, len); to = omega (arith, small, len); istd = is.properties.istd })
     (runs_numbers kind (at + 2 * length part) parts (All-tail (IsWritablePart kind) part parts writable)
     (omega (arith, small, len)))
 

@@ -26,8 +26,8 @@ use Rattle.plain_doc.specs.declared.document.Document.{Document}
 use Rattle.plain_doc.specs.Collected.{joined_texts}
 use Rattle.plain_doc.specs.Document.{IsFormedItem, IsFormedText}
 use Rattle.plain_doc.specs.Formed.{IsFormed}
-use Rattle.plain_doc.specs.RulesOfItems.{HasShortSettings}
-use Rattle.plain_doc.specs.RightDocument.{IsRightDocument}
+use Rattle.plain_doc.specs.RulesOfItems.{HasShortProperties}
+use Rattle.plain_doc.specs.RightDocument.{IsValidDocument}
 use Rattle.plain_doc.proofs.MainLemmas.{main_ends}
 use Rattle.full_save.specs.Text.{extra_mark, with_mark, note_story, head_story, text_items, text_counts}
 use Rattle.full_save.specs.WordDocument.{text_at, text_bytes, document_runs, document_pages}
@@ -36,7 +36,7 @@ use Rattle.full_save.proofs.StretchRuns.{IsWritableItem, IsWritableMark, AreText
 
 -- ---- what can be written of its items
 
-item_writable : (item : Item) → IsFormedItem item → HasShortSettings item → IsWritableItem item
+item_writable : (item : Item) → IsFormedItem item → HasShortProperties item → IsWritableItem item
 item_writable item formed short = record {
   unit = formed.unit;
   formed = formed.maps.chp;
@@ -49,14 +49,14 @@ item_writable item formed short = record {
 }
 
 text_writable : (text : List Item) → IsFormedText text →
-    ((k : ℕ) (item : Item) → slice_get text k ≡ Some item → HasShortSettings item) → All IsWritableItem text
+    ((k : ℕ) (item : Item) → slice_get text k ≡ Some item → HasShortProperties item) → All IsWritableItem text
 text_writable text formed short =
     All-from_slice_get IsWritableItem text (λ k item here.
     item_writable item (All_at IsFormedItem text k item formed.each here) (short k item here))
 
 texts_writable : (texts : List (List Item)) → All IsFormedText texts →
     ((k : ℕ) (text : List Item) → slice_get texts k ≡ Some text → (i : ℕ) (item : Item) →
-    slice_get text i ≡ Some item → HasShortSettings item) →
+    slice_get text i ≡ Some item → HasShortProperties item) →
     All IsWritableItem (joined_texts texts)
 texts_writable texts formed short =
     joined_all IsWritableItem texts (λ k text there.
@@ -88,7 +88,7 @@ with_mark_writable (item ∷ items) all =
     All-append IsWritableItem (item ∷ items) (extra_mark ∷ []) all
     (All-cons IsWritableItem extra_mark [] mark_writable (All-nil IsWritableItem))
 
-pub items_writable : (document : Document) → IsFormed document → IsRightDocument document →
+pub items_writable : (document : Document) → IsFormed document → IsValidDocument document →
     All IsWritableItem (text_items document)
 unfolding text_items note_story head_story
 items_writable d formed right =
@@ -121,7 +121,7 @@ pub record AreFew (document : Document) : Type 0 where
   pub some : 1 ≤ length (text_items document)
   pub all : length (text_items document) ≤ 500001
 
-pub few_items : (document : Document) → IsRightDocument document → AreFew document
+pub few_items : (document : Document) → IsValidDocument document → AreFew document
 unfolding text_items note_story head_story
 few_items d right =
     let some = (main_ends d right).some in
@@ -144,7 +144,7 @@ few_items d right =
       all = omega (arith, all, some, most, notes, heads, n, h, both, last);
     }
 
-pub counts_are : (document : Document) → IsRightDocument document → AreCounts (text_counts document)
+pub counts_are : (document : Document) → IsValidDocument document → AreCounts (text_counts document)
 unfolding text_counts
 counts_are document right =
     let few = few_items document right in
@@ -153,26 +153,26 @@ counts_are document right =
 
 -- ---- runs and pages
 
-pub runs_are : (kind : PageKind) (document : Document) → IsFormed document → IsRightDocument document →
+pub runs_are : (kind : PageKind) (document : Document) → IsFormed document → IsValidDocument document →
     AreTextRuns kind (document_runs kind document)
 runs_are kind document formed right =
     let few = few_items document right in
     text_runs_right kind text_at (text_items document) (items_writable document formed right) (omega (arith, few.some))
     (omega (arith, few.all))
 
-pub pages_are : (kind : PageKind) (document : Document) → IsFormed document → IsRightDocument document →
+pub pages_are : (kind : PageKind) (document : Document) → IsFormed document → IsValidDocument document →
     ArePagesOf kind (document_runs kind document) (document_pages kind document)
 pages_are kind document formed right =
     runs_have_pages kind (document_runs kind document) (runs_are kind document formed right).right.writable
 
 -- its pages are whole, and no more than its runs
-pub whole_pages : (kind : PageKind) (document : Document) → IsFormed document → IsRightDocument document →
+pub whole_pages : (kind : PageKind) (document : Document) → IsFormed document → IsValidDocument document →
     AreWholePages (document_runs kind document) (document_pages kind document)
 whole_pages kind document formed right =
     pages_are_whole kind (document_runs kind document) (document_pages kind document)
     (runs_are kind document formed right).right (pages_are kind document formed right)
 
-pub length-pages : (kind : PageKind) (document : Document) → IsFormed document → IsRightDocument document →
+pub length-pages : (kind : PageKind) (document : Document) → IsFormed document → IsValidDocument document →
     length (document_pages kind document).bytes ≡ 512 * length (document_pages kind document).starts
 length-pages kind document formed right = (whole_pages kind document formed right).size
 

@@ -1,8 +1,8 @@
 -- A text that goes on by items, and the marks behind stories.
 use Rattle.std.proofs.Common.{◌≡◌, ◌≤◌, ◌<◌, ◌+◌, ◌∙◌, ap, refl, sym, subst, inl, inr, ℕ, Bool, true, false, List, []}
-use Rattle.std.proofs.Common.{◌∷◌, ◌++◌, length, map, take, drop, get_or, arith, lt-ltb}
+use Rattle.std.proofs.Common.{◌∷◌, ◌++◌, length, map, take, get_or, arith, lt-ltb}
 use Rattle.std.specs.Prelude.{nat_lt}
-use Rattle.std.proofs.lemmas.List.{append_assoc, length-append, append-nil, take_more, take-append-drop, map-append}
+use Rattle.std.proofs.lemmas.List.{append_assoc, length-append, append-nil, take_more, map-append}
 use Rattle.std.proofs.lemmas.Grind.{flat_map-append}
 use Rattle.std.proofs.lemmas.Bool.{cases_lt, ltb-true}
 use Rattle.doc_bits.specs.Number.{number_bytes}
@@ -59,14 +59,6 @@ joined_next texts k low =
     ap joined_texts (take_more texts k [] low)
     ∙ (flat_map-append (λ (text : List Item). text) (take k texts) (get_or texts k [] ∷ [])
     ∙ ap (λ (more : List Item). joined_texts (take k texts) ++ more) (append-nil (get_or texts k [])))
-
-pub joined_front : (texts : List (List Item)) (k : ℕ) → length (joined_texts (take k texts)) ≤ length (joined_texts
-    texts)
-joined_front texts k =
-    let whole = ap joined_texts (sym (take-append-drop k texts))
-    ∙ flat_map-append (λ (text : List Item). text) (take k texts) (drop k texts) in
-    let len = ap length whole in
-    omega (arith, len, length-append (joined_texts (take k texts)) (joined_texts (drop k texts)))
 
 -- ---- the text of a document
 

@@ -2,7 +2,7 @@
 use Rattle.std.specs.Prelude.{◌≡◌, ℕ, ◌+◌, ◌*◌, ◌==◌, max, Bool, is_some, Option, Some, None, List, length}
 use Rattle.std.specs.Prelude.{if◌then◌else◌, sum_by}
 use Rattle.std.specs.Option.{ForSome}
-use Rattle.prop_map.specs.Settings.{Settings}
+use Rattle.prop_map.specs.Settings.{Properties}
 use Rattle.fkp_pages.specs.declared.kind.PageKind.TheVariants.{Chpx, Papx}
 use Rattle.cfb_layout.specs.Sectors.{units_for}
 use Rattle.style_sheet.specs.Written.{written_sheet}
@@ -10,8 +10,8 @@ use Rattle.doc_parts.specs.declared.bookmark_order.Bookmark.{Bookmark}
 use Rattle.plain_doc.specs.declared.item.Item.{Item}
 use Rattle.plain_doc.specs.declared.document.Document.{Document}
 use Rattle.plain_doc.specs.Collected.{joined_texts}
-use Rattle.doc_columns.specs.declared.beside.Beside.{Beside}
-use Rattle.doc_columns.specs.Beside.{beside_of}
+use Rattle.doc_columns.specs.declared.attached.Attached.{Attached}
+use Rattle.doc_columns.specs.Attached.{attached_of}
 use Rattle.full_save.specs.declared.measures.Measure.{Measure}
 use Rattle.full_save.specs.declared.measures.Measure.TheVariants.{Notes, Sections, Fields, SepxBytes}
 use Rattle.full_save.specs.declared.lengths.PageCounts.{PageCounts}
@@ -25,24 +25,24 @@ abbrev pub one_if : Bool → ℕ
 one_if is = if is then 1 else 0
 
 -- the bytes of a Sepx, where a section ends
-abbrev pub sepx_length : Option Settings → ℕ
+abbrev pub sepx_length : Option Properties → ℕ
 sepx_length None = 0
-sepx_length (Some settings) = length (sepx_bytes settings)
+sepx_length (Some properties) = length (sepx_bytes properties)
 
 -- what a unit counts, by what stands beside it
-abbrev pub measured : Measure → Beside → ℕ
-measured Notes beside = one_if (is_some beside.note)
-measured Sections beside = one_if (is_some beside.sect)
-measured Fields beside = one_if (is_some beside.fld)
-measured SepxBytes beside = sepx_length beside.sect
+abbrev pub measured : Measure → Attached → ℕ
+measured Notes attached = one_if (is_some attached.note)
+measured Sections attached = one_if (is_some attached.sect)
+measured Fields attached = one_if (is_some attached.fld)
+measured SepxBytes attached = sepx_length attached.sect
 
 -- where Sepxes are measured, a Sepx can hold the section
-abbrev pub IsMeasurable : Measure → Beside → Type 0
-IsMeasurable measure beside = measure ≡ SepxBytes → ForSome beside.sect IsSavableSection
+abbrev pub IsMeasurable : Measure → Attached → Type 0
+IsMeasurable measure attached = measure ≡ SepxBytes → ForSome attached.sect IsSavableSection
 
 -- what all units of a text count
 abbrev pub text_measure : Measure → List Item → ℕ
-text_measure measure text = sum_by (λ item. measured measure (beside_of item)) text
+text_measure measure text = sum_by (λ item. measured measure (attached_of item)) text
 
 -- ---- parts of the table stream
 

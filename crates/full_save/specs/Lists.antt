@@ -6,8 +6,8 @@ use Rattle.doc_parts.specs.declared.lists.NoteRef.{NoteRef}
 use Rattle.plain_doc.specs.declared.item.Item.{Item}
 use Rattle.plain_doc.specs.declared.item.NoteKind.{NoteKind}
 use Rattle.plain_doc.specs.Collected.{collected, field_of, is_auto}
-use Rattle.doc_columns.specs.declared.beside.Beside.{Beside}
-use Rattle.doc_columns.specs.Beside.{beside_of}
+use Rattle.doc_columns.specs.declared.attached.Attached.{Attached}
+use Rattle.doc_columns.specs.Attached.{attached_of}
 use Rattle.full_save.specs.Alike.{HaveAlike}
 
 -- the entry of a field character, and of a reference
@@ -28,15 +28,15 @@ pub record IsListedUpTo {A B : Type 0} (what : Item → Option A) (entry : ℕ �
   pub rest : new ++ map entry (collected what (from + i) (drop i items)) ≡ old ++ map entry (collected what from items)
 
 -- the list of field characters goes on by a run, which begins at a place of a text that stands from a CP on
-abbrev pub FieldsGoOn : List ℕ → ℕ → Run Beside → ℕ → List Fld → List Fld → Type 0
+abbrev pub FieldsGoOn : List ℕ → ℕ → Run Attached → ℕ → List Fld → List Fld → Type 0
 FieldsGoOn units cp run place old new =
     (text : List Item) (start : List Fld) → units ≡ map (λ item. item.unit) text →
-    HaveAlike beside_of run.value text place run.count → IsListedUpTo field_of field_entry cp text place start old →
+    HaveAlike attached_of run.value text place run.count → IsListedUpTo field_of field_entry cp text place start old →
     IsListedUpTo field_of field_entry cp text (place + run.count) start new
 
 -- so does the list of references
-abbrev pub RefsGoOn : Run Beside → ℕ → List NoteRef → List NoteRef → Type 0
+abbrev pub RefsGoOn : Run Attached → ℕ → List NoteRef → List NoteRef → Type 0
 RefsGoOn run place old new =
-    (text : List Item) → HaveAlike beside_of run.value text place run.count →
+    (text : List Item) → HaveAlike attached_of run.value text place run.count →
     IsListedUpTo (λ item. item.note) ref_entry 0 text place [] old →
     IsListedUpTo (λ item. item.note) ref_entry 0 text (place + run.count) [] new

@@ -1,7 +1,7 @@
--- The runs of a text: of characters the maximal ranges of equal settings, of paragraphs each paragraph.
+-- The runs of a text: of characters the maximal ranges of equal properties, of paragraphs each paragraph.
 use Rattle.std.specs.Prelude.{ℕ, ◌+◌, ◌-◌, ◌*◌, Bool, List, [], ◌∷◌, length, Option, Some, None, slice_get}
 use Rattle.std.specs.FinMap.{empty}
-use Rattle.prop_map.specs.Settings.{Settings}
+use Rattle.prop_map.specs.Settings.{Properties}
 use Rattle.fkp_pages.specs.declared.kind.PageKind.{PageKind}
 use Rattle.fkp_pages.specs.declared.kind.PageKind.TheVariants.{Chpx, Papx}
 use Rattle.fkp_pages.specs.declared.lists.Run.{Run}
@@ -15,23 +15,23 @@ abbrev pub joins_run : PageKind → Item → Item → Bool
 joins_run Chpx = is_alike
 joins_run Papx = is_inside
 
--- the style and the settings of a mark
-abbrev pub mark_settings : Option Mark → ℕ × Settings
-mark_settings None = (0, empty)
-mark_settings (Some mark) = (mark.istd, mark.pap)
+-- the style and the properties of a mark
+abbrev pub mark_properties : Option Mark → ℕ × Properties
+mark_properties None = (0, empty)
+mark_properties (Some mark) = (mark.istd, mark.pap)
 
--- what a run has of one of its items: of characters the settings of any one, of a paragraph those of the last one's
+-- what a run has of one of its items: of characters the properties of any one, of a paragraph those of the last one's
 -- mark
-abbrev pub item_settings : PageKind → Option Item → ℕ × Settings
-item_settings kind None = (0, empty)
-item_settings Chpx (Some item) = (0, item.chp)
-item_settings Papx (Some item) = mark_settings item.mark
+abbrev pub item_properties : PageKind → Option Item → ℕ × Properties
+item_properties kind None = (0, empty)
+item_properties Chpx (Some item) = (0, item.chp)
+item_properties Papx (Some item) = mark_properties item.mark
 
 -- a part of a text as a run, where its first unit stands at a place
 abbrev pub run_at : PageKind → ℕ → List Item → Run
 run_at kind at part =
-    let settings = item_settings kind (slice_get part (length part - 1)) in
-    record { from = at; to = at + 2 * length part; istd = settings.0; map = settings.1 }
+    let properties = item_properties kind (slice_get part (length part - 1)) in
+    record { from = at; to = at + 2 * length part; istd = properties.0; map = properties.1 }
 
 -- parts one after the other, from a place on, as runs
 unfoldable pub runs_from : PageKind → ℕ → List (List Item) → List Run

@@ -1,18 +1,18 @@
 -- A text that is gone through once: which runs of it are closed, and from where on the last one goes on.
 use Rattle.std.specs.Prelude.{◌≡◌, ◌+◌, ◌-◌, ◌*◌, ℕ, List, [], ◌∷◌, ◌++◌, length, map, take, Option, Some}
 use Rattle.std.specs.Prelude.{None, slice_get}
-use Rattle.prop_map.specs.Settings.{Settings}
+use Rattle.prop_map.specs.Settings.{Properties}
 use Rattle.fkp_pages.specs.declared.kind.PageKind.{PageKind}
 use Rattle.fkp_pages.specs.declared.kind.PageKind.TheVariants.{Chpx, Papx}
 use Rattle.fkp_pages.specs.declared.lists.Run.{Run}
 use Rattle.run_lists.specs.declared.runs.Run.{Run as ValueRun}
-use Rattle.run_lists.specs.Spread.{spread}
+use Rattle.run_lists.specs.Spread.{expanded}
 use Rattle.plain_doc.specs.declared.item.Mark.{Mark}
 use Rattle.plain_doc.specs.declared.item.Item.{Item}
 use Rattle.plain_doc.specs.declared.document.Document.{Document}
 use Rattle.plain_doc.specs.Stretches.{stretches, IsJoined}
-use Rattle.doc_columns.specs.declared.beside.Beside.{Beside}
-use Rattle.doc_columns.specs.Beside.{beside_of}
+use Rattle.doc_columns.specs.declared.attached.Attached.{Attached}
+use Rattle.doc_columns.specs.Attached.{attached_of}
 use Rattle.full_save.specs.declared.runs.CharacterRuns.{CharacterRuns}
 use Rattle.full_save.specs.declared.runs.ParagraphRuns.{ParagraphRuns}
 use Rattle.full_save.specs.declared.text.TextSoFar.{TextSoFar}
@@ -42,7 +42,7 @@ pub record AreRunsSoFar (kind : PageKind) (at : ℕ) (done : List Item) (runs : 
 abbrev pub EndsWith : (Item → Type 0) → List Item → Type 0
 EndsWith IsSuch part = (item : Item) → slice_get part (length part - 1) ≡ Some item → IsSuch item
 
--- the last run has the settings of its characters
+-- the last run has the properties of its characters
 pub record AreCharactersSoFar (at : ℕ) (done : List Item) (runs : CharacterRuns) : Type 0 where
   pub part : List Item
   pub are : AreRunsSoFar Chpx at done (record { closed = runs.closed; from = runs.from; part = part })
@@ -54,18 +54,18 @@ pub record AreParagraphsSoFar (at : ℕ) (done : List Item) (runs : ParagraphRun
   pub are : AreRunsSoFar Papx at done (record { closed = runs.closed; from = runs.from; part = part })
   pub last : EndsWith (λ item. item.mark ≡ None) part
 
--- the runs go on by so many items with these settings, wherever in a text they stand; the first one has its unit at
+-- the runs go on by so many items with these properties, wherever in a text they stand; the first one has its unit at
 -- `end`
-abbrev pub CharactersGoOn : Settings → ℕ → ℕ → CharacterRuns → CharacterRuns → Type 0
+abbrev pub CharactersGoOn : Properties → ℕ → ℕ → CharacterRuns → CharacterRuns → Type 0
 CharactersGoOn chp count end old new =
     (at : ℕ) (done text : List Item) (place : ℕ) → end ≡ at + 2 * (length done + place) →
     HaveAlike (λ item. item.chp) chp text place count →
     AreCharactersSoFar at (done ++ take place text) old → AreCharactersSoFar at (done ++ take (place + count) text) new
 
--- the runs go on by a text with these runs of settings
-abbrev pub CharactersGoOnBy : List (ValueRun Settings) → ℕ → CharacterRuns → CharacterRuns → Type 0
+-- the runs go on by a text with these runs of properties
+abbrev pub CharactersGoOnBy : List (ValueRun Properties) → ℕ → CharacterRuns → CharacterRuns → Type 0
 CharactersGoOnBy runs start old new =
-    (at : ℕ) (done text : List Item) → start ≡ at + 2 * length done → spread runs ≡ map (λ item. item.chp) text →
+    (at : ℕ) (done text : List Item) → start ≡ at + 2 * length done → expanded runs ≡ map (λ item. item.chp) text →
     AreCharactersSoFar at done old → AreCharactersSoFar at (done ++ text) new
 
 -- the runs go on by an item that has this mark, whose unit stands before `end`
@@ -82,9 +82,9 @@ ParagraphsGoOn mark count start old new =
     AreParagraphsSoFar at (done ++ take place text) old → AreParagraphsSoFar at (done ++ take (place + count) text) new
 
 -- the runs go on by a text with these runs of what stands beside its units
-abbrev pub ParagraphsGoOnBy : List (ValueRun Beside) → ℕ → ParagraphRuns → ParagraphRuns → Type 0
+abbrev pub ParagraphsGoOnBy : List (ValueRun Attached) → ℕ → ParagraphRuns → ParagraphRuns → Type 0
 ParagraphsGoOnBy runs start old new =
-    (at : ℕ) (done text : List Item) → start ≡ at + 2 * length done → spread runs ≡ map beside_of text →
+    (at : ℕ) (done text : List Item) → start ≡ at + 2 * length done → expanded runs ≡ map attached_of text →
     AreParagraphsSoFar at done old → AreParagraphsSoFar at (done ++ text) new
 
 -- the number of units and the runs of a text that begins where the text of a document does

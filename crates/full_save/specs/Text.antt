@@ -6,7 +6,7 @@ use Rattle.plain_doc.specs.declared.item.Item.{Item}
 use Rattle.plain_doc.specs.declared.document.Document.{Document}
 use Rattle.plain_doc.specs.Collected.{joined_texts}
 
--- Profile: a mark behind a story has no settings and style 0
+-- Profile: a mark behind a story has no properties and style 0
 abbrev pub extra_mark : Item
 extra_mark = record {
   unit = paragraph_mark;

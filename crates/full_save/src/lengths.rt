@@ -6,7 +6,7 @@ ghost use Rattle.fkp_pages.specs.Packed.{pages_of};
 ghost use Rattle.style_sheet.specs.Written.{IsWritable, written_sheet};
 ghost use Rattle.plain_doc.specs.Collected.{joined_texts};
 ghost use Rattle.plain_doc.specs.Formed.{IsFormed};
-ghost use Rattle.plain_doc.specs.RightDocument.{IsRightDocument};
+ghost use Rattle.plain_doc.specs.RightDocument.{IsValidDocument};
 ghost use Rattle.full_save.specs.TableText.{FitParts};
 ghost use Rattle.full_save.specs.Text.{text_items};
 ghost use Rattle.full_save.specs.WordDocument.{table_stream, wd_stream};
@@ -15,8 +15,8 @@ ghost use Rattle.full_save.specs.Lengths.{name_length, pages_counted};
 
 use crate::made_parts::carried_len;
 use crate::measures::{Measure, measure_of, measure_of_texts};
-use crate::text::{SavedText, TEXT_AT};
-use crate::word_document::{LEAST_LEN, pages_for};
+use crate::text::{SavedText, TEXT_START};
+use crate::word_document::{MIN_LEN, pages_for};
 use doc_bits::Memory;
 use doc_columns::{ColumnDocument, ColumnTexts, Columns};
 use doc_parts::{Bookmark, Bookmarks};
@@ -75,7 +75,7 @@ pub(crate) fn table_len_with(
     pages: PageCounts,
 ) -> Result<u64, Memory>
     requires formed { IsFormed document.now }
-    requires right { IsRightDocument document.now }
+    requires right { IsValidDocument document.now }
     requires pages { pages ≡ pages_counted document.now }
     ensures { IfOk result (λ len. len ≡ length (table_stream document.now)) }
 {
@@ -91,14 +91,14 @@ pub(crate) fn table_len_with(
 /// The number of bytes of `WordDocument` of a document whose text has so many units and pages.
 pub(crate) fn wd_len(document: &ColumnDocument, units: u32, pages: PageCounts) -> u64
     requires formed { IsFormed document.now }
-    requires right { IsRightDocument document.now }
+    requires right { IsValidDocument document.now }
     requires units { units ≡ length (text_items document.now) }
     requires pages { pages ≡ pages_counted document.now }
     ensures { result ≡ length (wd_stream document.now) }
 {
     let all = pages_for(2 * units) as u64 + pages.characters + pages.paragraphs;
     let body = PAGE_LEN as u64 * all + measure_of(&document.main, Measure::SepxBytes);
-    (TEXT_AT as u64 + body).max(LEAST_LEN as u64)
+    (TEXT_START as u64 + body).max(MIN_LEN as u64)
 }
 
 /// The bytes of a table of CPs with so many entries, which have so many bytes beside their CPs.

@@ -22,8 +22,10 @@ pub use made_parts::write_table;
 pub use pages::{append_chpx_pages, append_papx_pages, append_units};
 pub use runs::character_runs;
 pub use saving::{
-    full, full_by_columns, sectors, sectors_by_columns, table_len, table_len_by_columns,
+    full, full_of_columns, sectors, sectors_of_columns, table_len, table_len_of_columns,
 };
+pub use sections::push_counted;
 pub use table_parts::TableParts;
 pub use table_text::TableText;
+pub use text::TEXT_START;
 pub use word_document::{append_text, pages_for, push_zeros};

@@ -5,7 +5,7 @@ ghost use Rattle.plain_doc.specs.TextLists.{cuts_of};
 ghost use Rattle.full_save.specs.Lists.{fields_from, FieldsGoOn, RefsGoOn};
 
 use doc_bits::Memory;
-use doc_columns::{Beside, ColumnTexts, Columns};
+use doc_columns::{Attached, ColumnTexts, Columns};
 use doc_parts::{Cuts, Flds, Refs};
 use plain_doc::NoteKind;
 use run_lists::Run;
@@ -18,7 +18,7 @@ pub(crate) fn refs_of(alloc: Global, main: &Columns) -> Result<Refs, Memory>
     let _len = main.len();
     let mut refs = Refs::new(alloc);
     let mut place = 0;
-    for run in main.besides() {
+    for run in main.attachments() {
         add_ref_run(&mut refs, place, run)?;
         place += run.count;
     }
@@ -26,7 +26,7 @@ pub(crate) fn refs_of(alloc: Global, main: &Columns) -> Result<Refs, Memory>
 }
 
 /// Appends the references of a run that begins at a place.
-fn add_ref_run(refs: &mut Refs, place: u32, run: &Run<Beside>) -> Result<(), Memory>
+fn add_ref_run(refs: &mut Refs, place: u32, run: &Run<Attached>) -> Result<(), Memory>
     requires { place + run.now.count < 2 ^ 32 }
     ensures { OnOk result (RefsGoOn run.now place refs.old refs.new) }
 {
@@ -81,7 +81,7 @@ fn add_fields(fields: &mut Flds, cp: u32, text: &Columns) -> Result<(), Memory>
 {
     let units = text.units();
     let mut place = 0;
-    for run in text.besides() {
+    for run in text.attachments() {
         add_field_run(fields, units, cp, place, run)?;
         place += run.count as usize;
     }
@@ -94,7 +94,7 @@ fn add_field_run(
     units: &[u16],
     cp: u32,
     place: usize,
-    run: &Run<Beside>,
+    run: &Run<Attached>,
 ) -> Result<(), Memory>
     requires within { place + run.now.count ≤ length units.now }
     requires room { cp + length units.now < 2 ^ 32 }

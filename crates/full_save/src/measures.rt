@@ -1,13 +1,13 @@
 // What stands beside the units of a text, counted run by run.
 ghost use Rattle.std.specs.Prelude.{◌≡◌, ◌+◌, ◌*◌, ◌^◌, ◌<◌, ◌≤◌, length, All, sum_by};
-ghost use Rattle.run_lists.specs.Spread.{spread, extent};
+ghost use Rattle.run_lists.specs.Spread.{expanded, total_len};
 ghost use Rattle.plain_doc.specs.Collected.{joined_texts};
-ghost use Rattle.doc_columns.specs.Beside.{beside_of};
+ghost use Rattle.doc_columns.specs.Attached.{attached_of};
 ghost use Rattle.full_save.specs.declared.measures.Measure.TheVariants.{Fields};
 ghost use Rattle.full_save.specs.Sections.{sepx_bytes, IsSavableSection};
 ghost use Rattle.full_save.specs.Lengths.{measured, text_measure, IsMeasurable};
 
-use doc_columns::{Beside, ColumnTexts, Columns};
+use doc_columns::{Attached, ColumnTexts, Columns};
 use prop_map::PropMap;
 use run_lists::Run;
 
@@ -29,12 +29,12 @@ pub(crate) struct TextsMeasure {
 
 /// What a text counts.
 pub(crate) fn measure_of(text: &Columns, measure: Measure) -> u64
-    requires { All (λ item. IsMeasurable measure (beside_of item)) text.now }
+    requires { All (λ item. IsMeasurable measure (attached_of item)) text.now }
     ensures is { result ≡ text_measure measure text.now }
     ensures bound { result ≤ 503 * length text.now }
 {
     let _len = text.len();
-    runs_measure(text.besides(), measure)
+    runs_measure(text.attachments(), measure)
 }
 
 /// What texts count together.
@@ -57,11 +57,11 @@ pub(crate) fn measure_of_texts(texts: &ColumnTexts) -> TextsMeasure
 }
 
 /// What the units of runs count.
-fn runs_measure(runs: &[Run<Beside>], measure: Measure) -> u64
-    requires few { extent runs.now < 2 ^ 32 }
-    requires each { All (IsMeasurable measure) (spread runs.now) }
-    ensures is { result ≡ sum_by (measured measure) (spread runs.now) }
-    ensures bound { result ≤ 503 * extent runs.now }
+fn runs_measure(runs: &[Run<Attached>], measure: Measure) -> u64
+    requires few { total_len runs.now < 2 ^ 32 }
+    requires each { All (IsMeasurable measure) (expanded runs.now) }
+    ensures is { result ≡ sum_by (measured measure) (expanded runs.now) }
+    ensures bound { result ≤ 503 * total_len runs.now }
 {
     let mut sum = 0;
     for run in runs {
@@ -71,7 +71,7 @@ fn runs_measure(runs: &[Run<Beside>], measure: Measure) -> u64
 }
 
 /// What the units of a run count.
-fn run_measure(run: &Run<Beside>, measure: Measure) -> u64
+fn run_measure(run: &Run<Attached>, measure: Measure) -> u64
     requires few { run.now.count < 2 ^ 32 }
     requires each { 0 < run.now.count → IsMeasurable measure run.now.value }
     ensures is { result ≡ run.now.count * measured measure run.now.value }
@@ -80,35 +80,35 @@ fn run_measure(run: &Run<Beside>, measure: Measure) -> u64
     if run.count == 0 {
         return 0;
     }
-    run.count as u64 * measured(&run.value, measure)
+    run.count as u64 * unit_count(&run.value, measure)
 }
 
 /// What one unit counts.
-fn measured(beside: &Beside, measure: Measure) -> u64
-    requires { IsMeasurable measure beside.now }
-    ensures is { result ≡ measured measure beside.now }
+fn unit_count(attached: &Attached, measure: Measure) -> u64
+    requires { IsMeasurable measure attached.now }
+    ensures is { result ≡ measured measure attached.now }
     ensures bound { result ≤ 503 }
 {
     match measure {
-        Measure::Notes => beside.note.is_some() as u64,
-        Measure::Sections => beside.sect.is_some() as u64,
-        Measure::Fields => beside.fld.is_some() as u64,
-        Measure::SepxBytes => match &beside.sect {
+        Measure::Notes => attached.note.is_some() as u64,
+        Measure::Sections => attached.sect.is_some() as u64,
+        Measure::Fields => attached.fld.is_some() as u64,
+        Measure::SepxBytes => match &attached.sect {
             None => 0,
-            Some(settings) => sepx_len(settings),
+            Some(properties) => sepx_len(properties),
         },
     }
 }
 
-/// The bytes of the Sepx of a section that has settings.
-fn sepx_len(settings: &PropMap) -> u64
-    requires { IsSavableSection settings.now }
-    ensures is { result ≡ length (sepx_bytes settings.now) }
+/// The bytes of the Sepx of a section that has properties.
+fn sepx_len(properties: &PropMap) -> u64
+    requires { IsSavableSection properties.now }
+    ensures is { result ≡ length (sepx_bytes properties.now) }
     ensures bound { result ≤ 503 }
 {
-    if settings.entries().is_empty() {
+    if properties.entries().is_empty() {
         return 0;
     }
-    let len = settings.printed_len();
+    let len = properties.printed_len();
     2 + len + len % 2
 }

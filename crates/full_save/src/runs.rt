@@ -5,10 +5,10 @@ ghost use Rattle.plain_doc.specs.declared.item.Item.{Item as TextItem};
 ghost use Rattle.full_save.specs.Runs.{text_runs};
 ghost use Rattle.full_save.specs.RunsSoFar.{AreCharactersSoFar, AreParagraphsSoFar, CharactersGoOn, CharactersGoOnBy};
 ghost use Rattle.full_save.specs.RunsSoFar.{ParagraphEnds, ParagraphsGoOn, ParagraphsGoOnBy};
-ghost use Rattle.run_lists.specs.Spread.{extent};
+ghost use Rattle.run_lists.specs.Spread.{total_len};
 
 use doc_bits::Memory;
-use doc_columns::{Beside, Columns};
+use doc_columns::{Attached, Columns};
 use fkp_pages::{ChpRuns, PapRuns};
 use plain_doc::Mark;
 use prop_map::PropMap;
@@ -19,7 +19,7 @@ use std::mem;
 /// The bytes of a unit.
 pub(crate) const UNIT_LEN: u32 = 2;
 
-/// The runs of characters of a text that begins at `base`: the maximal ranges of equal settings.
+/// The runs of characters of a text that begins at `base`: the maximal ranges of equal properties.
 pub fn character_runs(alloc: Global, text: &Columns, base: u32) -> Result<ChpRuns, Memory>
     requires { base + 2 * length text.now < 2 ^ 32 }
     ensures { IfOk result (λ runs. runs ≡ text_runs PageKind.Chpx base text.now) }
@@ -34,7 +34,7 @@ pub fn character_runs(alloc: Global, text: &Columns, base: u32) -> Result<ChpRun
 #[derive(Drop)]
 pub(crate) struct CharacterRuns {
     closed: ChpRuns,
-    /// Where the last run begins, and its settings. It is empty where no item came yet.
+    /// Where the last run begins, and its properties. It is empty where no item came yet.
     from: u32,
     chp: PropMap,
 }
@@ -51,7 +51,7 @@ impl CharacterRuns {
         }
     }
 
-    /// Goes on by `count` items with these settings, the first of which has its unit at `end`.
+    /// Goes on by `count` items with these properties, the first of which has its unit at `end`.
     pub(crate) fn push_run(
         &mut self,
         alloc: Global,
@@ -77,14 +77,14 @@ impl CharacterRuns {
         Ok(())
     }
 
-    /// Goes on by the items of these runs of settings, the first of which has its unit at `start`.
+    /// Goes on by the items of these runs of properties, the first of which has its unit at `start`.
     pub(crate) fn push_runs(
         &mut self,
         alloc: Global,
         runs: &[Run<PropMap>],
         start: u32,
     ) -> Result<(), Memory>
-        requires { start + 2 * extent runs.now < 2 ^ 32 }
+        requires { start + 2 * total_len runs.now < 2 ^ 32 }
         ensures { OnOk result (CharactersGoOnBy runs.now start self.old self.new) }
     {
         let mut at = start;
@@ -183,10 +183,10 @@ impl ParagraphRuns {
     pub(crate) fn push_runs(
         &mut self,
         alloc: Global,
-        runs: &[Run<Beside>],
+        runs: &[Run<Attached>],
         start: u32,
     ) -> Result<(), Memory>
-        requires { start + 2 * extent runs.now < 2 ^ 32 }
+        requires { start + 2 * total_len runs.now < 2 ^ 32 }
         ensures { OnOk result (ParagraphsGoOnBy runs.now start self.old self.new) }
     {
         let mut at = start;

@@ -4,7 +4,7 @@ ghost use Rattle.plain_doc.specs.Sound.{IsSound};
 ghost use Rattle.full_save.specs.WordDocument.{table_stream};
 ghost use Rattle.full_save.specs.Layout.{full_save_image, layout_streams, sectors_of, FitsCompoundFile, IsTooLarge};
 ghost use Rattle.plain_doc.specs.Formed.{IsFormed};
-ghost use Rattle.plain_doc.specs.RightDocument.{IsRightDocument};
+ghost use Rattle.plain_doc.specs.RightDocument.{IsValidDocument};
 ghost use Rattle.full_save.specs.WordDocument.{full_fib};
 ghost use Rattle.full_save.specs.Made.{IsBodyOf};
 ghost use Rattle.full_save.specs.RunsSoFar.{IsTextOf};
@@ -15,16 +15,13 @@ use crate::made_parts::write_table;
 use crate::streams::{lengths_with, streams_with};
 use crate::text::{SavedText, text_of};
 use crate::word_document::WordBody;
-use cfb_layout::{LayoutFault, sectors_needed, whole};
+use cfb_layout::{LayoutFault, MAX_SECTORS, sectors_needed, whole};
 use cfb_streams::Streams;
 use doc_bits::{Bytes, Memory};
 use doc_columns::{ColumnDocument, columns_are_formed};
 use fib_form::{Fib, Form, KeptFib, Pairs};
 use plain_doc::Document;
 use std::alloc::Global;
-
-/// The sectors that a compound file has at most.
-const MAX_SECTORS: u64 = 13_952;
 
 /// The file of a document.
 pub fn full(alloc: Global, document: &Document) -> Result<Bytes, SaveFault>
@@ -34,13 +31,13 @@ pub fn full(alloc: Global, document: &Document) -> Result<Bytes, SaveFault>
         (IsTooLarge document.now) }
 {
     let columns = ColumnDocument::from_document(alloc, document)?;
-    let file = full_by_columns(alloc, &columns);
+    let file = full_of_columns(alloc, &columns);
     drop(columns);
     file
 }
 
 /// The file of a document by columns.
-pub fn full_by_columns(alloc: Global, document: &ColumnDocument) -> Result<Bytes, SaveFault>
+pub fn full_of_columns(alloc: Global, document: &ColumnDocument) -> Result<Bytes, SaveFault>
     requires { IsSound document.now }
     ensures { MatchResult result
         (λ file. (file ≡ full_save_image document.now) × FitsCompoundFile document.now)
@@ -59,13 +56,13 @@ pub fn sectors(alloc: Global, document: &Document) -> Result<u64, Memory>
     ensures { IfOk result (λ sectors. sectors ≡ sectors_of document.now) }
 {
     let columns = ColumnDocument::from_document(alloc, document)?;
-    let sectors = sectors_by_columns(alloc, &columns);
+    let sectors = sectors_of_columns(alloc, &columns);
     drop(columns);
     sectors
 }
 
-/// The same of a document by columns.
-pub fn sectors_by_columns(alloc: Global, document: &ColumnDocument) -> Result<u64, Memory>
+/// The number of sectors that the full save of a document by columns needs, whether it fits a file or not.
+pub fn sectors_of_columns(alloc: Global, document: &ColumnDocument) -> Result<u64, Memory>
     requires { IsSound document.now }
     ensures { IfOk result (λ sectors. sectors ≡ sectors_of document.now) }
 {
@@ -79,7 +76,7 @@ pub fn sectors_by_columns(alloc: Global, document: &ColumnDocument) -> Result<u6
 /// The number of sectors of the full save with this text. Its streams are counted, and not made.
 fn sectors_with(alloc: Global, document: &ColumnDocument, text: &SavedText) -> Result<u64, Memory>
     requires formed { IsFormed document.now }
-    requires right { IsRightDocument document.now }
+    requires right { IsValidDocument document.now }
     requires text { IsTextOf document.now text.now }
     ensures { IfOk result (λ sectors. sectors ≡ sectors_of document.now) }
 {
@@ -93,7 +90,7 @@ fn sectors_with(alloc: Global, document: &ColumnDocument, text: &SavedText) -> R
 /// The file of a document with this text. It is refused before a stream is made.
 fn file_with(alloc: Global, document: &ColumnDocument, text: &SavedText) -> Result<Bytes, SaveFault>
     requires formed { IsFormed document.now }
-    requires right { IsRightDocument document.now }
+    requires right { IsValidDocument document.now }
     requires text { IsTextOf document.now text.now }
     ensures { MatchResult result
         (λ file. (file ≡ full_save_image document.now) × FitsCompoundFile document.now)
@@ -111,7 +108,7 @@ fn file_with(alloc: Global, document: &ColumnDocument, text: &SavedText) -> Resu
 /// The file of a document that fits.
 fn file_of(alloc: Global, document: &ColumnDocument, body: &WordBody) -> Result<Bytes, SaveFault>
     requires formed { IsFormed document.now }
-    requires right { IsRightDocument document.now }
+    requires right { IsValidDocument document.now }
     requires body { IsBodyOf document.now body.now }
     requires fits { FitsCompoundFile document.now }
     ensures { MatchResult result (λ file. file ≡ full_save_image document.now) (IsTooLarge document.now) }
@@ -127,7 +124,7 @@ fn file_of(alloc: Global, document: &ColumnDocument, body: &WordBody) -> Result<
 /// The streams of the file of a document that fits.
 fn streams_of(alloc: Global, document: &ColumnDocument, body: &WordBody) -> Result<Streams, Memory>
     requires formed { IsFormed document.now }
-    requires right { IsRightDocument document.now }
+    requires right { IsValidDocument document.now }
     requires body { IsBodyOf document.now body.now }
     requires fits { FitsCompoundFile document.now }
     ensures { IfOk result (λ streams. streams ≡ layout_streams document.now) }
@@ -149,13 +146,13 @@ pub fn table_len(alloc: Global, document: &Document) -> Result<u64, Memory>
     ensures { IfOk result (λ len. len ≡ length (table_stream document.now)) }
 {
     let columns = ColumnDocument::from_document(alloc, document)?;
-    let len = table_len_by_columns(alloc, &columns);
+    let len = table_len_of_columns(alloc, &columns);
     drop(columns);
     len
 }
 
-/// The same of a document by columns.
-pub fn table_len_by_columns(alloc: Global, document: &ColumnDocument) -> Result<u64, Memory>
+/// The number of bytes of the table stream in the full save of a document by columns, whether it fits a file or not.
+pub fn table_len_of_columns(alloc: Global, document: &ColumnDocument) -> Result<u64, Memory>
     requires { IsSound document.now }
     ensures { IfOk result (λ len. len ≡ length (table_stream document.now)) }
 {
@@ -169,7 +166,7 @@ pub fn table_len_by_columns(alloc: Global, document: &ColumnDocument) -> Result<
 /// The FIB of the full save, of the early form.
 fn fib_of(document: &ColumnDocument, body: &WordBody, pairs: &Pairs) -> Fib
     requires formed { IsFormed document.now }
-    requires right { IsRightDocument document.now }
+    requires right { IsValidDocument document.now }
     requires body { IsBodyOf document.now body.now }
     requires pairs { pairs.now ≡ (full_fib document.now).pairs }
     ensures { result ≡ full_fib document.now }

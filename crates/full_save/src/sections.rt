@@ -7,7 +7,7 @@ ghost use Rattle.full_save.specs.Sections.{sepx_bytes, sepxes, fc_sepx, seds_fro
 ghost use Rattle.full_save.specs.Sections.{SepxesGoOn};
 
 use doc_bits::{Bytes, Memory};
-use doc_columns::{Beside, Columns};
+use doc_columns::{Attached, Columns};
 use doc_parts::{NO_SEPX, Seds};
 use prop_map::PropMap;
 use run_lists::Run;
@@ -38,7 +38,7 @@ pub(crate) fn append_sepxes(
         seds: Seds::new(alloc),
     };
     let mut place = 0;
-    for run in main.besides() {
+    for run in main.attachments() {
         sections.add_run(alloc, out, place, run, base)?;
         place += run.count;
     }
@@ -53,7 +53,7 @@ impl SedsSoFar {
         alloc: Global,
         out: &mut Bytes,
         place: u32,
-        run: &Run<Beside>,
+        run: &Run<Attached>,
         base: u32,
     ) -> Result<(), Memory>
         requires sections { 0 < run.now.count → ForSome run.now.value.sect IsSavableSection }
@@ -63,11 +63,11 @@ impl SedsSoFar {
             (SepxesGoOn run.now place base (record { start = self.old.start; out = out.old; seds = self.old.seds })
             (record { start = self.new.start; out = out.new; seds = self.new.seds })) }
     {
-        let Some(settings) = &run.value.sect else {
+        let Some(properties) = &run.value.sect else {
             return Ok(());
         };
         for cp in place..place + run.count {
-            let fc = append_sepx(alloc, out, settings, base)?;
+            let fc = append_sepx(alloc, out, properties, base)?;
             self.seds.add(self.start, fc)?;
             self.start = cp + 1;
         }
@@ -75,24 +75,29 @@ impl SedsSoFar {
     }
 }
 
-/// Appends the Sepx of a section that has settings. Answers its fcSepx.
-fn append_sepx(alloc: Global, out: &mut Bytes, settings: &PropMap, base: u32) -> Result<u32, Memory>
-    requires section { IsSavableSection settings.now }
+/// Appends the Sepx of a section that has properties. Answers its fcSepx.
+fn append_sepx(
+    alloc: Global,
+    out: &mut Bytes,
+    properties: &PropMap,
+    base: u32,
+) -> Result<u32, Memory>
+    requires section { IsSavableSection properties.now }
     requires room { base + length out.old < 2 ^ 32 }
-    ensures bytes { OnOk result (out.new ≡ out.old ++ sepx_bytes settings.now) }
-    ensures place { IfOk result (λ place. place ≡ fc_sepx (base + length out.old) settings.now) }
+    ensures bytes { OnOk result (out.new ≡ out.old ++ sepx_bytes properties.now) }
+    ensures place { IfOk result (λ place. place ≡ fc_sepx (base + length out.old) properties.now) }
 {
-    if settings.entries().is_empty() {
+    if properties.entries().is_empty() {
         return Ok(NO_SEPX);
     }
     let place = base + out.as_slice().len() as u32;
-    let list = settings.print(alloc)?;
+    let list = properties.print(alloc)?;
     push_counted(out, list.as_slice())?;
     Ok(place)
 }
 
 /// Appends a count, the bytes, and a zero where they are odd.
-fn push_counted(out: &mut Bytes, list: &[u8]) -> Result<(), Memory>
+pub fn push_counted(out: &mut Bytes, list: &[u8]) -> Result<(), Memory>
     requires { length list.now < 65536 }
     ensures { OnOk result (out.new ≡ out.old ++ written_counted list.now) }
 {

@@ -15,7 +15,7 @@ use prop_map::PropMap;
 use std::alloc::Global;
 
 /// Where the text begins in `WordDocument`.
-pub(crate) const TEXT_AT: u32 = 1024;
+pub const TEXT_START: u32 = 1024;
 
 /// How many units a text has, its runs, and the counts of its stories.
 #[derive(Drop)]
@@ -60,8 +60,8 @@ impl TextSoFar {
         TextSoFar {
             alloc,
             len: 0,
-            characters: CharacterRuns::new(alloc, TEXT_AT),
-            paragraphs: ParagraphRuns::new(alloc, TEXT_AT),
+            characters: CharacterRuns::new(alloc, TEXT_START),
+            paragraphs: ParagraphRuns::new(alloc, TEXT_START),
         }
     }
 
@@ -71,9 +71,10 @@ impl TextSoFar {
         ensures text { OnOk result (GoesOnBy text.now self.old self.new) }
         ensures count { OnOk result (self.new.len ≡ self.old.len + length text.now) }
     {
-        let at = TEXT_AT + UNIT_LEN * self.len;
+        let at = TEXT_START + UNIT_LEN * self.len;
         self.characters.push_runs(self.alloc, text.chps(), at)?;
-        self.paragraphs.push_runs(self.alloc, text.besides(), at)?;
+        self.paragraphs
+            .push_runs(self.alloc, text.attachments(), at)?;
         self.len += text.len() as u32;
         Ok(())
     }
@@ -115,13 +116,13 @@ impl TextSoFar {
         Ok(())
     }
 
-    /// Goes on by a mark of style 0 without settings.
+    /// Goes on by a mark of style 0 without properties.
     fn push_mark(&mut self) -> Result<(), Memory>
         requires { self.old.len + 1 < 2 ^ 30 }
         ensures text { OnOk result (GoesOnBy (extra_mark ∷ []) self.old self.new) }
         ensures count { OnOk result (self.new.len ≡ self.old.len + 1) }
     {
-        let at = TEXT_AT + UNIT_LEN * self.len;
+        let at = TEXT_START + UNIT_LEN * self.len;
         let none = PropMap::new(self.alloc);
         self.characters.push_run(self.alloc, &none, 1, at)?;
         let mark = Mark { istd: 0, pap: none };
@@ -135,7 +136,7 @@ impl TextSoFar {
         requires { self.len < 2 ^ 30 }
         ensures { IfOk result (λ text. (done : List TextItem) → IsTextSoFar done self → IsWholeText done counts text) }
     {
-        let end = TEXT_AT + UNIT_LEN * self.len;
+        let end = TEXT_START + UNIT_LEN * self.len;
         let TextSoFar {
             alloc,
             len,

@@ -7,7 +7,7 @@ ghost use Rattle.full_save.specs.WordDocument.{units_bytes, items_bytes, text_by
 ghost use Rattle.full_save.specs.Text.{mark_if, text_items, text_counts};
 ghost use Rattle.plain_doc.specs.Collected.{joined_texts};
 ghost use Rattle.plain_doc.specs.Formed.{IsFormed};
-ghost use Rattle.plain_doc.specs.RightDocument.{IsRightDocument};
+ghost use Rattle.plain_doc.specs.RightDocument.{IsValidDocument};
 ghost use Rattle.full_save.specs.Made.{IsBodyOf};
 ghost use Rattle.full_save.specs.RunsSoFar.{IsTextOf};
 
@@ -15,7 +15,7 @@ use crate::pages::{append_chpx_pages, append_papx_pages, append_units};
 use crate::runs::UNIT_LEN;
 use crate::sections::append_sepxes;
 use crate::table_text::TableText;
-use crate::text::{SavedText, TEXT_AT};
+use crate::text::{SavedText, TEXT_START};
 use doc_bits::{Bytes, Memory};
 use doc_columns::{ColumnDocument, ColumnTexts};
 use doc_parts::Seds;
@@ -26,7 +26,7 @@ use std::alloc::Global;
 use text_codes::PARAGRAPH_MARK;
 
 /// The least length of the stream.
-pub(crate) const LEAST_LEN: usize = 4096;
+pub(crate) const MIN_LEN: usize = 4096;
 
 /// `WordDocument` from the text on, and what the table stream says of it.
 #[derive(Drop)]
@@ -43,11 +43,11 @@ impl WordBody {
         text: &SavedText,
     ) -> Result<WordBody, Memory>
         requires formed { IsFormed document.now }
-        requires right { IsRightDocument document.now }
+        requires right { IsValidDocument document.now }
         requires text { IsTextOf document.now text.now }
         ensures { IfOk result (IsBodyOf document.now) }
     {
-        let end = TEXT_AT + UNIT_LEN * text.len;
+        let end = TEXT_START + UNIT_LEN * text.len;
         let mut bytes = Bytes::new(alloc);
         append_document(&mut bytes, document, text)?;
         let first = pages_for(end);
@@ -61,7 +61,7 @@ impl WordBody {
         )?;
         let mut paragraphs = Bins::new(alloc);
         append_papx_pages(alloc, &mut bytes, &mut paragraphs, &text.paragraphs, second)?;
-        let seds = append_sepxes(alloc, &mut bytes, &document.main, TEXT_AT)?;
+        let seds = append_sepxes(alloc, &mut bytes, &document.main, TEXT_START)?;
         let table = table_text(alloc, text, seds, &characters, &paragraphs)?;
         Ok(WordBody { bytes, text: table })
     }
@@ -69,20 +69,20 @@ impl WordBody {
     /// [MS-DOC] cbMac.
     pub(crate) fn cb_mac(&self) -> u32
         requires { length self.now.bytes < 2 ^ 31 }
-        ensures { result ≡ TEXT_AT + length self.now.bytes }
+        ensures { result ≡ TEXT_START + length self.now.bytes }
     {
-        TEXT_AT + self.bytes.as_slice().len() as u32
+        TEXT_START + self.bytes.as_slice().len() as u32
     }
 
     /// The stream with this FIB.
     pub(crate) fn stream(&self, alloc: Global, fib: &Fib) -> Result<Bytes, Memory>
         ensures { IfOk result
-            (λ wd. wd ≡ filled least_length 0 (filled TEXT_AT 0 (written_fib fib.now) ++ self.now.bytes)) }
+            (λ wd. wd ≡ filled least_length 0 (filled TEXT_START 0 (written_fib fib.now) ++ self.now.bytes)) }
     {
         let mut stream = front_of(alloc, fib)?;
         stream.push_all(self.bytes.as_slice())?;
         let len = stream.as_slice().len();
-        push_zeros(&mut stream, LEAST_LEN.saturating_sub(len))?;
+        push_zeros(&mut stream, MIN_LEN.saturating_sub(len))?;
         Ok(stream)
     }
 }
@@ -97,17 +97,17 @@ fn table_text(
 ) -> Result<TableText, Memory>
     requires some { 1 ≤ text.now.len }
     requires most { text.now.len ≤ 500001 }
-    requires characters { ArePrintableBins characters.now (TEXT_AT + 2 * text.now.len) }
-    requires paragraphs { ArePrintableBins paragraphs.now (TEXT_AT + 2 * text.now.len) }
+    requires characters { ArePrintableBins characters.now (TEXT_START + 2 * text.now.len) }
+    requires paragraphs { ArePrintableBins paragraphs.now (TEXT_START + 2 * text.now.len) }
     ensures { IfOk result (λ table. table ≡ record {
       counts = text.now.counts;
       seds = seds;
-      characters = printed_bin characters.now (TEXT_AT + 2 * text.now.len);
-      paragraphs = printed_bin paragraphs.now (TEXT_AT + 2 * text.now.len);
+      characters = printed_bin characters.now (TEXT_START + 2 * text.now.len);
+      paragraphs = printed_bin paragraphs.now (TEXT_START + 2 * text.now.len);
       clx = one_piece_clx text.now.len;
     }) }
 {
-    let end = TEXT_AT + UNIT_LEN * text.len;
+    let end = TEXT_START + UNIT_LEN * text.len;
     let characters = write_bin(alloc, characters, end)?;
     let paragraphs = write_bin(alloc, paragraphs, end)?;
     let clx = clx_of(alloc, text.len)?;
@@ -122,9 +122,9 @@ fn table_text(
 
 /// The FIB, and zeros up to the text.
 fn front_of(alloc: Global, fib: &Fib) -> Result<Bytes, Memory>
-    ensures { IfOk result (λ front. front ≡ filled TEXT_AT 0 (written_fib fib.now)) }
+    ensures { IfOk result (λ front. front ≡ filled TEXT_START 0 (written_fib fib.now)) }
 {
-    let mut front = [0u8; TEXT_AT as usize];
+    let mut front = [0u8; TEXT_START as usize];
     fib.write(&mut front);
     let bytes = Bytes::from_slice(alloc, &front)?;
     Ok(bytes)
@@ -230,7 +230,7 @@ fn clx_of(alloc: Global, len: u32) -> Result<Bytes, Memory>
     requires most { len ≤ 500001 }
     ensures { IfOk result (λ clx. clx ≡ one_piece_clx len) }
 {
-    let piece = PieceList::one(alloc, TEXT_AT, len)?;
+    let piece = PieceList::one(alloc, TEXT_START, len)?;
     let clx = piece.print_clx(alloc)?;
     Ok(clx)
 }

@@ -4,7 +4,8 @@ use Rattle.std.specs.Prelude.{if◌then◌else◌, nat_le, nat_lt}
 use Rattle.std.specs.Char.{IsScalar}
 use Rattle.std.proofs.lemmas.Bool.Decides.{nat_tests}
 use Rattle.text_codes.specs.Shown.{is_pair, pair_code}
-use Rattle.glyph_units.specs.Units.{alone, first_half, first_text, half_text, is_high, is_surrogate, replacement, unit_half, unit_text}
+use Rattle.glyph_units.specs.Units.{alone, first_half, first_text, half_text, unit_half, unit_text}
+use Rattle.text_codes.specs.Halves.{replacement, is_high, is_surrogate}
 
 scalar_high : (unit : ℕ) → IsScalar unit → is_high unit ≡ false
 scalar_high unit scalar = grind (arith, nat_tests)

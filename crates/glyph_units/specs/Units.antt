@@ -1,16 +1,7 @@
 -- Units of UTF-16 one by one: a first half waits for the second one, and without it is the replacement character.
-use Rattle.std.specs.Prelude.{ℕ, nat_le, nat_lt, Bool, ◌&&◌, List, [], ◌∷◌, ◌++◌, Option, None, Some, if◌then◌else◌}
+use Rattle.std.specs.Prelude.{ℕ, List, [], ◌∷◌, ◌++◌, Option, None, Some, if◌then◌else◌}
 use Rattle.text_codes.specs.Shown.{is_pair, pair_code}
-
-abbrev pub replacement : ℕ
-replacement = 0xFFFD
-
--- the first half of a character
-abbrev pub is_high : ℕ → Bool
-is_high unit = nat_le 0xD800 unit && nat_lt unit 0xDC00
-
-abbrev pub is_surrogate : ℕ → Bool
-is_surrogate unit = nat_le 0xD800 unit && nat_lt unit 0xE000
+use Rattle.text_codes.specs.Halves.{replacement, is_high, is_surrogate}
 
 -- the character of a unit that is in no pair
 abbrev pub alone : ℕ → ℕ

@@ -2,7 +2,8 @@
 ghost use Rattle.std.specs.Prelude.{◌≡◌, true, false, if◌then◌else◌, MatchOption};
 ghost use Rattle.std.specs.Char.{IsScalar};
 ghost use Rattle.text_codes.specs.Shown.{is_pair, pair_code};
-ghost use Rattle.glyph_units.specs.Units.{alone, is_high};
+ghost use Rattle.glyph_units.specs.Units.{alone};
+ghost use Rattle.text_codes.specs.Halves.{is_high};
 
 /// The replacement character.
 pub const REPLACEMENT: u32 = 0xFFFD;

@@ -1,5 +1,5 @@
 -- The tags of a page nest.
-use Rattle.std.proofs.Common.{◌≡◌, ℕ, ◌==◌, Bool, true, false, not, ◌&&◌, List, [], ◌∷◌, ◌++◌, map, Option, Some, None}
+use Rattle.std.proofs.Common.{◌≡◌, ℕ, ◌==◌, Bool, true, false, not, List, [], ◌∷◌, ◌++◌, map, Option, Some, None}
 use Rattle.std.proofs.Common.{refl, sym, ap, subst, ◌∙◌, append_assoc}
 use Rattle.std.specs.Prelude.{if◌then◌else◌, codes}
 use Rattle.std.specs.Fmt.{decimal}
@@ -28,6 +28,7 @@ use Rattle.html_page.proofs.CloseLemmas.{by_name, page_read}
 use Rattle.plain_doc.specs.declared.document.Document.{Document}
 use Rattle.html_page.specs.Languages.{language_attributes}
 use Rattle.html_page.specs.Pages.{meta_tokens}
+use Rattle.doc_bits.proofs.TestLemmas.{and_first, and_second, not_true}
 
 abbrev Names : Type 0
 Names = List (List ℕ)
@@ -45,18 +46,6 @@ brackets-characters a (code ∷ text) = brackets-characters a text
 
 -- ---- the names of tags
 
-both_first : (a b : Bool) → (a && b) ≡ true → a ≡ true
-both_first true b e = refl
-both_first false b e = e
-
-both_second : (a b : Bool) → (a && b) ≡ true → b ≡ true
-both_second true b e = e
-both_second false b e = absurd (cc (e))
-
-not_true : (a : Bool) → not a ≡ true → a ≡ false
-not_true true e = absurd (cc (e))
-not_true false e = refl
-
 abbrev IsWord : List ℕ → Type 0
 IsWord name = list_all (λ code. not (code == 32)) name ≡ true
 
@@ -67,8 +56,8 @@ word-attributes [] [] h = refl
 word-attributes [] (attribute ∷ attributes) h = refl
 word-attributes (code ∷ name) attributes h =
     let here : (code == 32) ≡ false =
-    not_true (code == 32) (both_first (not (code == 32)) (list_all (λ c. not (c == 32)) name) h) in
-    let more : IsWord name = both_second (not (code == 32)) (list_all (λ c. not (c == 32)) name) h in
+    not_true (code == 32) (and_first (not (code == 32)) (list_all (λ c. not (c == 32)) name) h) in
+    let more : IsWord name = and_second (not (code == 32)) (list_all (λ c. not (c == 32)) name) h in
     ap (λ (b : Bool). if b then [] else code ∷ word_of (name ++ attributes_text attributes)) here ∙ ap (λ (w : List
     ℕ). code
     ∷ w) (word-attributes name attributes more)

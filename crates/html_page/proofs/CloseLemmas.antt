@@ -37,18 +37,7 @@ use Rattle.field_links.specs.Urls.{anchor_name}
 use Rattle.link_targets.specs.Links.{bookmark_name, instruction_of, url_in}
 use Rattle.html_page.specs.Languages.{language_attributes, language_code, language_codes}
 use Rattle.html_page.specs.Tags.{anchor_attributes, link_attributes, plain_attributes}
-
-pub both : (a b : Bool) → a ≡ true → b ≡ true → (a && b) ≡ true
-both true b one other = other
-both false b one other = absurd (cc (one))
-
-both_first : (a b : Bool) → (a && b) ≡ true → a ≡ true
-both_first true b e = refl
-both_first false b e = e
-
-both_second : (a b : Bool) → (a && b) ≡ true → b ≡ true
-both_second true b e = e
-both_second false b e = absurd (cc (e))
+use Rattle.doc_bits.proofs.TestLemmas.{and_true, and_first, and_second}
 
 -- ---- texts without >
 
@@ -57,7 +46,7 @@ HasNoEnd text = list_all (λ code. not (code == 62)) text ≡ true
 
 no_end-append : (xs ys : List ℕ) → HasNoEnd xs → HasNoEnd ys → HasNoEnd (xs ++ ys)
 no_end-append xs ys one other =
-    list_all-append (λ (code : ℕ). not (code == 62)) xs ys ∙ both (list_all (λ code. not (code == 62)) xs) (list_all
+    list_all-append (λ (code : ℕ). not (code == 62)) xs ys ∙ and_true (list_all (λ code. not (code == 62)) xs) (list_all
     (λ code. not (code == 62)) ys) one other
 
 digit_is_no_end : (d : ℕ) → not (digit_glyph false d == 62) ≡ true
@@ -67,7 +56,8 @@ no_end-digits_onto : (k n : ℕ) (acc : List ℕ) → HasNoEnd acc → HasNoEnd 
 no_end-digits_onto zero n acc h = h
 no_end-digits_onto (suc k) n acc h =
     let next : HasNoEnd (digit_glyph false (n % 10) ∷ acc) =
-    both (not (digit_glyph false (n % 10) == 62)) (list_all (λ code. not (code == 62)) acc) (digit_is_no_end (n % 10))
+    and_true (not (digit_glyph false (n % 10) == 62)) (list_all (λ code. not (code == 62)) acc) (digit_is_no_end (n %
+    10))
     h in
     elim (n / 10 == 0) as (λ b. HasNoEnd (if b then digit_glyph false (n % 10) ∷ acc else digits_onto k 10 false (n /
     10)
@@ -171,8 +161,9 @@ safe_has_no_end code is =
 all_safe : (text : List ℕ) → list_all is_safe text ≡ true → HasNoEnd text
 all_safe [] is = refl
 all_safe (code ∷ text) is =
-    both (not (code == 62)) (list_all (λ code. not (code == 62)) text) (safe_has_no_end code (both_first (is_safe code)
-    (list_all is_safe text) is)) (all_safe text (both_second (is_safe code) (list_all is_safe text) is))
+    and_true (not (code == 62)) (list_all (λ code. not (code == 62)) text) (safe_has_no_end code (and_first (is_safe
+    code)
+    (list_all is_safe text) is)) (all_safe text (and_second (is_safe code) (list_all is_safe text) is))
 
 no_end-escaped : (text : List ℕ) → HasNoEnd (escaped_text text)
 no_end-escaped text = all_safe (escaped_text text) (no_markup text)
@@ -310,7 +301,7 @@ AreClosed tokens = list_all is_closed tokens ≡ true
 
 closed-append : (xs ys : List Token) → AreClosed xs → AreClosed ys → AreClosed (xs ++ ys)
 closed-append xs ys one other =
-    list_all-append is_closed xs ys ∙ both (list_all is_closed xs) (list_all is_closed ys) one other
+    list_all-append is_closed xs ys ∙ and_true (list_all is_closed xs) (list_all is_closed ys) one other
 
 closed-characters : (text : List ℕ) → AreClosed (characters text)
 closed-characters [] = refl
@@ -318,7 +309,8 @@ closed-characters (code ∷ text) = closed-characters text
 
 closed-open : (document : Document) (e : Element) → AreClosed (open_tokens document e)
 closed-open document e =
-    both (list_all (λ code. not (code == 62)) (start_text (name_of e) (attributes_of document e))) true (no_end-append (name_of
+    and_true (list_all (λ code. not (code == 62)) (start_text (name_of e) (attributes_of document e))) true
+    (no_end-append (name_of
     e)
     (attributes_text (attributes_of document e)) (no_end-name e) (no_end-attributes document e)) refl
 
@@ -328,7 +320,8 @@ closed-line false = refl
 
 closed-close : (e : Element) → AreClosed (close_tokens e)
 closed-close e =
-    both (list_all (λ code. not (code == 62)) (name_of e)) (list_all is_closed (if ends_line e then Character 10 ∷ []
+    and_true (list_all (λ code. not (code == 62)) (name_of e)) (list_all is_closed (if ends_line e then Character 10 ∷
+    []
     else
     [])) (no_end-name e) (closed-line (ends_line e))
 
@@ -390,7 +383,7 @@ no_end-language (Some identifier) =
 
 closed-front : (language : Option ℕ) → AreClosed (front_tokens language)
 closed-front language =
-    both (list_all (λ code. not (code == 62)) (start_text (codes "html") (language_attributes language))) true
+    and_true (list_all (λ code. not (code == 62)) (start_text (codes "html") (language_attributes language))) true
     (no_end-append (codes "html") (attributes_text (language_attributes language)) refl (no_end-language language)) refl
 
 closed-page : (document : Document) (head : Head) (places : Places) → AreClosed (page_tokens document head places)

@@ -36,6 +36,7 @@ use Rattle.html_page.specs.Pages.{Events, Places, characters, close_tokens, open
 use Rattle.html_page.specs.Pages.{glyph_tokens, glyph_half, other_tokens, tokens_of, half_of}
 use Rattle.html_page.specs.Printed.{PutsEvents, PutsPlaces}
 use Rattle.plain_doc.specs.declared.document.Document.{Document}
+use Rattle.doc_bits.proofs.TestLemmas.{and_true, and_first, and_second, not_true}
 
 -- ---- tokens one after another
 
@@ -172,12 +173,12 @@ close_step sink a b c html next left new e count is within prints path half docu
     subst (λ (p : List Element). PutsEvents sink b next c left (map Turn (closes (take count p) (drop count p))) (take
     count
     p)) path rest in
-    let both : PutsEvents sink a html c left (event ∷ more) (take count new) =
+    let and_true : PutsEvents sink a html c left (event ∷ more) (take count new) =
     events_then sink a b c html next left (event ∷ []) more new (take count new) first second in
     puts_as sink a c html left (event ∷ more) (map Turn (closes (take count html.path) (drop count html.path))) (take
     count
     new) (take count html.path) (ap (map Turn) (sym (closes-next html.path new e count is within))) (sym (take-closed
-    html.path new e count is within)) both
+    html.path new e count is within)) and_true
 
 -- ---- elements that are opened
 
@@ -346,29 +347,17 @@ paragraph_pieces p =
 
 -- ---- texts of ASCII
 
-both_first : (a b : Bool) → (a && b) ≡ true → a ≡ true
-both_first true b e = refl
-both_first false b e = e
-
-both_second : (a b : Bool) → (a && b) ≡ true → b ≡ true
-both_second true b e = e
-both_second false b e = absurd (cc (e))
-
-both : (a b : Bool) → a ≡ true → b ≡ true → (a && b) ≡ true
-both true b one other = other
-both false b one other = absurd (cc (one))
-
 all-drop : (p : ℕ → Bool) (count : ℕ) (text : List ℕ) → list_all p text ≡ true → list_all p (drop count text) ≡ true
 all-drop p zero text is = is
 all-drop p (suc count) [] is = refl
-all-drop p (suc count) (code ∷ text) is = all-drop p count text (both_second (p code) (list_all p text) is)
+all-drop p (suc count) (code ∷ text) is = all-drop p count text (and_second (p code) (list_all p text) is)
 
 all-take : (p : ℕ → Bool) (count : ℕ) (text : List ℕ) → list_all p text ≡ true → list_all p (take count text) ≡ true
 all-take p zero text is = refl
 all-take p (suc count) [] is = refl
 all-take p (suc count) (code ∷ text) is =
-    both (p code) (list_all p (take count text)) (both_first (p code) (list_all p text) is) (all-take p count text
-    (both_second (p code) (list_all p text) is))
+    and_true (p code) (list_all p (take count text)) (and_first (p code) (list_all p text) is) (all-take p count text
+    (and_second (p code) (list_all p text) is))
 
 pub all-slice : (p : ℕ → Bool) (text : List ℕ) (from to : ℕ) → list_all p text ≡ true → list_all p (slice_range text
     from to) ≡ true
@@ -379,8 +368,8 @@ is_ascii code = nat_lt code 128
 
 pub ascii_all : (text : List ℕ) → list_all is_ascii text ≡ true → IsAscii text
 ascii_all [] is i = omega arith
-ascii_all (code ∷ text) is zero = ltb-true code 128 (both_first (is_ascii code) (list_all is_ascii text) is)
-ascii_all (code ∷ text) is (suc i) = ascii_all text (both_second (is_ascii code) (list_all is_ascii text) is) i
+ascii_all (code ∷ text) is zero = ltb-true code 128 (and_first (is_ascii code) (list_all is_ascii text) is)
+ascii_all (code ∷ text) is (suc i) = ascii_all text (and_second (is_ascii code) (list_all is_ascii text) is) i
 
 pub ascii_slice : (text : List ℕ) (from to : ℕ) → list_all is_ascii text ≡ true → IsAscii (slice_range text from to)
 ascii_slice text from to is = ascii_all (slice_range text from to) (all-slice is_ascii text from to is)
@@ -390,31 +379,27 @@ ascii_slice text from to is = ascii_all (slice_range text from to) (all-slice is
 abbrev is_plain : ℕ → Bool
 is_plain code = not (code == 38) && (not (code == 60) && (not (code == 62) && not (code == 34)))
 
-not_true : (a : Bool) → not a ≡ true → a ≡ false
-not_true true e = absurd (cc (e))
-not_true false e = refl
-
 escaped-plain : (code : ℕ) → is_plain code ≡ true → escaped code ≡ code ∷ []
 escaped-plain code is =
     let three = not (code == 60) && (not (code == 62) && not (code == 34)) in
     let two = not (code == 62) && not (code == 34) in
-    let rest = both_second (not (code == 38)) three is in
-    let last = both_second (not (code == 60)) two rest in
+    let rest = and_second (not (code == 38)) three is in
+    let last = and_second (not (code == 60)) two rest in
     rw (
-      not_true (code == 38) (both_first (not (code == 38)) three is),
-      not_true (code == 60) (both_first (not (code == 60)) two
+      not_true (code == 38) (and_first (not (code == 38)) three is),
+      not_true (code == 60) (and_first (not (code == 60)) two
           rest),
-      not_true (code == 62) (both_first (not (code == 62)) (not (code == 34)) last),
-      not_true (code == 34) (both_second (not
+      not_true (code == 62) (and_first (not (code == 62)) (not (code == 34)) last),
+      not_true (code == 34) (and_second (not
           (code == 62)) (not (code == 34)) last),
     ) refl
 
 printed-plain : (text : List ℕ) → list_all is_plain text ≡ true → printed (characters text) ≡ text
 printed-plain [] is = refl
 printed-plain (code ∷ text) is =
-    ap (λ (front : List ℕ). front ++ printed (characters text)) (escaped-plain code (both_first (is_plain code)
+    ap (λ (front : List ℕ). front ++ printed (characters text)) (escaped-plain code (and_first (is_plain code)
     (list_all is_plain
-    text) is)) ∙ ap (λ (rest : List ℕ). code ∷ rest) (printed-plain text (both_second (is_plain code) (list_all
+    text) is)) ∙ ap (λ (rest : List ℕ). code ∷ rest) (printed-plain text (and_second (is_plain code) (list_all
     is_plain text) is))
 
 digit_is_plain : (d : ℕ) → is_plain (digit_glyph false d) ≡ true
@@ -426,7 +411,7 @@ plain-digits_onto : (k n : ℕ) (acc : List ℕ) → list_all is_plain acc ≡ t
 plain-digits_onto zero n acc h = h
 plain-digits_onto (suc k) n acc h =
     let next : list_all is_plain (digit_glyph false (n % 10) ∷ acc) ≡ true =
-    both (is_plain (digit_glyph false (n % 10))) (list_all is_plain acc) (digit_is_plain (n % 10)) h in
+    and_true (is_plain (digit_glyph false (n % 10))) (list_all is_plain acc) (digit_is_plain (n % 10)) h in
     elim (n / 10 == 0) as (λ (b : Bool). list_all is_plain (if b then digit_glyph false (n % 10) ∷ acc else
     digits_onto k 10 false
     (n / 10) (digit_glyph false (n % 10) ∷ acc)) ≡ true) [

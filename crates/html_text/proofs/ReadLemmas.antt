@@ -11,27 +11,16 @@ use Rattle.std.proofs.lemmas.List.Folds.{list_all-append}
 use Rattle.html_text.specs.Reading.{In_text, In_tag, In_reference, read_from}
 use Rattle.html_text.specs.Safe.{is_safe}
 use Rattle.html_text.specs.Laws.{HtmlIsReadBack, TextsAreReadBack, TextsAreNoMarkup}
-
-both_first : (a b : Bool) → (a && b) ≡ true → a ≡ true
-both_first true b e = refl
-both_first false b e = e
-
-both_second : (a b : Bool) → (a && b) ≡ true → b ≡ true
-both_second true b e = e
-both_second false b e = absurd (cc (e))
-
-not_true : (a : Bool) → not a ≡ true → a ≡ false
-not_true true e = absurd (cc (e))
-not_true false e = refl
+use Rattle.doc_bits.proofs.TestLemmas.{and_first, and_second, not_true}
 
 -- a tag is read up to its end
 read-tag : (so_far inner rest : List ℕ) → list_all (λ code. not (code == 62)) inner ≡ true → read_from (In_tag so_far)
     (inner ++ 62 ∷ rest) ≡ Tag (so_far ++ inner) ∷ read_from In_text rest
 read-tag so_far [] rest closed = ap (λ t. Tag t ∷ read_from In_text rest) (sym (append-nil so_far))
 read-tag so_far (code ∷ inner) rest closed =
-    let here : (code == 62) ≡ false = not_true (code == 62) (both_first (not (code == 62)) (list_all (λ c. not (c ==
+    let here : (code == 62) ≡ false = not_true (code == 62) (and_first (not (code == 62)) (list_all (λ c. not (c ==
     62)) inner) closed) in
-    let more : list_all (λ c. not (c == 62)) inner ≡ true = both_second (not (code == 62)) (list_all (λ c. not (c ==
+    let more : list_all (λ c. not (c == 62)) inner ≡ true = and_second (not (code == 62)) (list_all (λ c. not (c ==
     62)) inner) closed in
     ap (λ b. cond b (Tag so_far ∷ read_from In_text (inner ++ 62 ∷ rest)) (read_from (In_tag (so_far ++ code ∷ []))
     (inner ++ 62 ∷ rest))) here
@@ -78,8 +67,8 @@ read-token (Tag inner) rest closed =
 pub read_back : HtmlIsReadBack
 read_back [] closed = refl
 read_back (token ∷ tokens) closed =
-    read-token token (printed tokens) (both_first (is_closed token) (list_all is_closed tokens) closed)
-    ∙ ap (λ more. token ∷ more) (read_back tokens (both_second (is_closed token) (list_all is_closed tokens) closed))
+    read-token token (printed tokens) (and_first (is_closed token) (list_all is_closed tokens) closed)
+    ∙ ap (λ more. token ∷ more) (read_back tokens (and_second (is_closed token) (list_all is_closed tokens) closed))
 
 no_or : (a b : Bool) → a ≡ false → b ≡ false → not (cond a true b) ≡ true
 no_or a b e f = rw (e, f) refl

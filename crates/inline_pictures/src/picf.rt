@@ -8,7 +8,7 @@ use doc_bits::{get16, get32};
 const PICF_LEN: u16 = 68;
 
 /// The fewest bytes of a PICF and what is behind it.
-const LEAST_LEN: usize = PICF_LEN as usize + 1;
+const MIN_LEN: usize = PICF_LEN as usize + 1;
 
 /// mfpf.mm of a shape.
 const MM_SHAPE: u16 = 0x64;
@@ -22,11 +22,11 @@ pub(crate) fn picf_end(stream: &[u8], at: usize) -> Option<usize>
         (¬ (IsPicfAt stream.now at))
         (λ end. IsPicfAt stream.now at × (end ≡ picf_end stream.now at)) }
 {
-    if at > stream.len() || stream.len() - at < LEAST_LEN {
+    if at > stream.len() || stream.len() - at < MIN_LEN {
         return None;
     }
     let len = get32(stream, at) as usize;
-    if len < LEAST_LEN || len > stream.len() - at {
+    if len < MIN_LEN || len > stream.len() - at {
         return None;
     }
     let mode = get16(stream, at + 6);

@@ -24,12 +24,12 @@ use Rattle.json_values.specs.Rows.{number_json, taken, need, ended}
 use Rattle.json_doc.specs.declared.carried_reading.CarriedFields.{CarriedFields}
 use Rattle.json_doc.specs.CarriedParts.{stream_json, streams_json, carried_json}
 use Rattle.json_doc.specs.CarriedReading.{stream_of_items, stream_of, AreFormedStreams, carried_values, HasFields}
-use Rattle.json_doc.specs.CarriedReading.{AreRightFields, IsStreamAdded, IsNoStream}
+use Rattle.json_doc.specs.CarriedReading.{AreValidFields, IsStreamAdded, IsNoStream}
 use Rattle.json_doc.proofs.FieldLemmas.{numbers_one, bytes_are_one, units_are_one}
 use Rattle.json_doc.proofs.ListLemmas.{array_is, AreGiven, given_more, given_one, given_same}
-use Rattle.json_doc.proofs.PieceReadLemmas.{object_is}
 use Rattle.json_doc.proofs.ReadLemmas.{same_items}
-use Rattle.json_doc.proofs.RowLemmas.{AreOne, step_found, then_found, need_one, need_back, taken_is, ended_is}
+use Rattle.json_doc.proofs.RowLemmas.{AreOne, then_found, need_one, need_back, taken_is, ended_is}
+use Rattle.json_values.proofs.SpeltLemmas.{object_is, step_found}
 
 -- ---- a stream
 
@@ -360,7 +360,7 @@ pub no_carried : (value : Data) → carried_values value ≡ None → (c : Carri
     value ≢ carried_json c
 no_carried value none c formed e = none-some _ (sym none ∙ carried_known value c formed e)
 
-right_fields : (c : Carried) → IsFormedCarried c → AreRightFields (fields_of c)
+right_fields : (c : Carried) → IsFormedCarried c → AreValidFields (fields_of c)
 right_fields c formed = record {
   but = record { short = formed.parts; clsid = formed.clsid; flags = formed.flags };
   lists = formed.lists;
@@ -374,11 +374,11 @@ formed_streams c formed = record {
 }
 
 pub carried_unread : (value : Data) (f : CarriedFields) (d : Data) → carried_values value ≡ Some (f, d) →
-    ((streams : List NamedBytes) → AreRightFields f → AreFormedStreams streams → d ≢ streams_json streams) →
+    ((streams : List NamedBytes) → AreValidFields f → AreFormedStreams streams → d ≢ streams_json streams) →
     (c : Carried) → IsFormedCarried c → value ≢ carried_json c
 carried_unread value f d read none c formed e =
     let same = same_Some (fields_of c, streams_json c.streams) (f, d) (sym (carried_known value c formed e) ∙ read) in
-    none c.streams (subst (λ q. AreRightFields q.0) same (right_fields c formed)) (formed_streams c formed)
+    none c.streams (subst (λ q. AreValidFields q.0) same (right_fields c formed)) (formed_streams c formed)
     (ap (λ q. q.1) (sym same))
 
 pub carried_told : (value : Data) (f : CarriedFields) (d : Data) (streams : List NamedBytes) (c : Carried) →

@@ -24,7 +24,8 @@ use Rattle.json_doc.specs.PieceReading.{piece_of, piece_items, IsFormedPiece, Is
 use Rattle.json_doc.proofs.PieceReadLemmas.{pieces_one, piece_spelt}
 use Rattle.json_doc.proofs.ReadLemmas.{All-cons, same_items}
 use Rattle.json_doc.proofs.TextReadLemmas.{from_items, formed_from, items_joined, units_again, formed_items}
-use Rattle.json_doc.proofs.TextReadLemmas.{behind_list, over_behind}
+use Rattle.json_doc.proofs.TextReadLemmas.{over_behind}
+use Rattle.doc_bits.proofs.TogetherLemmas.{from_behind}
 
 -- ---- lists of items
 
@@ -55,7 +56,7 @@ first_cut part more some joined ends =
           let here : k < length part = omega (arith, h) in
           rw (slice_get_before part more k here, slice_get_before part more (k + 1) h) (joined k h);
       ends =
-          rw (slice_get_before part more (length part - 1) last, next, behind_list part more 0) ends;
+          rw (slice_get_before part more (length part - 1) last, next, from_behind part more 0) ends;
     } in
     stretches-first is_one_piece (part ++ more) (length part) begins
     ∙ rw (take-append_seam part more, drop-append_seam part more) refl

@@ -7,8 +7,8 @@ use Rattle.std.proofs.lemmas.Option.{none-some, same_Some}
 use Rattle.serde_json.specs.Data.{Data, null, object, no_members, member}
 use Rattle.serde_json.specs.Find.{as_object, as_null}
 use Rattle.serde_json.specs.Read.{read}
-use Rattle.edit_script.specs.declared.faults.Misfit.{Misfit}
-use Rattle.edit_script.specs.declared.faults.Misfit.TheVariants.{Shape, Memory}
+use Rattle.edit_script.specs.declared.faults.ShapeError.{ShapeError}
+use Rattle.edit_script.specs.declared.faults.ShapeError.TheVariants.{Shape, Memory}
 use Rattle.fib_form.specs.FibFields.{IsKeptFlags}
 use Rattle.cfb_streams.specs.Contents.{NamedBytes, IsStored}
 use Rattle.style_sheet.specs.declared.styles.Style.{Style}
@@ -37,12 +37,12 @@ use Rattle.json_doc.proofs.CutTextLemmas.{texts_same}
 use Rattle.json_doc.proofs.GoodLemmas.{plain_order}
 use Rattle.json_doc.proofs.GoodParts.{good_text}
 use Rattle.json_doc.proofs.MarkLemmas.{bookmarks_one}
-use Rattle.json_doc.proofs.PieceReadLemmas.{object_is}
 use Rattle.json_doc.proofs.ReadLemmas.{same_items}
-use Rattle.json_doc.proofs.RowLemmas.{AreOne, step_found, taken_is, ended_is}
+use Rattle.json_doc.proofs.RowLemmas.{AreOne, taken_is, ended_is}
 use Rattle.json_doc.proofs.SheetLemmas.{sheet_known}
 use Rattle.json_doc.proofs.StyleReadLemmas.{styles_one, style_spelt}
 use Rattle.json_values.specs.Rows.{taken, ended}
+use Rattle.json_values.proofs.SpeltLemmas.{object_is, step_found}
 
 -- ---- the six values
 
@@ -140,7 +140,7 @@ document_told value six d read are order =
 -- ---- bookmarks beside the main text that was read
 
 -- what a misfit of a wrong shape says
-pub none_reads : {A : Type 0} (json : A → Data) (Is : A → Type 0) (value : Data) (e : Misfit) → e ≡ Shape →
+pub none_reads : {A : Type 0} (json : A → Data) (Is : A → Type 0) (value : Data) (e : ShapeError) → e ≡ Shape →
     Reads json Is value (Err e) → (x : A) → Is x → value ≢ json x
 none_reads json Is value Shape shape none = none
 none_reads json Is value Memory shape none = absurd (cc (shape))
@@ -152,7 +152,7 @@ main_same value main d formed e text read =
     formed.main).plain) in
     texts_same main d.main text formed.main (sym (read order) ∙ e)
 
-pub marks_unread : (value : Data) (six : SixValues) (main : List Item) (len : ℕ) (e : Misfit) →
+pub marks_unread : (value : Data) (six : SixValues) (main : List Item) (len : ℕ) (e : ShapeError) →
     document_values value ≡ Some six → IsFormedText main → (HasKeysInOrder six.main → six.main ≡ text_json main) →
     len ≡ length main → e ≡ Shape → Reads bookmarks_json (AreMarks len) six.bookmarks (Err e) →
     (d : Document) → IsWhole d → value ≢ json_value d

@@ -6,12 +6,12 @@ use Rattle.std.proofs.lemmas.Bool.{lt-ltb, ltb-true}
 use Rattle.std.proofs.lemmas.Option.{none-some, same_Some}
 use Rattle.serde_json.specs.Data.{unsigned, negative, float, Data, null, boolean, number, string, array, object}
 use Rattle.doc_bits.specs.Number.{AreBytes}
-use Rattle.edit_script.specs.Values.{whole_number, settings_of, bytes_of}
+use Rattle.edit_script.specs.Values.{whole_number, properties_of, bytes_of}
 use Rattle.json_values.specs.Digits.{bytes_json, units_json, hex_units_of, AreUnits}
 use Rattle.json_values.specs.Rows.{number_json}
-use Rattle.json_values.specs.Settings.{settings_json, AreSpelt}
+use Rattle.json_values.specs.Settings.{properties_json, AreSpelt}
 use Rattle.json_values.proofs.HexLemmas.{digits_one}
-use Rattle.json_values.proofs.SpeltLemmas.{settings_one}
+use Rattle.json_values.proofs.SpeltLemmas.{properties_one}
 use Rattle.json_doc.proofs.RowLemmas.{AreOne}
 
 -- ---- numbers
@@ -40,7 +40,7 @@ number_back limit m less = ap (λ b. if b then Some m else None) (lt-ltb m limit
 pub numbers_one : (limit : ℕ) → AreOne (whole_number limit) number_json (λ n. n < limit)
 numbers_one limit = record { back = number_back limit; one = λ value m order e. number_is limit value m e }
 
--- ---- bytes, units and settings
+-- ---- bytes, units and properties
 
 pub bytes_are_one : AreOne bytes_of bytes_json AreBytes
 bytes_are_one = record { back = digits_one.bytes_back; one = λ value x order e. digits_one.bytes_one value x e }
@@ -48,5 +48,5 @@ bytes_are_one = record { back = digits_one.bytes_back; one = λ value x order e.
 pub units_are_one : AreOne hex_units_of units_json AreUnits
 units_are_one = record { back = digits_one.units_back; one = λ value x order e. digits_one.units_one value x e }
 
-pub settings_are_one : AreOne settings_of settings_json AreSpelt
-settings_are_one = record { back = settings_one.back; one = settings_one.one }
+pub properties_are_one : AreOne properties_of properties_json AreSpelt
+properties_are_one = record { back = properties_one.back; one = properties_one.one }

@@ -11,7 +11,7 @@ use Rattle.json.proofs.Printed.Utf8.{IsUtf8-are_ascii}
 use Rattle.serde_json.specs.Data.{no_items, no_members, member, depth, members_depth}
 use Rattle.serde_json.specs.View.{items_of}
 use Rattle.doc_bits.specs.Number.{AreBytes}
-use Rattle.prop_map.specs.Settings.{Settings}
+use Rattle.prop_map.specs.Settings.{Properties}
 use Rattle.style_sheet.specs.declared.styles.Style.{Style}
 use Rattle.style_sheet.specs.Formed.{IsFormedSlot, IsFormedSheet}
 use Rattle.style_sheet.specs.Sheet.{Sheet}
@@ -29,9 +29,9 @@ use Rattle.doc_parts.specs.declared.bookmark_order.Bookmark.{Bookmark}
 use Rattle.doc_parts.specs.Bookmarks.{HasFileNumbers}
 use Rattle.json_values.specs.Digits.{bytes_json, units_json, AreUnits}
 use Rattle.json_values.specs.Rows.{number_json, member_if}
-use Rattle.json_values.specs.Settings.{settings_json, settings_members, AreSpelt}
+use Rattle.json_values.specs.Settings.{properties_json, properties_members, AreSpelt}
 use Rattle.json_values.proofs.HexLemmas.{digits_one}
-use Rattle.json_values.proofs.SpeltLemmas.{settings_one}
+use Rattle.json_values.proofs.SpeltLemmas.{properties_one}
 use Rattle.json_doc.specs.declared.pieces.Piece.{Piece}
 use Rattle.json_doc.specs.Pieces.{is_one_piece, mark_json, note_json, piece_json, piece_members, stretch_json}
 use Rattle.json_doc.specs.Pieces.{text_json}
@@ -50,18 +50,18 @@ use Rattle.json_doc.proofs.StyleReadLemmas.{IsSpeltStyle, style_spelt, all_units
 
 -- ---- fields
 
-members_flat : (es : List (ℕ × List ℕ)) → members_depth (settings_members es) ≤ 0
+members_flat : (es : List (ℕ × List ℕ)) → members_depth (properties_members es) ≤ 0
 members_flat [] = omega arith
 members_flat (e ∷ es) = let rest = members_flat es in omega (arith, rest)
 
-settings_shallow : (set : Settings) → depth (settings_json set) ≤ 1
-settings_shallow set = let flat = members_flat (entries set) in omega (arith, flat)
+properties_shallow : (set : Properties) → depth (properties_json set) ≤ 1
+properties_shallow set = let flat = members_flat (entries set) in omega (arith, flat)
 
-good_settings : (set : Settings) → AreSpelt set → IsGood 1 (settings_json set)
-good_settings set spelt = record {
-  plain = settings_one.plain set spelt;
-  texts = settings_one.texts set spelt;
-  shallow = settings_shallow set;
+good_properties : (set : Properties) → AreSpelt set → IsGood 1 (properties_json set)
+good_properties set spelt = record {
+  plain = properties_one.plain set spelt;
+  texts = properties_one.texts set spelt;
+  shallow = properties_shallow set;
 }
 
 good_bytes : (n : ℕ) (bytes : List ℕ) → AreBytes bytes → IsGood n (bytes_json bytes)
@@ -75,7 +75,7 @@ good_units n units are = good_string n _ (digits_one.units_texts units are)
 good_mark : (mark : Mark) → IsSpeltMark mark → IsGood 2 (mark_json mark)
 good_mark m is =
     good_object 1 _ ((refl, tt), (tt, tt))
-    (good_member 1 (codes "p") (settings_json m.pap) _ (IsUtf8-are_ascii (codes "p") refl) (good_settings m.pap is.pap)
+    (good_member 1 (codes "p") (properties_json m.pap) _ (IsUtf8-are_ascii (codes "p") refl) (good_properties m.pap is.pap)
     (good_member 1 (codes "s") (number_json m.istd) no_members (IsUtf8-are_ascii (codes "s") refl)
     (let small = is.istd in good_number 1 m.istd (omega (arith, small))) (no_good_members 1)))
 
@@ -85,7 +85,7 @@ good_note Custom is = good_string 2 (codes "custom") (IsUtf8-are_ascii (codes "c
 
 pub good_piece : (piece : Piece) → IsSpeltPiece piece → IsGood 3 (piece_json piece)
 good_piece p is =
-    let x = option_map settings_json p.sect in
+    let x = option_map properties_json p.sect in
     let n = option_map note_json p.note in
     let m = option_map mark_json p.mark in
     let f = option_map number_json p.fld in
@@ -94,7 +94,8 @@ good_piece p is =
     let from_n = member_if (codes "n") n from_t in
     let from_m = member_if (codes "m") m from_n in
     let from_f = member_if (codes "f") f from_m in
-    let one = λ (set : Settings) (spelt : AreSpelt set). wider 1 2 (settings_json set) (omega arith) (good_settings set
+    let one = λ (set : Properties) (spelt : AreSpelt set). wider 1 2 (properties_json set) (omega arith)
+    (good_properties set
     spelt) in
     good_object 2 (piece_members p) (
       below_if (codes "c") (codes "f") f from_m refl (below_if (codes "c") (codes "m") m from_n refl
@@ -108,7 +109,7 @@ good_piece p is =
           (ascend_if (codes "n") n from_t (refl, below_if (codes "n") (codes "x") x no_members refl tt)
           (below_if (codes "t") (codes "x") x no_members refl tt, ascend_if (codes "x") x no_members tt tt))),
     )
-    (good_member 2 (codes "c") (settings_json p.chp) from_f (IsUtf8-are_ascii (codes "c") refl) (one p.chp is.chp)
+    (good_member 2 (codes "c") (properties_json p.chp) from_f (IsUtf8-are_ascii (codes "c") refl) (one p.chp is.chp)
     (good_member_if 2 (codes "f") f from_m (IsUtf8-are_ascii (codes "f") refl)
     (good_if 2 number_json _ (λ b small. good_number 2 b (omega (arith, small))) p.fld is.fld)
     (good_member_if 2 (codes "m") m from_n (IsUtf8-are_ascii (codes "m") refl)
@@ -118,7 +119,7 @@ good_piece p is =
     (good_member 2 (codes "t") (units_json p.units) from_x (IsUtf8-are_ascii (codes "t") refl)
     (good_units 2 p.units is.units)
     (good_member_if 2 (codes "x") x no_members (IsUtf8-are_ascii (codes "x") refl)
-    (good_if 2 settings_json _ one p.sect is.sect)
+    (good_if 2 properties_json _ one p.sect is.sect)
     (no_good_members 2)))))))
 
 good_stretch : (part : List Item) → IsGoodPart part → IsGood 3 (stretch_json part)
@@ -147,8 +148,8 @@ good_style s is =
     let k = s.kind in
     let u = option_map lists_json (upxes_of_kind k) in
     let stk = option_map number_json (stk_of_kind k) in
-    let p = option_map settings_json (pap_of_kind k) in
-    let c = option_map settings_json (chp_of_kind k) in
+    let p = option_map properties_json (pap_of_kind k) in
+    let c = option_map properties_json (chp_of_kind k) in
     let from_u = member_if (codes "upxes") u no_members in
     let from_stk = member_if (codes "stk") stk from_u in
     let from_sti = member (codes "sti") (number_json s.sti) from_stk in
@@ -187,7 +188,7 @@ good_style s is =
     (good_member 1 (codes "base") (base_json s.base) from_char (IsUtf8-are_ascii (codes "base") refl)
     (good_base s.base is.base)
     (good_member_if 1 (codes "char") c from_flags (IsUtf8-are_ascii (codes "char") refl)
-    (good_if 1 settings_json AreSpelt good_settings (chp_of_kind k) is.chp)
+    (good_if 1 properties_json AreSpelt good_properties (chp_of_kind k) is.chp)
     (good_member 1 (codes "flags") (number_json s.flags) from_grfstd (IsUtf8-are_ascii (codes "flags") refl)
     (let small = is.flags in good_number 1 s.flags (omega (arith, small)))
     (good_member 1 (codes "grfstd") (number_json s.grfstd) from_name (IsUtf8-are_ascii (codes "grfstd") refl)
@@ -197,7 +198,7 @@ good_style s is =
     (good_member 1 (codes "next") (number_json s.next) from_par (IsUtf8-are_ascii (codes "next") refl)
     (let small = is.next in good_number 1 s.next (omega (arith, small)))
     (good_member_if 1 (codes "par") p from_sti (IsUtf8-are_ascii (codes "par") refl)
-    (good_if 1 settings_json AreSpelt good_settings (pap_of_kind k) is.pap)
+    (good_if 1 properties_json AreSpelt good_properties (pap_of_kind k) is.pap)
     (good_member 1 (codes "sti") (number_json s.sti) from_stk (IsUtf8-are_ascii (codes "sti") refl)
     (let small = is.sti in good_number 1 s.sti (omega (arith, small)))
     (good_member_if 1 (codes "stk") stk from_u (IsUtf8-are_ascii (codes "stk") refl)

@@ -32,7 +32,7 @@ is_shallow = record {
 }
 
 -- bytes spell one value
-json_one : (bytes : List ℕ) (one other : Data) → IsJson bytes one → IsJson bytes other → one ≡ other
+pub json_one : (bytes : List ℕ) (one other : Data) → IsJson bytes one → IsJson bytes other → one ≡ other
 json_one bytes one other a b = same_Some one other (sym a.1 ∙ b.1)
 
 pub forms_one : JsonFormsAreOne

@@ -6,7 +6,7 @@ use Rattle.std.proofs.lemmas.List.{get_or-append-add}
 use Rattle.std.proofs.Math.Seq.{take-append_seam}
 use Rattle.doc_bits.specs.Rules.{Hold, IsFirst}
 use Rattle.doc_bits.specs.Number.{u16_at}
-use Rattle.doc_bits.proofs.NumberLemmas.{number_at-after}
+use Rattle.doc_bits.proofs.NumberLemmas.{number_at-after, zero_more}
 use Rattle.doc_parts.specs.Levels.{level_count, level_end, level_start, list_part, level_rules, HasLists}
 use Rattle.doc_parts.specs.Levels.{HaveLength}
 use Rattle.doc_parts.proofs.LevelLemmas.{level_start-zero, level_start-more}
@@ -49,10 +49,6 @@ part_is : (lst levels : List ℕ) → list_part (lst ++ levels) 0 (length lst) �
 part_is lst levels =
     let width : 0 + length lst - 0 ≡ length lst = omega arith in
     ap (λ n. take n (lst ++ levels)) width ∙ take-append_seam lst levels
-
--- where the levels begin
-zero_more : (n : ℕ) → 0 + n ≡ n
-zero_more n = omega arith
 
 have_behind : (lst levels : List ℕ) (len : ℕ) → HaveLength (lst ++ levels) 0 (length lst) len →
     len ≡ level_start levels 0 (level_count lst)

@@ -12,8 +12,9 @@ use Rattle.edit_script.specs.Json.{◌>>=◌, each_of}
 use Rattle.json_values.specs.Plain.{HasKeysInOrder, ItemsHaveKeysInOrder}
 use Rattle.json_doc.specs.StyleReading.{list_as}
 use Rattle.json_doc.proofs.ReadLemmas.{All-cons}
-use Rattle.json_doc.proofs.RowLemmas.{AreOne, step_found, then_found, then_lost}
+use Rattle.json_doc.proofs.RowLemmas.{AreOne, then_found, then_lost}
 use Rattle.json_doc.proofs.ValueLemmas.{more_values, at_value, all_values}
+use Rattle.json_values.proofs.SpeltLemmas.{step_found}
 
 pub array_is : (value : Data) (items : Items) → as_array value ≡ Some items → value ≡ array items
 array_is null items e = absurd (none-some items e)

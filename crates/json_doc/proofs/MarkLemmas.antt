@@ -17,8 +17,9 @@ use Rattle.json_doc.specs.DocumentReading.{bookmark_of_items, bookmark_of}
 use Rattle.json_doc.specs.StyleReading.{list_as}
 use Rattle.json_doc.proofs.FieldLemmas.{numbers_one, number_is, units_are_one}
 use Rattle.json_doc.proofs.ListLemmas.{array_is, lists_one}
-use Rattle.json_doc.proofs.RowLemmas.{AreOne, step_found, then_found}
+use Rattle.json_doc.proofs.RowLemmas.{AreOne, then_found}
 use Rattle.json_doc.proofs.StyleReadLemmas.{all_units}
+use Rattle.json_values.proofs.SpeltLemmas.{step_found}
 
 -- units of 16 bits, place by place
 units_all : (units : List ℕ) → AreUnits units → All (λ unit. unit < 2 ^ 16) units

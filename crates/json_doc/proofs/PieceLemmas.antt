@@ -7,27 +7,28 @@ use Rattle.std.proofs.lemmas.Bool.{lt-ltb, cases_lt}
 use Rattle.std.proofs.lemmas.List.{drop-drop, drop_all, take-map, drop-map}
 use Rattle.std.proofs.lemmas.Option.{same_Some}
 use Rattle.doc_bits.proofs.ListLemmas.{there_is}
-use Rattle.prop_map.specs.Settings.{Settings}
+use Rattle.prop_map.specs.Settings.{Properties}
 use Rattle.serde_json.specs.Data.{Members, no_members, member}
 use Rattle.serde_json.specs.Written.{compact_text, comma_if}
 use Rattle.plain_doc.specs.declared.item.Item.{Item}
-use Rattle.plain_doc.specs.Settings.{same_settings}
+use Rattle.plain_doc.specs.Settings.{same_properties}
 use Rattle.plain_doc.specs.Stretches.{stretches, BeginsStretch}
 use Rattle.plain_doc.proofs.LawLemmas.{equal_are_same}
 use Rattle.plain_doc.proofs.StretchLemmas.{stretches-first, stretches-nil, rest_of, part_of}
 use Rattle.bare_items.specs.Specials.{is_special}
-use Rattle.doc_columns.specs.declared.beside.Beside.{Beside}
+use Rattle.doc_columns.specs.declared.attached.Attached.{Attached}
 use Rattle.doc_columns.specs.declared.walk.Parts.{Parts}
-use Rattle.doc_columns.specs.Beside.{beside_of, has_something}
+use Rattle.doc_columns.specs.Attached.{attached_of, has_something}
 use Rattle.doc_columns.specs.Walks.{items_in, AreParts}
 use Rattle.doc_columns.proofs.WalkLemmas.{items_long, units_are, range_got, range_long, begins_range}
 use Rattle.json_values.specs.Digits.{units_json}
 use Rattle.json_values.specs.Out.{Output, Adds}
 use Rattle.json_values.specs.Rows.{member_if}
-use Rattle.json_values.specs.Settings.{settings_json}
+use Rattle.json_values.specs.Settings.{properties_json}
 use Rattle.json_doc.specs.Frames.{piece_with}
 use Rattle.json_doc.specs.Pieces.{is_one_piece, mark_json, note_json, piece_json, stretch_json}
 use Rattle.json_doc.proofs.WrittenLemmas.{HasWritten, one_written, all_written}
+use Rattle.doc_bits.proofs.TestLemmas.{not_true}
 
 -- ---- what the items of a piece have in common
 
@@ -36,89 +37,89 @@ both_true true true is = (refl, refl)
 both_true true false is = absurd (cc)
 both_true false b is = absurd (cc)
 
-is_not : (a : Bool) → not a ≡ true → a ≡ false
-is_not true is = absurd (cc)
-is_not false is = refl
-
--- the items from a place to another have nothing beside their settings, and the same of these
-abbrev pub AreAlike : List Item → ℕ → ℕ → Settings → Type 0
+-- the items from a place to another have nothing beside their properties, and the same of these
+abbrev pub AreAlike : List Item → ℕ → ℕ → Properties → Type 0
 AreAlike items from to chp =
     (k : ℕ) (item : Item) → from ≤ k → k < to → slice_get items k ≡ Some item →
     (is_special item ≡ false) × (item.chp ≡ chp)
 
-pub alike_by : (items : List Item) (from to : ℕ) (chp : Settings) (beside : Beside) → has_something beside ≡ false →
+pub alike_by : (items : List Item) (from to : ℕ) (chp : Properties) (attached : Attached) → has_something attached ≡
+    false →
     ((k : ℕ) (item : Item) → from ≤ k → k < to → slice_get items k ≡ Some item → item.chp ≡ chp) →
-    ((k : ℕ) (item : Item) → from ≤ k → k < to → slice_get items k ≡ Some item → beside_of item ≡ beside) →
+    ((k : ℕ) (item : Item) → from ≤ k → k < to → slice_get items k ≡ Some item → attached_of item ≡ attached) →
     AreAlike items from to chp
-alike_by items from to chp beside bare chps besides = λ k item le until here. (
-  ap has_something (besides k item le until here) ∙ bare,
+alike_by items from to chp attached bare chps attachments = λ k item le until here. (
+  ap has_something (attachments k item le until here) ∙ bare,
   chps k item le until here,
 )
 
 -- two stretches of such items one behind the other
-pub alike_on : (items : List Item) (from to end : ℕ) (first next : Settings) (beside : Beside) →
-    AreAlike items from to first → true ≡ (not (has_something beside) && same_settings first next) →
+pub alike_on : (items : List Item) (from to end : ℕ) (first next : Properties) (attached : Attached) →
+    AreAlike items from to first → true ≡ (not (has_something attached) && same_properties first next) →
     ((k : ℕ) (item : Item) → to ≤ k → k < end → slice_get items k ≡ Some item → item.chp ≡ next) →
-    ((k : ℕ) (item : Item) → to ≤ k → k < end → slice_get items k ≡ Some item → beside_of item ≡ beside) →
+    ((k : ℕ) (item : Item) → to ≤ k → k < end → slice_get items k ≡ Some item → attached_of item ≡ attached) →
     AreAlike items from end first
-alike_on items from to end first next beside before same chps besides = λ k item le until here.
-    let both = both_true (not (has_something beside)) (same_settings first next) same in
+alike_on items from to end first next attached before same chps attachments = λ k item le until here.
+    let both = both_true (not (has_something attached)) (same_properties first next) same in
     let one : first ≡ next = (equal_are_same first next).0 both.1 in
     elim (cases_lt k to) [
       | inl early ↦ before k item le early here
-      | inr late ↦ (let more = alike_by items to end next beside (is_not (has_something beside) both.0) chps besides k
+      | inr late ↦ (let more = alike_by items to end next attached (not_true (has_something attached) both.0) chps
+          attachments k
           item (omega (arith, late)) until here in
           (more.0, more.1 ∙ sym one))
     ]
 
 -- they are of one piece
-pub alike_joined : (items : List Item) (from to : ℕ) (chp : Settings) → AreAlike items from to chp →
+pub alike_joined : (items : List Item) (from to : ℕ) (chp : Properties) → AreAlike items from to chp →
     (k : ℕ) (item next : Item) → from ≤ k → k + 1 < to → slice_get items k ≡ Some item →
     slice_get items (k + 1) ≡ Some next → is_one_piece item next ≡ true
 alike_joined items from to chp alike k item next le until here there =
     let one = alike k item le (omega (arith, until)) here in
     let other = alike (k + 1) next (omega (arith, le)) until there in
-    (λ i. not (one.0 i) && (not (other.0 i) && same_settings (one.1 i) (other.1 i))) ∙ (equal_are_same chp chp).1 refl
+    (λ i. not (one.0 i) && (not (other.0 i) && same_properties (one.1 i) (other.1 i))) ∙ (equal_are_same chp chp).1 refl
 
--- the piece ends before an item that is special or has other settings
-pub alike_ends : (items : List Item) (from to end : ℕ) (first next : Settings) (beside : Beside) → from < to →
+-- the piece ends before an item that is special or has other properties
+pub alike_ends : (items : List Item) (from to end : ℕ) (first next : Properties) (attached : Attached) → from < to →
     to < end →
-    AreAlike items from to first → false ≡ (not (has_something beside) && same_settings first next) →
+    AreAlike items from to first → false ≡ (not (has_something attached) && same_properties first next) →
     ((k : ℕ) (item : Item) → to ≤ k → k < end → slice_get items k ≡ Some item → item.chp ≡ next) →
-    ((k : ℕ) (item : Item) → to ≤ k → k < end → slice_get items k ≡ Some item → beside_of item ≡ beside) →
+    ((k : ℕ) (item : Item) → to ≤ k → k < end → slice_get items k ≡ Some item → attached_of item ≡ attached) →
     (one other : Item) → slice_get items (to - 1) ≡ Some one → slice_get items to ≡ Some other →
     is_one_piece one other ≡ false
-alike_ends items from to end first next beside some more alike apart chps besides one other here there =
+alike_ends items from to end first next attached some more alike apart chps attachments one other here there =
     let last = alike (to - 1) one (omega (arith, some)) (omega (arith, some)) here in
     let chp = chps to other (omega arith) more there in
-    let bare : is_special other ≡ has_something beside = ap has_something (besides to other (omega arith) more there) in
-    (λ i. not (last.0 i) && (not (bare i) && same_settings (last.1 i) (chp i))) ∙ sym apart
+    let bare : is_special other ≡ has_something attached = ap has_something (attachments to other (omega arith) more
+    there) in
+    (λ i. not (last.0 i) && (not (bare i) && same_properties (last.1 i) (chp i))) ∙ sym apart
 
 -- a special item joins no other
-pub special_ends : (items : List Item) (place : ℕ) (beside : Beside) → has_something beside ≡ true →
-    ((item : Item) → slice_get items place ≡ Some item → beside_of item ≡ beside) →
+pub special_ends : (items : List Item) (place : ℕ) (attached : Attached) → has_something attached ≡ true →
+    ((item : Item) → slice_get items place ≡ Some item → attached_of item ≡ attached) →
     (one other : Item) → slice_get items place ≡ Some one → is_one_piece one other ≡ false
-special_ends items place beside some besides one other here =
-    let special : is_special one ≡ true = ap has_something (besides one here) ∙ some in
-    ap (λ (b : Bool). not b && (not (is_special other) && same_settings one.chp other.chp)) special
+special_ends items place attached some attachments one other here =
+    let special : is_special one ≡ true = ap has_something (attachments one here) ∙ some in
+    ap (λ (b : Bool). not b && (not (is_special other) && same_properties one.chp other.chp)) special
 
 -- ---- the value of a piece
 
 piece_of_items : (xs : List Item) (x : Item) → slice_get xs 0 ≡ Some x →
-    stretch_json xs ≡ piece_json (piece_with x.chp (beside_of x) (map (λ item. item.unit) xs))
+    stretch_json xs ≡ piece_json (piece_with x.chp (attached_of x) (map (λ item. item.unit) xs))
 piece_of_items [] x is = absurd (cc)
 piece_of_items (y ∷ ys) x is =
-    ap (λ (z : Item). piece_json (piece_with z.chp (beside_of z) (map (λ (item : Item). item.unit) (y ∷ ys))))
+    ap (λ (z : Item). piece_json (piece_with z.chp (attached_of z) (map (λ (item : Item). item.unit) (y ∷ ys))))
     (same_Some y x is)
 
 -- that of the items of a range
-pub stretch_json-range : (parts : Parts) → AreParts parts → (at to end : ℕ) (chp : Settings) (beside : Beside) →
+pub stretch_json-range : (parts : Parts) → AreParts parts → (at to end : ℕ) (chp : Properties) (attached : Attached) →
     at < to → to ≤ length parts.units.now → at < end →
     ((k : ℕ) (item : Item) → at ≤ k → k < end → slice_get (items_in parts) k ≡ Some item → item.chp ≡ chp) →
-    ((k : ℕ) (item : Item) → at ≤ k → k < end → slice_get (items_in parts) k ≡ Some item → beside_of item ≡ beside) →
+    ((k : ℕ) (item : Item) → at ≤ k → k < end → slice_get (items_in parts) k ≡ Some item → attached_of item ≡ attached)
+    →
     stretch_json (slice_range (items_in parts) at to)
-    ≡ piece_json (piece_with chp beside (slice_range parts.units.now at to))
-stretch_json-range parts are at to end chp beside some within first chps besides =
+    ≡ piece_json (piece_with chp attached (slice_range parts.units.now at to))
+stretch_json-range parts are at to end chp attached some within first chps attachments =
     let items = items_in parts in
     let part = slice_range items at to in
     let long : length part ≡ to - at = range_long items at to (omega (arith, items_long parts are, within)) in
@@ -131,8 +132,8 @@ stretch_json-range parts are at to end chp beside some within first chps besides
     sym (take-map unit (to - at) (drop at items)) ∙ ap (take (to - at)) (sym (drop-map unit at items))
     ∙ ap (λ (us : List ℕ). slice_range us at to) (units_are parts are) in
     let one_chp = chps at one.0 (omega arith) first here in
-    let one_beside = besides at one.0 (omega arith) first here in
-    piece_of_items part one.0 one.1 ∙ (λ i. piece_json (piece_with (one_chp i) (one_beside i) (units i)))
+    let one_attached = attachments at one.0 (omega arith) first here in
+    piece_of_items part one.0 one.1 ∙ (λ i. piece_json (piece_with (one_chp i) (one_attached i) (units i)))
 
 -- ---- stretches
 
@@ -186,13 +187,13 @@ next_piece parts are at to whole {old = old} {between = between} {new = new} som
     (next_stretch items at (to - at) whole begins so_far comma
     (subst (λ n. Adds between new (compact_text (stretch_json (slice_range items at n)))) (sym sum) text))
 
--- what a piece has behind its settings, from its units on, and behind its field byte and its mark
-abbrev pub from_units : Beside → List ℕ → Members
-from_units beside units =
-    member (codes "t") (units_json units) (member_if (codes "x") (option_map settings_json beside.sect) no_members)
+-- what a piece has behind its properties, from its units on, and behind its field byte and its mark
+abbrev pub from_units : Attached → List ℕ → Members
+from_units attached units =
+    member (codes "t") (units_json units) (member_if (codes "x") (option_map properties_json attached.sect) no_members)
 
-abbrev pub from_note : Beside → List ℕ → Members
-from_note beside units = member_if (codes "n") (option_map note_json beside.note) (from_units beside units)
+abbrev pub from_note : Attached → List ℕ → Members
+from_note attached units = member_if (codes "n") (option_map note_json attached.note) (from_units attached units)
 
-abbrev pub from_mark : Beside → List ℕ → Members
-from_mark beside units = member_if (codes "m") (option_map mark_json beside.mark) (from_note beside units)
+abbrev pub from_mark : Attached → List ℕ → Members
+from_mark attached units = member_if (codes "m") (option_map mark_json attached.mark) (from_note attached units)

@@ -5,44 +5,29 @@ use Rattle.std.specs.Prelude.{⊤, codes, bytes_eq, option_map, if◌then◌else
 use Rattle.std.specs.Option.{ForSome}
 use Rattle.std.proofs.lemmas.Option.{none-some, same_Some}
 use Rattle.std.proofs.lemmas.Slice.Eq.{bytes_eq-Decides}
-use Rattle.serde_json.specs.Data.{Data, null, boolean, number, string, array, object, Members, no_members, member}
+use Rattle.serde_json.specs.Data.{Data, string, object, no_members, member}
 use Rattle.serde_json.specs.Find.{as_object, as_str}
-use Rattle.edit_script.specs.Values.{byte_number, short_number, settings_of}
+use Rattle.edit_script.specs.Values.{byte_number, short_number, properties_of}
 use Rattle.plain_doc.specs.declared.item.Mark.{Mark}
 use Rattle.plain_doc.specs.declared.item.NoteKind.{NoteKind}
 use Rattle.plain_doc.specs.declared.item.NoteKind.TheVariants.{Auto, Custom}
 use Rattle.json_values.specs.Digits.{units_json, hex_units_of, AreUnits}
 use Rattle.json_values.specs.Plain.{HasKeysInOrder, MembersHaveKeysInOrder}
 use Rattle.json_values.specs.Rows.{number_json, member_if, need, may, ended}
-use Rattle.json_values.specs.Settings.{settings_json, AreSpelt}
+use Rattle.json_values.specs.Settings.{properties_json, AreSpelt}
 use Rattle.json_doc.specs.declared.pieces.Piece.{Piece}
 use Rattle.json_doc.specs.Pieces.{mark_json, note_json, piece_members, piece_json}
 use Rattle.prop_map.specs.Formed.{character_groups, paragraph_groups, section_groups}
-use Rattle.json_values.proofs.SpeltLemmas.{settings_one}
+use Rattle.json_values.proofs.SpeltLemmas.{properties_one, object_is, step_found}
 use Rattle.json_doc.specs.PieceReading.{mark_of, note_with_name, note_of, piece_of, IsFormedPiece}
-use Rattle.json_doc.proofs.FieldLemmas.{numbers_one, units_are_one, settings_are_one}
-use Rattle.json_doc.proofs.RowLemmas.{AreOne, step_found, then_found, need_one, need_back, may_one, may_back}
+use Rattle.json_doc.proofs.FieldLemmas.{numbers_one, units_are_one, properties_are_one}
+use Rattle.json_doc.proofs.RowLemmas.{AreOne, then_found, need_one, need_back, may_one, may_back}
 use Rattle.json_doc.proofs.RowLemmas.{lacks_if, ended_is}
-
-pub object_is : (value : Data) (ms : Members) → as_object value ≡ Some ms → value ≡ object ms
-object_is null ms e = absurd (none-some ms e)
-object_is (boolean b) ms e = absurd (none-some ms e)
-object_is (number n) ms e = absurd (none-some ms e)
-object_is (string s) ms e = absurd (none-some ms e)
-object_is (array ds) ms e = absurd (none-some ms e)
-object_is (object others) ms e = ap object (same_Some others ms e)
-
-pub text_is : (value : Data) (text : List ℕ) → as_str value ≡ Some text → value ≡ string text
-text_is null text e = absurd (none-some text e)
-text_is (boolean b) text e = absurd (none-some text e)
-text_is (number n) text e = absurd (none-some text e)
-text_is (string s) text e = ap string (same_Some s text e)
-text_is (array ds) text e = absurd (none-some text e)
-text_is (object ms) text e = absurd (none-some text e)
+use Rattle.json_values.proofs.HexLemmas.{string_is}
 
 -- ---- a mark
 
--- its numbers and settings can be written
+-- its numbers and properties can be written
 pub record IsSpeltMark (mark : Mark) : Type 0 where
   pub pap : AreSpelt mark.pap
   pub istd : mark.istd < 2 ^ 16
@@ -50,9 +35,9 @@ pub record IsSpeltMark (mark : Mark) : Type 0 where
 mark_back : (mark : Mark) → IsSpeltMark mark → mark_of (mark_json mark) ≡ Some mark
 mark_back mark is =
     let last = member (codes "s") (number_json mark.istd) no_members in
-    let start = member (codes "p") (settings_json mark.pap) last in
-    then_found (need (codes "p") settings_of start) _ (mark.pap, last) mark
-    (need_back settings_are_one (codes "p") mark.pap last is.pap)
+    let start = member (codes "p") (properties_json mark.pap) last in
+    then_found (need (codes "p") properties_of start) _ (mark.pap, last) mark
+    (need_back properties_are_one (codes "p") mark.pap last is.pap)
     (then_found (need (codes "s") short_number last) _ (mark.istd, no_members) mark
     (need_back (numbers_one (2 ^ 16)) (codes "s") mark.istd no_members is.istd) refl)
 
@@ -62,8 +47,8 @@ mark_one value mark order e =
     let a = step_found (as_object value) _ mark e in
     let is = object_is value a.0 a.1 in
     let ordered : MembersHaveKeysInOrder a.0 = (subst HasKeysInOrder is order).0 in
-    let b = step_found (need (codes "p") settings_of a.0) _ mark a.2 in
-    let pap = need_one settings_are_one (codes "p") a.0 b.0 ordered b.1 in
+    let b = step_found (need (codes "p") properties_of a.0) _ mark a.2 in
+    let pap = need_one properties_are_one (codes "p") a.0 b.0 ordered b.1 in
     let c = step_found (need (codes "s") short_number b.0.1) _ mark b.2 in
     let istd = need_one (numbers_one (2 ^ 16)) (codes "s") b.0.1 c.0 pap.order c.1 in
     let d = step_found (ended c.0.1) _ mark c.2 in
@@ -71,7 +56,7 @@ mark_one value mark order e =
     let made : record { istd = c.0.0; pap = b.0.0 } ≡ mark = same_Some _ mark d.2 in
     subst (λ m. IsSpeltMark m × (value ≡ mark_json m)) made (
       record { pap = pap.right; istd = istd.right },
-      is ∙ ap object (pap.members ∙ ap (member (codes "p") (settings_json b.0.0)) (istd.members
+      is ∙ ap object (pap.members ∙ ap (member (codes "p") (properties_json b.0.0)) (istd.members
           ∙ ap (member (codes "s") (number_json c.0.0)) last)),
     )
 
@@ -98,7 +83,7 @@ note_one : (value : Data) (note : NoteKind) → HasKeysInOrder value → note_of
 note_one value note order e =
     let a = step_found (as_str value) note_with_name note e in (
       tt,
-      text_is value a.0 a.1
+      string_is value a.0 a.1
           ∙ note_by (bytes_eq a.0 (codes "auto")) (bytes_eq a.0 (codes "custom")) a.0 note
           (bytes_eq-Decides a.0 (codes "auto")).0 (bytes_eq-Decides a.0 (codes "custom")).0 a.2,
     )
@@ -108,7 +93,7 @@ notes_one = record { back = note_back; one = note_one }
 
 -- ---- a piece
 
--- its numbers and settings can be written
+-- its numbers and properties can be written
 pub record IsSpeltPiece (piece : Piece) : Type 0 where
   pub chp : AreSpelt piece.chp
   pub fld : ForSome piece.fld (λ byte. byte < 2 ^ 8)
@@ -119,13 +104,13 @@ pub record IsSpeltPiece (piece : Piece) : Type 0 where
 
 piece_back : (piece : Piece) → IsSpeltPiece piece → piece_of (piece_json piece) ≡ Some piece
 piece_back p is =
-    let from_x = member_if (codes "x") (option_map settings_json p.sect) no_members in
+    let from_x = member_if (codes "x") (option_map properties_json p.sect) no_members in
     let from_t = member (codes "t") (units_json p.units) from_x in
     let from_n = member_if (codes "n") (option_map note_json p.note) from_t in
     let from_m = member_if (codes "m") (option_map mark_json p.mark) from_n in
     let from_f = member_if (codes "f") (option_map number_json p.fld) from_m in
-    then_found (need (codes "c") settings_of (piece_members p)) _ (p.chp, from_f) p
-    (need_back settings_are_one (codes "c") p.chp from_f is.chp)
+    then_found (need (codes "c") properties_of (piece_members p)) _ (p.chp, from_f) p
+    (need_back properties_are_one (codes "c") p.chp from_f is.chp)
     (then_found (may (codes "f") byte_number from_f) _ (p.fld, from_m) p
     (may_back (numbers_one (2 ^ 8)) (codes "f") p.fld from_m is.fld
     (lacks_if (codes "f") (codes "m") (option_map mark_json p.mark) from_n refl
@@ -137,8 +122,8 @@ piece_back p is =
     (may_back notes_one (codes "n") p.note from_t is.note refl)
     (then_found (need (codes "t") hex_units_of from_t) _ (p.units, from_x) p
     (need_back units_are_one (codes "t") p.units from_x is.units)
-    (then_found (may (codes "x") settings_of from_x) _ (p.sect, no_members) p
-    (may_back settings_are_one (codes "x") p.sect no_members is.sect tt) refl)))))
+    (then_found (may (codes "x") properties_of from_x) _ (p.sect, no_members) p
+    (may_back properties_are_one (codes "x") p.sect no_members is.sect tt) refl)))))
 
 piece_one : (value : Data) (piece : Piece) → HasKeysInOrder value → piece_of value ≡ Some piece →
     IsSpeltPiece piece × (value ≡ piece_json piece)
@@ -146,8 +131,8 @@ piece_one value piece order e =
     let a = step_found (as_object value) _ piece e in
     let is = object_is value a.0 a.1 in
     let ordered : MembersHaveKeysInOrder a.0 = (subst HasKeysInOrder is order).0 in
-    let b = step_found (need (codes "c") settings_of a.0) _ piece a.2 in
-    let chp = need_one settings_are_one (codes "c") a.0 b.0 ordered b.1 in
+    let b = step_found (need (codes "c") properties_of a.0) _ piece a.2 in
+    let chp = need_one properties_are_one (codes "c") a.0 b.0 ordered b.1 in
     let c = step_found (may (codes "f") byte_number b.0.1) _ piece b.2 in
     let fld = may_one (numbers_one (2 ^ 8)) (codes "f") b.0.1 c.0 chp.order c.1 in
     let d = step_found (may (codes "m") mark_of c.0.1) _ piece c.2 in
@@ -156,8 +141,8 @@ piece_one value piece order e =
     let note = may_one notes_one (codes "n") d.0.1 f.0 mark.order f.1 in
     let g = step_found (need (codes "t") hex_units_of f.0.1) _ piece f.2 in
     let units = need_one units_are_one (codes "t") f.0.1 g.0 note.order g.1 in
-    let h = step_found (may (codes "x") settings_of g.0.1) _ piece g.2 in
-    let sect = may_one settings_are_one (codes "x") g.0.1 h.0 units.order h.1 in
+    let h = step_found (may (codes "x") properties_of g.0.1) _ piece g.2 in
+    let sect = may_one properties_are_one (codes "x") g.0.1 h.0 units.order h.1 in
     let i = step_found (ended h.0.1) _ piece h.2 in
     let last = ended_is h.0.1 i.0 i.1 in
     let found : Piece = record {
@@ -178,12 +163,12 @@ piece_one value piece order e =
         units = units.right;
         sect = sect.right;
       },
-      is ∙ ap object (chp.members ∙ ap (member (codes "c") (settings_json found.chp))
+      is ∙ ap object (chp.members ∙ ap (member (codes "c") (properties_json found.chp))
           (fld.members ∙ ap (member_if (codes "f") (option_map number_json found.fld))
           (mark.members ∙ ap (member_if (codes "m") (option_map mark_json found.mark))
           (note.members ∙ ap (member_if (codes "n") (option_map note_json found.note))
           (units.members ∙ ap (member (codes "t") (units_json found.units))
-          (sect.members ∙ ap (member_if (codes "x") (option_map settings_json found.sect)) last)))))),
+          (sect.members ∙ ap (member_if (codes "x") (option_map properties_json found.sect)) last)))))),
     )
 
 pub pieces_one : AreOne piece_of piece_json IsSpeltPiece
@@ -192,13 +177,13 @@ pieces_one = record { back = piece_back; one = piece_one }
 -- a right piece of right numbers can be written
 pub piece_spelt : (piece : Piece) → IsFormedPiece piece → IsSpeltPiece piece
 piece_spelt p formed = record {
-  chp = settings_one.formed character_groups p.chp formed.0.chp;
+  chp = properties_one.formed character_groups p.chp formed.0.chp;
   fld = formed.1.field;
   mark = λ m is. record {
-    pap = settings_one.formed paragraph_groups m.pap (formed.0.pap m is);
+    pap = properties_one.formed paragraph_groups m.pap (formed.0.pap m is);
     istd = formed.1.style m is;
   };
   note = λ n is. tt;
   units = formed.1.units;
-  sect = λ set is. settings_one.formed section_groups set (formed.0.sect set is);
+  sect = λ set is. properties_one.formed section_groups set (formed.0.sect set is);
 }

@@ -5,8 +5,8 @@ use Rattle.std.specs.Prelude.{⊤}
 use Rattle.std.proofs.lemmas.Option.{none-some, same_Some}
 use Rattle.serde_json.specs.Data.{Data, null, array, Items, no_items, item}
 use Rattle.serde_json.specs.View.{items_of}
-use Rattle.edit_script.specs.declared.faults.Misfit.{Misfit}
-use Rattle.edit_script.specs.declared.faults.Misfit.TheVariants.{Shape, Memory}
+use Rattle.edit_script.specs.declared.faults.ShapeError.{ShapeError}
+use Rattle.edit_script.specs.declared.faults.ShapeError.TheVariants.{Shape, Memory}
 use Rattle.edit_script.specs.Json.{Gives}
 use Rattle.json_values.specs.Plain.{HasKeysInOrder, ItemsHaveKeysInOrder}
 use Rattle.json_doc.specs.ReadValues.{Reads}
@@ -28,7 +28,7 @@ module _ {A : Type 0} {of : Data → Option A} {json : A → Data} {Is : A → T
       wrong (subst Formed (same_Some x found (sym (laws.back x (weaker x formed)) ∙ ap of (sym e) ∙ read)) formed)
 
   -- what comes of a reader's misfit
-  pub misfit : (value : Data) (e : Misfit) → Gives {A = A} (Err e) (of value) → Reads json Formed value (Err e)
+  pub misfit : (value : Data) (e : ShapeError) → Gives {A = A} (Err e) (of value) → Reads json Formed value (Err e)
   misfit value Shape none = unread value none
   misfit value Memory none = tt
 

@@ -6,19 +6,14 @@ use Rattle.std.specs.Option.{ForSome}
 use Rattle.std.proofs.lemmas.Slice.Eq.{bytes_eq-Decides}
 use Rattle.std.proofs.lemmas.Option.{none-some, same_Some}
 use Rattle.serde_json.specs.Data.{Data, Members, no_members, member}
-use Rattle.edit_script.specs.declared.faults.Misfit.{Misfit}
-use Rattle.edit_script.specs.declared.faults.Misfit.TheVariants.{Shape, Memory}
+use Rattle.edit_script.specs.declared.faults.ShapeError.{ShapeError}
+use Rattle.edit_script.specs.declared.faults.ShapeError.TheVariants.{Shape, Memory}
 use Rattle.edit_script.specs.Json.{◌>>=◌, Gives}
 use Rattle.json_values.specs.Plain.{HasKeysInOrder, MembersHaveKeysInOrder}
 use Rattle.json_values.specs.Rows.{member_if, taken, taken_if, each_if, need, may, ended}
+use Rattle.json_values.proofs.SpeltLemmas.{step_found}
 
 -- ---- steps
-
--- what a step found
-pub step_found : {A B : Type 0} (o : Option A) (f : A → Option B) (made : B) → (o >>= f) ≡ Some made →
-    (a : A) × (o ≡ Some a) × (f a ≡ Some made)
-step_found None f made e = absurd (none-some made e)
-step_found (Some a) f made e = (a, refl, e)
 
 -- a step that finds
 pub then_found : {A B : Type 0} (o : Option A) (f : A → Option B) (a : A) (made : B) → o ≡ Some a → f a ≡ Some made →
@@ -35,12 +30,12 @@ pub then_lost : {A B : Type 0} {o : Option A} (f : A → Option B) → o ≡ Non
 then_lost f lost = ap (λ x. x >>= f) lost
 
 -- a reader that gives nothing, since the shape is wrong
-pub gives_lost : {A : Type 0} {found : Option A} {fault : Misfit} → Gives (Err fault) found → fault ≡ Shape →
+pub gives_lost : {A : Type 0} {found : Option A} {fault : ShapeError} → Gives (Err fault) found → fault ≡ Shape →
     found ≡ None
 gives_lost {found = found} lost shape = subst (λ f. Gives (Err f) found) shape lost
 
 -- what a reader answers of a misfit
-pub gives_err : {A : Type 0} (found : Option A) (fault : Misfit) → (fault ≡ Shape → found ≡ None) →
+pub gives_err : {A : Type 0} (found : Option A) (fault : ShapeError) → (fault ≡ Shape → found ≡ None) →
     Gives (Err fault) found
 gives_err found Shape lost = lost refl
 gives_err found Memory lost = tt

@@ -4,8 +4,8 @@ use Rattle.std.proofs.Common.{refl, sym, ap, ◌∙◌}
 use Rattle.std.specs.Prelude.{MatchResult, Result, Ok, Err}
 use Rattle.std.proofs.lemmas.Option.{none-some, same_Some}
 use Rattle.serde_json.specs.Data.{Data}
-use Rattle.edit_script.specs.declared.faults.Misfit.{Misfit}
-use Rattle.edit_script.specs.declared.faults.Misfit.TheVariants.{Shape, Memory}
+use Rattle.edit_script.specs.declared.faults.ShapeError.{ShapeError}
+use Rattle.edit_script.specs.declared.faults.ShapeError.TheVariants.{Shape, Memory}
 use Rattle.style_sheet.specs.declared.styles.Style.{Style}
 use Rattle.style_sheet.specs.Sheet.{Sheet}
 use Rattle.style_sheet.specs.Formed.{IsFormedSheet}
@@ -34,7 +34,7 @@ pub formed_slots : (sheet : Sheet) → IsFormedSheet sheet → AreFormedSlots sh
 formed_slots sheet formed = record { some = formed.some; few = formed.few; each = formed.styles }
 
 -- what comes of the slots
-pub sheet_told : (value : Data) (head seven : List ℕ) (slots : Data) (r : Result Sheet Misfit) →
+pub sheet_told : (value : Data) (head seven : List ℕ) (slots : Data) (r : Result Sheet ShapeError) →
     sheet_values value ≡ Some (head, slots) → seven ≡ head →
     MatchResult r
     (λ sheet. (sheet.head ≡ seven) × Reads slots_json AreFormedSlots slots (Ok sheet.styles))

@@ -8,9 +8,9 @@ use Rattle.std.proofs.lemmas.Option.{none-some, same_Some}
 use Rattle.serde_json.specs.Data.{Data, object, Members, no_members, member}
 use Rattle.serde_json.specs.Find.{as_object, as_null}
 use Rattle.edit_script.specs.Json.{◌>>=◌}
-use Rattle.edit_script.specs.Values.{byte_number, short_number, settings_of, bytes_of}
+use Rattle.edit_script.specs.Values.{byte_number, short_number, properties_of, bytes_of}
 use Rattle.doc_bits.specs.Number.{AreBytes}
-use Rattle.prop_map.specs.Settings.{Settings}
+use Rattle.prop_map.specs.Settings.{Properties}
 use Rattle.prop_map.specs.Formed.{character_groups, paragraph_groups}
 use Rattle.style_sheet.specs.declared.styles.Style.{Style}
 use Rattle.style_sheet.specs.declared.styles.Kind.{Kind}
@@ -19,15 +19,14 @@ use Rattle.style_sheet.specs.Formed.{IsFormedBase, IsFormedKind, IsFormedStyle}
 use Rattle.json_values.specs.Digits.{units_json, hex_units_of, AreUnits}
 use Rattle.json_values.specs.Plain.{HasKeysInOrder, MembersHaveKeysInOrder}
 use Rattle.json_values.specs.Rows.{number_json, member_if, taken, need, may, ended}
-use Rattle.json_values.specs.Settings.{settings_json, AreSpelt}
-use Rattle.json_values.proofs.SpeltLemmas.{settings_one}
+use Rattle.json_values.specs.Settings.{properties_json, AreSpelt}
+use Rattle.json_values.proofs.SpeltLemmas.{properties_one, object_is, step_found}
 use Rattle.json_doc.specs.Styles.{base_json, chp_of_kind, pap_of_kind, stk_of_kind, upxes_of_kind, lists_json}
 use Rattle.json_doc.specs.Styles.{style_json, style_members, numbers_json}
-use Rattle.json_doc.specs.StyleReading.{list_as, base_of, kind_of, style_of, sheet_values}
-use Rattle.json_doc.proofs.FieldLemmas.{numbers_one, bytes_are_one, units_are_one, settings_are_one}
+use Rattle.json_doc.specs.StyleReading.{list_as, base_of, kind_of, read_style_of, sheet_values}
+use Rattle.json_doc.proofs.FieldLemmas.{numbers_one, bytes_are_one, units_are_one, properties_are_one}
 use Rattle.json_doc.proofs.ListLemmas.{lists_one, null_is}
-use Rattle.json_doc.proofs.PieceReadLemmas.{object_is}
-use Rattle.json_doc.proofs.RowLemmas.{AreOne, step_found, then_found, need_one, need_back, may_one, may_back, taken_is}
+use Rattle.json_doc.proofs.RowLemmas.{AreOne, then_found, need_one, need_back, may_one, may_back, taken_is}
 use Rattle.json_doc.proofs.RowLemmas.{lacks_if, ended_is, for_none, for_some, each_by}
 
 -- ---- a base
@@ -62,18 +61,18 @@ upxes_one = lists_one bytes_are_one
 
 -- ---- a kind
 
-record HasKindParts (chp pap : Option Settings) (stk : Option ℕ) (upxes : Option (List (List ℕ))) (kind : Kind) :
+record HasKindParts (chp pap : Option Properties) (stk : Option ℕ) (upxes : Option (List (List ℕ))) (kind : Kind) :
     Type 0 where
   chp_is : chp ≡ chp_of_kind kind
   pap_is : pap ≡ pap_of_kind kind
   stk_is : stk ≡ stk_of_kind kind
   upxes_is : upxes ≡ upxes_of_kind kind
 
-kind_made : (chp pap : Option Settings) (stk : Option ℕ) (upxes : Option (List (List ℕ))) (made kind : Kind) →
+kind_made : (chp pap : Option Properties) (stk : Option ℕ) (upxes : Option (List (List ℕ))) (made kind : Kind) →
     HasKindParts chp pap stk upxes made → Some made ≡ Some kind → HasKindParts chp pap stk upxes kind
 kind_made chp pap stk upxes made kind has e = subst (HasKindParts chp pap stk upxes) (same_Some made kind e) has
 
-kind_parts : (chp pap : Option Settings) (stk : Option ℕ) (upxes : Option (List (List ℕ))) (kind : Kind) →
+kind_parts : (chp pap : Option Properties) (stk : Option ℕ) (upxes : Option (List (List ℕ))) (kind : Kind) →
     kind_of chp pap stk upxes ≡ Some kind → HasKindParts chp pap stk upxes kind
 kind_parts (Some c) (Some p) None None kind e =
     kind_made _ _ _ _ (Para p c) kind (record { chp_is = refl; pap_is = refl; stk_is = refl; upxes_is = refl }) e
@@ -97,7 +96,7 @@ kind_back (Other stk upxes) = refl
 
 -- ---- a style
 
--- its numbers and settings can be written
+-- its numbers and properties can be written
 pub record IsSpeltStyle (style : Style) : Type 0 where
   pub sti : style.sti < 2 ^ 16
   pub flags : style.flags < 2 ^ 8
@@ -110,22 +109,22 @@ pub record IsSpeltStyle (style : Style) : Type 0 where
   pub stk : ForSome (stk_of_kind style.kind) (λ stk. stk < 2 ^ 8)
   pub upxes : ForSome (upxes_of_kind style.kind) (All AreBytes)
 
-style_back : (style : Style) → IsSpeltStyle style → style_of (style_json style) ≡ Some style
+style_back : (style : Style) → IsSpeltStyle style → read_style_of (style_json style) ≡ Some style
 style_back s is =
     let k = s.kind in
     let from_upxes = member_if (codes "upxes") (option_map lists_json (upxes_of_kind k)) no_members in
     let from_stk = member_if (codes "stk") (option_map number_json (stk_of_kind k)) from_upxes in
     let from_sti = member (codes "sti") (number_json s.sti) from_stk in
-    let from_par = member_if (codes "par") (option_map settings_json (pap_of_kind k)) from_sti in
+    let from_par = member_if (codes "par") (option_map properties_json (pap_of_kind k)) from_sti in
     let from_next = member (codes "next") (number_json s.next) from_par in
     let from_name = member (codes "name") (units_json s.name) from_next in
     let from_grfstd = member (codes "grfstd") (number_json s.grfstd) from_name in
     let from_flags = member (codes "flags") (number_json s.flags) from_grfstd in
-    let from_char = member_if (codes "char") (option_map settings_json (chp_of_kind k)) from_flags in
+    let from_char = member_if (codes "char") (option_map properties_json (chp_of_kind k)) from_flags in
     then_found (need (codes "base") base_of (style_members s)) _ (s.base, from_char) s
     (need_back bases_one (codes "base") s.base from_char is.base)
-    (then_found (may (codes "char") settings_of from_char) _ (chp_of_kind k, from_flags) s
-    (may_back settings_are_one (codes "char") (chp_of_kind k) from_flags is.chp refl)
+    (then_found (may (codes "char") properties_of from_char) _ (chp_of_kind k, from_flags) s
+    (may_back properties_are_one (codes "char") (chp_of_kind k) from_flags is.chp refl)
     (then_found (need (codes "flags") byte_number from_flags) _ (s.flags, from_grfstd) s
     (need_back (numbers_one (2 ^ 8)) (codes "flags") s.flags from_grfstd is.flags)
     (then_found (need (codes "grfstd") short_number from_grfstd) _ (s.grfstd, from_name) s
@@ -134,8 +133,8 @@ style_back s is =
     (need_back units_are_one (codes "name") s.name from_next is.name)
     (then_found (need (codes "next") short_number from_next) _ (s.next, from_par) s
     (need_back (numbers_one (2 ^ 16)) (codes "next") s.next from_par is.next)
-    (then_found (may (codes "par") settings_of from_par) _ (pap_of_kind k, from_sti) s
-    (may_back settings_are_one (codes "par") (pap_of_kind k) from_sti is.pap refl)
+    (then_found (may (codes "par") properties_of from_par) _ (pap_of_kind k, from_sti) s
+    (may_back properties_are_one (codes "par") (pap_of_kind k) from_sti is.pap refl)
     (then_found (need (codes "sti") short_number from_sti) _ (s.sti, from_stk) s
     (need_back (numbers_one (2 ^ 16)) (codes "sti") s.sti from_stk is.sti)
     (then_found (may (codes "stk") byte_number from_stk) _ (stk_of_kind k, from_upxes) s
@@ -150,7 +149,7 @@ style_back s is =
 abbrev after_name : Style → Members
 after_name s =
     member (codes "next") (number_json s.next)
-    (member_if (codes "par") (option_map settings_json (pap_of_kind s.kind))
+    (member_if (codes "par") (option_map properties_json (pap_of_kind s.kind))
     (member (codes "sti") (number_json s.sti)
     (member_if (codes "stk") (option_map number_json (stk_of_kind s.kind))
     (member_if (codes "upxes") (option_map lists_json (upxes_of_kind s.kind)) no_members))))
@@ -158,7 +157,7 @@ after_name s =
 -- what was read up to the name
 record Front : Type 0 where
   base : Option ℕ
-  chp : Option Settings
+  chp : Option Properties
   flags : ℕ
   grfstd : ℕ
   name : List ℕ
@@ -166,7 +165,7 @@ record Front : Type 0 where
 abbrev rest_of : Front → Members → Option Style
 rest_of front ms = do
   next ← need (codes "next") short_number ms
-  pap ← may (codes "par") settings_of next.1
+  pap ← may (codes "par") properties_of next.1
   sti ← need (codes "sti") short_number pap.1
   stk ← may (codes "stk") byte_number sti.1
   upxes ← may (codes "upxes") (list_as bytes_of) stk.1
@@ -200,8 +199,8 @@ rest_one : (front : Front) (ms : Members) (style : Style) → MembersHaveKeysInO
 rest_one front ms style order e =
     let g = step_found (need (codes "next") short_number ms) _ style e in
     let next = need_one (numbers_one (2 ^ 16)) (codes "next") ms g.0 order g.1 in
-    let h = step_found (may (codes "par") settings_of g.0.1) _ style g.2 in
-    let pap = may_one settings_are_one (codes "par") g.0.1 h.0 next.order h.1 in
+    let h = step_found (may (codes "par") properties_of g.0.1) _ style g.2 in
+    let pap = may_one properties_are_one (codes "par") g.0.1 h.0 next.order h.1 in
     let i = step_found (need (codes "sti") short_number h.0.1) _ style h.2 in
     let sti = need_one (numbers_one (2 ^ 16)) (codes "sti") h.0.1 i.0 pap.order i.1 in
     let j = step_found (may (codes "stk") byte_number i.0.1) _ style i.2 in
@@ -223,18 +222,18 @@ rest_one front ms style order e =
     } in
     let made : found ≡ style = same_Some found style n.2 in
     let raw : ms ≡ member (codes "next") (number_json g.0.0)
-    (member_if (codes "par") (option_map settings_json h.0.0)
+    (member_if (codes "par") (option_map properties_json h.0.0)
     (member (codes "sti") (number_json i.0.0)
     (member_if (codes "stk") (option_map number_json j.0.0)
     (member_if (codes "upxes") (option_map lists_json l.0.0) no_members)))) =
     next.members ∙ ap (member (codes "next") (number_json g.0.0))
-    (pap.members ∙ ap (member_if (codes "par") (option_map settings_json h.0.0))
+    (pap.members ∙ ap (member_if (codes "par") (option_map properties_json h.0.0))
     (sti.members ∙ ap (member (codes "sti") (number_json i.0.0))
     (stk.members ∙ ap (member_if (codes "stk") (option_map number_json j.0.0))
     (upxes.members ∙ ap (member_if (codes "upxes") (option_map lists_json l.0.0)) last)))) in
     let kept : ms ≡ after_name found =
     raw ∙ (λ t. member (codes "next") (number_json g.0.0)
-    (member_if (codes "par") (option_map settings_json (has.pap_is t))
+    (member_if (codes "par") (option_map properties_json (has.pap_is t))
     (member (codes "sti") (number_json i.0.0)
     (member_if (codes "stk") (option_map number_json (has.stk_is t))
     (member_if (codes "upxes") (option_map lists_json (has.upxes_is t)) no_members))))) in
@@ -252,7 +251,7 @@ rest_one front ms style order e =
       members = kept;
     })
 
-style_one : (value : Data) (style : Style) → HasKeysInOrder value → style_of value ≡ Some style →
+style_one : (value : Data) (style : Style) → HasKeysInOrder value → read_style_of value ≡ Some style →
     IsSpeltStyle style × (value ≡ style_json style)
 style_one value style order e =
     let start = step_found (as_object value) _ style e in
@@ -260,8 +259,8 @@ style_one value style order e =
     let ordered : MembersHaveKeysInOrder start.0 = (subst HasKeysInOrder is order).0 in
     let a = step_found (need (codes "base") base_of start.0) _ style start.2 in
     let base = need_one bases_one (codes "base") start.0 a.0 ordered a.1 in
-    let b = step_found (may (codes "char") settings_of a.0.1) _ style a.2 in
-    let chp = may_one settings_are_one (codes "char") a.0.1 b.0 base.order b.1 in
+    let b = step_found (may (codes "char") properties_of a.0.1) _ style a.2 in
+    let chp = may_one properties_are_one (codes "char") a.0.1 b.0 base.order b.1 in
     let c = step_found (need (codes "flags") byte_number b.0.1) _ style b.2 in
     let flags = need_one (numbers_one (2 ^ 8)) (codes "flags") b.0.1 c.0 chp.order c.1 in
     let d = step_found (need (codes "grfstd") short_number c.0.1) _ style c.2 in
@@ -271,12 +270,12 @@ style_one value style order e =
     let front : Front = record { base = a.0.0; chp = b.0.0; flags = c.0.0; grfstd = d.0.0; name = f.0.0 } in
     let rest = rest_one front f.0.1 style name.order f.2 in
     let raw : value ≡ object (member (codes "base") (base_json a.0.0)
-    (member_if (codes "char") (option_map settings_json b.0.0)
+    (member_if (codes "char") (option_map properties_json b.0.0)
     (member (codes "flags") (number_json c.0.0)
     (member (codes "grfstd") (number_json d.0.0)
     (member (codes "name") (units_json f.0.0) (after_name style)))))) =
     is ∙ ap object (base.members ∙ ap (member (codes "base") (base_json a.0.0))
-    (chp.members ∙ ap (member_if (codes "char") (option_map settings_json b.0.0))
+    (chp.members ∙ ap (member_if (codes "char") (option_map properties_json b.0.0))
     (flags.members ∙ ap (member (codes "flags") (number_json c.0.0))
     (grfstd.members ∙ ap (member (codes "grfstd") (number_json d.0.0))
     (name.members ∙ ap (member (codes "name") (units_json f.0.0)) rest.members))))) in (
@@ -293,13 +292,13 @@ style_one value style order e =
         upxes = rest.upxes;
       },
       raw ∙ (λ t. object (member (codes "base") (base_json (rest.base_is t))
-          (member_if (codes "char") (option_map settings_json (rest.chp_is t))
+          (member_if (codes "char") (option_map properties_json (rest.chp_is t))
           (member (codes "flags") (number_json (rest.flags_is t))
           (member (codes "grfstd") (number_json (rest.grfstd_is t))
           (member (codes "name") (units_json (rest.name_is t)) (after_name style))))))),
     )
 
-pub styles_one : AreOne style_of style_json IsSpeltStyle
+pub styles_one : AreOne read_style_of style_json IsSpeltStyle
 styles_one = record { back = style_back; one = style_one }
 
 -- a formed style can be written
@@ -313,12 +312,12 @@ base_small None formed = for_none _
 base_small (Some b) formed = for_some _ b (omega (arith, formed))
 
 chp_spelt : (kind : Kind) → IsFormedKind kind → ForSome (chp_of_kind kind) AreSpelt
-chp_spelt (Para pap chp) formed = for_some _ chp (settings_one.formed character_groups chp formed.1)
-chp_spelt (Char chp) formed = for_some _ chp (settings_one.formed character_groups chp formed)
+chp_spelt (Para pap chp) formed = for_some _ chp (properties_one.formed character_groups chp formed.1)
+chp_spelt (Char chp) formed = for_some _ chp (properties_one.formed character_groups chp formed)
 chp_spelt (Other stk upxes) formed = for_none _
 
 pap_spelt : (kind : Kind) → IsFormedKind kind → ForSome (pap_of_kind kind) AreSpelt
-pap_spelt (Para pap chp) formed = for_some _ pap (settings_one.formed paragraph_groups pap formed.0)
+pap_spelt (Para pap chp) formed = for_some _ pap (properties_one.formed paragraph_groups pap formed.0)
 pap_spelt (Char chp) formed = for_none _
 pap_spelt (Other stk upxes) formed = for_none _
 

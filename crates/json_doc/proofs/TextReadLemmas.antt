@@ -8,21 +8,23 @@ use Rattle.std.proofs.lemmas.Bool.{cases_Bool}
 use Rattle.std.proofs.lemmas.List.{length-map, get_or-map}
 use Rattle.std.proofs.lemmas.Option.{same_Some, slice_get_read}
 use Rattle.serde_json.specs.Data.{Data}
-use Rattle.prop_map.specs.Settings.{Settings}
+use Rattle.prop_map.specs.Settings.{Properties}
 use Rattle.plain_doc.specs.declared.item.Item.{Item}
 use Rattle.plain_doc.specs.Document.{HasPropertyMaps, IsFormedItem}
-use Rattle.plain_doc.specs.Settings.{same_settings}
+use Rattle.plain_doc.specs.Settings.{same_properties}
 use Rattle.plain_doc.specs.Stretches.{joins_next, joins_at, IsJoined, goes_over}
-use Rattle.plain_doc.proofs.SettingsLemmas.{same_settings-Decides}
+use Rattle.plain_doc.proofs.SettingsLemmas.{same_properties-Decides}
 use Rattle.bare_items.specs.Specials.{is_special}
-use Rattle.doc_columns.specs.Beside.{nothing}
+use Rattle.doc_columns.specs.Attached.{nothing}
 use Rattle.doc_columns.specs.Columns.{item_of, bare_items}
 use Rattle.json_doc.specs.declared.pieces.Piece.{Piece}
 use Rattle.json_doc.specs.Pieces.{is_one_piece, piece_from, piece_json, stretch_json}
-use Rattle.json_doc.specs.PieceReading.{piece_of, piece_items, item_with, is_special_piece, IsRightPiece}
+use Rattle.json_doc.specs.PieceReading.{piece_of, piece_items, item_with, is_special_piece, IsValidPiece}
 use Rattle.json_doc.specs.PieceReading.{IsFormedPiece}
 use Rattle.json_doc.specs.PieceReading.{IsNoPiece, MayFollow, EndsBy, are_joined, goes_on_in}
 use Rattle.json_doc.proofs.PieceReadLemmas.{pieces_one, piece_spelt}
+use Rattle.doc_bits.proofs.TestLemmas.{neither, not_true, both_true}
+use Rattle.doc_bits.proofs.TogetherLemmas.{from_behind}
 
 -- ---- items that join
 
@@ -34,23 +36,11 @@ units_of items = map (λ item. item.unit) items
 abbrev with_unit : Item → ℕ → Item
 with_unit item unit = record item { unit = unit }
 
-both_true : (a b : Bool) → (a && b) ≡ true → (a ≡ true) × (b ≡ true)
-both_true true b e = (refl, e)
-both_true false b e = absurd (cc (e))
-
-not_true : (b : Bool) → not b ≡ true → b ≡ false
-not_true true e = absurd (cc (e))
-not_true false e = refl
-
 none_is : {A : Type 0} (o : Option A) → is_some o ≡ false → o ≡ None
 none_is None e = refl
 none_is (Some a) e = absurd (cc (e))
 
-neither : (a b : Bool) → (a || b) ≡ false → (a ≡ false) × (b ≡ false)
-neither true b e = absurd (cc (e))
-neither false b e = (refl, e)
-
--- a bare item is its unit and its settings
+-- a bare item is its unit and its properties
 record IsBare (item : Item) : Type 0 where
   mark : item.mark ≡ None
   sect : item.sect ≡ None
@@ -72,16 +62,16 @@ bare item e =
 record AreJoined (item next : Item) : Type 0 where
   bare_item : is_special item ≡ false
   bare_next : is_special next ≡ false
-  settings : item.chp ≡ next.chp
+  properties : item.chp ≡ next.chp
 
 joined : (item next : Item) → is_one_piece item next ≡ true → AreJoined item next
 joined item next e =
-    let a = both_true (not (is_special item)) (not (is_special next) && same_settings item.chp next.chp) e in
-    let b = both_true (not (is_special next)) (same_settings item.chp next.chp) a.1 in
+    let a = both_true (not (is_special item)) (not (is_special next) && same_properties item.chp next.chp) e in
+    let b = both_true (not (is_special next)) (same_properties item.chp next.chp) a.1 in
     record {
       bare_item = not_true (is_special item) a.0;
       bare_next = not_true (is_special next) b.0;
-      settings = (same_settings-Decides item.chp next.chp).0 b.1;
+      properties = (same_properties-Decides item.chp next.chp).0 b.1;
     }
 
 -- an item that joins the next one differs in its unit alone
@@ -94,7 +84,7 @@ same_but_unit item next e =
       unit = next.unit;
       fld = (b.fld ∙ sym a.fld) i;
       note = (b.note ∙ sym a.note) i;
-      chp = sym j.settings i;
+      chp = sym j.properties i;
       mark = (b.mark ∙ sym a.mark) i;
       sect = (b.sect ∙ sym a.sect) i;
     }
@@ -128,13 +118,6 @@ from_items item more j = ap (λ rest. item ∷ rest) (stretch_same item more j)
 
 -- ---- a piece behind items
 
--- what stands behind a list
-pub behind_list : {A : Type 0} (xs ys : List A) (k : ℕ) → slice_get (xs ++ ys) (length xs + k) ≡ slice_get ys k
-behind_list [] ys k = let e : 0 + k ≡ k = omega arith in ap (slice_get ys) e
-behind_list (x ∷ xs) ys k =
-    let e : suc (length xs) + k ≡ suc (length xs + k) = omega arith in
-    ap (slice_get (x ∷ (xs ++ ys))) e ∙ behind_list xs ys k
-
 -- the last of two lists is the last of the second
 pub over_behind : (xs ys zs : List Item) → 0 < length ys →
     goes_over is_one_piece (xs ++ ys) zs ≡ goes_over is_one_piece ys zs
@@ -142,7 +125,7 @@ over_behind xs ys zs some =
     let len = length-append xs ys in
     let last : length (xs ++ ys) - 1 ≡ length xs + (length ys - 1) = omega (arith, len, some) in
     ap (λ o. joins_next is_one_piece o (slice_get zs 0))
-    (ap (slice_get (xs ++ ys)) last ∙ behind_list xs ys (length ys - 1))
+    (ap (slice_get (xs ++ ys)) last ∙ from_behind xs ys (length ys - 1))
 
 first_with : (piece : Piece) (units : List ℕ) → 1 ≤ length units →
     (unit : ℕ) × (slice_get (map (item_with piece) units) 0 ≡ Some (item_with piece unit))
@@ -183,7 +166,7 @@ not_put value old piece read not_there other right may e =
     ∙ ap piece_of (sym e) ∙ read) in
     not_there (subst (MayFollow old) same may)
 
--- the items of a piece that has nothing beside its settings
+-- the items of a piece that has nothing beside its properties
 pub bare_piece : (piece : Piece) (units : List ℕ) → is_special_piece piece ≡ false →
     bare_items piece.chp units ≡ map (item_with piece) units
 bare_piece piece [] e = refl
@@ -237,8 +220,8 @@ formed_items piece formed k d within =
     })
 
 -- they join
-same_self : (set : Settings) → same_settings set set ≡ true
-same_self set = (same_settings-Decides set set).1 refl
+same_self : (set : Properties) → same_properties set set ≡ true
+same_self set = (same_properties-Decides set set).1 refl
 
 joins_self : (piece : Piece) (u v : ℕ) → is_special_piece piece ≡ false →
     is_one_piece (item_with piece u) (item_with piece v) ≡ true
@@ -255,7 +238,7 @@ pairs_join piece (u ∷ v ∷ more) (suc k) less bare =
     (u ∷ v ∷ more)) i)) next
     ∙ pairs_join piece (v ∷ more) k (omega (arith, less)) bare
 
-pub items_joined : (piece : Piece) → IsRightPiece piece → IsJoined is_one_piece (piece_items piece)
+pub items_joined : (piece : Piece) → IsValidPiece piece → IsJoined is_one_piece (piece_items piece)
 items_joined piece right k less = elim (cases_Bool (is_special_piece piece)) [
   | inl special ↦ let one = right.alone special in
       absurd (omega (arith, one, less, length-map {B = Item} piece.units))
@@ -273,7 +256,7 @@ again piece [] is some = absurd (omega (arith, some))
 again piece (u ∷ us) is some =
     ap (λ units. piece_json (record piece { units = units })) (is ∙ ap (λ more. u ∷ more) (sym (units_back piece us)))
 
-pub units_again : (piece : Piece) → IsRightPiece piece → piece_json piece ≡ stretch_json (piece_items piece)
+pub units_again : (piece : Piece) → IsValidPiece piece → piece_json piece ≡ stretch_json (piece_items piece)
 units_again piece right = again piece piece.units refl right.some
 
 -- the piece of a stretch of formed items is formed

@@ -64,7 +64,7 @@ carried_values value = do
   )
 
 -- what a document may carry of these, but for the levels of its lists
-pub record AreRightBut (fields : CarriedFields) : Type 0 where
+pub record AreValidBut (fields : CarriedFields) : Type 0 where
   pub short :
       ArePartsShort
       (fields.fonts ∷ fields.dop ∷ fields.assoc ∷ fields.lst ∷ fields.levels ∷ fields.lfo ∷ [])
@@ -72,8 +72,8 @@ pub record AreRightBut (fields : CarriedFields) : Type 0 where
   pub flags : IsKeptFlags fields.flags
 
 -- what a document may carry of these
-pub record AreRightFields (fields : CarriedFields) : Type 0 where
-  pub but : AreRightBut fields
+pub record AreValidFields (fields : CarriedFields) : Type 0 where
+  pub but : AreValidBut fields
   pub lists : AreListsWithLevels fields.lst fields.levels
 
 -- what is carried has these fields and streams

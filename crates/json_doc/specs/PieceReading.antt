@@ -7,13 +7,13 @@ use Rattle.std.specs.Option.{ForSome}
 use Rattle.serde_json.specs.Data.{Data}
 use Rattle.serde_json.specs.Find.{as_object, as_str}
 use Rattle.edit_script.specs.Json.{◌>>=◌}
-use Rattle.edit_script.specs.Values.{byte_number, short_number, settings_of}
+use Rattle.edit_script.specs.Values.{byte_number, short_number, properties_of}
 use Rattle.prop_map.specs.Formed.{IsPropertyMap, character_groups, paragraph_groups, section_groups}
 use Rattle.plain_doc.specs.declared.item.Item.{Item}
 use Rattle.plain_doc.specs.declared.item.Mark.{Mark}
 use Rattle.plain_doc.specs.declared.item.NoteKind.{NoteKind}
 use Rattle.plain_doc.specs.declared.item.NoteKind.TheVariants.{Auto, Custom}
-use Rattle.plain_doc.specs.Settings.{same_settings}
+use Rattle.plain_doc.specs.Settings.{same_properties}
 use Rattle.plain_doc.specs.Stretches.{goes_over}
 use Rattle.json_values.specs.Digits.{hex_units_of, AreUnits}
 use Rattle.json_values.specs.Rows.{need, may, ended}
@@ -23,7 +23,7 @@ use Rattle.json_doc.specs.Pieces.{is_one_piece, piece_json}
 abbrev pub mark_of : Data → Option Mark
 mark_of value = do
   start ← as_object value
-  pap ← need (codes "p") settings_of start
+  pap ← need (codes "p") properties_of start
   istd ← need (codes "s") short_number pap.1
   end ← ended istd.1
   Some (record { istd = istd.0; pap = pap.0 })
@@ -39,22 +39,22 @@ note_of value = as_str value >>= note_with_name
 abbrev pub piece_of : Data → Option Piece
 piece_of value = do
   start ← as_object value
-  chp ← need (codes "c") settings_of start
+  chp ← need (codes "c") properties_of start
   fld ← may (codes "f") byte_number chp.1
   mark ← may (codes "m") mark_of fld.1
   note ← may (codes "n") note_of mark.1
   units ← need (codes "t") hex_units_of note.1
-  sect ← may (codes "x") settings_of units.1
+  sect ← may (codes "x") properties_of units.1
   end ← ended sect.1
   Some (record { chp = chp.0; fld = fld.0; mark = mark.0; note = note.0; units = units.0; sect = sect.0 })
 
--- the piece has something beside its settings
+-- the piece has something beside its properties
 abbrev pub is_special_piece : Piece → Bool
 is_special_piece piece =
     is_some piece.mark || (is_some piece.sect || (is_some piece.fld || is_some piece.note))
 
 -- each map has codes of its place's groups, and a special piece has one unit, another one unit at least
-pub record IsRightPiece (piece : Piece) : Type 0 where
+pub record IsValidPiece (piece : Piece) : Type 0 where
   pub chp : IsPropertyMap character_groups piece.chp
   pub pap : ForSome piece.mark (λ mark. IsPropertyMap paragraph_groups mark.pap)
   pub sect : ForSome piece.sect (IsPropertyMap section_groups)
@@ -69,7 +69,7 @@ pub record HasPieceNumbers (piece : Piece) : Type 0 where
 
 -- both
 abbrev pub IsFormedPiece : Piece → Type 0
-IsFormedPiece piece = IsRightPiece piece × HasPieceNumbers piece
+IsFormedPiece piece = IsValidPiece piece × HasPieceNumbers piece
 
 -- the item of a unit
 abbrev pub item_with : Piece → ℕ → Item
@@ -106,7 +106,7 @@ IsNoPiece value old =
 -- the items of a piece join those of another
 abbrev pub are_joined : Piece → Piece → Bool
 are_joined piece next =
-    not (is_special_piece piece) && (not (is_special_piece next) && same_settings piece.chp next.chp)
+    not (is_special_piece piece) && (not (is_special_piece next) && same_properties piece.chp next.chp)
 
 -- those of the last piece, where there is one
 abbrev pub goes_on_in : Option Piece → Piece → Bool

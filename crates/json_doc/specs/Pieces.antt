@@ -1,5 +1,5 @@
 -- Texts as arrays of pieces: an item with a mark, a section, a field byte or a note is one, and so are all that stand
--- beside one another without these and have the same settings.
+-- beside one another without these and have the same properties.
 use Rattle.std.specs.Prelude.{◌&&◌, not, Bool, List, [], ◌∷◌, map, codes}
 use Rattle.std.specs.Prelude.{option_map}
 use Rattle.serde_json.specs.Data.{Data, null, string, array, object, Members, no_members, member}
@@ -8,37 +8,37 @@ use Rattle.plain_doc.specs.declared.item.Item.{Item}
 use Rattle.plain_doc.specs.declared.item.Mark.{Mark}
 use Rattle.plain_doc.specs.declared.item.NoteKind.{NoteKind}
 use Rattle.plain_doc.specs.declared.item.NoteKind.TheVariants.{Auto, Custom}
-use Rattle.plain_doc.specs.Settings.{same_settings}
+use Rattle.plain_doc.specs.Settings.{same_properties}
 use Rattle.plain_doc.specs.Stretches.{stretches}
 use Rattle.bare_items.specs.Specials.{is_special}
 use Rattle.json_values.specs.Digits.{units_json}
-use Rattle.json_values.specs.Settings.{settings_json}
+use Rattle.json_values.specs.Settings.{properties_json}
 use Rattle.json_values.specs.Rows.{number_json, member_if}
 use Rattle.json_doc.specs.declared.pieces.Piece.{Piece}
 
 -- the next item is of the same piece
 abbrev pub is_one_piece : Item → Item → Bool
-is_one_piece item next = not (is_special item) && (not (is_special next) && same_settings item.chp next.chp)
+is_one_piece item next = not (is_special item) && (not (is_special next) && same_properties item.chp next.chp)
 
--- the style number and the settings of a mark
+-- the style number and the properties of a mark
 abbrev pub mark_json : Mark → Data
 mark_json mark =
-    object (member (codes "p") (settings_json mark.pap) (member (codes "s") (number_json mark.istd) no_members))
+    object (member (codes "p") (properties_json mark.pap) (member (codes "s") (number_json mark.istd) no_members))
 
 -- how a note is numbered
 abbrev pub note_json : NoteKind → Data
 note_json Auto = string (codes "auto")
 note_json Custom = string (codes "custom")
 
--- the settings and the units of a piece, and where there are such its field byte, mark, note and section settings
+-- the properties and the units of a piece, and where there are such its field byte, mark, note and section properties
 abbrev pub piece_members : Piece → Members
 piece_members piece =
-    member (codes "c") (settings_json piece.chp)
+    member (codes "c") (properties_json piece.chp)
     (member_if (codes "f") (option_map number_json piece.fld)
     (member_if (codes "m") (option_map mark_json piece.mark)
     (member_if (codes "n") (option_map note_json piece.note)
     (member (codes "t") (units_json piece.units)
-    (member_if (codes "x") (option_map settings_json piece.sect) no_members)))))
+    (member_if (codes "x") (option_map properties_json piece.sect) no_members)))))
 
 abbrev pub piece_json : Piece → Data
 piece_json piece = object (piece_members piece)

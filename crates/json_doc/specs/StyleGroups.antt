@@ -2,7 +2,7 @@
 use Rattle.std.specs.Prelude.{◌≡◌, codes, Option, Some, None}
 use Rattle.serde_json.specs.Data.{Members}
 use Rattle.edit_script.specs.Json.{◌>>=◌}
-use Rattle.edit_script.specs.Values.{bytes_of, byte_number, short_number, settings_of}
+use Rattle.edit_script.specs.Values.{bytes_of, byte_number, short_number, properties_of}
 use Rattle.style_sheet.specs.declared.styles.Style.{Style}
 use Rattle.json_values.specs.Digits.{hex_units_of}
 use Rattle.json_values.specs.Rows.{need, may, ended}
@@ -28,7 +28,7 @@ style_with front back = do
 abbrev pub made_behind : StyleFront → Members → Option Style
 made_behind front members = do
   next ← need (codes "next") short_number members
-  pap ← may (codes "par") settings_of next.1
+  pap ← may (codes "par") properties_of next.1
   sti ← need (codes "sti") short_number pap.1
   stk ← may (codes "stk") byte_number sti.1
   upxes ← may (codes "upxes") (list_as bytes_of) stk.1
@@ -39,7 +39,7 @@ made_behind front members = do
 abbrev pub style_row : Members → Option Style
 style_row members = do
   base ← need (codes "base") base_of members
-  chp ← may (codes "char") settings_of base.1
+  chp ← may (codes "char") properties_of base.1
   flags ← need (codes "flags") byte_number chp.1
   grfstd ← need (codes "grfstd") short_number flags.1
   name ← need (codes "name") hex_units_of grfstd.1

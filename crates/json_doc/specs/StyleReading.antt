@@ -4,8 +4,8 @@ use Rattle.std.specs.Prelude.{if◌then◌else◌}
 use Rattle.serde_json.specs.Data.{Data}
 use Rattle.serde_json.specs.Find.{as_array, as_null, as_object}
 use Rattle.edit_script.specs.Json.{◌>>=◌, each_of}
-use Rattle.edit_script.specs.Values.{bytes_of, byte_number, short_number, settings_of}
-use Rattle.prop_map.specs.Settings.{Settings}
+use Rattle.edit_script.specs.Values.{bytes_of, byte_number, short_number, properties_of}
+use Rattle.prop_map.specs.Settings.{Properties}
 use Rattle.style_sheet.specs.declared.styles.Style.{Style}
 use Rattle.style_sheet.specs.declared.styles.Kind.{Kind}
 use Rattle.style_sheet.specs.declared.styles.Kind.TheVariants.{Para, Char, Other}
@@ -22,22 +22,22 @@ abbrev pub base_of : Data → Option (Option ℕ)
 base_of value = if is_some (as_null value) then Some None else option_map Some (short_number value)
 
 -- the kind that has these
-abbrev pub kind_of : Option Settings → Option Settings → Option ℕ → Option (List (List ℕ)) → Option Kind
+abbrev pub kind_of : Option Properties → Option Properties → Option ℕ → Option (List (List ℕ)) → Option Kind
 kind_of (Some chp) (Some pap) None None = Some (Para pap chp)
 kind_of (Some chp) None None None = Some (Char chp)
 kind_of None None (Some stk) (Some upxes) = Some (Other stk upxes)
 kind_of _ _ _ _ = None
 
-abbrev pub style_of : Data → Option Style
-style_of value = do
+abbrev pub read_style_of : Data → Option Style
+read_style_of value = do
   start ← as_object value
   base ← need (codes "base") base_of start
-  chp ← may (codes "char") settings_of base.1
+  chp ← may (codes "char") properties_of base.1
   flags ← need (codes "flags") byte_number chp.1
   grfstd ← need (codes "grfstd") short_number flags.1
   name ← need (codes "name") hex_units_of grfstd.1
   next ← need (codes "next") short_number name.1
-  pap ← may (codes "par") settings_of next.1
+  pap ← may (codes "par") properties_of next.1
   sti ← need (codes "sti") short_number pap.1
   stk ← may (codes "stk") byte_number sti.1
   upxes ← may (codes "upxes") (list_as bytes_of) stk.1

@@ -2,13 +2,13 @@
 use Rattle.std.specs.Prelude.{ℕ, List, map, codes, Option, Some, None, option_map}
 use Rattle.serde_json.specs.Data.{Data, null, array, object, Members, no_members, member}
 use Rattle.serde_json.specs.View.{items_of}
-use Rattle.prop_map.specs.Settings.{Settings}
+use Rattle.prop_map.specs.Settings.{Properties}
 use Rattle.style_sheet.specs.declared.styles.Style.{Style}
 use Rattle.style_sheet.specs.declared.styles.Kind.{Kind}
 use Rattle.style_sheet.specs.declared.styles.Kind.TheVariants.{Para, Char, Other}
 use Rattle.style_sheet.specs.Sheet.{Sheet}
 use Rattle.json_values.specs.Digits.{bytes_json, units_json}
-use Rattle.json_values.specs.Settings.{settings_json}
+use Rattle.json_values.specs.Settings.{properties_json}
 use Rattle.json_values.specs.Rows.{number_json, member_if}
 
 -- the style that another one is based on, or null
@@ -16,15 +16,15 @@ abbrev pub base_json : Option ℕ → Data
 base_json None = null
 base_json (Some base) = number_json base
 
--- what each kind has: settings of characters for paragraphs and characters, those of paragraphs for paragraphs, a
+-- what each kind has: properties of characters for paragraphs and characters, those of paragraphs for paragraphs, a
 -- number
 -- and property lists for others
-abbrev pub chp_of_kind : Kind → Option Settings
+abbrev pub chp_of_kind : Kind → Option Properties
 chp_of_kind (Para pap chp) = Some chp
 chp_of_kind (Char chp) = Some chp
 chp_of_kind (Other stk upxes) = None
 
-abbrev pub pap_of_kind : Kind → Option Settings
+abbrev pub pap_of_kind : Kind → Option Properties
 pap_of_kind (Para pap chp) = Some pap
 pap_of_kind (Char chp) = None
 pap_of_kind (Other stk upxes) = None
@@ -46,12 +46,12 @@ lists_json lists = array (items_of (map bytes_json lists))
 abbrev pub style_members : Style → Members
 style_members style =
     member (codes "base") (base_json style.base)
-    (member_if (codes "char") (option_map settings_json (chp_of_kind style.kind))
+    (member_if (codes "char") (option_map properties_json (chp_of_kind style.kind))
     (member (codes "flags") (number_json style.flags)
     (member (codes "grfstd") (number_json style.grfstd)
     (member (codes "name") (units_json style.name)
     (member (codes "next") (number_json style.next)
-    (member_if (codes "par") (option_map settings_json (pap_of_kind style.kind))
+    (member_if (codes "par") (option_map properties_json (pap_of_kind style.kind))
     (member (codes "sti") (number_json style.sti)
     (member_if (codes "stk") (option_map number_json (stk_of_kind style.kind))
     (member_if (codes "upxes") (option_map lists_json (upxes_of_kind style.kind)) no_members)))))))))

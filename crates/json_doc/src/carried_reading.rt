@@ -12,20 +12,20 @@ ghost use Rattle.json_doc.specs.CarriedParts.{carried_json, streams_json};
 ghost use Rattle.json_doc.specs.CarriedGroups.{carried_row, behind_front, behind_back, fields_with};
 ghost use Rattle.json_doc.specs.CarriedGroups.{IsBehind, IsNoBack, IsLast, IsNoLast};
 ghost use Rattle.json_doc.specs.CarriedReading.{stream_of, stream_of_items, carried_values, AreFormedStreams};
-ghost use Rattle.json_doc.specs.CarriedReading.{IsStreamAdded, IsNoStream, AreRightFields, AreRightBut, HasFields};
+ghost use Rattle.json_doc.specs.CarriedReading.{IsStreamAdded, IsNoStream, AreValidFields, AreValidBut, HasFields};
 ghost use Rattle.json_doc.specs.ReadValues.{Reads, Tells};
 
 use cfb_streams::{Streams, TABLE_0, TABLE_1, WORD_DOCUMENT, equal_names};
 use doc_bits::{Bytes, Memory, Units};
 use doc_parts::levels_len;
-use edit_script::{Misfit, bytes_in};
+use edit_script::{ShapeError, bytes_in};
 use json_values::{Row, hex_units_in};
 use plain_doc::Carried;
 use serde_json::Value;
 use std::alloc::Global;
 
 /// A document carries so many streams at most.
-const MOST_STREAMS: usize = 1021;
+const MAX_STREAMS: usize = 1021;
 
 /// The bytes of a CLSID.
 const CLSID_LEN: usize = 16;
@@ -66,10 +66,10 @@ pub struct CarriedBack {
 }
 
 /// What the first five keys have.
-fn carried_front_in(alloc: Global, row: &mut Row<'_>) -> Result<CarriedFront, Misfit>
+fn carried_front_in(alloc: Global, row: &mut Row<'_>) -> Result<CarriedFront, ShapeError>
     ensures { MatchResult result
         (λ front. carried_row (members_view row.old.left) ≡ behind_front front (members_view row.new.left))
-        (λ fault. fault ≡ Misfit.Shape → carried_row (members_view row.old.left) ≡ None) }
+        (λ fault. fault ≡ ShapeError.Shape → carried_row (members_view row.old.left) ≡ None) }
 {
     let assoc = row.bytes(alloc, "assoc")?;
     let clsid = row.bytes(alloc, "clsid")?;
@@ -86,10 +86,10 @@ fn carried_front_in(alloc: Global, row: &mut Row<'_>) -> Result<CarriedFront, Mi
 }
 
 /// What the next five keys have.
-fn carried_back_in(alloc: Global, row: &mut Row<'_>) -> Result<CarriedBack, Misfit>
+fn carried_back_in(alloc: Global, row: &mut Row<'_>) -> Result<CarriedBack, ShapeError>
     ensures { MatchResult result
         (λ back. IsBehind (members_view row.old.left) back (members_view row.new.left))
-        (λ fault. fault ≡ Misfit.Shape → IsNoBack (members_view row.old.left)) }
+        (λ fault. fault ≡ ShapeError.Shape → IsNoBack (members_view row.old.left)) }
 {
     let levels = row.bytes(alloc, "levels")?;
     let lfo = row.bytes(alloc, "lfo")?;
@@ -106,10 +106,10 @@ fn carried_back_in(alloc: Global, row: &mut Row<'_>) -> Result<CarriedBack, Misf
 }
 
 /// The value that has the streams: that of the last key.
-fn streams_at<'a>(row: &mut Row<'a>) -> Result<&'a Value, Misfit>
+fn streams_at<'a>(row: &mut Row<'a>) -> Result<&'a Value, ShapeError>
     ensures { MatchResult result
         (λ streams. IsLast (members_view row.old.left) (view streams.now))
-        (λ fault. fault ≡ Misfit.Shape → IsNoLast (members_view row.old.left)) }
+        (λ fault. fault ≡ ShapeError.Shape → IsNoLast (members_view row.old.left)) }
 {
     let streams = row.need("streams")?;
     row.end()?;
@@ -139,10 +139,10 @@ fn carried_with<'a>(
     row: &mut Row<'a>,
     front: CarriedFront,
     back: CarriedBack,
-) -> Result<(CarriedFields, &'a Value), Misfit>
+) -> Result<(CarriedFields, &'a Value), ShapeError>
     ensures { MatchResult result
         (λ parts. behind_back front back (members_view row.old.left) ≡ Some (parts.0, view parts.1.now))
-        (λ fault. fault ≡ Misfit.Shape → behind_back front back (members_view row.old.left) ≡ None) }
+        (λ fault. fault ≡ ShapeError.Shape → behind_back front back (members_view row.old.left) ≡ None) }
 {
     match streams_at(row) {
         Ok(streams) => Ok((fields_from(front, back), streams)),
@@ -155,10 +155,10 @@ fn carried_behind<'a>(
     alloc: Global,
     row: &mut Row<'a>,
     front: CarriedFront,
-) -> Result<(CarriedFields, &'a Value), Misfit>
+) -> Result<(CarriedFields, &'a Value), ShapeError>
     ensures { MatchResult result
         (λ parts. behind_front front (members_view row.old.left) ≡ Some (parts.0, view parts.1.now))
-        (λ fault. fault ≡ Misfit.Shape → behind_front front (members_view row.old.left) ≡ None) }
+        (λ fault. fault ≡ ShapeError.Shape → behind_front front (members_view row.old.left) ≡ None) }
 {
     match carried_back_in(alloc, row) {
         Ok(back) => carried_with(row, front, back),
@@ -167,10 +167,10 @@ fn carried_behind<'a>(
 }
 
 /// The fields of what is carried, and the value that has the streams.
-fn carried_values_in(alloc: Global, value: &Value) -> Result<(CarriedFields, &Value), Misfit>
+fn carried_values_in(alloc: Global, value: &Value) -> Result<(CarriedFields, &Value), ShapeError>
     ensures { MatchResult result
         (λ parts. carried_values (view value.now) ≡ Some (parts.0, view parts.1.now))
-        (λ fault. fault ≡ Misfit.Shape → carried_values (view value.now) ≡ None) }
+        (λ fault. fault ≡ ShapeError.Shape → carried_values (view value.now) ≡ None) }
 {
     let mut row = Row::of(value)?;
     let front = carried_front_in(alloc, &mut row)?;
@@ -178,22 +178,22 @@ fn carried_values_in(alloc: Global, value: &Value) -> Result<(CarriedFields, &Va
 }
 
 /// A stream: its name and its bytes.
-fn stream_in(alloc: Global, value: &Value) -> Result<(Units, Bytes), Misfit>
+fn stream_in(alloc: Global, value: &Value) -> Result<(Units, Bytes), ShapeError>
     ensures { MatchResult result
         (λ parts. stream_of (view value.now) ≡ Some (record { name = parts.0; bytes = parts.1 }))
-        (λ fault. fault ≡ Misfit.Shape → stream_of (view value.now) ≡ None) }
+        (λ fault. fault ≡ ShapeError.Shape → stream_of (view value.now) ≡ None) }
 {
     match value.as_array() {
-        None => Err(Misfit::Shape),
+        None => Err(ShapeError::Shape),
         Some(values) => stream_from(alloc, values.as_slice()),
     }
 }
 
 /// The stream of two values.
-fn stream_from(alloc: Global, values: &[Value]) -> Result<(Units, Bytes), Misfit>
+fn stream_from(alloc: Global, values: &[Value]) -> Result<(Units, Bytes), ShapeError>
     ensures { MatchResult result
         (λ parts. stream_of_items (items_view values.now) ≡ Some (record { name = parts.0; bytes = parts.1 }))
-        (λ fault. fault ≡ Misfit.Shape → stream_of_items (items_view values.now) ≡ None) }
+        (λ fault. fault ≡ ShapeError.Shape → stream_of_items (items_view values.now) ≡ None) }
 {
     match values {
         [name, bytes] => {
@@ -201,37 +201,37 @@ fn stream_from(alloc: Global, values: &[Value]) -> Result<(Units, Bytes), Misfit
             let bytes = bytes_in(alloc, bytes)?;
             Ok((name, bytes))
         }
-        [] | [_] => Err(Misfit::Shape),
-        [_, _, _, ..] => Err(Misfit::Shape),
+        [] | [_] => Err(ShapeError::Shape),
+        [_, _, _, ..] => Err(ShapeError::Shape),
     }
 }
 
 /// Puts a stream last, where it may stand there.
-fn add_stream(alloc: Global, streams: &mut Streams, value: &Value) -> Result<(), Misfit>
+fn add_stream(alloc: Global, streams: &mut Streams, value: &Value) -> Result<(), ShapeError>
     ensures { MatchResult result
         (λ _. IsStreamAdded (view value.now) streams.old streams.new)
-        (λ fault. fault ≡ Misfit.Shape → IsNoStream (view value.now) streams.old) }
+        (λ fault. fault ≡ ShapeError.Shape → IsNoStream (view value.now) streams.old) }
 {
     let (name, bytes) = stream_in(alloc, value)?;
     if !streams.can_add(name.as_slice(), bytes.as_slice()) {
-        return Err(Misfit::Shape);
+        return Err(ShapeError::Shape);
     }
     streams.add(name.as_slice(), bytes.as_slice())?;
     Ok(())
 }
 
 /// Streams that a document may carry: an array of them.
-fn streams_in(alloc: Global, value: &Value) -> Result<Streams, Misfit>
+fn streams_in(alloc: Global, value: &Value) -> Result<Streams, ShapeError>
     ensures { Reads streams_json AreFormedStreams (view value.now) result }
 {
     match value.as_array() {
-        None => Err(Misfit::Shape),
+        None => Err(ShapeError::Shape),
         Some(values) => streams_from(alloc, values.as_slice()),
     }
 }
 
 /// The streams of an array.
-fn streams_from(alloc: Global, values: &[Value]) -> Result<Streams, Misfit>
+fn streams_from(alloc: Global, values: &[Value]) -> Result<Streams, ShapeError>
     ensures { Reads streams_json AreFormedStreams (array (items_view values.now)) result }
 {
     let mut streams = Streams::new(alloc);
@@ -239,7 +239,7 @@ fn streams_from(alloc: Global, values: &[Value]) -> Result<Streams, Misfit>
         add_stream(alloc, &mut streams, value)?;
     }
     if !are_carried(&streams) {
-        return Err(Misfit::Shape);
+        return Err(ShapeError::Shape);
     }
     Ok(streams)
 }
@@ -248,7 +248,7 @@ fn streams_from(alloc: Global, values: &[Value]) -> Result<Streams, Misfit>
 fn are_carried(streams: &Streams) -> bool
     ensures { IsTrue result ↔ AreCarriedStreams streams.now }
 {
-    if streams.count() > MOST_STREAMS {
+    if streams.count() > MAX_STREAMS {
         return false;
     }
     if total_len(streams) >= 1 << 40 {
@@ -295,8 +295,8 @@ fn is_carried_name(name: &[u16]) -> bool
 }
 
 /// Whether a document may carry these fields, but for the levels of its lists.
-fn are_right_fields(fields: &CarriedFields) -> bool
-    ensures { IsTrue result ↔ AreRightBut fields.now }
+fn are_valid_fields(fields: &CarriedFields) -> bool
+    ensures { IsTrue result ↔ AreValidBut fields.now }
 {
     if fields.clsid.as_slice().len() != CLSID_LEN {
         return false;
@@ -351,17 +351,21 @@ fn has_levels(alloc: Global, lst: &[u8], levels: &[u8]) -> Result<bool, Memory>
 }
 
 /// The streams of a value, where the fields beside them are right too.
-fn streams_beside(alloc: Global, fields: &CarriedFields, value: &Value) -> Result<Streams, Misfit>
+fn streams_attached(
+    alloc: Global,
+    fields: &CarriedFields,
+    value: &Value,
+) -> Result<Streams, ShapeError>
     ensures { MatchResult result
-        (λ streams. AreRightFields fields.now × Reads streams_json AreFormedStreams (view value.now) (Ok streams))
-        (λ fault. fault ≡ Misfit.Shape → (streams : List NamedBytes) → AreRightFields fields.now
+        (λ streams. AreValidFields fields.now × Reads streams_json AreFormedStreams (view value.now) (Ok streams))
+        (λ fault. fault ≡ ShapeError.Shape → (streams : List NamedBytes) → AreValidFields fields.now
         → AreFormedStreams streams → view value.now ≢ streams_json streams) }
 {
-    if !are_right_fields(fields) {
-        return Err(Misfit::Shape);
+    if !are_valid_fields(fields) {
+        return Err(ShapeError::Shape);
     }
     if !has_levels(alloc, fields.lst.as_slice(), fields.levels.as_slice())? {
-        return Err(Misfit::Shape);
+        return Err(ShapeError::Shape);
     }
     match streams_in(alloc, value) {
         Ok(streams) => Ok(streams),
@@ -370,11 +374,11 @@ fn streams_beside(alloc: Global, fields: &CarriedFields, value: &Value) -> Resul
 }
 
 /// What a document carries along.
-pub(crate) fn carried_in(alloc: Global, value: &Value) -> Result<Carried, Misfit>
+pub(crate) fn carried_in(alloc: Global, value: &Value) -> Result<Carried, ShapeError>
     ensures { Tells carried_json IsFormedCarried (view value.now) result }
 {
     let (fields, value) = carried_values_in(alloc, value)?;
-    match streams_beside(alloc, &fields, value) {
+    match streams_attached(alloc, &fields, value) {
         Ok(streams) => Ok(carried_from(fields, streams)),
         Err(fault) => Err(fault),
     }
@@ -382,7 +386,7 @@ pub(crate) fn carried_in(alloc: Global, value: &Value) -> Result<Carried, Misfit
 
 /// What is carried, of its fields and its streams.
 fn carried_from(fields: CarriedFields, streams: Streams) -> Carried
-    requires right { AreRightFields fields }
+    requires right { AreValidFields fields }
     requires others { AreCarriedStreams streams }
     ensures { HasFields fields streams result }
 {

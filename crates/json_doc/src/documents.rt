@@ -30,13 +30,13 @@ pub fn json_out(alloc: Global, document: &Document, most: u64) -> Result<JsonOut
     ensures { IfOk result (IsOutput most (json_text document.now)) }
 {
     let columns = ColumnDocument::from_document(alloc, document)?;
-    let out = columns_json_out(alloc, &columns, most);
+    let out = json_out_of_columns(alloc, &columns, most);
     drop(columns);
     Ok(out?)
 }
 
-/// The same of a document by columns.
-pub fn columns_json_out(
+/// The text of a document by columns: all of it is counted, and it is kept while it is not too long.
+pub fn json_out_of_columns(
     alloc: Global,
     document: &ColumnDocument,
     most: u64,

@@ -13,8 +13,8 @@ mod reading;
 mod style_reading;
 mod styles;
 
-pub use documents::{columns_json_out, json_out, to_json};
+pub use documents::{json_out, json_out_of_columns, to_json};
 pub use fault::JsonFault;
 pub use laws::{json_forms_are_one, json_is_shallow, json_texts_are_read, texts_are_read_back};
 pub use pieces::Piece;
-pub use reading::{columns_from_json, from_json};
+pub use reading::{from_json, from_json_of_columns};

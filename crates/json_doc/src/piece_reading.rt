@@ -13,33 +13,33 @@ ghost use Rattle.json_values.specs.Rows.{Steps, may};
 ghost use Rattle.json_doc.specs.Pieces.{is_one_piece, piece_json, text_json, texts_json};
 ghost use Rattle.json_doc.specs.PieceReading.{mark_of, note_with_name, note_of, piece_of, piece_items};
 ghost use Rattle.json_doc.specs.PieceReading.{is_special_piece};
-ghost use Rattle.json_doc.specs.PieceReading.{item_with, IsRightPiece, IsFormedPiece, HasPieceNumbers, IsPieceAdded};
+ghost use Rattle.json_doc.specs.PieceReading.{item_with, IsValidPiece, IsFormedPiece, HasPieceNumbers, IsPieceAdded};
 ghost use Rattle.json_doc.specs.PieceReading.{IsNoPiece, MayFollow, EndsBy, are_joined, goes_on_in};
 ghost use Rattle.json_doc.specs.ReadValues.{Reads};
 
-use crate::pieces::{Piece, has_same_settings};
+use crate::pieces::{Piece, has_same_properties};
 use doc_bits::Memory;
 use doc_columns::{ColumnTexts, Columns};
-use edit_script::{Misfit, settings_in, short_in};
+use edit_script::{ShapeError, properties_in, short_in};
 use json_values::Row;
-use plain_doc::{Item, Mark, NoteKind};
+use plain_doc::{Item, Mark, NoteKind, copy_mark, copy_section, has_field_byte, has_style_number};
 use prop_map::{CHARACTER_GROUPS, PARAGRAPH_GROUPS, PropMap, SECTION_GROUPS};
 use serde_json::Value;
 use std::alloc::Global;
 
-/// A mark: its settings and its style number.
-fn mark_in(alloc: Global, value: &Value) -> Result<Mark, Misfit>
+/// A mark: its properties and its style number.
+fn mark_in(alloc: Global, value: &Value) -> Result<Mark, ShapeError>
     ensures { Gives result (mark_of (view value.now)) }
 {
     let mut row = Row::of(value)?;
-    let pap = row.settings(alloc, "p")?;
+    let pap = row.properties(alloc, "p")?;
     let istd = row.short("s")?;
     row.end()?;
     Ok(Mark { istd, pap })
 }
 
 /// The mark at a key, where it comes first.
-fn mark_if(alloc: Global, row: &mut Row<'_>, key: &str) -> Result<Option<Mark>, Misfit>
+fn mark_if(alloc: Global, row: &mut Row<'_>, key: &str) -> Result<Option<Mark>, ShapeError>
     ensures { Steps (may key.now mark_of) (members_view row.old.left) result (members_view row.new.left) }
 {
     match row.may(key) {
@@ -60,17 +60,17 @@ fn note_named(word: &str) -> Option<NoteKind>
 }
 
 /// How a note is numbered.
-fn note_in(value: &Value) -> Result<NoteKind, Misfit>
+fn note_in(value: &Value) -> Result<NoteKind, ShapeError>
     ensures { Gives result (note_of (view value.now)) }
 {
     match value.as_str().and_then(note_named) {
-        None => Err(Misfit::Shape),
+        None => Err(ShapeError::Shape),
         Some(note) => Ok(note),
     }
 }
 
 /// How the note at a key is numbered, where the key comes first.
-fn note_if(row: &mut Row<'_>, key: &str) -> Result<Option<NoteKind>, Misfit>
+fn note_if(row: &mut Row<'_>, key: &str) -> Result<Option<NoteKind>, ShapeError>
     ensures { Steps (may key.now note_of) (members_view row.old.left) result (members_view row.new.left) }
 {
     match row.may(key) {
@@ -80,16 +80,16 @@ fn note_if(row: &mut Row<'_>, key: &str) -> Result<Option<NoteKind>, Misfit>
 }
 
 /// A piece, as its object has it.
-fn piece_in(alloc: Global, value: &Value) -> Result<Piece, Misfit>
+fn piece_in(alloc: Global, value: &Value) -> Result<Piece, ShapeError>
     ensures { Gives result (piece_of (view value.now)) }
 {
     let mut row = Row::of(value)?;
-    let chp = row.settings(alloc, "c")?;
+    let chp = row.properties(alloc, "c")?;
     let fld = row.byte_if("f")?;
     let mark = mark_if(alloc, &mut row, "m")?;
     let note = note_if(&mut row, "n")?;
     let units = row.units(alloc, "t")?;
-    let sect = row.settings_if(alloc, "x")?;
+    let sect = row.properties_if(alloc, "x")?;
     row.end()?;
     Ok(Piece {
         chp,
@@ -102,23 +102,23 @@ fn piece_in(alloc: Global, value: &Value) -> Result<Piece, Misfit>
 }
 
 /// Whether the maps of a piece may stand at their places, and it has as many units as it may.
-fn is_right(piece: &Piece) -> bool
-    ensures { IsTrue result ↔ IsRightPiece piece.now }
+fn is_valid(piece: &Piece) -> bool
+    ensures { IsTrue result ↔ IsValidPiece piece.now }
 {
     if !piece.chp.is_held(CHARACTER_GROUPS) {
         return false;
     }
-    if !has_right_mark(&piece.mark) {
+    if !has_valid_mark(&piece.mark) {
         return false;
     }
-    if !has_right_section(&piece.sect) {
+    if !has_valid_section(&piece.sect) {
         return false;
     }
-    has_right_len(piece)
+    has_valid_len(piece)
 }
 
-/// Whether the settings of a mark may stand there.
-fn has_right_mark(mark: &Option<Mark>) -> bool
+/// Whether the properties of a mark may stand there.
+fn has_valid_mark(mark: &Option<Mark>) -> bool
     ensures { IsTrue result ↔ ForSome mark.now (λ mark. IsPropertyMap paragraph_groups mark.pap) }
 {
     match mark {
@@ -127,8 +127,8 @@ fn has_right_mark(mark: &Option<Mark>) -> bool
     }
 }
 
-/// Whether the settings of a section may stand there.
-fn has_right_section(sect: &Option<PropMap>) -> bool
+/// Whether the properties of a section may stand there.
+fn has_valid_section(sect: &Option<PropMap>) -> bool
     ensures { IsTrue result ↔ ForSome sect.now (IsPropertyMap section_groups) }
 {
     match sect {
@@ -138,7 +138,7 @@ fn has_right_section(sect: &Option<PropMap>) -> bool
 }
 
 /// Whether a piece has a unit, and one alone where it is special.
-fn has_right_len(piece: &Piece) -> bool
+fn has_valid_len(piece: &Piece) -> bool
     ensures { IsTrue result
         ↔ (1 ≤ length piece.now.units) × (is_special_piece piece.now ≡ true → length piece.now.units ≤ 1) }
 {
@@ -146,7 +146,7 @@ fn has_right_len(piece: &Piece) -> bool
     len == 1 || (len > 1 && !is_special(piece))
 }
 
-/// Whether a piece has something beside its settings.
+/// Whether a piece has something beside its properties.
 fn is_special(piece: &Piece) -> bool
     ensures { result ≡ is_special_piece piece.now }
 {
@@ -160,24 +160,6 @@ fn has_numbers(piece: &Piece)
     are_units(piece.units.as_slice());
     has_style_number(&piece.mark);
     has_field_byte(&piece.fld);
-}
-
-/// The style number of a mark has 16 bits.
-fn has_style_number(mark: &Option<Mark>)
-    ensures { ForSome mark.now (λ mark. mark.istd < 2 ^ 16) }
-{
-    if let Some(mark) = mark {
-        is_word(mark.istd);
-    }
-}
-
-/// The byte of a field character is one.
-fn has_field_byte(fld: &Option<u8>)
-    ensures { ForSome fld.now (λ byte. byte < 2 ^ 8) }
-{
-    if let Some(byte) = fld {
-        is_byte(*byte);
-    }
 }
 
 /// Units have 16 bits.
@@ -196,14 +178,14 @@ fn is_byte(number: u8)
 {}
 
 /// A piece whose maps and units are right.
-fn right_piece_in(alloc: Global, value: &Value) -> Result<Piece, Misfit>
+fn right_piece_in(alloc: Global, value: &Value) -> Result<Piece, ShapeError>
     ensures pieces { Reads piece_json IsFormedPiece (view value.now) result }
     ensures read { IfOk result (λ piece. piece_of (view value.now) ≡ Some piece) }
 {
     let piece = piece_in(alloc, value)?;
     has_numbers(&piece);
-    if !is_right(&piece) {
-        return Err(Misfit::Shape);
+    if !is_valid(&piece) {
+        return Err(ShapeError::Shape);
     }
     Ok(piece)
 }
@@ -212,7 +194,7 @@ fn right_piece_in(alloc: Global, value: &Value) -> Result<Piece, Misfit>
 fn are_joined(piece: &Piece, next: &Piece) -> bool
     ensures { result ≡ are_joined piece.now next.now }
 {
-    !is_special(piece) && !is_special(next) && has_same_settings(&piece.chp, &next.chp)
+    !is_special(piece) && !is_special(next) && has_same_properties(&piece.chp, &next.chp)
 }
 
 /// A text that grows by pieces, and the last of these.
@@ -265,26 +247,6 @@ fn item_of(alloc: Global, piece: &Piece, unit: u16) -> Result<Item, Memory>
     })
 }
 
-/// The same mark, where there is one.
-fn copy_mark(alloc: Global, mark: &Option<Mark>) -> Result<Option<Mark>, Memory>
-    ensures { IfOk result (λ copy. copy ≡ mark.now) }
-{
-    match mark {
-        None => Ok(None),
-        Some(mark) => Ok(Some(mark.copy(alloc)?)),
-    }
-}
-
-/// The same settings of a section, where there are some.
-fn copy_section(alloc: Global, sect: &Option<PropMap>) -> Result<Option<PropMap>, Memory>
-    ensures { IfOk result (λ copy. copy ≡ sect.now) }
-{
-    match sect {
-        None => Ok(None),
-        Some(map) => Ok(Some(map.copy(alloc)?)),
-    }
-}
-
 /// The text with the items of a piece behind it. They are one run, and their maps are shared.
 fn with_piece(alloc: Global, text: Columns, piece: &Piece) -> Result<Columns, Memory>
     requires room { length text + length piece.now.units < 2 ^ 32 }
@@ -316,32 +278,32 @@ fn put_piece(alloc: Global, text: GrowingText, piece: Piece) -> Result<GrowingTe
 }
 
 /// Puts the items of a value's piece behind a text, which does not go on in it.
-fn add_piece(alloc: Global, text: GrowingText, value: &Value) -> Result<GrowingText, Misfit>
+fn add_piece(alloc: Global, text: GrowingText, value: &Value) -> Result<GrowingText, ShapeError>
     requires { EndsBy text.text text.last }
     ensures { MatchResult result
         (λ made. IsPieceAdded (view value.now) text.text made.text × EndsBy made.text made.last)
-        (λ fault. fault ≡ Misfit.Shape → IsNoPiece (view value.now) text.text) }
+        (λ fault. fault ≡ ShapeError.Shape → IsNoPiece (view value.now) text.text) }
 {
     let piece = right_piece_in(alloc, value)?;
     if !may_follow(&text, &piece) {
-        return Err(Misfit::Shape);
+        return Err(ShapeError::Shape);
     }
     let made = put_piece(alloc, text, piece)?;
     Ok(made)
 }
 
 /// A text: an array of pieces, of which none goes on in the next one.
-pub(crate) fn text_in(alloc: Global, value: &Value) -> Result<Columns, Misfit>
+pub(crate) fn text_in(alloc: Global, value: &Value) -> Result<Columns, ShapeError>
     ensures { Reads text_json IsFormedText (view value.now) result }
 {
     match value.as_array() {
-        None => Err(Misfit::Shape),
+        None => Err(ShapeError::Shape),
         Some(values) => items_in(alloc, values.as_slice()),
     }
 }
 
 /// The items of the pieces of an array.
-fn items_in(alloc: Global, values: &[Value]) -> Result<Columns, Misfit>
+fn items_in(alloc: Global, values: &[Value]) -> Result<Columns, ShapeError>
     ensures { Reads text_json IsFormedText (array (items_view values.now)) result }
 {
     let mut grown = GrowingText {
@@ -356,22 +318,22 @@ fn items_in(alloc: Global, values: &[Value]) -> Result<Columns, Misfit>
 }
 
 /// Texts: an array of them.
-pub(crate) fn texts_in(alloc: Global, value: &Value) -> Result<ColumnTexts, Misfit>
+pub(crate) fn texts_in(alloc: Global, value: &Value) -> Result<ColumnTexts, ShapeError>
     ensures { Reads texts_json AreFormedTexts (view value.now) result }
 {
     match value.as_array() {
-        None => Err(Misfit::Shape),
+        None => Err(ShapeError::Shape),
         Some(values) => all_texts(alloc, values.as_slice()),
     }
 }
 
 /// The texts of an array.
-fn all_texts(alloc: Global, values: &[Value]) -> Result<ColumnTexts, Misfit>
+fn all_texts(alloc: Global, values: &[Value]) -> Result<ColumnTexts, ShapeError>
     ensures { Reads texts_json AreFormedTexts (array (items_view values.now)) result }
 {
     let mut texts = ColumnTexts::new(alloc);
     if values.len() >= 1 << 32 {
-        return Err(Misfit::Shape);
+        return Err(ShapeError::Shape);
     }
     for value in values {
         texts.add(text_in(alloc, value)?)?;

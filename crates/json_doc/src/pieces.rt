@@ -3,20 +3,20 @@ ghost use Rattle.std.specs.Prelude.{◌≡◌, ℕ, ◌+◌, ◌-◌, ◌<◌, �
 ghost use Rattle.std.specs.Prelude.{slice_get, option_map};
 ghost use Rattle.serde_json.specs.Written.{compact_text};
 ghost use Rattle.plain_doc.specs.declared.item.Item.{Item};
-ghost use Rattle.plain_doc.specs.Settings.{same_settings};
-ghost use Rattle.doc_columns.specs.Beside.{beside_of, has_something};
+ghost use Rattle.plain_doc.specs.Settings.{same_properties};
+ghost use Rattle.doc_columns.specs.Attached.{attached_of, has_something};
 ghost use Rattle.doc_columns.specs.Walks.{items_in, AreParts, IsWalk};
 ghost use Rattle.json_values.specs.Digits.{units_json};
 ghost use Rattle.json_values.specs.Out.{Adds};
 ghost use Rattle.json_values.specs.Rows.{number_json};
-ghost use Rattle.json_values.specs.Settings.{settings_json};
+ghost use Rattle.json_values.specs.Settings.{properties_json};
 ghost use Rattle.json_doc.specs.Frames.{later_text, piece_with};
 ghost use Rattle.json_doc.specs.Pieces.{is_one_piece, mark_json, note_json, piece_json, text_json, texts_json};
 
 use crate::leaves::{write_byte, write_short};
 use doc_bits::{Memory, Units};
 use doc_columns::{Alike, ColumnTexts, Columns, Parts, Walk, alike_from};
-use json_values::{JsonOut, push_comma, write_settings, write_units};
+use json_values::{JsonOut, push_comma, write_properties, write_units};
 use plain_doc::{Mark, NoteKind};
 use prop_map::PropMap;
 use std::alloc::Global;
@@ -83,8 +83,8 @@ fn piece_end(parts: &Parts<'_>, walk: &mut Walk, first: &Alike<'_>, place: usize
     requires within { first.now.end ≤ length parts.now.units.now }
     requires chps { (k : ℕ) (item : Item) → place ≤ k → k < first.now.end
         → slice_get (items_in parts.now) k ≡ Some item → item.chp ≡ first.now.chp.now }
-    requires besides { (k : ℕ) (item : Item) → place ≤ k → k < first.now.end
-        → slice_get (items_in parts.now) k ≡ Some item → beside_of item ≡ first.now.beside.now }
+    requires attachments { (k : ℕ) (item : Item) → place ≤ k → k < first.now.end
+        → slice_get (items_in parts.now) k ≡ Some item → attached_of item ≡ first.now.attached.now }
     ensures walk { IsWalk parts.now walk.new result }
     ensures some { place < result }
     ensures within { result ≤ length parts.now.units.now }
@@ -95,7 +95,7 @@ fn piece_end(parts: &Parts<'_>, walk: &mut Walk, first: &Alike<'_>, place: usize
         → slice_get (items_in parts.now) (result - 1) ≡ Some item → slice_get (items_in parts.now) result ≡ Some next
         → is_one_piece item next ≡ false }
 {
-    if first.beside.is_something() {
+    if first.attached.is_something() {
         return place + 1;
     }
     let mut until = first.end;
@@ -111,14 +111,14 @@ fn piece_end(parts: &Parts<'_>, walk: &mut Walk, first: &Alike<'_>, place: usize
 
 /// Whether a piece goes on with what others have in common.
 fn goes_on(first: &Alike<'_>, next: &Alike<'_>) -> bool
-    ensures { result ≡ (not (has_something next.now.beside.now) && same_settings first.now.chp.now next.now.chp.now) }
+    ensures { result ≡ (not (has_something next.now.attached.now) && same_properties first.now.chp.now next.now.chp.now) }
 {
-    !next.beside.is_something() && has_same_settings(first.chp, next.chp)
+    !next.attached.is_something() && has_same_properties(first.chp, next.chp)
 }
 
 /// Whether two maps have the same codes and values.
-pub(crate) fn has_same_settings(one: &PropMap, other: &PropMap) -> bool
-    ensures { result ≡ same_settings one.now other.now }
+pub(crate) fn has_same_properties(one: &PropMap, other: &PropMap) -> bool
+    ensures { result ≡ same_properties one.now other.now }
 {
     one.equal(other)
 }
@@ -131,15 +131,15 @@ fn write_piece(
     units: &[u16],
 ) -> Result<(), Memory>
     ensures { OnOk result (Adds out.old out.new
-        (compact_text (piece_json (piece_with first.now.chp.now first.now.beside.now units.now)))) }
+        (compact_text (piece_json (piece_with first.now.chp.now first.now.attached.now units.now)))) }
 {
     out.push("{\"c\":")?;
-    write_settings(out, first.chp)?;
-    write_field(alloc, out, &first.beside.fld)?;
-    write_mark(alloc, out, &first.beside.mark)?;
-    write_note(out, &first.beside.note)?;
+    write_properties(out, first.chp)?;
+    write_field(alloc, out, &first.attached.fld)?;
+    write_mark(alloc, out, &first.attached.mark)?;
+    write_note(out, &first.attached.note)?;
     write_units_of(out, units)?;
-    write_section(out, &first.beside.sect)?;
+    write_section(out, &first.attached.sect)?;
     out.push("}")
 }
 
@@ -162,7 +162,7 @@ fn write_mark(alloc: Global, out: &mut JsonOut, mark: &Option<Mark>) -> Result<(
 {
     if let Some(mark) = mark {
         out.push(",\"m\":{\"p\":")?;
-        write_settings(out, &mark.pap)?;
+        write_properties(out, &mark.pap)?;
         out.push(",\"s\":")?;
         write_short(alloc, out, mark.istd)?;
         out.push("}")?;
@@ -191,14 +191,14 @@ fn write_units_of(out: &mut JsonOut, units: &[u16]) -> Result<(), Memory>
     write_units(out, units)
 }
 
-/// Writes the settings of a section, where there are some.
+/// Writes the properties of a section, where there are some.
 #[tactic(auto, unfolding(json::specs::Print::escape_byte))]
 fn write_section(out: &mut JsonOut, sect: &Option<PropMap>) -> Result<(), Memory>
-    ensures { OnOk result (Adds out.old out.new (later_text (codes "x") (option_map settings_json sect.now))) }
+    ensures { OnOk result (Adds out.old out.new (later_text (codes "x") (option_map properties_json sect.now))) }
 {
     if let Some(map) = sect {
         out.push(",\"x\":")?;
-        write_settings(out, map)?;
+        write_properties(out, map)?;
     }
     Ok(())
 }

@@ -1,6 +1,5 @@
 // Bytes read as a document.
 ghost use Rattle.std.specs.Prelude.{◌≡◌, ◌≢◌, ◌⊎◌, MatchResult, Err, Some, None};
-ghost use Rattle.std.specs.Result.{IsOk};
 ghost use Rattle.serde_json.specs.Data.{item, no_items};
 ghost use Rattle.serde_json.specs.View.{view, items_view};
 ghost use Rattle.serde_json.specs.Errors.{IsMemory};
@@ -20,9 +19,10 @@ use crate::JsonFault;
 use crate::carried_reading::carried_in;
 use crate::piece_reading::{text_in, texts_in};
 use crate::style_reading::sheet_in;
+use doc_bits::keep_if_ok;
 use doc_columns::{ColumnDocument, ColumnTexts, Columns, columns_are_formed, is_sound};
 use doc_parts::{Bookmark, Bookmarks, Name};
-use edit_script::{Misfit, position_in, short_in};
+use edit_script::{ShapeError, position_in, short_in};
 use json_values::{Row, hex_units_in};
 use plain_doc::{Document, check};
 use serde_json::{Error, Value};
@@ -34,14 +34,14 @@ use std::alloc::Global;
 pub fn from_json(alloc: Global, bytes: &[u8]) -> Result<Document, JsonFault>
     ensures { MatchResult result (IsReadAs bytes.now) (IsJsonFault bytes.now) }
 {
-    let columns = columns_from_json(alloc, bytes)?;
+    let columns = from_json_of_columns(alloc, bytes)?;
     let document = columns.expand(alloc);
     drop(columns);
     Ok(document?)
 }
 
-/// The same document by columns.
-pub fn columns_from_json(alloc: Global, bytes: &[u8]) -> Result<ColumnDocument, JsonFault>
+/// Reads a document by columns from JSON.
+pub fn from_json_of_columns(alloc: Global, bytes: &[u8]) -> Result<ColumnDocument, JsonFault>
     ensures { MatchResult result (IsReadAs bytes.now) (IsJsonFault bytes.now) }
 {
     let value = json_of(alloc, bytes)?;
@@ -51,10 +51,10 @@ pub fn columns_from_json(alloc: Global, bytes: &[u8]) -> Result<ColumnDocument, 
     match read {
         Ok(document) => {
             columns_are_formed(&document);
-            judged(alloc, document)
+            check_read(alloc, document)
         }
-        Err(Misfit::Shape) => Err(JsonFault::Shape),
-        Err(Misfit::Memory) => Err(JsonFault::Memory),
+        Err(ShapeError::Shape) => Err(JsonFault::Shape),
+        Err(ShapeError::Memory) => Err(JsonFault::Memory),
     }
 }
 
@@ -81,12 +81,12 @@ fn fault_of(error: &Error) -> JsonFault
 }
 
 /// A document that is judged.
-fn judged(alloc: Global, document: ColumnDocument) -> Result<ColumnDocument, JsonFault>
+fn check_read(alloc: Global, document: ColumnDocument) -> Result<ColumnDocument, JsonFault>
     requires { HasFormedBookmarks document }
     ensures { MatchResult result (λ sound. (sound ≡ document) × IsSound document) (IsFirstFault document) }
 {
     let verdict = verdict_on(alloc, &document);
-    where_right(document, verdict)
+    keep_if_ok(document, verdict)
 }
 
 /// Whether a document is sound. Where its columns do not tell, its items are put one by one.
@@ -103,7 +103,7 @@ fn verdict_on(alloc: Global, document: &ColumnDocument) -> Result<(), JsonFault>
     verdict
 }
 
-/// The same of a document item by item.
+/// Whether a document is sound, item by item.
 fn verdict_by_items(document: &Document) -> Result<(), JsonFault>
     requires { HasFormedBookmarks document.now }
     ensures { MatchResult result (λ _. IsSound document.now) (IsFirstFault document.now) }
@@ -115,18 +115,6 @@ fn verdict_by_items(document: &Document) -> Result<(), JsonFault>
             place: fault.place,
             at: fault.at,
         }),
-    }
-}
-
-/// What was read, where nothing is said against it.
-fn where_right<T: Drop, E: Drop>(read: T, verdict: Result<(), E>) -> Result<T, E>
-    ensures { MatchResult result
-        (λ given. (given ≡ read) × IsOk verdict)
-        (λ fault. verdict ≡ Err fault) }
-{
-    match verdict {
-        Ok(()) => Ok(read),
-        Err(fault) => Err(fault),
     }
 }
 
@@ -142,7 +130,7 @@ struct Parts<'a> {
 }
 
 /// The values at the six keys.
-fn parts_in(value: &Value) -> Result<Parts<'_>, Misfit>
+fn parts_in(value: &Value) -> Result<Parts<'_>, ShapeError>
     ensures { MatchResult result
         (λ parts. document_values (view value.now) ≡ Some (record {
           bookmarks = view parts.bookmarks.now;
@@ -152,7 +140,7 @@ fn parts_in(value: &Value) -> Result<Parts<'_>, Misfit>
           notes = view parts.notes.now;
           sheet = view parts.sheet.now;
         }))
-        (λ fault. fault ≡ Misfit.Shape → document_values (view value.now) ≡ None) }
+        (λ fault. fault ≡ ShapeError.Shape → document_values (view value.now) ≡ None) }
 {
     let mut row = Row::of(value)?;
     let bookmarks = row.need("bookmarks")?;
@@ -173,23 +161,23 @@ fn parts_in(value: &Value) -> Result<Parts<'_>, Misfit>
 }
 
 /// A bookmark: its name, where it begins and ends, and its flags.
-fn bookmark_in(alloc: Global, value: &Value) -> Result<Bookmark, Misfit>
+fn bookmark_in(alloc: Global, value: &Value) -> Result<Bookmark, ShapeError>
     ensures { Gives result (bookmark_of (view value.now)) }
 {
     match value.as_array() {
-        None => Err(Misfit::Shape),
+        None => Err(ShapeError::Shape),
         Some(values) => bookmark_from(alloc, values.as_slice()),
     }
 }
 
 /// The bookmark of four values.
-fn bookmark_from(alloc: Global, values: &[Value]) -> Result<Bookmark, Misfit>
+fn bookmark_from(alloc: Global, values: &[Value]) -> Result<Bookmark, ShapeError>
     ensures { Gives result (bookmark_of_items (items_view values.now)) }
 {
     match values {
         [name, from, to, flags] => bookmark_of_four(alloc, name, from, to, flags),
-        [] | [_] | [_, _] | [_, _, _] => Err(Misfit::Shape),
-        [_, _, _, _, _, ..] => Err(Misfit::Shape),
+        [] | [_] | [_, _] | [_, _, _] => Err(ShapeError::Shape),
+        [_, _, _, _, _, ..] => Err(ShapeError::Shape),
     }
 }
 
@@ -200,7 +188,7 @@ fn bookmark_of_four(
     from: &Value,
     to: &Value,
     flags: &Value,
-) -> Result<Bookmark, Misfit>
+) -> Result<Bookmark, ShapeError>
     ensures { Gives result (bookmark_of_items
         (item (view name.now) (item (view from.now) (item (view to.now) (item (view flags.now) no_items))))) }
 {
@@ -217,21 +205,21 @@ fn bookmark_of_four(
 }
 
 /// The bookmarks of an array. Where there are 2^32 or more memory is refused.
-fn bookmarks_in(alloc: Global, value: &Value) -> Result<Bookmarks, Misfit>
+fn bookmarks_in(alloc: Global, value: &Value) -> Result<Bookmarks, ShapeError>
     ensures { Gives result (list_as bookmark_of (view value.now)) }
 {
     match value.as_array() {
-        None => Err(Misfit::Shape),
+        None => Err(ShapeError::Shape),
         Some(values) => bookmarks_from(alloc, values.as_slice()),
     }
 }
 
 /// The bookmarks of the values of an array.
-fn bookmarks_from(alloc: Global, values: &[Value]) -> Result<Bookmarks, Misfit>
+fn bookmarks_from(alloc: Global, values: &[Value]) -> Result<Bookmarks, ShapeError>
     ensures { Gives result (each_of bookmark_of (items_view values.now)) }
 {
     if values.len() >= 1 << 32 {
-        return Err(Misfit::Memory);
+        return Err(ShapeError::Memory);
     }
     let mut bookmarks = Bookmarks::new(alloc);
     // A list that does not know its names takes each bookmark in one step.
@@ -243,13 +231,13 @@ fn bookmarks_from(alloc: Global, values: &[Value]) -> Result<Bookmarks, Misfit>
 }
 
 /// Bookmarks of a main text of `len` units.
-fn marks_in(alloc: Global, value: &Value, len: usize) -> Result<Bookmarks, Misfit>
+fn marks_in(alloc: Global, value: &Value, len: usize) -> Result<Bookmarks, ShapeError>
     ensures { Reads bookmarks_json (AreMarks len) (view value.now) result }
 {
     let mut bookmarks = bookmarks_in(alloc, value)?;
     let _ = bookmarks.len();
     if !bookmarks.are_formed(len) {
-        return Err(Misfit::Shape);
+        return Err(ShapeError::Shape);
     }
     // They are in order already: whether their names differ is found out.
     bookmarks.arrange();
@@ -266,7 +254,7 @@ pub struct ReadTexts {
 }
 
 /// The texts and the bookmarks that the values stand for.
-fn texts_of(alloc: Global, parts: &Parts<'_>) -> Result<ReadTexts, Misfit>
+fn texts_of(alloc: Global, parts: &Parts<'_>) -> Result<ReadTexts, ShapeError>
     ensures { MatchResult result
         (AreTextsOf (record {
           bookmarks = view parts.now.bookmarks.now;
@@ -276,7 +264,7 @@ fn texts_of(alloc: Global, parts: &Parts<'_>) -> Result<ReadTexts, Misfit>
           notes = view parts.now.notes.now;
           sheet = view parts.now.sheet.now;
         }))
-        (λ fault. fault ≡ Misfit.Shape → HasNoTexts (record {
+        (λ fault. fault ≡ ShapeError.Shape → HasNoTexts (record {
           bookmarks = view parts.now.bookmarks.now;
           carried = view parts.now.carried.now;
           heads = view parts.now.heads.now;
@@ -298,11 +286,11 @@ fn texts_of(alloc: Global, parts: &Parts<'_>) -> Result<ReadTexts, Misfit>
 }
 
 /// The document that a value stands for.
-fn document_in(alloc: Global, value: &Value) -> Result<ColumnDocument, Misfit>
+fn document_in(alloc: Global, value: &Value) -> Result<ColumnDocument, ShapeError>
     ensures { MatchResult result
         (λ document. HasFormedBookmarks document
         × (HasKeysInOrder (view value.now) → view value.now ≡ json_value document))
-        (λ fault. fault ≡ Misfit.Shape
+        (λ fault. fault ≡ ShapeError.Shape
         → (document : Document) → IsWhole document → view value.now ≢ json_value document) }
 {
     let parts = parts_in(value)?;

@@ -9,12 +9,12 @@ ghost use Rattle.style_sheet.specs.declared.styles.Style.{Style};
 ghost use Rattle.style_sheet.specs.Formed.{IsFormedBase, IsFormedKind, IsFormedSlot, IsFormedStyle, IsFormedSheet};
 ghost use Rattle.json_values.specs.Rows.{Steps, need, may};
 ghost use Rattle.json_doc.specs.ReadValues.{Reads, Tells};
-ghost use Rattle.json_doc.specs.StyleReading.{list_as, base_of, kind_of, style_of, sheet_values, AreFormedSlots};
+ghost use Rattle.json_doc.specs.StyleReading.{list_as, base_of, kind_of, read_style_of, sheet_values, AreFormedSlots};
 ghost use Rattle.json_doc.specs.StyleGroups.{style_row, made_behind, style_with, IsMadeBehind, IsNoneBehind};
 ghost use Rattle.json_doc.specs.Styles.{style_json, slot_json, slots_json, sheet_json};
 
 use doc_bits::Units;
-use edit_script::{Misfit, bytes_in, short_in};
+use edit_script::{ShapeError, bytes_in, short_in};
 use json_values::Row;
 use prop_map::{CHARACTER_GROUPS, PARAGRAPH_GROUPS, PropMap};
 use serde_json::Value;
@@ -22,13 +22,13 @@ use std::alloc::Global;
 use style_sheet::{Kind, Style, StyleSheet, UpxList};
 
 /// The most slots of a sheet.
-const MOST_SLOTS: usize = 4094;
+const MAX_SLOTS: usize = 4094;
 
 /// The numbers of a header.
 const HEAD_LEN: usize = 7;
 
 /// A style that another one is based on, or null.
-fn base_in(value: &Value) -> Result<Option<u16>, Misfit>
+fn base_in(value: &Value) -> Result<Option<u16>, ShapeError>
     ensures { Gives result (base_of (view value.now)) }
 {
     if value.is_null() {
@@ -38,24 +38,24 @@ fn base_in(value: &Value) -> Result<Option<u16>, Misfit>
 }
 
 /// The style at a key that another one is based on.
-fn base_at(row: &mut Row<'_>, key: &str) -> Result<Option<u16>, Misfit>
+fn base_at(row: &mut Row<'_>, key: &str) -> Result<Option<u16>, ShapeError>
     ensures { Steps (need key.now base_of) (members_view row.old.left) result (members_view row.new.left) }
 {
     base_in(row.need(key)?)
 }
 
 /// Property lists as they are: an array of bytes.
-fn upxes_in(alloc: Global, value: &Value) -> Result<UpxList, Misfit>
+fn upxes_in(alloc: Global, value: &Value) -> Result<UpxList, ShapeError>
     ensures { Gives result (list_as bytes_of (view value.now)) }
 {
     match value.as_array() {
-        None => Err(Misfit::Shape),
+        None => Err(ShapeError::Shape),
         Some(values) => upxes_from(alloc, values.as_slice()),
     }
 }
 
 /// The property lists of the values of an array.
-fn upxes_from(alloc: Global, values: &[Value]) -> Result<UpxList, Misfit>
+fn upxes_from(alloc: Global, values: &[Value]) -> Result<UpxList, ShapeError>
     ensures { Gives result (each_of bytes_of (items_view values.now)) }
 {
     let mut upxes = UpxList::new(alloc);
@@ -66,7 +66,7 @@ fn upxes_from(alloc: Global, values: &[Value]) -> Result<UpxList, Misfit>
 }
 
 /// The property lists at a key, where it comes first.
-fn upxes_if(alloc: Global, row: &mut Row<'_>, key: &str) -> Result<Option<UpxList>, Misfit>
+fn upxes_if(alloc: Global, row: &mut Row<'_>, key: &str) -> Result<Option<UpxList>, ShapeError>
     ensures { Steps (may key.now (list_as bytes_of)) (members_view row.old.left) result (members_view row.new.left) }
 {
     match row.may(key) {
@@ -76,17 +76,17 @@ fn upxes_if(alloc: Global, row: &mut Row<'_>, key: &str) -> Result<Option<UpxLis
 }
 
 /// The numbers of 16 bits of an array.
-fn numbers_in(alloc: Global, value: &Value) -> Result<Units, Misfit>
+fn numbers_in(alloc: Global, value: &Value) -> Result<Units, ShapeError>
     ensures { Gives result (list_as short_number (view value.now)) }
 {
     match value.as_array() {
-        None => Err(Misfit::Shape),
+        None => Err(ShapeError::Shape),
         Some(values) => numbers_from(alloc, values.as_slice()),
     }
 }
 
 /// The numbers of 16 bits of the values of an array.
-fn numbers_from(alloc: Global, values: &[Value]) -> Result<Units, Misfit>
+fn numbers_from(alloc: Global, values: &[Value]) -> Result<Units, ShapeError>
     ensures { Gives result (each_of short_number (items_view values.now)) }
 {
     let mut numbers = Units::new(alloc);
@@ -102,14 +102,14 @@ fn kind_from(
     pap: Option<PropMap>,
     stk: Option<u8>,
     upxes: Option<UpxList>,
-) -> Result<Kind, Misfit>
+) -> Result<Kind, ShapeError>
     ensures { Gives result (kind_of chp pap stk upxes) }
 {
     match (chp, pap, stk, upxes) {
         (Some(chp), Some(pap), None, None) => Ok(Kind::Para { pap, chp }),
         (Some(chp), None, None, None) => Ok(Kind::Char { chp }),
         (None, None, Some(stk), Some(upxes)) => Ok(Kind::Other { stk, upxes }),
-        _ => Err(Misfit::Shape),
+        _ => Err(ShapeError::Shape),
     }
 }
 
@@ -134,13 +134,13 @@ pub struct StyleBack {
 }
 
 /// What the first five keys of a style have.
-fn style_front_in(alloc: Global, row: &mut Row<'_>) -> Result<StyleFront, Misfit>
+fn style_front_in(alloc: Global, row: &mut Row<'_>) -> Result<StyleFront, ShapeError>
     ensures { MatchResult result
         (λ front. style_row (members_view row.old.left) ≡ made_behind front (members_view row.new.left))
-        (λ fault. fault ≡ Misfit.Shape → style_row (members_view row.old.left) ≡ None) }
+        (λ fault. fault ≡ ShapeError.Shape → style_row (members_view row.old.left) ≡ None) }
 {
     let base = base_at(row, "base")?;
-    let chp = row.settings_if(alloc, "char")?;
+    let chp = row.properties_if(alloc, "char")?;
     let flags = row.byte("flags")?;
     let grfstd = row.short("grfstd")?;
     let name = row.units(alloc, "name")?;
@@ -154,13 +154,13 @@ fn style_front_in(alloc: Global, row: &mut Row<'_>) -> Result<StyleFront, Misfit
 }
 
 /// What the other keys have.
-fn style_back_in(alloc: Global, row: &mut Row<'_>) -> Result<StyleBack, Misfit>
+fn style_back_in(alloc: Global, row: &mut Row<'_>) -> Result<StyleBack, ShapeError>
     ensures { MatchResult result
         (λ back. IsMadeBehind (members_view row.old.left) back (members_view row.new.left))
-        (λ fault. fault ≡ Misfit.Shape → IsNoneBehind (members_view row.old.left)) }
+        (λ fault. fault ≡ ShapeError.Shape → IsNoneBehind (members_view row.old.left)) }
 {
     let next = row.short("next")?;
-    let pap = row.settings_if(alloc, "par")?;
+    let pap = row.properties_if(alloc, "par")?;
     let sti = row.short("sti")?;
     let stk = row.byte_if("stk")?;
     let upxes = upxes_if(alloc, row, "upxes")?;
@@ -174,7 +174,7 @@ fn style_back_in(alloc: Global, row: &mut Row<'_>) -> Result<StyleBack, Misfit>
 }
 
 /// The style of what its keys have.
-fn style_from(front: StyleFront, back: StyleBack) -> Result<Style, Misfit>
+fn style_from(front: StyleFront, back: StyleBack) -> Result<Style, ShapeError>
     ensures { Gives result (style_with front back) }
 {
     let kind = kind_from(front.chp, back.pap, back.stk, back.upxes)?;
@@ -190,8 +190,8 @@ fn style_from(front: StyleFront, back: StyleBack) -> Result<Style, Misfit>
 }
 
 /// A style, as its object has it.
-fn style_in(alloc: Global, value: &Value) -> Result<Style, Misfit>
-    ensures { Gives result (style_of (view value.now)) }
+fn style_in(alloc: Global, value: &Value) -> Result<Style, ShapeError>
+    ensures { Gives result (read_style_of (view value.now)) }
 {
     let mut row = Row::of(value)?;
     let front = style_front_in(alloc, &mut row)?;
@@ -201,7 +201,7 @@ fn style_in(alloc: Global, value: &Value) -> Result<Style, Misfit>
 }
 
 /// Whether a style may be based on this one.
-fn is_right_base(base: &Option<u16>) -> bool
+fn is_valid_base(base: &Option<u16>) -> bool
     ensures { IsTrue result ↔ IsFormedBase base.now }
 {
     match base {
@@ -210,8 +210,8 @@ fn is_right_base(base: &Option<u16>) -> bool
     }
 }
 
-/// Whether the settings of a kind may stand there, or its stk is 3 or 4 and it has 15 property lists at most.
-fn is_right_kind(kind: &Kind) -> bool
+/// Whether the properties of a kind may stand there, or its stk is 3 or 4 and it has 15 property lists at most.
+fn is_valid_kind(kind: &Kind) -> bool
     ensures { IsTrue result ↔ IsFormedKind kind.now }
 {
     match kind {
@@ -251,33 +251,33 @@ fn is_word(number: u16)
 {}
 
 /// Whether each number of a style has the bits that an STD has for it, and its kind is right.
-fn is_right_style(style: &Style) -> bool
+fn is_valid_style(style: &Style) -> bool
     ensures { IsTrue result ↔ IsFormedStyle style.now }
 {
     if style.sti >= 4096 || style.flags >= 16 || style.next >= 4096 {
         return false;
     }
-    if !is_right_base(&style.base) {
+    if !is_valid_base(&style.base) {
         return false;
     }
     is_word(style.grfstd);
     are_words(style.name.as_slice());
-    is_right_kind(&style.kind)
+    is_valid_kind(&style.kind)
 }
 
 /// A formed style.
-fn right_style_in(alloc: Global, value: &Value) -> Result<Style, Misfit>
+fn right_style_in(alloc: Global, value: &Value) -> Result<Style, ShapeError>
     ensures { Reads style_json IsFormedStyle (view value.now) result }
 {
     let style = style_in(alloc, value)?;
-    if !is_right_style(&style) {
-        return Err(Misfit::Shape);
+    if !is_valid_style(&style) {
+        return Err(ShapeError::Shape);
     }
     Ok(style)
 }
 
 /// A slot: null, or a style.
-fn slot_in(alloc: Global, value: &Value) -> Result<Option<Style>, Misfit>
+fn slot_in(alloc: Global, value: &Value) -> Result<Option<Style>, ShapeError>
     ensures { Reads slot_json IsFormedSlot (view value.now) result }
 {
     if value.is_null() {
@@ -290,18 +290,18 @@ fn slot_in(alloc: Global, value: &Value) -> Result<Option<Style>, Misfit>
 }
 
 /// A sheet with this header and the slots of an array.
-fn sheet_from(alloc: Global, head: [u16; 7], values: &[Value]) -> Result<StyleSheet, Misfit>
+fn sheet_from(alloc: Global, head: [u16; 7], values: &[Value]) -> Result<StyleSheet, ShapeError>
     ensures { MatchResult result
         (λ sheet. (sheet.head ≡ head)
         × Reads slots_json AreFormedSlots (array (items_view values.now)) (Ok sheet.styles))
-        (λ fault. fault ≡ Misfit.Shape
+        (λ fault. fault ≡ ShapeError.Shape
         → (slots : List (Option Style)) → AreFormedSlots slots → array (items_view values.now) ≢ slots_json slots) }
 {
     if values.is_empty() {
-        return Err(Misfit::Shape);
+        return Err(ShapeError::Shape);
     }
-    if values.len() > MOST_SLOTS {
-        return Err(Misfit::Shape);
+    if values.len() > MAX_SLOTS {
+        return Err(ShapeError::Shape);
     }
     let first = slot_in(alloc, &values[0])?;
     let mut sheet = StyleSheet::new(alloc, head, first)?;
@@ -313,23 +313,23 @@ fn sheet_from(alloc: Global, head: [u16; 7], values: &[Value]) -> Result<StyleSh
 }
 
 /// A sheet with this header and the slots of a value.
-fn slots_in(alloc: Global, head: [u16; 7], value: &Value) -> Result<StyleSheet, Misfit>
+fn slots_in(alloc: Global, head: [u16; 7], value: &Value) -> Result<StyleSheet, ShapeError>
     ensures { MatchResult result
         (λ sheet. (sheet.head ≡ head) × Reads slots_json AreFormedSlots (view value.now) (Ok sheet.styles))
-        (λ fault. fault ≡ Misfit.Shape
+        (λ fault. fault ≡ ShapeError.Shape
         → (slots : List (Option Style)) → AreFormedSlots slots → view value.now ≢ slots_json slots) }
 {
     match value.as_array() {
-        None => Err(Misfit::Shape),
+        None => Err(ShapeError::Shape),
         Some(values) => sheet_from(alloc, head, values.as_slice()),
     }
 }
 
 /// The numbers of a header, and the value that has the slots.
-fn sheet_values_in(alloc: Global, value: &Value) -> Result<(Units, &Value), Misfit>
+fn sheet_values_in(alloc: Global, value: &Value) -> Result<(Units, &Value), ShapeError>
     ensures { MatchResult result
         (λ parts. sheet_values (view value.now) ≡ Some (parts.0, view parts.1.now))
-        (λ fault. fault ≡ Misfit.Shape → sheet_values (view value.now) ≡ None) }
+        (λ fault. fault ≡ ShapeError.Shape → sheet_values (view value.now) ≡ None) }
 {
     let mut row = Row::of(value)?;
     let head = head_at(alloc, &mut row, "head")?;
@@ -339,7 +339,7 @@ fn sheet_values_in(alloc: Global, value: &Value) -> Result<(Units, &Value), Misf
 }
 
 /// The numbers at a key.
-fn head_at(alloc: Global, row: &mut Row<'_>, key: &str) -> Result<Units, Misfit>
+fn head_at(alloc: Global, row: &mut Row<'_>, key: &str) -> Result<Units, ShapeError>
     ensures { Steps (need key.now (list_as short_number)) (members_view row.old.left) result
         (members_view row.new.left) }
 {
@@ -347,12 +347,12 @@ fn head_at(alloc: Global, row: &mut Row<'_>, key: &str) -> Result<Units, Misfit>
 }
 
 /// A sheet of styles.
-pub(crate) fn sheet_in(alloc: Global, value: &Value) -> Result<StyleSheet, Misfit>
+pub(crate) fn sheet_in(alloc: Global, value: &Value) -> Result<StyleSheet, ShapeError>
     ensures { Tells sheet_json IsFormedSheet (view value.now) result }
 {
     let (head, slots) = sheet_values_in(alloc, value)?;
     if head.as_slice().len() != HEAD_LEN {
-        return Err(Misfit::Shape);
+        return Err(ShapeError::Shape);
     }
     let mut seven = [0u16; HEAD_LEN];
     seven.copy_from_slice(head.as_slice());

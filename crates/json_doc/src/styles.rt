@@ -4,14 +4,14 @@ ghost use Rattle.serde_json.specs.Written.{compact_text};
 ghost use Rattle.style_sheet.specs.Sheet.{style_at};
 ghost use Rattle.json_values.specs.Out.{Adds};
 ghost use Rattle.json_values.specs.Rows.{number_json};
-ghost use Rattle.json_values.specs.Settings.{settings_json};
+ghost use Rattle.json_values.specs.Settings.{properties_json};
 ghost use Rattle.json_doc.specs.Frames.{later_text};
 ghost use Rattle.json_doc.specs.Styles.{base_json, chp_of_kind, pap_of_kind, stk_of_kind, upxes_of_kind, lists_json};
 ghost use Rattle.json_doc.specs.Styles.{style_json, slot_json, slots_json, numbers_json, sheet_json};
 
 use crate::leaves::{write_byte, write_name, write_part, write_short};
 use doc_bits::Memory;
-use json_values::{JsonOut, push_comma, write_null, write_settings};
+use json_values::{JsonOut, push_comma, write_null, write_properties};
 use std::alloc::Global;
 use style_sheet::{Kind, Style, StyleSheet, UpxList};
 
@@ -105,30 +105,30 @@ fn write_base(alloc: Global, out: &mut JsonOut, base: &Option<u16>) -> Result<()
     }
 }
 
-/// Writes the settings of characters, where the kind has some.
+/// Writes the properties of characters, where the kind has some.
 #[tactic(auto, unfolding(json::specs::Print::escape_byte))]
 fn write_char(out: &mut JsonOut, kind: &Kind) -> Result<(), Memory>
     ensures { OnOk result (Adds out.old out.new
-        (later_text (codes "char") (option_map settings_json (chp_of_kind kind.now)))) }
+        (later_text (codes "char") (option_map properties_json (chp_of_kind kind.now)))) }
 {
     match kind {
         Kind::Para { chp, .. } | Kind::Char { chp } => {
             out.push(",\"char\":")?;
-            write_settings(out, chp)
+            write_properties(out, chp)
         }
         Kind::Other { .. } => Ok(()),
     }
 }
 
-/// Writes the settings of paragraphs, where the kind has some.
+/// Writes the properties of paragraphs, where the kind has some.
 #[tactic(auto, unfolding(json::specs::Print::escape_byte))]
 fn write_par(out: &mut JsonOut, kind: &Kind) -> Result<(), Memory>
     ensures { OnOk result (Adds out.old out.new
-        (later_text (codes "par") (option_map settings_json (pap_of_kind kind.now)))) }
+        (later_text (codes "par") (option_map properties_json (pap_of_kind kind.now)))) }
 {
     if let Kind::Para { pap, .. } = kind {
         out.push(",\"par\":")?;
-        write_settings(out, pap)?;
+        write_properties(out, pap)?;
     }
     Ok(())
 }

@@ -137,11 +137,11 @@ fn wrong_piece(alloc: Global, value: &Value) -> Result<Option<String>, Memory> {
         return Ok(Some(why));
     }
     let forms = [
-        ("c", Form::Settings),
+        ("c", Form::Properties),
         ("f", BYTE),
         ("n", Form::Numbering),
         ("t", Form::Units),
-        ("x", Form::Settings),
+        ("x", Form::Properties),
     ];
     let found = wrong_values(alloc, value, &forms)?;
     if found.is_some() {
@@ -161,7 +161,7 @@ fn wrong_mark(alloc: Global, value: &Value) -> Result<Option<String>, Memory> {
     if let Some(why) = wrong_keys(alloc, value, "a mark", MARK)? {
         return Ok(Some(why));
     }
-    wrong_values(alloc, value, &[("p", Form::Settings), ("s", SHORT)])
+    wrong_values(alloc, value, &[("p", Form::Properties), ("s", SHORT)])
 }
 
 /// What is wrong with the sheet of styles.
@@ -192,12 +192,12 @@ fn wrong_style(alloc: Global, value: &Value) -> Result<Option<String>, Memory> {
         return Ok(Some(why));
     }
     let forms = [
-        ("char", Form::Settings),
+        ("char", Form::Properties),
         ("flags", Form::Below(16)),
         ("grfstd", SHORT),
         ("name", Form::Units),
         ("next", Form::Below(4_096)),
-        ("par", Form::Settings),
+        ("par", Form::Properties),
         ("sti", Form::Below(4_096)),
     ];
     wrong_values(alloc, value, &forms)

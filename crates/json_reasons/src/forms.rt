@@ -1,6 +1,6 @@
 // What a value must be, and whether it is.
 use doc_bits::Memory;
-use edit_script::{Misfit, settings_in, story_in};
+use edit_script::{ShapeError, properties_in, story_in};
 use serde_json::Value;
 use std::alloc::Global;
 
@@ -18,7 +18,7 @@ pub(crate) enum Form {
     /// An array of strings.
     Texts,
     /// Codes with the bytes of their operands.
-    Settings,
+    Properties,
     /// How a save is made.
     Mode,
     /// How a note is numbered.
@@ -44,7 +44,7 @@ pub(crate) fn misfit(alloc: Global, form: Form, value: &Value) -> Result<Option<
     let why = match form {
         Form::Below(limit) => format!(in alloc; ": a whole number below {limit} is wanted")?,
         _ => {
-            let wanted = wanted(form);
+            let wanted = form_words(form);
             format!(in alloc; ": {wanted}")?
         }
     };
@@ -52,14 +52,14 @@ pub(crate) fn misfit(alloc: Global, form: Form, value: &Value) -> Result<Option<
 }
 
 /// The words for a form that is no number.
-fn wanted(form: Form) -> &'static str {
+fn form_words(form: Form) -> &'static str {
     match form {
         Form::Story => "\"main\", \"note:0\", \"head:6\" and so on name a text",
         Form::Below(_) => "a whole number is wanted",
         Form::Flag => "true or false is wanted",
         Form::Text => "a string is wanted",
         Form::Texts => "an array of strings is wanted",
-        Form::Settings => {
+        Form::Properties => {
             "settings are an object: four digits of a code, and two digits for each byte, all lower-case hexadecimal"
         }
         Form::Mode => "\"full\" or \"fast\" is wanted",
@@ -77,7 +77,7 @@ fn fits(alloc: Global, form: Form, value: &Value) -> Result<bool, Memory> {
         Form::Flag => Ok(value.as_bool().is_some()),
         Form::Text => Ok(value.as_str().is_some()),
         Form::Texts => Ok(are_strings(value)),
-        Form::Settings => are_settings(alloc, value),
+        Form::Properties => are_properties(alloc, value),
         Form::Mode => Ok(is_word(value, "full", "fast")),
         Form::Numbering => Ok(is_word(value, "auto", "custom")),
         Form::Bytes => Ok(are_digits(value, 2)),
@@ -114,12 +114,12 @@ fn are_strings(value: &Value) -> bool {
     true
 }
 
-/// Whether a value is an object of settings.
-fn are_settings(alloc: Global, value: &Value) -> Result<bool, Memory> {
-    match settings_in(alloc, value) {
+/// Whether a value is an object of properties.
+fn are_properties(alloc: Global, value: &Value) -> Result<bool, Memory> {
+    match properties_in(alloc, value) {
         Ok(_) => Ok(true),
-        Err(Misfit::Shape) => Ok(false),
-        Err(Misfit::Memory) => Err(Memory),
+        Err(ShapeError::Shape) => Ok(false),
+        Err(ShapeError::Memory) => Err(Memory),
     }
 }
 

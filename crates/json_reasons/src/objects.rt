@@ -4,10 +4,10 @@ use serde_json::Value;
 use std::alloc::Global;
 
 /// How many bytes are read a second time, to say why they are refused.
-const MOST_BYTES: usize = 1 << 20;
+const MAX_BYTES: usize = 1 << 20;
 
 /// How long a name is that is shown as it is.
-const MOST_SHOWN: usize = 40;
+const MAX_SHOWN: usize = 40;
 
 /// A key of an object, and whether each object has it.
 #[derive(Clone, Copy)]
@@ -27,7 +27,7 @@ impl Key {
 
 /// The value that bytes spell, or at which line and column they are no JSON. Long ones are not read.
 pub(crate) fn value_of(alloc: Global, bytes: &[u8]) -> Result<Result<Value, String>, Memory> {
-    if bytes.len() > MOST_BYTES {
+    if bytes.len() > MAX_BYTES {
         return Err(Memory);
     }
     match Value::from_slice(alloc, bytes) {
@@ -78,7 +78,7 @@ fn another_key(
     keys: &[Key],
     name: &str,
 ) -> Result<Option<String>, Memory> {
-    let name = shown(name);
+    let name = show_name(name);
     let why = match first_missing(value, keys) {
         Some(key) => {
             format!(in alloc; ": `{name}` is no key of {what}, and `{key}` is missing")?
@@ -117,8 +117,8 @@ fn first_missing(value: &Value, keys: &[Key]) -> Option<&'static str> {
 }
 
 /// A name of a file as it is shown: nothing that a terminal would follow, and no long one.
-pub(crate) fn shown(name: &str) -> &str {
-    if name.len() > MOST_SHOWN {
+pub(crate) fn show_name(name: &str) -> &str {
+    if name.len() > MAX_SHOWN {
         return "..";
     }
     for byte in name.as_bytes() {

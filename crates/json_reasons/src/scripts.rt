@@ -1,6 +1,6 @@
 // Why a script is none.
 use crate::forms::{BYTE, Form, POSITION, SHORT, misfit};
-use crate::objects::{Key, shown, value_of, wrong_keys};
+use crate::objects::{Key, show_name, value_of, wrong_keys};
 use doc_bits::{Memory, Text};
 use serde_json::Value;
 use std::alloc::Global;
@@ -16,7 +16,7 @@ const FROM: Part = ("from", POSITION);
 
 const TO: Part = ("to", POSITION);
 
-const SET: Part = ("set", Form::Settings);
+const SET: Part = ("set", Form::Properties);
 
 const STYLE: Part = ("istd", SHORT);
 
@@ -92,7 +92,7 @@ fn wrong_command(alloc: Global, value: &Value) -> Result<Option<String>, Memory>
     match parts_of(name) {
         Some(parts) => wrong_parts(alloc, value, name, parts),
         None => {
-            let name = shown(name);
+            let name = show_name(name);
             let why = format!(in alloc; ": no command is called `{name}`")?;
             Ok(Some(why))
         }

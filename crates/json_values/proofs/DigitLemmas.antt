@@ -15,6 +15,7 @@ use Rattle.json.specs.Print.{escape, escape_byte, quoted}
 use Rattle.text_codes.specs.Shown.{hex_digit}
 use Rattle.json_values.specs.Digits.{units_of_bytes}
 use Rattle.json_values.proofs.HexLemmas.{hex_small, hex_large}
+use Rattle.edit_script.proofs.HexLemmas.{two}
 
 -- ---- digits stand for themselves in a text
 
@@ -89,13 +90,6 @@ lone units byte = refl
 ended : (units : List ℕ) → behind units (units_of_bytes []) ≡ Some units
 unfolding units_of_bytes
 ended units = ap Some (append-nil units)
-
-two : (bytes : List ℕ) (at : ℕ) → at + 1 < length bytes → drop at bytes ≡ get_or bytes at 0 ∷ get_or bytes
-    (at + 1) 0 ∷ drop (at + 2) bytes
-two bytes at within =
-    let next : at + 1 + 1 ≡ at + 2 = omega arith in
-    drop_more bytes at 0 (omega arith) ∙ ap (λ bs. get_or bytes at 0 ∷ bs) (drop_more bytes (at + 1) 0 within ∙ ap
-    (λ i. get_or bytes (at + 1) 0 ∷ drop i bytes) next)
 
 pub one_step : (bytes units grown : List ℕ) (at : ℕ) → at + 1 < length bytes → grown ≡ units ++ (256 * get_or bytes at
     0 + get_or bytes (at + 1) 0) ∷ [] → units_of_bytes bytes ≡ behind units (units_of_bytes (drop at bytes)) →

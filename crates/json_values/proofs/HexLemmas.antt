@@ -4,7 +4,6 @@ use Rattle.std.proofs.Common.{List, [], ◌∷◌, ◌++◌, Option, Some, None,
 use Rattle.std.specs.Prelude.{nat_le, nat_lt, if◌then◌else◌, flat_map}
 use Rattle.std.specs.Option.{option_map, unwrap_or}
 use Rattle.std.proofs.lemmas.Bool.{leb-true, le-leb, lt-leb, lt-ltb, le-ltb, ltb-true, ltb-false}
-use Rattle.std.proofs.lemmas.Bool.{cases_lt}
 use Rattle.std.proofs.Common.{◌⊎◌, inl, inr}
 use Rattle.std.specs.Str.{IsAscii, IsUtf8}
 use Rattle.std.proofs.lemmas.Str.Ascii.{IsAscii-cons, IsAscii-nil}
@@ -20,6 +19,10 @@ use Rattle.text_codes.specs.Digits.{byte_text, word_text}
 use Rattle.json_values.specs.Digits.{bytes_json, units_json, units_of_bytes, hex_units_of}
 use Rattle.json_values.specs.Digits.{AreUnits}
 use Rattle.json_values.specs.Digits.{DigitsAreOne}
+use Rattle.doc_bits.proofs.TestLemmas.{both_true}
+use Rattle.doc_bits.proofs.ByteListLemmas.{no_bytes}
+use Rattle.text_codes.proofs.DigitLemmas.{hex_ascii}
+use Rattle.edit_script.proofs.SettingsLemmas.{steps_found}
 
 -- ---- a digit
 
@@ -52,10 +55,6 @@ record IsDigit (character n : ℕ) : Type 0 where
   is : character ≡ hex_digit n
   small : n < 16
 
-both : (a b : Bool) → (a && b) ≡ true → (a ≡ true) × (b ≡ true)
-both true b e = (refl, e)
-both false b e = absurd (cc (e))
-
 digit_by : (figure letter : Bool) (c n : ℕ) → (figure ≡ true → (48 ≤ c) × (c ≤ 57)) →
     (letter ≡ true → (97 ≤ c) × (c ≤ 102)) → (if figure then Some (c - 48) else if letter
     then Some (c - 87) else None) ≡ Some n → IsDigit c n
@@ -78,17 +77,10 @@ digit_by false false c n f l e = absurd (cc (e))
 digit_is : (c n : ℕ) → digit_of c ≡ Some n → IsDigit c n
 digit_is c n =
     digit_by (nat_le 48 c && nat_le c 57) (nat_le 97 c && nat_le c 102) c n
-    (λ e. let k = both (nat_le 48 c) (nat_le c 57) e in (leb-true 48 c k.0, leb-true c 57 k.1))
-    (λ e. let k = both (nat_le 97 c) (nat_le c 102) e in (leb-true 97 c k.0, leb-true c 102 k.1))
+    (λ e. let k = both_true (nat_le 48 c) (nat_le c 57) e in (leb-true 48 c k.0, leb-true c 57 k.1))
+    (λ e. let k = both_true (nat_le 97 c) (nat_le c 102) e in (leb-true 97 c k.0, leb-true c 102 k.1))
 
 -- ---- a byte and a code
-
--- what two steps found
-pub steps_found : {A B C : Type 0} (o : Option A) (p : Option B) (f : A → B → Option C) (made : C) →
-    (o >>= λ a. p >>= λ b. f a b) ≡ Some made → (a : A) × (b : B) × (o ≡ Some a) × (p ≡ Some b) × (f a b ≡ Some made)
-steps_found None p f made e = absurd (cc (e))
-steps_found (Some a) None f made e = absurd (cc (e))
-steps_found (Some a) (Some b) f made e = (a, b, refl, refl, e)
 
 -- two steps that find
 pub steps_find : {A B C : Type 0} (o : Option A) (p : Option B) (f : A → B → Option C) (a : A) (b : B) →
@@ -154,9 +146,6 @@ code_is (a ∷ b ∷ c ∷ d ∷ e ∷ rest) code f = absurd (cc (f))
 
 -- ---- bytes
 
-AreBytes-nil : AreBytes []
-AreBytes-nil i = omega arith
-
 AreBytes-cons : (b : ℕ) (bs : List ℕ) → b < 256 → AreBytes bs → AreBytes (b ∷ bs)
 AreBytes-cons b bs first more zero = first
 AreBytes-cons b bs first more (suc i) = more i
@@ -173,7 +162,7 @@ pub digits_are : (digits bytes : List ℕ) → bytes_of_digits digits ≡ Some b
 unfolding bytes_of_digits
 digits_are [] bytes e =
     let none : [] ≡ bytes = ap (λ o. unwrap_or o []) e in
-    (subst AreBytes none AreBytes-nil, ap (flat_map byte_text) none)
+    (subst AreBytes none no_bytes, ap (flat_map byte_text) none)
 digits_are (one ∷ []) bytes e = absurd (cc (e))
 digits_are (high ∷ low ∷ rest) bytes e =
     let k = steps_found (byte_of_digits high low) (bytes_of_digits rest) (λ b bs. Some (b ∷ bs)) bytes e in
@@ -184,7 +173,7 @@ digits_are (high ∷ low ∷ rest) bytes e =
       (λ i. p.first i ∷ p.second i ∷ more.1 i) ∙ ap (flat_map byte_text) is,
     )
 
-string_is : (value : Data) (text : List ℕ) → as_str value ≡ Some text → value ≡ string text
+pub string_is : (value : Data) (text : List ℕ) → as_str value ≡ Some text → value ≡ string text
 string_is null text e = absurd (cc (e))
 string_is (boolean b) text e = absurd (cc (e))
 string_is (number n) text e = absurd (cc (e))
@@ -215,7 +204,7 @@ unit_digits [] = refl
 unit_digits (unit ∷ units) = ap (λ more. word_text unit ++ more) (unit_digits units)
 
 AreBytes-units : (units : List ℕ) → AreUnits units → AreBytes (flat_map unit_bytes units)
-AreBytes-units [] are = AreBytes-nil
+AreBytes-units [] are = no_bytes
 AreBytes-units (unit ∷ units) are =
     let first : unit < 65536 = are 0 in
     AreBytes-cons (unit / 256) (unit % 256 ∷ flat_map unit_bytes units) (omega (arith, first))
@@ -276,9 +265,6 @@ units_are value units e =
 hex_ascii_by : (n : ℕ) → n < 16 → (n < 10) ⊎ (10 ≤ n) → hex_digit n < 128
 hex_ascii_by n small (inl less) = omega (arith, hex_small n less)
 hex_ascii_by n small (inr more) = omega (arith, hex_large n more, small)
-
-hex_ascii : (n : ℕ) → n < 16 → hex_digit n < 128
-hex_ascii n small = hex_ascii_by n small (cases_lt n 10)
 
 digits_ascii : (b : ℕ) (rest : List ℕ) → b < 256 → IsAscii rest → IsAscii (byte_text b ++ rest)
 digits_ascii b rest small ascii =

@@ -1,4 +1,4 @@
--- Settings are read as what they were written for, and no other values are.
+-- Properties are read as what they were written for, and no other values are.
 use Rattle.std.proofs.Common.{◌≡◌, ◌⊎◌, inl, inr, ℕ, zero, suc, ◌<◌, T, List, [], ◌∷◌, ◌++◌}
 use Rattle.std.proofs.Common.{Option, Some, None, refl, sym, ap, ◌∙◌, subst, arith, append_assoc, append-nil}
 use Rattle.std.specs.Prelude.{⊤}
@@ -8,29 +8,29 @@ use Rattle.std.specs.Ordering.{nat_cmp, ordering_then}
 use Rattle.std.specs.Cmp.{nat_cmp_total}
 use Rattle.std.specs.Cmp.Lexicographic.{slice_cmp}
 use Rattle.std.specs.declared.cmp.Ordering.TheVariants.{Equal, Greater}
-use Rattle.std.specs.FinMap.{get, get-entries}
-use Rattle.std.proofs.lemmas.List.{get_or_default}
-use Rattle.std.proofs.Common.{get_or, length}
+use Rattle.std.specs.FinMap.{get}
+use Rattle.std.proofs.Common.{get_or}
 use Rattle.prop_map.specs.Formed.{IsPropertyMap}
-use Rattle.prop_map.proofs.EntriesLemmas.{rises, find_found}
 use Rattle.std.specs.FinMap.{empty, insert, entries, entries_sorted, entries-insert, same_entries_map, put, is_sorted}
 use Rattle.std.specs.FinMap.Entries.{below_all, by_order}
 use Rattle.std.proofs.lemmas.Bool.{cases_order}
 use Rattle.serde_json.specs.Data.{Data, null, boolean, number, string, array, object, Members, no_members, member}
 use Rattle.serde_json.specs.Find.{as_object}
-use Rattle.prop_map.specs.Settings.{Settings}
+use Rattle.prop_map.specs.Settings.{Properties}
 use Rattle.prop_map.proofs.EntriesLemmas.{less_from, both_first, both_second, cmp_equal, cmp_greater, entries-empty}
 use Rattle.edit_script.specs.Json.{◌>>=◌}
 use Rattle.edit_script.specs.Hex.{code_of_digits}
-use Rattle.edit_script.specs.Values.{bytes_of, settings_put, settings_of}
+use Rattle.edit_script.specs.Values.{bytes_of, properties_put, properties_of}
 use Rattle.json_values.specs.Plain.{IsBelow, Ascend, HasKeysInOrder, ArePlainMembers, MembersHaveTexts}
 use Rattle.text_codes.specs.Digits.{word_text}
 use Rattle.json_values.specs.Digits.{bytes_json}
-use Rattle.json_values.specs.Settings.{settings_members, settings_json, IsSpeltEntry, AreSpelt, SettingsAreOne}
+use Rattle.json_values.specs.Settings.{properties_members, properties_json, IsSpeltEntry, AreSpelt, PropertiesAreOne}
 use Rattle.json_values.proofs.PlainLemmas.{AreBelow, Follow, joined, Follow-joined, Follow-no_members}
-use Rattle.json_values.proofs.HexLemmas.{code_back, code_is, digits_back, bytes_are, steps_found, steps_find}
+use Rattle.json_values.proofs.HexLemmas.{code_back, code_is, digits_back, bytes_are, steps_find}
 use Rattle.json_values.proofs.HexLemmas.{bytes_utf8, code_utf8}
 use Rattle.json_values.proofs.CodeLemmas.{word_less}
+use Rattle.prop_map.proofs.PrintLemmas.{get-entry}
+use Rattle.edit_script.proofs.SettingsLemmas.{steps_found}
 
 abbrev Entries : Type 0
 Entries = List (ℕ × List ℕ)
@@ -82,18 +82,19 @@ put_last (e ∷ front) code bytes under =
     (cmp_greater code e.0 under.0)
     ∙ ap (λ es. e ∷ es) (put_last front code bytes under.1)
 
-inserted : (set : Settings) (code : ℕ) (bytes : List ℕ) → AreUnder (entries set) code →
+inserted : (set : Properties) (code : ℕ) (bytes : List ℕ) → AreUnder (entries set) code →
     entries (insert set code bytes) ≡ entries set ++ (code, bytes) ∷ []
 inserted set code bytes under = entries-insert nat_cmp_total set code bytes ∙ put_last (entries set) code bytes under
 
 -- ---- what was written is read
 
-record IsReadOn (es : Entries) (set : Settings) : Type 0 where
-  made : Settings
-  read : settings_put (settings_members es) set ≡ Some made
+record IsReadOn (es : Entries) (set : Properties) : Type 0 where
+  made : Properties
+  read : properties_put (properties_members es) set ≡ Some made
   are : entries made ≡ entries set ++ es
 
-read_on : (es : Entries) (set : Settings) → All IsSpeltEntry es → T (is_sorted nat_cmp es) → AreAfter (entries set) es →
+read_on : (es : Entries) (set : Properties) → All IsSpeltEntry es → T (is_sorted nat_cmp es) → AreAfter (entries set) es
+    →
     IsReadOn es set
 read_on [] set spelt sorted after = record { made = set; read = refl; are = sym (append-nil (entries set)) }
 read_on (e ∷ es) set spelt sorted after =
@@ -105,14 +106,14 @@ read_on (e ∷ es) set spelt sorted after =
     record {
       made = more.made;
       read =
-          steps_find (code_of_digits (word_text e.0)) (bytes_of (bytes_json e.1)) (λ code bytes. settings_put
-          (settings_members es) (insert set code bytes)) e.0 e.1 (code_back e.0 first.code) (digits_back e.1
+          steps_find (code_of_digits (word_text e.0)) (bytes_of (bytes_json e.1)) (λ code bytes. properties_put
+          (properties_members es) (insert set code bytes)) e.0 e.1 (code_back e.0 first.code) (digits_back e.1
           first.value)
           ∙ more.read;
       are = more.are ∙ ap (λ front. front ++ es) grown ∙ append_assoc (entries set) (e ∷ []) es;
     }
 
-read_back : (set : Settings) → AreSpelt set → settings_of (settings_json set) ≡ Some set
+read_back : (set : Properties) → AreSpelt set → properties_of (properties_json set) ≡ Some set
 read_back set spelt =
     let on = read_on (entries set) empty spelt (entries_sorted set) (subst (λ front. AreAfter front (entries set))
     (sym entries-empty) (AreAfter-nil (entries set))) in
@@ -136,44 +137,45 @@ over code other (inl same) greater =
 over code other (inr (inl less)) greater = less
 over code other (inr (inr more)) greater = absurd (cc (greater, word_less code other more))
 
-AreBelow-codes : (front : Entries) (code : ℕ) → AreBelow (settings_members front) (word_text code) →
+AreBelow-codes : (front : Entries) (code : ℕ) → AreBelow (properties_members front) (word_text code) →
     AreUnder front code
 AreBelow-codes [] code below = tt
 AreBelow-codes (e ∷ front) code below =
     (over code e.0 (cases_order e.0 code) below.0, AreBelow-codes front code below.1)
 
-members_push : (front : Entries) (e : ℕ × List ℕ) → settings_members (front ++ e ∷ []) ≡ joined (settings_members
+members_push : (front : Entries) (e : ℕ × List ℕ) → properties_members (front ++ e ∷ []) ≡ joined (properties_members
     front) (member (word_text e.0) (bytes_json e.1) no_members)
 members_push [] e = refl
 members_push (f ∷ front) e = ap (member (word_text f.0) (bytes_json f.1)) (members_push front e)
 
 -- the members are these entries, and they went behind the others
-record AreEntries (ms : Members) (set made : Settings) : Type 0 where
+record AreEntries (ms : Members) (set made : Properties) : Type 0 where
   behind : Entries
-  is : ms ≡ settings_members behind
+  is : ms ≡ properties_members behind
   spelt : All IsSpeltEntry behind
   are : entries made ≡ entries set ++ behind
 
-members_are : (ms : Members) (set made : Settings) → Ascend ms → Follow (settings_members (entries set)) ms →
-    settings_put ms set ≡ Some made → AreEntries ms set made
+members_are : (ms : Members) (set made : Properties) → Ascend ms → Follow (properties_members (entries set)) ms →
+    properties_put ms set ≡ Some made → AreEntries ms set made
 members_are no_members set made ascend follow e = record {
   behind = [];
   is = refl;
   spelt = λ k d within. absurd (omega (arith, within));
-  are = ap (λ (o : Option Settings). entries (unwrap_or o set)) (sym e) ∙ sym (append-nil (entries set));
+  are = ap (λ (o : Option Properties). entries (unwrap_or o set)) (sym e) ∙ sym (append-nil (entries set));
 }
 members_are (member key d ms) set made ascend follow e =
-    let k = steps_found (code_of_digits key) (bytes_of d) (λ code bytes. settings_put ms (insert set code bytes)) made e
+    let k = steps_found (code_of_digits key) (bytes_of d) (λ code bytes. properties_put ms (insert set code bytes)) made
+    e
     in
     let code = code_is key k.0 k.2 in
     let bytes = bytes_are d k.1 k.3 in
     let entry : ℕ × List ℕ = (k.0, k.1) in
-    let front = settings_members (entries set) in
+    let front = properties_members (entries set) in
     let under = AreBelow-codes (entries set) k.0 (subst (AreBelow front) code.1 follow.0) in
     let grown = inserted set k.0 k.1 under in
-    let alike : joined front (member key d no_members) ≡ settings_members (entries (insert set k.0 k.1)) =
+    let alike : joined front (member key d no_members) ≡ properties_members (entries (insert set k.0 k.1)) =
     (λ i. joined front (member (code.1 i) (bytes.1 i) no_members)) ∙ sym (members_push (entries set) entry)
-    ∙ ap settings_members (sym grown) in
+    ∙ ap properties_members (sym grown) in
     let more = members_are ms (insert set k.0 k.1) made ascend.1 (subst (λ before. Follow before ms) alike
     (Follow-joined front key d ms follow.1 ascend.0)) k.4 in
     record {
@@ -183,7 +185,7 @@ members_are (member key d ms) set made ascend follow e =
       are = more.are ∙ ap (λ es. es ++ more.behind) grown ∙ append_assoc (entries set) (entry ∷ []) more.behind;
     }
 
-object_is : (value : Data) (ms : Members) → as_object value ≡ Some ms → value ≡ object ms
+pub object_is : (value : Data) (ms : Members) → as_object value ≡ Some ms → value ≡ object ms
 object_is null ms e = absurd (cc (e))
 object_is (boolean b) ms e = absurd (cc (e))
 object_is (number n) ms e = absurd (cc (e))
@@ -191,68 +193,58 @@ object_is (string s) ms e = absurd (cc (e))
 object_is (array ds) ms e = absurd (cc (e))
 object_is (object others) ms e = ap (λ o. object (unwrap_or o others)) e
 
-step_found : {A B : Type 0} (o : Option A) (f : A → Option B) (made : B) → (o >>= f) ≡ Some made →
+pub step_found : {A B : Type 0} (o : Option A) (f : A → Option B) (made : B) → (o >>= f) ≡ Some made →
     (a : A) × (o ≡ Some a) × (f a ≡ Some made)
 step_found None f made e = absurd (cc (e))
 step_found (Some a) f made e = (a, refl, e)
 
-read_one : (value : Data) (set : Settings) → HasKeysInOrder value → settings_of value ≡ Some set →
-    AreSpelt set × (value ≡ settings_json set)
+read_one : (value : Data) (set : Properties) → HasKeysInOrder value → properties_of value ≡ Some set →
+    AreSpelt set × (value ≡ properties_json set)
 read_one value set order e =
-    let k = step_found (as_object value) (λ ms. settings_put ms empty) set e in
+    let k = step_found (as_object value) (λ ms. properties_put ms empty) set e in
     let is = object_is value k.0 k.1 in
     let ascend : Ascend k.0 = (subst HasKeysInOrder is order).1 in
-    let follow = subst (λ es. Follow (settings_members es) k.0) (sym entries-empty) (Follow-no_members k.0) in
+    let follow = subst (λ es. Follow (properties_members es) k.0) (sym entries-empty) (Follow-no_members k.0) in
     let found = members_are k.0 empty set ascend follow k.2 in
     let all : found.behind ≡ entries set = sym (found.are ∙ ap (λ front. front ++ found.behind) entries-empty) in (
       subst (All IsSpeltEntry) all found.spelt,
-      is ∙ ap object (found.is ∙ ap settings_members all),
+      is ∙ ap object (found.is ∙ ap properties_members all),
     )
 
 -- ---- the text is read back
 
-plain_members : (es : Entries) → ArePlainMembers (settings_members es)
+plain_members : (es : Entries) → ArePlainMembers (properties_members es)
 plain_members [] = tt
 plain_members (e ∷ es) = (tt, plain_members es)
 
 below_members : (code : ℕ) (es : Entries) → T (below_all nat_cmp code es) →
-    IsBelow (word_text code) (settings_members es)
+    IsBelow (word_text code) (properties_members es)
 below_members code [] below = tt
 below_members code (e ∷ es) below = (
   word_less code e.0 (less_from code e.0 (both_first _ _ below)),
   below_members code es (both_second _ _ below),
 )
 
-ascend_members : (es : Entries) → T (is_sorted nat_cmp es) → Ascend (settings_members es)
+ascend_members : (es : Entries) → T (is_sorted nat_cmp es) → Ascend (properties_members es)
 ascend_members [] sorted = tt
 ascend_members (e ∷ es) sorted =
     (below_members e.0 es (both_first _ _ sorted), ascend_members es (both_second _ _ sorted))
 
 -- ---- what a place may hold
 
-entry_found : (set : Settings) (k : ℕ) (d : ℕ × List ℕ) → k < length (entries set) →
-    get set (get_or (entries set) k d).0 ≡ Some (get_or (entries set) k d).1
-entry_found set k d within =
-    let es = entries set in
-    let same : (f : ℕ × List ℕ) → (get_or es k f).0 ≡ (get_or es k d).0 = λ f. ap (λ e. e.0) (get_or_default es k f d
-    within) in
-    get-entries set (get_or es k d).0
-    ∙ find_found k (get_or es k d).0 es d within (λ i f less. subst (λ code. (get_or es i f).0 < code) (same f)
-    (rises es i k f (entries_sorted set) less within)) same
-
-formed_spelt : (groups : ℕ) (set : Settings) → IsPropertyMap groups set → AreSpelt set
+formed_spelt : (groups : ℕ) (set : Properties) → IsPropertyMap groups set → AreSpelt set
 formed_spelt groups set formed k d within =
-    let held = formed (get_or (entries set) k d).0 (get_or (entries set) k d).1 (entry_found set k d within) in
-    record { code = omega (arith, held.setting.entry.word); value = held.bytes }
+    let held = formed (get_or (entries set) k d).0 (get_or (entries set) k d).1 (get-entry set k d within) in
+    record { code = omega (arith, held.property.entry.word); value = held.bytes }
 
-texts_members : (es : Entries) → All IsSpeltEntry es → MembersHaveTexts (settings_members es)
+texts_members : (es : Entries) → All IsSpeltEntry es → MembersHaveTexts (properties_members es)
 texts_members [] spelt = tt
 texts_members (e ∷ es) spelt =
     let first = spelt zero e (omega arith) in
     (code_utf8 e.0 first.code, (bytes_utf8 e.1 first.value, texts_members es (rest_of e es spelt)))
 
-pub settings_one : SettingsAreOne
-settings_one = record {
+pub properties_one : PropertiesAreOne
+properties_one = record {
   back = read_back;
   one = read_one;
   plain = λ set spelt. (plain_members (entries set), ascend_members (entries set) (entries_sorted set));

@@ -2,8 +2,8 @@
 use Rattle.std.specs.Prelude.{◌≡◌, ℕ, List, Option, Some, None, Result, Ok, Err, ⊤, option_map, bytes_eq}
 use Rattle.std.specs.Prelude.{if◌then◌else◌}
 use Rattle.serde_json.specs.Data.{Data, number, unsigned, Members, no_members, member}
-use Rattle.edit_script.specs.declared.faults.Misfit.{Misfit}
-use Rattle.edit_script.specs.declared.faults.Misfit.TheVariants.{Shape, Memory}
+use Rattle.edit_script.specs.declared.faults.ShapeError.{ShapeError}
+use Rattle.edit_script.specs.declared.faults.ShapeError.TheVariants.{Shape, Memory}
 use Rattle.edit_script.specs.Json.{◌>>=◌}
 
 -- a whole number
@@ -50,7 +50,7 @@ ended no_members = Some tt
 ended (member name value more) = None
 
 -- what a step over the members that are left answers; want of memory is free
-abbrev pub Steps : {A : Type 0} → (Members → Option (A × Members)) → Members → Result A Misfit → Members → Type 0
+abbrev pub Steps : {A : Type 0} → (Members → Option (A × Members)) → Members → Result A ShapeError → Members → Type 0
 Steps step old (Ok given) new = step old ≡ Some (given, new)
 Steps step old (Err Shape) new = step old ≡ None
 Steps step old (Err Memory) new = ⊤

@@ -11,14 +11,14 @@ ghost use Rattle.json_values.specs.Out.{Adds};
 
 use crate::JsonOut;
 use doc_bits::{Memory, Units};
-use edit_script::{Misfit, bytes_in};
+use edit_script::{ShapeError, bytes_in};
 use serde_json::Value;
 use std::alloc::Global;
 use std::str;
 use text_codes::hex_digit;
 
 /// The units that a text of digits stands for, four digits each.
-pub fn hex_units_in(alloc: Global, value: &Value) -> Result<Units, Misfit>
+pub fn hex_units_in(alloc: Global, value: &Value) -> Result<Units, ShapeError>
     ensures { Gives result (hex_units_of (view value.now)) }
 {
     let bytes = bytes_in(alloc, value)?;
@@ -26,7 +26,7 @@ pub fn hex_units_in(alloc: Global, value: &Value) -> Result<Units, Misfit>
 }
 
 /// The units of bytes, the higher byte of each first.
-fn units_from_bytes(alloc: Global, bytes: &[u8]) -> Result<Units, Misfit>
+fn units_from_bytes(alloc: Global, bytes: &[u8]) -> Result<Units, ShapeError>
     ensures { Gives result (units_of_bytes bytes.now) }
 {
     let mut units = Units::new(alloc);
@@ -36,7 +36,7 @@ fn units_from_bytes(alloc: Global, bytes: &[u8]) -> Result<Units, Misfit>
         at += 2;
     }
     if at < bytes.len() {
-        return Err(Misfit::Shape);
+        return Err(ShapeError::Shape);
     }
     Ok(units)
 }

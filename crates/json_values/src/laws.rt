@@ -1,7 +1,7 @@
 // Laws on texts of JSON.
 ghost use Rattle.json_values.specs.Digits.{DigitsAreOne};
 ghost use Rattle.json_values.specs.Plain.{PlainTextsAreJson, PlainValuesAreRead, ReadKeysAscend};
-ghost use Rattle.json_values.specs.Settings.{SettingsAreOne};
+ghost use Rattle.json_values.specs.Settings.{PropertiesAreOne};
 
 /// The compact text of a value is read as the value, where its numbers are whole and fit 64 bits and its keys ascend.
 pub fn plain_values_are_read()
@@ -23,7 +23,7 @@ pub fn read_keys_ascend()
     ensures { ReadKeysAscend }
 {}
 
-/// Settings have one value that stands for them, and are read from it; its text is read back as the value.
-pub fn settings_are_one()
-    ensures { SettingsAreOne }
+/// Properties have one value that stands for them, and are read from it; its text is read back as the value.
+pub fn properties_are_one()
+    ensures { PropertiesAreOne }
 {}

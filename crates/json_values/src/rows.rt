@@ -3,13 +3,13 @@ ghost use Rattle.std.specs.Prelude.{◌≡◌, Some, None, MatchResult, option_m
 ghost use Rattle.serde_json.specs.Find.{as_object};
 ghost use Rattle.serde_json.specs.View.{view, members_view};
 ghost use Rattle.edit_script.specs.Json.{Gives};
-ghost use Rattle.edit_script.specs.Values.{bytes_of, byte_number, short_number, settings_of};
+ghost use Rattle.edit_script.specs.Values.{bytes_of, byte_number, short_number, properties_of};
 ghost use Rattle.json_values.specs.Digits.{hex_units_of};
 ghost use Rattle.json_values.specs.Rows.{taken, taken_if, need, may, ended, Steps};
 
 use crate::hex_units_in;
 use doc_bits::{Bytes, Units};
-use edit_script::{Misfit, byte_in, bytes_in, settings_in, short_in};
+use edit_script::{ShapeError, byte_in, bytes_in, properties_in, short_in};
 use prop_map::PropMap;
 use serde_json::Value;
 use std::alloc::Global;
@@ -23,13 +23,13 @@ pub struct Row<'a> {
 
 impl<'a> Row<'a> {
     /// The members of an object. Another value is a wrong shape.
-    pub fn of(value: &'a Value) -> Result<Row<'a>, Misfit>
+    pub fn of(value: &'a Value) -> Result<Row<'a>, ShapeError>
         ensures { MatchResult result
             (λ row. as_object (view value.now) ≡ Some (members_view row.left))
-            (λ fault. (fault ≡ Misfit.Shape) × (as_object (view value.now) ≡ None)) }
+            (λ fault. (fault ≡ ShapeError.Shape) × (as_object (view value.now) ≡ None)) }
     {
         match value.as_object() {
-            None => Err(Misfit::Shape),
+            None => Err(ShapeError::Shape),
             Some(members) => Ok(Row {
                 left: members.iter(),
             }),
@@ -37,18 +37,18 @@ impl<'a> Row<'a> {
     }
 
     /// The value at a key that comes first.
-    pub fn need(&mut self, key: &str) -> Result<&'a Value, Misfit>
+    pub fn need(&mut self, key: &str) -> Result<&'a Value, ShapeError>
         ensures { MatchResult result
             (λ found. taken key.now (members_view self.old.left) ≡ Some (view found.now, members_view self.new.left))
-            (λ fault. (fault ≡ Misfit.Shape) × (taken key.now (members_view self.old.left) ≡ None)) }
+            (λ fault. (fault ≡ ShapeError.Shape) × (taken key.now (members_view self.old.left) ≡ None)) }
     {
         match self.left.next() {
-            None => Err(Misfit::Shape),
+            None => Err(ShapeError::Shape),
             Some((name, value)) => {
                 if name.as_str() == key {
                     Ok(value)
                 } else {
-                    Err(Misfit::Shape)
+                    Err(ShapeError::Shape)
                 }
             }
         }
@@ -70,45 +70,45 @@ impl<'a> Row<'a> {
     }
 
     /// No member is left, or the object has a wrong shape.
-    pub fn end(&mut self) -> Result<(), Misfit>
+    pub fn end(&mut self) -> Result<(), ShapeError>
         ensures { Gives result (ended (members_view self.old.left)) }
     {
         match self.left.next() {
             None => Ok(()),
-            Some(_) => Err(Misfit::Shape),
+            Some(_) => Err(ShapeError::Shape),
         }
     }
 
     /// The bytes at a key.
-    pub fn bytes(&mut self, alloc: Global, key: &str) -> Result<Bytes, Misfit>
+    pub fn bytes(&mut self, alloc: Global, key: &str) -> Result<Bytes, ShapeError>
         ensures { Steps (need key.now bytes_of) (members_view self.old.left) result (members_view self.new.left) }
     {
         bytes_in(alloc, self.need(key)?)
     }
 
     /// The units at a key.
-    pub fn units(&mut self, alloc: Global, key: &str) -> Result<Units, Misfit>
+    pub fn units(&mut self, alloc: Global, key: &str) -> Result<Units, ShapeError>
         ensures { Steps (need key.now hex_units_of) (members_view self.old.left) result (members_view self.new.left) }
     {
         hex_units_in(alloc, self.need(key)?)
     }
 
     /// The number of 16 bits at a key.
-    pub fn short(&mut self, key: &str) -> Result<u16, Misfit>
+    pub fn short(&mut self, key: &str) -> Result<u16, ShapeError>
         ensures { Steps (need key.now short_number) (members_view self.old.left) result (members_view self.new.left) }
     {
         short_in(self.need(key)?)
     }
 
     /// The number of 8 bits at a key.
-    pub fn byte(&mut self, key: &str) -> Result<u8, Misfit>
+    pub fn byte(&mut self, key: &str) -> Result<u8, ShapeError>
         ensures { Steps (need key.now byte_number) (members_view self.old.left) result (members_view self.new.left) }
     {
         byte_in(self.need(key)?)
     }
 
     /// The number of 8 bits at a key, where it comes first.
-    pub fn byte_if(&mut self, key: &str) -> Result<Option<u8>, Misfit>
+    pub fn byte_if(&mut self, key: &str) -> Result<Option<u8>, ShapeError>
         ensures { Steps (may key.now byte_number) (members_view self.old.left) result (members_view self.new.left) }
     {
         match self.may(key) {
@@ -117,20 +117,20 @@ impl<'a> Row<'a> {
         }
     }
 
-    /// The settings at a key.
-    pub fn settings(&mut self, alloc: Global, key: &str) -> Result<PropMap, Misfit>
-        ensures { Steps (need key.now settings_of) (members_view self.old.left) result (members_view self.new.left) }
+    /// The properties at a key.
+    pub fn properties(&mut self, alloc: Global, key: &str) -> Result<PropMap, ShapeError>
+        ensures { Steps (need key.now properties_of) (members_view self.old.left) result (members_view self.new.left) }
     {
-        settings_in(alloc, self.need(key)?)
+        properties_in(alloc, self.need(key)?)
     }
 
-    /// The settings at a key, where it comes first.
-    pub fn settings_if(&mut self, alloc: Global, key: &str) -> Result<Option<PropMap>, Misfit>
-        ensures { Steps (may key.now settings_of) (members_view self.old.left) result (members_view self.new.left) }
+    /// The properties at a key, where it comes first.
+    pub fn properties_if(&mut self, alloc: Global, key: &str) -> Result<Option<PropMap>, ShapeError>
+        ensures { Steps (may key.now properties_of) (members_view self.old.left) result (members_view self.new.left) }
     {
         match self.may(key) {
             None => Ok(None),
-            Some(value) => Ok(Some(settings_in(alloc, value)?)),
+            Some(value) => Ok(Some(properties_in(alloc, value)?)),
         }
     }
 }

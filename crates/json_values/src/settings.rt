@@ -1,17 +1,17 @@
-// Settings as an object, written entry by entry.
+// Properties as an object, written entry by entry.
 ghost use Rattle.std.specs.Prelude.{OnOk};
 ghost use Rattle.serde_json.specs.Written.{compact_text, comma_if};
 ghost use Rattle.json_values.specs.Out.{Adds};
-ghost use Rattle.json_values.specs.Settings.{settings_json, entry_text};
+ghost use Rattle.json_values.specs.Settings.{properties_json, entry_text};
 
 use crate::JsonOut;
 use crate::digits::{push_word, write_bytes};
 use doc_bits::Memory;
 use prop_map::PropMap;
 
-/// Writes the value that stands for settings.
-pub fn write_settings(out: &mut JsonOut, set: &PropMap) -> Result<(), Memory>
-    ensures { OnOk result (Adds out.old out.new (compact_text (settings_json set.now))) }
+/// Writes the value that stands for properties.
+pub fn write_properties(out: &mut JsonOut, set: &PropMap) -> Result<(), Memory>
+    ensures { OnOk result (Adds out.old out.new (compact_text (properties_json set.now))) }
 {
     out.push("{")?;
     let mut later = false;

@@ -3,12 +3,12 @@ use field_links::{LinkText, anchor_of, link_of};
 use std::test::Fail;
 
 /// How many units an instruction of a row has at most.
-const MOST: usize = 96;
+const MAX_LINKS: usize = 96;
 
 /// The bytes as units.
-fn units_of(text: &[u8]) -> [u16; MOST] {
-    let mut units = [0x20; MOST];
-    for i in 0..text.len().min(MOST) {
+fn units_of(text: &[u8]) -> [u16; MAX_LINKS] {
+    let mut units = [0x20; MAX_LINKS];
+    for i in 0..text.len().min(MAX_LINKS) {
         units[i] = text[i] as u16;
     }
     units

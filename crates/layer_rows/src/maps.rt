@@ -1,4 +1,4 @@
-// Maps of settings: copies of one.
+// Maps of properties: copies of one.
 use crate::lent::is_made;
 use doc_bits::Memory;
 use prop_map::PropMap;
@@ -6,8 +6,8 @@ use sprm_table::Code;
 use std::alloc::Global;
 use std::test::Fail;
 
-/// A map of two settings.
-fn two_settings(alloc: Global) -> Result<PropMap, Memory> {
+/// A map of two properties.
+fn two_properties(alloc: Global) -> Result<PropMap, Memory> {
     let mut map = PropMap::new(alloc);
     map.set(Code(0x0835), &[1])?;
     map.set(Code(0x4A43), &[0x1C, 0])?;
@@ -30,10 +30,10 @@ fn are_alike(alloc: Global, map: &PropMap, count: usize) -> Result<bool, Memory>
     Ok(!other.equal(map))
 }
 
-/// The same of a map of two settings.
+/// The same of a map of two properties.
 fn are_two_alike(alloc: Global, count: usize) -> Result<bool, Memory> {
     is_made(
-        two_settings(alloc),
+        two_properties(alloc),
         |map: &PropMap| -> Result<bool, Memory> { are_alike(alloc, map, count) },
     )
 }

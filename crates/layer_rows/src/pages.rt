@@ -5,7 +5,7 @@ use prop_map::PropMap;
 use std::alloc::Global;
 use std::test::Fail;
 
-/// The pages of runs of character settings.
+/// The pages of runs of character properties.
 fn character_pages(alloc: Global, runs: &ChpRuns) -> Result<Bytes, Memory> {
     if !are_chp_runs(runs) {
         return Ok(Bytes::new(alloc));
@@ -13,7 +13,7 @@ fn character_pages(alloc: Global, runs: &ChpRuns) -> Result<Bytes, Memory> {
     Ok(write_chpx_pages(alloc, runs)?.bytes)
 }
 
-/// The pages of runs of paragraph settings.
+/// The pages of runs of paragraph properties.
 fn paragraph_pages(alloc: Global, runs: &PapRuns) -> Result<Bytes, Memory> {
     if !are_pap_runs(runs) {
         return Ok(Bytes::new(alloc));
@@ -21,7 +21,7 @@ fn paragraph_pages(alloc: Global, runs: &PapRuns) -> Result<Bytes, Memory> {
     Ok(write_papx_pages(alloc, runs)?.bytes)
 }
 
-/// The number of pages of characters, and of paragraphs, that so many runs of one unit without settings take.
+/// The number of pages of characters, and of paragraphs, that so many runs of one unit without properties take.
 fn page_counts(alloc: Global, count: u32) -> Result<(usize, usize), Memory> {
     let mut characters = ChpRuns::new(alloc);
     let mut paragraphs = PapRuns::new(alloc);

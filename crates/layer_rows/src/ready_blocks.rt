@@ -2,7 +2,7 @@
 // none.
 ghost use Rattle.std.specs.Prelude.{◌≡◌};
 
-use block_lists::{BlockList, Measured};
+use chunked_list::{BlockList, Measured};
 use doc_bits::Memory;
 use std::alloc::Global;
 use std::test::Fail;

@@ -5,7 +5,7 @@ ghost use Rattle.cfb_streams.specs.Container.{container_rules, HasContents};
 
 use crate::containers::{add_content, container_of, content};
 use crate::lent::{given, is_made};
-use cfb_append::{Change, appended, can_be_appended};
+use cfb_in_place::{Change, appended, can_be_appended};
 use cfb_layout::LayoutFault;
 use cfb_streams::{Container, Streams, table_name, word_document};
 use doc_bits::{Bytes, Memory, Units, put32};

@@ -4,11 +4,11 @@ use Rattle.std.proofs.Common.{arith}
 use Rattle.std.specs.Prelude.{slice_get, slice_index}
 use Rattle.std.proofs.lemmas.List.{get_or-take, length-take-le}
 use Rattle.std.proofs.lemmas.Option.{get_or_from_slice_get, slice_get_within}
-use Rattle.prop_map.specs.Settings.{Settings}
+use Rattle.prop_map.specs.Settings.{Properties}
 use Rattle.style_sheet.specs.Sheet.{Sheet, style_at}
 use Rattle.style_sheet.specs.Chain.{base_at, AreOfOneKind, IsBaseChain}
 use Rattle.style_sheet.proofs.OneChainLemmas.{base_chains_agree}
-use Rattle.effective_props.specs.Layers.{paragraph_settings, settings_of_styles}
+use Rattle.effective_props.specs.Layers.{paragraph_properties, properties_of_styles}
 use Rattle.effective_props.proofs.LayerLemmas.{styles_more}
 use Rattle.list_numbers.specs.declared.mark_values.MarkValues.{MarkValues}
 use Rattle.list_numbers.specs.MarkValues.{AreStyleValues, own_values, over, values_in}
@@ -35,36 +35,36 @@ chain_front sheet istd chain i is within =
           let own = is.kind i within in
           let other = is.kind k (omega (arith, below, len, within)) in
           subst (AreOfOneKind sheet (slice_index chain i)) (sym (same k (omega (arith, below, len))))
-          (record { settings = rw own.same own.settings; same = other.same ∙ sym own.same });
+          (record { properties = rw own.same own.properties; same = other.same ∙ sym own.same });
       once = λ j k less below both.
           is.once j k less (omega (arith, below, len, within))
           (sym (same j (omega (arith, less, below, len))) ∙ both ∙ same k (omega (arith, below, len)));
     }
 
--- the settings of the styles up to a place of a chain
-abbrev settings_upto : Sheet → List ℕ → ℕ → List Settings
-settings_upto sheet chain i = settings_of_styles paragraph_settings sheet (take i chain)
+-- the properties of the styles up to a place of a chain
+abbrev properties_upto : Sheet → List ℕ → ℕ → List Properties
+properties_upto sheet chain i = properties_of_styles paragraph_properties sheet (take i chain)
 
 -- what the next style says over the values so far
 pub upto_more : (sheet : Sheet) (chain : List ℕ) (i number : ℕ) (values : MarkValues) → slice_get chain i ≡ Some number →
-    values ≡ values_in (settings_upto sheet chain i) →
-    over (own_values (paragraph_settings (style_at sheet number))) values
-    ≡ values_in (settings_upto sheet chain (i + 1))
+    values ≡ values_in (properties_upto sheet chain i) →
+    over (own_values (paragraph_properties (style_at sheet number))) values
+    ≡ values_in (properties_upto sheet chain (i + 1))
 upto_more sheet chain i number values there so_far =
-    let layer : Settings = paragraph_settings (style_at sheet number) in
-    let layers : List Settings = settings_upto sheet chain i in
-    let longer : layers ++ layer ∷ [] ≡ settings_upto sheet chain (i + 1) =
-    styles_more paragraph_settings sheet chain i number [] layers (layers ++ layer ∷ []) layer refl there refl refl in
+    let layer : Properties = paragraph_properties (style_at sheet number) in
+    let layers : List Properties = properties_upto sheet chain i in
+    let longer : layers ++ layer ∷ [] ≡ properties_upto sheet chain (i + 1) =
+    styles_more paragraph_properties sheet chain i number [] layers (layers ++ layer ∷ []) layer refl there refl refl in
     ap (over (own_values layer)) so_far ∙ (sym (values_more layers layer) ∙ ap values_in longer)
 
 -- are those of the style
 pub next_values : (sheet : Sheet) (istd : ℕ) (chain : List ℕ) (i number : ℕ) (values : MarkValues) →
     IsBaseChain sheet istd chain → slice_get chain i ≡ Some number →
-    values ≡ values_in (settings_upto sheet chain (i + 1)) → AreStyleValues sheet number values
+    values ≡ values_in (properties_upto sheet chain (i + 1)) → AreStyleValues sheet number values
 next_values sheet istd chain i number values is there are =
     let at : slice_index chain i ≡ number = get_or_from_slice_get chain i number 0 there in
     record {
-      layers = settings_upto sheet chain (i + 1);
+      layers = properties_upto sheet chain (i + 1);
       are = record {
         chain = take (i + 1) chain;
         bases = subst (λ n. IsBaseChain sheet n (take (i + 1) chain)) at
@@ -77,7 +77,7 @@ next_values sheet istd chain i number values is there are =
 -- and the style has no others
 pub values_upto : (sheet : Sheet) (istd : ℕ) (chain : List ℕ) (i number : ℕ) (values : MarkValues) →
     IsBaseChain sheet istd chain → slice_get chain i ≡ Some number → AreStyleValues sheet number values →
-    values ≡ values_in (settings_upto sheet chain (i + 1))
+    values ≡ values_in (properties_upto sheet chain (i + 1))
 values_upto sheet istd chain i number values is there own =
     let at : slice_index chain i ≡ number = get_or_from_slice_get chain i number 0 there in
     let front : IsBaseChain sheet number (take (i + 1) chain) =
@@ -86,4 +86,4 @@ values_upto sheet istd chain i number values is there own =
     let same : own.are.chain ≡ take (i + 1) chain =
     base_chains_agree sheet number own.are.chain (take (i + 1) chain) own.are.bases front in
     own.said
-    ∙ ap values_in (own.are.are ∙ ap (settings_of_styles paragraph_settings sheet) same)
+    ∙ ap values_in (own.are.are ∙ ap (properties_of_styles paragraph_properties sheet) same)

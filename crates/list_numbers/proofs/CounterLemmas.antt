@@ -7,7 +7,7 @@ use Rattle.std.proofs.lemmas.Bool.{lt-ltb, le-ltb, ne_eqb, cases_lt}
 use Rattle.std.specs.Prelude.{slice_index}
 use Rattle.list_numbers.specs.declared.list_place.ListPlace.{ListPlace}
 use Rattle.list_numbers.specs.Counts.{count_at}
-use Rattle.list_numbers.specs.Counters.{counter, IsCounted, HaveCounted}
+use Rattle.list_numbers.specs.Counters.{counter, CountsParagraph, HaveCounted}
 use Rattle.list_numbers.proofs.CountLemmas.{count_more}
 
 -- ---- the loop that clears
@@ -47,7 +47,7 @@ clears_next old now at upto h low within = record {
 }
 
 pub cleared_all : (place : ListPlace) (old now : List ℕ) → place.level < 9 →
-    IsClearing old now (9 * place.list + place.level) (9 * place.list + 9) → IsCounted place old now
+    IsClearing old now (9 * place.list + place.level) (9 * place.list + 9) → CountsParagraph place old now
 cleared_all place old now low h = record {
   size = h.size;
   own = h.own;
@@ -106,7 +106,7 @@ pub zeros_have_counted : (lists : ℕ) (counts : List ℕ) → counts ≡ replic
 zeros_have_counted lists counts e = rw e (none_counted lists)
 
 pub paragraph_counted : (places : List (Option ListPlace)) (place : ListPlace) (lists : ℕ) (old new : List ℕ) →
-    HaveCounted places lists old → IsCounted place old new → HaveCounted (places ++ Some place ∷ []) lists new
+    HaveCounted places lists old → CountsParagraph place old new → HaveCounted (places ++ Some place ∷ []) lists new
 paragraph_counted places place lists old new h c = record {
   size = c.size ∙ h.size;
   each = λ list level low under.

@@ -14,7 +14,7 @@ use Rattle.plain_doc.specs.declared.document.Document.{Document}
 use Rattle.plain_doc.specs.Paragraphs.{IsParagraphEnd}
 use Rattle.plain_doc.specs.Sound.{IsSound}
 use Rattle.plain_doc.proofs.MainLemmas.{main_right}
-use Rattle.plain_doc.proofs.RightLemmas.{sound_is_right}
+use Rattle.plain_doc.proofs.RightLemmas.{sound_is_valid}
 use Rattle.list_numbers.specs.declared.mark_values.MarkValues.{MarkValues}
 use Rattle.list_numbers.specs.MarkValues.{AreMarkValues, AreKnownValues}
 use Rattle.list_numbers.specs.Places.{paragraphs, AreParagraphValues, IsMarkAt}
@@ -39,7 +39,7 @@ none_known sheet count istd values there =
 pub style_of_mark : (document : Document) (at : ℕ) (mark : Mark) → IsSound document → IsMarkAt document.main at mark →
     kind_at document.sheet mark.istd ≡ 1
 style_of_mark document at mark sound m =
-    (main_right document (sound_is_right document sound)).styles at m.item m.here mark m.has
+    (main_right document (sound_is_valid document sound)).styles at m.item m.here mark m.has
 
 -- the values of the first paragraphs; the text from a place on has the others
 pub record HaveValues (document : Document) (values : List MarkValues) (at : ℕ) : Type 0 where
@@ -104,7 +104,7 @@ all_values document values at h past =
 -- a sound document has fewer than 2^32 paragraphs, and so many places
 pub few_paragraphs_there : (document : Document) → IsSound document → length (paragraphs document.main) + 1 < 4294967296
 few_paragraphs_there document sound =
-    let few = (sound_is_right document sound).few in
+    let few = (sound_is_valid document sound).few in
     let most = few_paragraphs document.main in
     omega arith
 

@@ -13,7 +13,6 @@ use Rattle.list_numbers.specs.declared.mark_values.MarkValues.{MarkValues}
 use Rattle.list_numbers.specs.declared.paragraph_values.ListLabel.{ListLabel}
 use Rattle.list_numbers.specs.declared.paragraph_values.ParagraphValues.{ParagraphValues}
 use Rattle.symbol_fonts.specs.declared.fonts.SymbolFonts.{SymbolFonts}
-use Rattle.list_numbers.specs.Tabulated.{tabulate}
 use Rattle.list_numbers.specs.Counters.{HaveCounted}
 use Rattle.list_numbers.specs.Fronts.{BeginsLong}
 use Rattle.list_numbers.specs.MarkValues.{no_values}
@@ -21,6 +20,7 @@ use Rattle.list_numbers.specs.Numbers.{at_entry}
 use Rattle.list_numbers.specs.ParagraphValues.{label_at_place, values_with}
 use Rattle.list_numbers.proofs.NumberedLemmas.{place_taken}
 use Rattle.list_numbers.proofs.TabulatedLemmas.{tabulate_zero, tabulate_more}
+use Rattle.doc_parts.specs.Tabulated.{tabulate}
 
 -- ---- units
 

@@ -11,9 +11,9 @@ use Rattle.doc_parts.proofs.LevelLemmas.{level_start-zero, level_start-more, lev
 use Rattle.plain_doc.specs.Carried.{AreListsWithLevels}
 use Rattle.list_numbers.specs.declared.level.Level.{Level}
 use Rattle.list_numbers.specs.declared.list_format.ListFormat.{ListFormat}
-use Rattle.list_numbers.specs.Tabulated.{tabulate}
 use Rattle.list_numbers.specs.Lists.{HaveWholeLevels, level_at, levels_from, list_at}
 use Rattle.list_numbers.proofs.TabulatedLemmas.{tabulate_zero, tabulate_more, length-tabulate}
+use Rattle.doc_parts.specs.Tabulated.{tabulate}
 
 -- a part of no bytes counts no lists
 pub no_count : (part : List ℕ) → length part ≡ 0 → 0 ≡ u16_at part 0

@@ -4,14 +4,14 @@ use Rattle.std.proofs.Common.{refl, ap, ◌∙◌, ◌+◌, ◌*◌, Bor, arith}
 use Rattle.std.specs.Prelude.{slice_index, option_map, MatchOption}
 use Rattle.std.specs.Option.{option_or}
 use Rattle.std.specs.FinMap.{get, empty}
-use Rattle.prop_map.specs.Settings.{Settings}
+use Rattle.prop_map.specs.Settings.{Properties}
 use Rattle.effective_props.specs.Values.{effective_value}
 use Rattle.effective_props.specs.ValueSteps.{layer_over}
 use Rattle.effective_props.proofs.ValueLemmas.{effective_more, none_put}
 use Rattle.doc_bits.specs.Number.{number_at, u16_at}
 use Rattle.style_sheet.specs.declared.styles.Style.{Style}
 use Rattle.style_sheet.specs.Sheet.{Sheet, style_at}
-use Rattle.effective_props.specs.Layers.{paragraph_settings}
+use Rattle.effective_props.specs.Layers.{paragraph_properties}
 use Rattle.effective_props.proofs.LayerLemmas.{match_now}
 use Rattle.list_numbers.specs.declared.mark_values.MarkValues.{MarkValues}
 use Rattle.list_numbers.specs.MarkValues.{values_in, own_values, over, no_values, word_in, byte_in}
@@ -43,7 +43,7 @@ direction_over None below = refl
 direction_over (Some value) below = refl
 
 -- one more layer
-pub values_more : (layers : List Settings) (layer : Settings) → values_in (layers ++ layer ∷ []) ≡ over (own_values
+pub values_more : (layers : List Properties) (layer : Properties) → values_in (layers ++ layer ∷ []) ≡ over (own_values
     layer) (values_in layers)
 values_more layers layer =
     let a = ap word_in (effective_more layers layer 0x460B) ∙ word_over (get layer 0x460B) (effective_value layers
@@ -74,10 +74,10 @@ own_of_empty = rw (
 -- what a slot says by itself
 pub slot_said : (sheet : Sheet) (number : ℕ) (style : Option (Bor Style)) (own : MarkValues) →
     MatchOption style (style_at sheet number ≡ None) (λ s. style_at sheet number ≡ Some s.now) →
-    own ≡ own_values (paragraph_settings (option_map (λ s. s.now) style)) →
-    own ≡ own_values (paragraph_settings (style_at sheet number))
+    own ≡ own_values (paragraph_properties (option_map (λ s. s.now) style)) →
+    own ≡ own_values (paragraph_properties (style_at sheet number))
 slot_said sheet number style own found is =
-    is ∙ ap (λ o. own_values (paragraph_settings o)) (match_now (λ s. s.now) style (style_at sheet number) found)
+    is ∙ ap (λ o. own_values (paragraph_properties o)) (match_now (λ s. s.now) style (style_at sheet number) found)
 
 -- the number of two bytes
 pub word_of_bytes : (value : List ℕ) → slice_index value 0 + 256 * slice_index value 1 ≡ u16_at value 0

@@ -7,11 +7,11 @@ use Rattle.std.proofs.lemmas.List.{take_more, get_or_past}
 use Rattle.std.proofs.lemmas.Option.{get_or_from_slice_get}
 use Rattle.list_numbers.specs.declared.list_format.ListFormat.{ListFormat}
 use Rattle.list_numbers.specs.declared.list_place.ListPlace.{ListPlace}
-use Rattle.list_numbers.specs.Tabulated.{tabulate}
 use Rattle.list_numbers.specs.Counts.{count_at}
 use Rattle.list_numbers.specs.Counters.{HaveCounted}
 use Rattle.list_numbers.specs.Numbers.{number_at_place, at_entry}
 use Rattle.list_numbers.proofs.TabulatedLemmas.{tabulate_zero, tabulate_more}
+use Rattle.doc_parts.specs.Tabulated.{tabulate}
 
 -- no counter is above the number of places
 pub few_counted : (places : List (Option ListPlace)) (lists : ℕ) (counts : List ℕ) → HaveCounted places lists counts →

@@ -5,7 +5,7 @@ use Rattle.std.proofs.lemmas.List.{same_lists}
 use Rattle.std.proofs.lemmas.Option.{same_Some, slice_get-get_or}
 use Rattle.style_sheet.proofs.OneChainLemmas.{base_chains_agree}
 use Rattle.style_sheet.specs.Sheet.{Sheet}
-use Rattle.effective_props.specs.Layers.{paragraph_settings, settings_of_styles}
+use Rattle.effective_props.specs.Layers.{paragraph_properties, properties_of_styles}
 use Rattle.plain_doc.specs.declared.item.Item.{Item}
 use Rattle.plain_doc.specs.declared.item.Mark.{Mark}
 use Rattle.plain_doc.specs.declared.document.Document.{Document}
@@ -24,7 +24,7 @@ mark_values_one : (sheet : Sheet) (mark : Mark) (one other : MarkValues) → Are
 mark_values_one sheet mark one other h k =
     let a = h.are.style in
     let b = k.are.style in
-    let style : h.are.of_style ≡ k.are.of_style = a.are ∙ (ap (settings_of_styles paragraph_settings sheet)
+    let style : h.are.of_style ≡ k.are.of_style = a.are ∙ (ap (properties_of_styles paragraph_properties sheet)
     (base_chains_agree sheet mark.istd a.chain b.chain a.bases b.bases) ∙ sym b.are) in
     let layers : h.layers ≡ k.layers = h.are.are ∙ (ap (λ l. l ++ mark.pap ∷ []) style ∙ sym k.are.are) in
     h.said ∙ (ap values_in layers ∙ sym k.said)

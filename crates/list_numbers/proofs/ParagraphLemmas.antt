@@ -16,7 +16,7 @@ use Rattle.plain_doc.specs.Settings.{is_inside}
 use Rattle.plain_doc.specs.Sound.{IsSound}
 use Rattle.plain_doc.specs.Stretches.{stretches, joins_next, joins_at, BeginsStretch}
 use Rattle.plain_doc.proofs.MainLemmas.{some_end}
-use Rattle.plain_doc.proofs.RightLemmas.{sound_is_right}
+use Rattle.plain_doc.proofs.RightLemmas.{sound_is_valid}
 use Rattle.plain_doc.proofs.StretchLemmas.{one_more, stretches-first, stretches-nil}
 use Rattle.doc_columns.proofs.EndLemmas.{EndsAt}
 use Rattle.list_numbers.specs.Places.{paragraphs, EndsBefore}
@@ -35,7 +35,7 @@ pub mark_there : (document : Document) (items : List Item) (at end : ℕ) (found
     items ≡ document.main → at < length document.main →
     MatchOption found (HasNoParagraphEnd items at) (λ mark. EndsBefore items at end mark.now) → IsSome found
 mark_there document items at end None sound same low m =
-    absurd (some_end document at (sound_is_right document sound) low (subst (λ is. HasNoParagraphEnd is at) same m))
+    absurd (some_end document at (sound_is_valid document sound) low (subst (λ is. HasNoParagraphEnd is at) same m))
 mark_there document items at end (Some mark) sound same low m = refl
 
 pub mark_taken : (items : List Item) (at end : ℕ) (found : Option (Bor Mark)) (mark : Bor Mark) → found ≡ Some mark →
@@ -50,7 +50,7 @@ pub end_there : (document : Document) (items : List Item) (at end : ℕ) (found 
     MatchOption found (HasNoParagraphEnd items at) (λ mark. EndsBefore items at end mark.now) →
     IsParagraphEnd document.main at (end - 1)
 end_there document items at end None sound same low m =
-    absurd (some_end document at (sound_is_right document sound) low (subst (λ is. HasNoParagraphEnd is at) same m))
+    absurd (some_end document at (sound_is_valid document sound) low (subst (λ is. HasNoParagraphEnd is at) same m))
 end_there document items at end (Some mark) sound same low m =
     subst (λ is. IsParagraphEnd is at (end - 1)) same m.is_end
 

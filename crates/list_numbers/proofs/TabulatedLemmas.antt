@@ -4,7 +4,7 @@ use Rattle.std.proofs.Common.{subst, add-one, arith, length-append}
 use Rattle.std.specs.Prelude.{slice_get}
 use Rattle.std.proofs.lemmas.Bool.{cases_lt}
 use Rattle.doc_bits.proofs.ListLemmas.{slice_get_push, slice_get_before}
-use Rattle.list_numbers.specs.Tabulated.{tabulate}
+use Rattle.doc_parts.specs.Tabulated.{tabulate}
 
 pub tabulate_zero : {A : Type 0} (f : ℕ → A) → tabulate f 0 ≡ []
 unfolding tabulate

@@ -8,7 +8,7 @@ abbrev pub counter : List ℕ → ℕ → ℕ → ℕ
 counter counts list level = slice_index counts (9 * list + level)
 
 -- a paragraph was counted: its level has one more, the levels above it begin anew, and all others stay
-pub record IsCounted (place : ListPlace) (old new : List ℕ) : Type 0 where
+pub record CountsParagraph (place : ListPlace) (old new : List ℕ) : Type 0 where
   pub size : length new ≡ length old
   pub own : counter new place.list place.level ≡ counter old place.list place.level + 1
   pub above : (level : ℕ) → place.level < level → level < 9 → counter new place.list level ≡ 0

@@ -1,6 +1,5 @@
 pub mod NumberKind
 pub mod NumberText
-pub mod Tabulated
 pub mod LevelFonts
 pub mod Lists
 pub mod MarkValues

@@ -9,7 +9,7 @@ use Rattle.list_numbers.specs.declared.level.Level.{Level}
 use Rattle.list_numbers.specs.declared.list_format.ListFormat.{ListFormat}
 use Rattle.list_numbers.specs.LevelFonts.{font_in}
 use Rattle.list_numbers.specs.NumberKind.{kind_of}
-use Rattle.list_numbers.specs.Tabulated.{tabulate}
+use Rattle.doc_parts.specs.Tabulated.{tabulate}
 
 -- [MS-DOC] LVL: the text stands behind an LVLF of 28 bytes and two lists of properties, whose lengths are at 25 and 24
 abbrev pub level_text_place : List ℕ → ℕ → ℕ

@@ -1,14 +1,14 @@
 -- The values in effect of a paragraph mark that numbers, outlines and pages go by: its list, its level in the list, its
 -- level in the outline, whether a page begins with it, whether it is written from right to left. Each is that of the last
--- layer that has it: the styles from the root, and the mark's own settings.
+-- layer that has it: the styles from the root, and the mark's own properties.
 use Rattle.std.specs.Prelude.{◌≡◌, ℕ, List, Option, Some, None, slice_get, slice_index, option_map}
 use Rattle.std.specs.Option.{option_or}
 use Rattle.std.specs.FinMap.{get}
 use Rattle.doc_bits.specs.Number.{u16_at}
-use Rattle.prop_map.specs.Settings.{Settings}
+use Rattle.prop_map.specs.Settings.{Properties}
 use Rattle.style_sheet.specs.Sheet.{Sheet}
 use Rattle.effective_props.specs.Values.{effective_value}
-use Rattle.effective_props.specs.Layers.{paragraph_settings, AreChainLayers, AreParagraphLayers}
+use Rattle.effective_props.specs.Layers.{paragraph_properties, AreChainLayers, AreParagraphLayers}
 use Rattle.plain_doc.specs.declared.item.Mark.{Mark}
 use Rattle.list_numbers.specs.declared.mark_values.MarkValues.{MarkValues}
 
@@ -20,7 +20,7 @@ abbrev pub byte_in : Option (List ℕ) → Option ℕ
 byte_in value = option_map (λ bytes. slice_index bytes 0) value
 
 -- [MS-DOC] sprmPIlfo, sprmPIlvl, sprmPOutLvl, sprmPFPageBreakBefore and sprmPFBiDi, as layers have them together
-abbrev pub values_in : List Settings → MarkValues
+abbrev pub values_in : List Properties → MarkValues
 values_in layers = record {
   ilfo = word_in (effective_value layers 0x460B);
   ilvl = byte_in (effective_value layers 0x260A);
@@ -31,13 +31,13 @@ values_in layers = record {
 
 -- the values are those of the layers of a style: its bases from the root, and the style
 pub record AreStyleValues (sheet : Sheet) (istd : ℕ) (values : MarkValues) : Type 0 where
-  pub layers : List Settings
-  pub are : AreChainLayers paragraph_settings sheet istd layers
+  pub layers : List Properties
+  pub are : AreChainLayers paragraph_properties sheet istd layers
   pub said : values ≡ values_in layers
 
 -- the values in effect of a mark are those of its layers
 pub record AreMarkValues (sheet : Sheet) (mark : Mark) (values : MarkValues) : Type 0 where
-  pub layers : List Settings
+  pub layers : List Properties
   pub are : AreParagraphLayers sheet mark.istd mark.pap layers
   pub said : values ≡ values_in layers
 
@@ -46,7 +46,7 @@ abbrev pub no_values : MarkValues
 no_values = record { ilfo = None; ilvl = None; outline = None; breaks_page = None; right_to_left = None }
 
 -- what one map says
-abbrev pub own_values : Settings → MarkValues
+abbrev pub own_values : Properties → MarkValues
 own_values map = record {
   ilfo = word_in (get map 0x460B);
   ilvl = byte_in (get map 0x260A);

@@ -11,10 +11,10 @@ use Rattle.list_numbers.specs.declared.list_format.ListFormat.{ListFormat}
 use Rattle.list_numbers.specs.declared.list_place.ListPlace.{ListPlace}
 use Rattle.list_numbers.specs.declared.mark_values.MarkValues.{MarkValues}
 use Rattle.list_numbers.specs.NumberText.{text_in}
-use Rattle.list_numbers.specs.Tabulated.{tabulate}
 use Rattle.list_numbers.specs.Lists.{lists_of}
 use Rattle.list_numbers.specs.Places.{paragraphs, place_of, AreParagraphValues}
 use Rattle.list_numbers.specs.Counts.{count_at, list_value}
+use Rattle.doc_parts.specs.Tabulated.{tabulate}
 
 -- the number of a level within that of a higher one: a bullet, and a level without a number, show nothing there
 abbrev pub text_within : NumberKind → Level → ℕ → List ℕ

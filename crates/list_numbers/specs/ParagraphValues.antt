@@ -14,13 +14,13 @@ use Rattle.list_numbers.specs.declared.paragraph_values.ParagraphValues.{Paragra
 use Rattle.symbol_fonts.specs.declared.fonts.SymbolFonts.{SymbolFonts}
 use Rattle.symbol_fonts.specs.Characters.{shown_unit}
 use Rattle.symbol_fonts.specs.Fonts.{symbol_font, symbol_fonts}
-use Rattle.list_numbers.specs.Tabulated.{tabulate}
 use Rattle.list_numbers.specs.Lists.{lists_of}
 use Rattle.list_numbers.specs.MarkValues.{no_values}
 use Rattle.list_numbers.specs.Places.{place_of}
 use Rattle.list_numbers.specs.Counts.{count_at}
 use Rattle.list_numbers.specs.Numbers.{units_in, at_entry, AreDocumentValues}
 use Rattle.list_numbers.specs.Outline.{outline_level}
+use Rattle.doc_parts.specs.Tabulated.{tabulate}
 
 -- Profile: a label has at most 64 units, so that a page is as long as its document
 abbrev pub most_label_units : ℕ

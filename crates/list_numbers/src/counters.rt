@@ -1,6 +1,6 @@
 // Nine counters a list, one for each level.
 ghost use Rattle.std.specs.Prelude.{◌≡◌, ◌+◌, ◌*◌, ◌^◌, ◌<◌, ◌≤◌, [], length, replicate, IfOk};
-ghost use Rattle.list_numbers.specs.Counters.{counter, IsCounted, HaveCounted};
+ghost use Rattle.list_numbers.specs.Counters.{counter, CountsParagraph, HaveCounted};
 
 use crate::list_place::ListPlace;
 use doc_bits::Memory;
@@ -34,7 +34,7 @@ pub(crate) fn count_place(counts: &mut [u32], place: ListPlace)
     requires list { 9 * place.list + 9 ≤ length counts.old }
     requires level { place.level < 9 }
     requires few { counter counts.old place.list place.level + 1 < 2 ^ 32 }
-    ensures { IsCounted place counts.old counts.new }
+    ensures { CountsParagraph place counts.old counts.new }
 {
     let first = LEVELS * place.list;
     let at = first + place.level;

@@ -18,13 +18,13 @@ pub fn numbers(alloc: Global, document: &Document) -> Result<Numbers, Memory>
     ensures { IfOk result (AreNumbers document.now) }
 {
     let columns = ColumnDocument::from_document(alloc, document)?;
-    let made = columns_numbers(alloc, &columns);
+    let made = numbers_of_columns(alloc, &columns);
     drop(columns);
     made
 }
 
-/// The same of a document by columns.
-pub fn columns_numbers(alloc: Global, document: &ColumnDocument) -> Result<Numbers, Memory>
+/// The numbers of the main paragraphs of a sound document by columns, in their order.
+pub fn numbers_of_columns(alloc: Global, document: &ColumnDocument) -> Result<Numbers, Memory>
     requires { IsSound document.now }
     ensures { IfOk result (AreNumbers document.now) }
 {

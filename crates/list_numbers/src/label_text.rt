@@ -11,7 +11,7 @@ use doc_bits::{Memory, Units};
 use std::alloc::Global;
 
 /// How many units of a number a label has at most.
-const MOST_UNITS: usize = 64;
+const MAX_UNITS: usize = 64;
 
 /// The first units of a number at a level of a list.
 pub(crate) fn label_units(
@@ -25,7 +25,7 @@ pub(crate) fn label_units(
 {
     let units = front_units(alloc, levels, own, counts)?;
     let units = units.as_slice();
-    Units::from_slice(alloc, &units[..units.len().min(MOST_UNITS)])
+    Units::from_slice(alloc, &units[..units.len().min(MAX_UNITS)])
 }
 
 /// The units of a number, or its front that is long enough.
@@ -38,7 +38,7 @@ fn front_units(alloc: Global, levels: &Levels, own: usize, counts: &[u32]) -> Re
     Ok(Units::new(alloc))
 }
 
-/// The same of a level that is there.
+/// The units of the number of a level that is there, or its front that is long enough.
 fn front_of_level(
     alloc: Global,
     levels: &Levels,
@@ -63,7 +63,7 @@ fn front_of_level(
 fn front_of_units(alloc: Global, text: &[u16]) -> Result<Units, Memory>
     ensures { IfOk result (BeginsLong text.now) }
 {
-    let units = Units::from_slice(alloc, &text[..text.len().min(MOST_UNITS)])?;
+    let units = Units::from_slice(alloc, &text[..text.len().min(MAX_UNITS)])?;
     Ok(units)
 }
 
@@ -80,7 +80,7 @@ fn front_of_text(
 {
     let mut units = Units::new(alloc);
     let mut i = 0;
-    while i < text.len() && units.as_slice().len() < MOST_UNITS {
+    while i < text.len() && units.as_slice().len() < MAX_UNITS {
         push_placed(alloc, &mut units, levels, own, counts, text[i])?;
         i += 1;
     }

@@ -30,13 +30,13 @@ mod reading;
 mod roman;
 mod style_values;
 
-pub use document_numbers::{columns_numbers, numbers};
+pub use document_numbers::{numbers, numbers_of_columns};
 pub use laws::{
     numbers_are_one, outline_lines_are_one, paragraph_values_are_one, roman_numerals_are_read_back,
 };
 pub use numbers_list::Numbers;
 pub use numeral::number_text;
-pub use outline::{columns_outline_lines, outline_lines};
+pub use outline::{outline_lines, outline_lines_of_columns};
 pub use paragraph_values::{
-    ListLabel, ParagraphValues, ParagraphValuesList, columns_paragraph_values,
+    ListLabel, ParagraphValues, ParagraphValuesList, paragraph_values_of_columns,
 };

@@ -2,28 +2,15 @@
 ghost use Rattle.std.specs.Prelude.{◌≡◌, slice_index, option_map};
 ghost use Rattle.std.specs.FinMap.{get};
 ghost use Rattle.doc_bits.specs.Number.{u16_at};
-ghost use Rattle.effective_props.specs.Layers.{paragraph_settings};
+ghost use Rattle.effective_props.specs.Layers.{paragraph_properties};
 ghost use Rattle.list_numbers.specs.MarkValues.{no_values, own_values, over};
 ghost use Rattle.list_numbers.specs.MarkValues.{word_in, byte_in};
 
 use prop_map::PropMap;
-use sprm_table::Code;
+use sprm_table::{
+    Code, SPRM_P_F_BI_DI, SPRM_P_F_PAGE_BREAK_BEFORE, SPRM_P_ILFO, SPRM_P_ILVL, SPRM_P_OUT_LVL,
+};
 use style_sheet::{Kind, Style};
-
-/// Names the use of a list, from 1.
-const SPRM_P_ILFO: Code = Code(0x460B);
-
-/// The level in the list.
-const SPRM_P_ILVL: Code = Code(0x260A);
-
-/// The level in the outline.
-const SPRM_P_OUT_LVL: Code = Code(0x2640);
-
-/// A page begins with the paragraph.
-const SPRM_P_F_PAGE_BREAK_BEFORE: Code = Code(0x2407);
-
-/// The paragraph is written from right to left.
-const SPRM_P_F_BI_DI: Code = Code(0x2441);
 
 /// The values of a paragraph mark, or what some layers say of them.
 #[derive(Clone, Copy)]
@@ -84,7 +71,7 @@ impl MarkValues {
 /// What a style says by itself, where it is there.
 #[tactic(auto, using(crate::proofs::MarkValueLemmas::own_of_empty))]
 pub(crate) fn values_of_slot(style: Option<&Style>) -> MarkValues
-    ensures { result ≡ own_values (paragraph_settings (option_map (λ s. s.now) style.entry)) }
+    ensures { result ≡ own_values (paragraph_properties (option_map (λ s. s.now) style.entry)) }
 {
     let Some(style) = style else {
         return MarkValues::none();

@@ -10,10 +10,10 @@ use doc_bits::{Memory, Text};
 use std::alloc::Global;
 
 /// The greatest number that is written in Roman letters.
-const MOST_ROMAN: u16 = 3999;
+const MAX_ROMAN: u16 = 3999;
 
 /// The greatest number that is written by letters.
-const MOST_LETTERS: u16 = 780;
+const MAX_LETTERS: u16 = 780;
 
 /// The text of a number, by the number of its kind ([MS-DOC] MSONFC): 1 and 2 upper and lower Roman, 3 and 4 upper and
 /// lower letters. All other kinds, and what these have no text for, are decimal.
@@ -53,7 +53,7 @@ fn push_roman_or_decimal(
     ensures { OnOk result
         (string_bytes text.new ≡ string_bytes text.old ++ text_in (NumberKind.Roman case) value) }
 {
-    match within(value, MOST_ROMAN) {
+    match within(value, MAX_ROMAN) {
         Some(number) => push_roman(text, case, number),
         None => push_decimal(alloc, text, value),
     }
@@ -69,7 +69,7 @@ fn push_letters_or_decimal(
     ensures { OnOk result
         (string_bytes text.new ≡ string_bytes text.old ++ text_in (NumberKind.Letters case) value) }
 {
-    match within(value, MOST_LETTERS) {
+    match within(value, MAX_LETTERS) {
         Some(number) => push_letters(text, case, number),
         None => push_decimal(alloc, text, value),
     }

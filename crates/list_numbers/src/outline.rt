@@ -26,13 +26,13 @@ pub fn outline_lines(alloc: Global, document: &Document) -> Result<Text, Memory>
     ensures { IfOk result (AreOutlineLines document.now) }
 {
     let columns = ColumnDocument::from_document(alloc, document)?;
-    let made = columns_outline_lines(alloc, &columns);
+    let made = outline_lines_of_columns(alloc, &columns);
     drop(columns);
     made
 }
 
-/// The same of a document by columns.
-pub fn columns_outline_lines(alloc: Global, document: &ColumnDocument) -> Result<Text, Memory>
+/// The lines of the main paragraphs of a sound document by columns that have a number, or a level of an outline.
+pub fn outline_lines_of_columns(alloc: Global, document: &ColumnDocument) -> Result<Text, Memory>
     requires { IsSound document.now }
     ensures { IfOk result (AreOutlineLines document.now) }
 {
@@ -61,13 +61,13 @@ fn lines_of(
 {
     let len = document.main.len();
     let units = document.main.units();
-    let besides = document.main.besides();
+    let attachments = document.main.attachments();
     let mut counts = new_counters(alloc, lists.len())?;
     let mut text = Text::new(alloc);
     let mut marks = Cursor::new();
     let mut at = 0;
     for i in 0..places.len() {
-        let (_mark, end) = mark_of(besides, &mut marks, at, len);
+        let (_mark, end) = mark_of(attachments, &mut marks, at, len);
         let number = next_number(alloc, lists, &mut counts, places[i])?;
         push_line(
             alloc,

@@ -118,7 +118,7 @@ impl ParagraphValuesList {
 }
 
 /// What a page needs to know of the main paragraphs of a sound document, in their order.
-pub fn columns_paragraph_values(
+pub fn paragraph_values_of_columns(
     alloc: Global,
     document: &ColumnDocument,
 ) -> Result<ParagraphValuesList, Memory>

@@ -1,18 +1,18 @@
 // The main paragraphs of a document, and the values of their marks.
 ghost use Rattle.std.specs.Prelude.{◌≡◌, ◌^◌, ◌<◌, ◌≤◌, List, IfOk, MatchOption, map, replicate, None};
-ghost use Rattle.run_lists.specs.Spread.{spread, extent};
+ghost use Rattle.run_lists.specs.Spread.{expanded, total_len};
 ghost use Rattle.run_lists.specs.Places.{IsAt};
 ghost use Rattle.plain_doc.specs.declared.item.Item.{Item};
 ghost use Rattle.plain_doc.specs.Paragraphs.{HasNoParagraphEnd};
 ghost use Rattle.plain_doc.specs.Sound.{IsSound};
-ghost use Rattle.doc_columns.specs.Beside.{beside_of};
+ghost use Rattle.doc_columns.specs.Attached.{attached_of};
 ghost use Rattle.list_numbers.specs.Numbers.{AreDocumentValues};
 ghost use Rattle.list_numbers.specs.Places.{EndsBefore};
 
 use crate::mark_values::MarkValues;
 use crate::style_values::values_of_mark;
 use doc_bits::Memory;
-use doc_columns::{Beside, ColumnDocument, paragraph_end};
+use doc_columns::{Attached, ColumnDocument, paragraph_end};
 use plain_doc::Mark;
 use run_lists::{Cursor, Run, seek};
 use std::alloc::Global;
@@ -27,13 +27,13 @@ pub(crate) fn document_values(
 {
     let sheet = &document.sheet;
     let len = document.main.len();
-    let besides = document.main.besides();
+    let attachments = document.main.attachments();
     let mut known = no_values(alloc, sheet.slots())?;
     let mut values = Vec::new(alloc);
     let mut marks = Cursor::new();
     let mut at = 0;
     while at < len {
-        let (found, end) = mark_of(besides, &mut marks, at, len);
+        let (found, end) = mark_of(attachments, &mut marks, at, len);
         let own = values_of_mark(alloc, sheet, &mut known, found.unwrap())?;
         values.push(own)?;
         at = end;
@@ -55,24 +55,24 @@ fn no_values(alloc: Global, count: usize) -> Result<Vec<Option<MarkValues>>, Mem
 /// The mark that ends the paragraph of a place, where there is one, and where the paragraph ends: behind the mark, or
 /// at the end of the text, which has `len` units. The cursor is not behind the place, and goes to the mark.
 pub(crate) fn mark_of<'a>(
-    besides: &'a [Run<Beside>],
+    attachments: &'a [Run<Attached>],
     marks: &mut Cursor,
     at: usize,
     len: usize,
 ) -> (Option<&'a Mark>, usize)
-    requires long { extent besides.now ≡ len }
+    requires long { total_len attachments.now ≡ len }
     requires few { len < 2 ^ 32 }
-    requires cursor { IsAt besides.now marks.old }
+    requires cursor { IsAt attachments.now marks.old }
     requires ahead { marks.old.begin ≤ at }
     requires within { at < len }
-    ensures cursor { IsAt besides.now marks.new }
+    ensures cursor { IsAt attachments.now marks.new }
     ensures ahead { marks.new.begin ≤ result.1 }
     ensures some { at < result.1 }
     ensures within { result.1 ≤ len }
-    ensures found { (text : List Item) → spread besides.now ≡ map beside_of text → MatchOption result.0
+    ensures found { (text : List Item) → expanded attachments.now ≡ map attached_of text → MatchOption result.0
         (HasNoParagraphEnd text at) (λ mark. EndsBefore text at result.1 mark.now) }
 {
-    let end = paragraph_end(besides, marks, at, len);
-    let last = seek(besides, marks, end - 1);
+    let end = paragraph_end(attachments, marks, at, len);
+    let last = seek(attachments, marks, end - 1);
     (last.mark.as_ref(), end)
 }

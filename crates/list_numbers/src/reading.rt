@@ -4,9 +4,9 @@ ghost use Rattle.std.specs.Prelude.{length, slice_index, IfOk, OnOk};
 ghost use Rattle.doc_bits.specs.Number.{u16_at, u32_at};
 ghost use Rattle.doc_parts.specs.Levels.{level_end, level_start, levels_of_list};
 ghost use Rattle.plain_doc.specs.Carried.{AreListsWithLevels};
-ghost use Rattle.list_numbers.specs.Tabulated.{tabulate};
 ghost use Rattle.list_numbers.specs.Lists.{lists_of, list_at, level_at, levels_from, counted_units, use_count};
 ghost use Rattle.list_numbers.specs.Lists.{list_uses, level_characters, level_text_place, HaveWholeLevels};
+ghost use Rattle.doc_parts.specs.Tabulated.{tabulate};
 
 use crate::level::Level;
 use crate::level_font::font_in;
@@ -15,23 +15,11 @@ use crate::list_format::ListFormat;
 use crate::list_formats::ListFormats;
 use crate::number_kind::NumberKind;
 use doc_bits::{Memory, Units, get16, get32};
+use doc_parts::{CB_GRPPRL_CHPX, CB_GRPPRL_PAPX, LSTF_FLAGS, LSTF_LEN, LVLF_LEN};
 use std::alloc::Global;
-
-const LSTF_LEN: usize = 28;
-
-/// The place in an LSTF of the byte whose bit 0 says that the list is simple.
-const LSTF_FLAGS: usize = 26;
-
-const LVLF_LEN: usize = 28;
 
 /// The place in an LVLF of the kind of its number.
 const NFC: usize = 4;
-
-/// The place in an LVLF of the length of the character properties.
-const CB_GRPPRL_CHPX: usize = 24;
-
-/// The place in an LVLF of the length of the paragraph properties.
-const CB_GRPPRL_PAPX: usize = 25;
 
 /// The levels of a list that is not simple.
 const LEVELS: usize = 9;

@@ -2,7 +2,7 @@
 ghost use Rattle.std.specs.Prelude.{◌≡◌, ◌<◌, ◌-◌, OnOk, IfOk, length, slice_index};
 ghost use Rattle.style_sheet.specs.Chain.{kind_at, HasSoundBases, IsBaseChain};
 ghost use Rattle.style_sheet.specs.Sheet.{style_at};
-ghost use Rattle.effective_props.specs.Layers.{paragraph_settings, settings_of_styles};
+ghost use Rattle.effective_props.specs.Layers.{paragraph_properties, properties_of_styles};
 ghost use Rattle.list_numbers.specs.MarkValues.{AreStyleValues, AreMarkValues, AreKnownValues};
 ghost use Rattle.list_numbers.specs.MarkValues.{own_values, over, values_in};
 
@@ -63,7 +63,7 @@ fn values_of_chain(
 ) -> MarkValues
     requires chain { IsBaseChain sheet.now (slice_index chain.now (length chain.now - 1)) chain.now }
     requires known { AreKnownValues sheet.now known.old.items }
-    ensures values { result ≡ values_in (settings_of_styles paragraph_settings sheet.now chain.now) }
+    ensures values { result ≡ values_in (properties_of_styles paragraph_properties sheet.now chain.now) }
     ensures known { AreKnownValues sheet.now known.new.items }
 {
     let mut values = MarkValues::none();
@@ -82,7 +82,7 @@ fn values_over(
 ) -> MarkValues
     requires known { AreKnownValues sheet.now known.old.items }
     requires below { AreStyleValues sheet.now istd
-        (over (own_values (paragraph_settings (style_at sheet.now istd))) below) }
+        (over (own_values (paragraph_properties (style_at sheet.now istd))) below) }
     ensures values { AreStyleValues sheet.now istd result }
     ensures known { AreKnownValues sheet.now known.new.items }
 {

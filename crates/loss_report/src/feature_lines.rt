@@ -58,7 +58,7 @@ pub(crate) fn auto_text_line(alloc: Global, page: u16) -> Result<Text, Memory>
 }
 
 /// How a story is named.
-fn story_word(story: Further) -> &'static str
+pub fn story_word(story: Further) -> &'static str
     ensures { result.now ≡ word_of_story story }
 {
     match story {

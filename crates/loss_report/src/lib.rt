@@ -5,5 +5,6 @@ mod feature_lines;
 mod lines;
 mod reporting;
 
+pub use feature_lines::story_word;
 pub use lines::LossLines;
 pub use reporting::report;

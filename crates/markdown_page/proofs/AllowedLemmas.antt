@@ -37,7 +37,7 @@ use Rattle.markdown_page.specs.Pieces.{other_pieces, pieces_tokens}
 use Rattle.markdown_page.specs.Shape.{Places, all_shaped}
 use Rattle.markdown_page.proofs.RightLemmas.{AreSafe, is_safe, page_read, safe-pieces, safe-text}
 use Rattle.std.specs.List.{list_all}
-use Rattle.markdown_page.proofs.RightLemmas.{both_first, both_second}
+use Rattle.doc_bits.proofs.TestLemmas.{and_first, and_second}
 
 abbrev AreAllowed : List Token → Type 0
 AreAllowed tokens = All IsAllowed tokens
@@ -62,8 +62,8 @@ allowed_safe (Destination url) h = absurd (cc (h))
 all_safe : (tokens : List Token) → AreSafe tokens → AreAllowed tokens
 all_safe [] h = none_allowed
 all_safe (token ∷ tokens) h =
-    allowed-cons token tokens (allowed_safe token (both_first (is_safe token) (list_all is_safe tokens) h))
-    (all_safe tokens (both_second (is_safe token) (list_all is_safe tokens) h))
+    allowed-cons token tokens (allowed_safe token (and_first (is_safe token) (list_all is_safe tokens) h))
+    (all_safe tokens (and_second (is_safe token) (list_all is_safe tokens) h))
 
 allowed-text : (seam : Seam) (text : List ℕ) → AreAllowed (text_tokens seam text)
 allowed-text seam text = all_safe (text_tokens seam text) (safe-text seam text)

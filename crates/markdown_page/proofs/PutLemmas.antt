@@ -17,7 +17,7 @@ use Rattle.view_places.specs.declared.element.Element.{Element}
 use Rattle.view_places.specs.declared.glyph.Glyph.{Glyph}
 use Rattle.view_places.specs.Same.{same}
 use Rattle.glyph_units.specs.Glyphs.{unit_in}
-use Rattle.glyph_units.specs.Units.{half_text, replacement}
+use Rattle.glyph_units.specs.Units.{half_text}
 use Rattle.plain_doc.specs.declared.document.Document.{Document}
 use Rattle.markdown_page.specs.declared.pen.Pen.{Pen}
 use Rattle.markdown_page.specs.declared.context.Context.{Context}
@@ -35,6 +35,7 @@ use Rattle.markdown_page.specs.Pieces.{given, piece_tokens, pieces_tokens}
 use Rattle.markdown_page.specs.Printed.{PutsEvents, PutsPlaces, PutsTokens, state_in}
 use Rattle.markdown_page.specs.Shape.{Places, all_shaped, inner_kind, shaped, shaped_glyph, shaped_path}
 use Rattle.markdown_page.proofs.TokenLemmas.{tokens_as, tokens_none, tokens_then}
+use Rattle.text_codes.specs.Halves.{replacement}
 
 -- ---- events one after another
 

@@ -1,5 +1,5 @@
 -- What a page is printed of is right, so that it is read back.
-use Rattle.std.proofs.Common.{◌≡◌, ℕ, zero, suc, ◌+◌, ◌/◌, ◌%◌, ◌==◌, Bool, true, false, not, ◌&&◌, List, [], ◌∷◌, ◌++◌}
+use Rattle.std.proofs.Common.{◌≡◌, ℕ, zero, suc, ◌+◌, ◌/◌, ◌%◌, ◌==◌, Bool, true, false, not, List, [], ◌∷◌, ◌++◌}
 use Rattle.std.proofs.Common.{map, Option, Some, None, refl, sym, ap, ◌∙◌, arith}
 use Rattle.std.specs.Prelude.{if◌then◌else◌, codes}
 use Rattle.std.specs.Fmt.{decimal, digits, digits_onto, digit_glyph}
@@ -9,8 +9,9 @@ use Rattle.std.proofs.lemmas.List.Folds.{list_all-append}
 use Rattle.markdown_text.specs.declared.line.LineState.{LineState}
 use Rattle.markdown_text.specs.declared.line.LineState.TheVariants.{Start, Digits, Within, Bracket, Colon}
 use Rattle.markdown_text.specs.Lines.{is_among}
-use Rattle.markdown_text.specs.Tokens.{Token, Character, Markup, Tag, Destination, after_token, after_tokens, are_right, is_right}
-use Rattle.markdown_text.proofs.ReadLemmas.{are_right-append, read_back}
+use Rattle.markdown_text.specs.Tokens.{Token, Character, Markup, Tag, Destination, after_token, after_tokens, are_valid}
+use Rattle.markdown_text.specs.Tokens.{is_valid}
+use Rattle.markdown_text.proofs.ReadLemmas.{are_valid-append, read_back}
 use Rattle.plain_doc.specs.declared.document.Document.{Document}
 use Rattle.view_paths.specs.Events.{Event, Turn, Leaf, Open, Close, events_up_to, turns}
 use Rattle.view_paths.specs.Events.{Tag as PathTag}
@@ -40,6 +41,7 @@ use Rattle.markdown_page.specs.Pages.{turn_pieces, without_half}
 use Rattle.markdown_page.specs.Pieces.{characters, given, markup, marks_text, other_pieces, piece_tokens, pieces_tokens, rule_text}
 use Rattle.markdown_page.specs.Shape.{Places, all_shaped}
 use Rattle.markdown_page.specs.Laws.{PagesAreReadBack}
+use Rattle.doc_bits.proofs.TestLemmas.{and_true, and_first, and_second}
 
 -- ---- tokens that are right wherever they stand
 
@@ -55,34 +57,22 @@ is_safe (Destination url) = false
 abbrev pub AreSafe : List Token → Type 0
 AreSafe tokens = list_all is_safe tokens ≡ true
 
-both : (a b : Bool) → a ≡ true → b ≡ true → (a && b) ≡ true
-both true b one other = other
-both false b one other = absurd (cc (one))
-
-pub both_first : (a b : Bool) → (a && b) ≡ true → a ≡ true
-both_first true b e = refl
-both_first false b e = e
-
-pub both_second : (a b : Bool) → (a && b) ≡ true → b ≡ true
-both_second true b e = e
-both_second false b e = absurd (cc (e))
-
-safe-right : (line : LineState) (token : Token) → is_safe token ≡ true → is_right line token ≡ true
+safe-right : (line : LineState) (token : Token) → is_safe token ≡ true → is_valid line token ≡ true
 safe-right line (Character code) h = refl
 safe-right line (Markup code) h = h
 safe-right line (Tag inner) h = h
 safe-right line (Destination url) h = absurd (cc (h))
 
-all_right : (line : LineState) (tokens : List Token) → AreSafe tokens → are_right line tokens ≡ true
+all_right : (line : LineState) (tokens : List Token) → AreSafe tokens → are_valid line tokens ≡ true
 all_right line [] h = refl
 all_right line (token ∷ tokens) h =
-    both (is_right line token) (are_right (after_token line token) tokens)
-    (safe-right line token (both_first (is_safe token) (list_all is_safe tokens) h))
-    (all_right (after_token line token) tokens (both_second (is_safe token) (list_all is_safe tokens) h))
+    and_true (is_valid line token) (are_valid (after_token line token) tokens)
+    (safe-right line token (and_first (is_safe token) (list_all is_safe tokens) h))
+    (all_right (after_token line token) tokens (and_second (is_safe token) (list_all is_safe tokens) h))
 
 safe-append : (xs ys : List Token) → AreSafe xs → AreSafe ys → AreSafe (xs ++ ys)
 safe-append xs ys one other =
-    list_all-append is_safe xs ys ∙ both (list_all is_safe xs) (list_all is_safe ys) one other
+    list_all-append is_safe xs ys ∙ and_true (list_all is_safe xs) (list_all is_safe ys) one other
 
 -- ---- pieces
 
@@ -93,9 +83,9 @@ safe-characters (code ∷ text) = safe-characters text
 safe-markup : (text : List ℕ) → list_all is_safe_code text ≡ true → AreSafe (markup text)
 safe-markup [] h = refl
 safe-markup (code ∷ text) h =
-    both (is_safe_code code) (list_all is_safe (markup text))
-    (both_first (is_safe_code code) (list_all is_safe_code text) h)
-    (safe-markup text (both_second (is_safe_code code) (list_all is_safe_code text) h))
+    and_true (is_safe_code code) (list_all is_safe (markup text))
+    (and_first (is_safe_code code) (list_all is_safe_code text) h)
+    (safe-markup text (and_second (is_safe_code code) (list_all is_safe_code text) h))
 
 safe_mark : (m : Mark) → list_all is_safe_code (mark_text m) ≡ true
 safe_mark mark.Strong = refl
@@ -139,7 +129,7 @@ safe-digits_onto : (k n : ℕ) (acc : List ℕ) → list_all is_safe_code acc �
 safe-digits_onto zero n acc h = h
 safe-digits_onto (suc k) n acc h =
     let next : list_all is_safe_code (digit_glyph false (n % 10) ∷ acc) ≡ true =
-    both (is_safe_code (digit_glyph false (n % 10))) (list_all is_safe_code acc) (digit_is_safe (n % 10)) h in
+    and_true (is_safe_code (digit_glyph false (n % 10))) (list_all is_safe_code acc) (digit_is_safe (n % 10)) h in
     elim (n / 10 == 0) as (λ (b : Bool). list_all is_safe_code (if b then digit_glyph false (n % 10) ∷ acc else
     digits_onto k 10 false (n / 10) (digit_glyph false (n % 10) ∷ acc)) ≡ true) [
       | true ↦ next
@@ -154,18 +144,19 @@ safe_marks : (m : Mark) (n : ℕ) → list_all is_safe_code (marks_text m n) ≡
 safe_marks m zero = refl
 safe_marks m (suc n) =
     list_all-append is_safe_code (marks_text m n) (mark_text m)
-    ∙ both (list_all is_safe_code (marks_text m n)) (list_all is_safe_code (mark_text m)) (safe_marks m n) (safe_mark m)
+    ∙ and_true (list_all is_safe_code (marks_text m n)) (list_all is_safe_code (mark_text m)) (safe_marks m n)
+    (safe_mark m)
 
 safe_rule : (n : ℕ) → list_all is_safe_code (rule_text n) ≡ true
 safe_rule n =
     list_all-append is_safe_code (marks_text mark.RuleColumn n) (mark_text mark.LineEnd)
-    ∙ both (list_all is_safe_code (marks_text mark.RuleColumn n)) true (safe_marks mark.RuleColumn n) refl
+    ∙ and_true (list_all is_safe_code (marks_text mark.RuleColumn n)) true (safe_marks mark.RuleColumn n) refl
 
 safe-piece : (piece : Piece) → AreSafe (piece_tokens piece)
 safe-piece Nothing = refl
 safe-piece (Write mark) = safe-markup (mark_text mark) (safe_mark mark)
 safe-piece (Insert tag) =
-    both (list_all (λ code. not (code == 62)) (tag_text tag)) true (safe_tag tag) refl
+    and_true (list_all (λ code. not (code == 62)) (tag_text tag)) true (safe_tag tag) refl
 safe-piece Space = refl
 safe-piece ATab = refl
 safe-piece (Number number) = safe-markup (decimal number) (safe_decimal number)
@@ -184,16 +175,16 @@ safe-pieces pieces =
 -- ---- events
 
 -- tokens that are right wherever they stand
-abbrev AreRight : List Token → Type 0
-AreRight tokens = (line : LineState) → are_right line tokens ≡ true
+abbrev AreValid : List Token → Type 0
+AreValid tokens = (line : LineState) → are_valid line tokens ≡ true
 
-right-safe : (tokens : List Token) → AreSafe tokens → AreRight tokens
+right-safe : (tokens : List Token) → AreSafe tokens → AreValid tokens
 right-safe tokens safe = λ line. all_right line tokens safe
 
-right-append : (xs ys : List Token) → AreRight xs → AreRight ys → AreRight (xs ++ ys)
+right-append : (xs ys : List Token) → AreValid xs → AreValid ys → AreValid (xs ++ ys)
 right-append xs ys one other = λ line.
-    are_right-append line xs ys
-    ∙ both (are_right line xs) (are_right (after_tokens line xs) ys) (one line) (other (after_tokens line xs))
+    are_valid-append line xs ys
+    ∙ and_true (are_valid line xs) (are_valid (after_tokens line xs) ys) (one line) (other (after_tokens line xs))
 
 pub safe-text : (seam : Seam) (text : List ℕ) → AreSafe (text_tokens seam text)
 safe-text seam [] = refl
@@ -203,54 +194,54 @@ safe-text seam (code ∷ text) =
     (safe-piece (given (is_parted seam code) (Insert tag.Comment))) refl)
     (safe-text (character_seam code) text)
 
-right-text : (seam : Seam) (text : List ℕ) → AreRight (text_tokens seam text)
+right-text : (seam : Seam) (text : List ℕ) → AreValid (text_tokens seam text)
 right-text seam text = right-safe (text_tokens seam text) (safe-text seam text)
 
-right-behind : (context : Context) (pieces : Pieces) → AreRight (half_tokens context ++ pieces_tokens pieces)
+right-behind : (context : Context) (pieces : Pieces) → AreValid (half_tokens context ++ pieces_tokens pieces)
 right-behind context pieces =
     right-append (half_tokens context) (pieces_tokens pieces) (right-text context.seam (half_text context.half))
     (right-safe (pieces_tokens pieces) (safe-pieces pieces))
 
-right-front : (address : Option (List ℕ)) → AreRight (front_tokens address)
+right-front : (address : Option (List ℕ)) → AreValid (front_tokens address)
 right-front None = λ line. refl
 right-front (Some url) = λ line. refl
 
 -- a destination stands behind a bracket
-right_end : (line : LineState) (url : List ℕ) → are_right line (Markup 93 ∷ Destination url ∷ []) ≡ true
+right_end : (line : LineState) (url : List ℕ) → are_valid line (Markup 93 ∷ Destination url ∷ []) ≡ true
 right_end Start url = refl
 right_end Digits url = refl
 right_end Within url = refl
 right_end Bracket url = refl
 right_end Colon url = refl
 
-right-end : (address : Option (List ℕ)) → AreRight (end_tokens address)
+right-end : (address : Option (List ℕ)) → AreValid (end_tokens address)
 right-end None = λ line. refl
 right-end (Some url) = λ line. right_end line url
 
-right-link : (document : Document) (tag : PathTag Element) → AreRight (link_tokens document tag)
+right-link : (document : Document) (tag : PathTag Element) → AreValid (link_tokens document tag)
 right-link document (Open path element) = right-front (address_at document element)
 right-link document (Close path element) = right-end (address_at document element)
 
-right-glyph : (state : State) (unit : Option ℕ) (glyph : Glyph) → AreRight (glyph_tokens state unit glyph)
+right-glyph : (state : State) (unit : Option ℕ) (glyph : Glyph) → AreValid (glyph_tokens state unit glyph)
 right-glyph state (Some unit) glyph = right-text state.context.seam (unit_text state.context.half unit)
 right-glyph state None glyph =
     right-behind state.context (other_pieces (after_tokens state.line (half_tokens state.context)) glyph)
 
-right-event : (state : State) (event : Event Element Glyph) → AreRight (event_tokens state event)
+right-event : (state : State) (event : Event Element Glyph) → AreValid (event_tokens state event)
 right-event state (Turn tag) =
     let pieces = turn_pieces tag (after_tokens state.line (half_tokens state.context)) (without_half state.context) in
     right-append (half_tokens state.context ++ pieces_tokens pieces) (link_tokens state.document tag)
     (right-behind state.context pieces) (right-link state.document tag)
 right-event state (Leaf path glyph) = right-glyph state (unit_in glyph) glyph
 
-right-events : (state : State) (events : Events) → AreRight (tokens_of state events)
+right-events : (state : State) (events : Events) → AreValid (tokens_of state events)
 unfolding tokens_of
 right-events state [] = λ line. refl
 right-events state (event ∷ events) =
     right-append (event_tokens state event) (tokens_of (behind_event state event) events) (right-event state event)
     (right-events (behind_event state event) events)
 
-right-closing : (state : State) (path : List Element) → AreRight (closing_tokens state path)
+right-closing : (state : State) (path : List Element) → AreValid (closing_tokens state path)
 right-closing state path =
     let events : Events = turns same path [] in
     let last = (state_of state events).context in

@@ -14,7 +14,7 @@ use Rattle.markdown_page.specs.declared.context.Seam.TheVariants.{Other, Word, C
 use Rattle.markdown_page.specs.declared.context.CellLine.{CellLine}
 use Rattle.markdown_page.specs.declared.context.CellLine.TheVariants.{Outside, First, Next}
 use Rattle.markdown_page.specs.declared.context.Context.{Context}
-use Rattle.markdown_page.specs.declared.context.TheConstants.{MOST_COLUMNS, MOST_LEVELS}
+use Rattle.markdown_page.specs.declared.context.TheConstants.{MAX_COLUMNS, MAX_LEVELS}
 
 -- ---- characters
 
@@ -41,11 +41,11 @@ cut context = record context { seam = Other }
 
 -- one more column, as far as a table has them
 abbrev pub more_cells : ℕ → ℕ
-more_cells cells = if nat_lt cells MOST_COLUMNS then cells + 1 else cells
+more_cells cells = if nat_lt cells MAX_COLUMNS then cells + 1 else cells
 
 -- so many cells of a row are columns: in the first row all of them
 abbrev pub column_limit : Context → ℕ
-column_limit context = if context.columns == 0 then MOST_COLUMNS else context.columns
+column_limit context = if context.columns == 0 then MAX_COLUMNS else context.columns
 
 abbrev pub note_opened : Context → Context
 note_opened context = record context { seam = Other; in_note = true; begun = true }
@@ -61,7 +61,7 @@ cell_opened context = record context { seam = Other; cells = more_cells context.
 
 -- one more item, as far as they are counted
 abbrev pub more_levels : ℕ → ℕ
-more_levels levels = if nat_lt levels MOST_LEVELS then levels + 1 else levels
+more_levels levels = if nat_lt levels MAX_LEVELS then levels + 1 else levels
 
 abbrev pub item_opened : Context → Context
 item_opened context = record context { seam = Other; begun = true; levels = more_levels context.levels }

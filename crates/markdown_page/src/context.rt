@@ -69,10 +69,10 @@ impl Context {
 }
 
 /// The most columns of a table that are told apart.
-pub(crate) const MOST_COLUMNS: usize = 255;
+pub(crate) const MAX_COLUMNS: usize = 255;
 
 /// The most items, one in another, that are told apart.
-pub(crate) const MOST_LEVELS: usize = 255;
+pub(crate) const MAX_LEVELS: usize = 255;
 
 impl Context {
     /// What is written now is no character of a word.
@@ -286,7 +286,7 @@ impl Context {
 fn more_cells(cells: usize) -> usize
     ensures { result ≡ more_cells cells }
 {
-    if cells < MOST_COLUMNS {
+    if cells < MAX_COLUMNS {
         cells + 1
     } else {
         cells
@@ -297,7 +297,7 @@ fn more_cells(cells: usize) -> usize
 fn more_levels(levels: usize) -> usize
     ensures { result ≡ more_levels levels }
 {
-    if levels < MOST_LEVELS {
+    if levels < MAX_LEVELS {
         levels + 1
     } else {
         levels

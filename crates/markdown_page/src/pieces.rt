@@ -5,7 +5,7 @@ ghost use Rattle.markdown_page.specs.Pieces.{block_end, break, cell_front, closi
 ghost use Rattle.markdown_page.specs.Pieces.{is_start, item_front, none, numbered, one, opening, other_pieces};
 ghost use Rattle.markdown_page.specs.Pieces.{paragraph_end, paragraph_front, row_end, three, two};
 
-use crate::context::{CellLine, Context, MOST_COLUMNS, Seam};
+use crate::context::{CellLine, Context, MAX_COLUMNS, Seam};
 use crate::marks::{Mark, TagName, heading_mark};
 use markdown_text::LineState;
 use view_places::{Element, Glyph};
@@ -75,7 +75,7 @@ impl Pieces {
 }
 
 /// A piece where it is to be there.
-pub(crate) fn given(there: bool, piece: Piece) -> Piece
+pub(crate) fn if_given(there: bool, piece: Piece) -> Piece
     ensures { result ≡ given there piece }
 {
     if there { piece } else { Piece::Nothing }
@@ -116,9 +116,9 @@ pub(crate) fn opening(context: &Context, element: Element) -> Pieces
 fn indent(context: &Context) -> Piece
     ensures { result ≡ indent context.now }
 {
-    given(
+    if_given(
         context.in_note,
-        given(!context.begun, Piece::Write(Mark::Indent)),
+        if_given(!context.begun, Piece::Write(Mark::Indent)),
     )
 }
 
@@ -128,7 +128,7 @@ fn item_front(context: &Context) -> Pieces
 {
     Pieces {
         first: indent(context),
-        second: given(!context.begun, Piece::Levels(context.levels)),
+        second: if_given(!context.begun, Piece::Levels(context.levels)),
         third: Piece::Write(Mark::Item),
     }
 }
@@ -168,7 +168,7 @@ fn column_limit(context: &Context) -> usize
     ensures { result ≡ column_limit context.now }
 {
     if context.columns == 0 {
-        MOST_COLUMNS
+        MAX_COLUMNS
     } else {
         context.columns
     }
@@ -181,7 +181,7 @@ fn paragraph_front(context: &Context, level: u8) -> Pieces
     match context.cell {
         CellLine::Outside => Pieces::two(
             indent(context),
-            given(level != 0, Piece::Write(heading_mark(level))),
+            if_given(level != 0, Piece::Write(heading_mark(level))),
         ),
         CellLine::First => Pieces::none(),
         CellLine::Next => Pieces::one(Piece::Insert(TagName::LineBreak)),
@@ -226,7 +226,7 @@ fn row_end(context: &Context) -> Pieces
     if context.columns == 0 {
         Pieces {
             first: Piece::Write(Mark::RowEnd),
-            second: given(context.in_note, Piece::Write(Mark::Indent)),
+            second: if_given(context.in_note, Piece::Write(Mark::Indent)),
             third: Piece::Rule(context.cells),
         }
     } else {
@@ -238,7 +238,7 @@ fn row_end(context: &Context) -> Pieces
 fn block_end(begun: bool) -> Pieces
     ensures { result ≡ block_end begun }
 {
-    Pieces::one(given(begun, Piece::Write(Mark::BlockEnd)))
+    Pieces::one(if_given(begun, Piece::Write(Mark::BlockEnd)))
 }
 
 /// The end of a paragraph, behind a space where its line has a marker alone.
@@ -247,8 +247,8 @@ fn paragraph_end(context: &Context, line: LineState) -> Pieces
 {
     match context.cell {
         CellLine::Outside => Pieces::two(
-            given(context.begun && is_start(line), Piece::Space),
-            given(
+            if_given(context.begun && is_start(line), Piece::Space),
+            if_given(
                 context.begun || context.in_note || !is_start(line),
                 Piece::Write(Mark::BlockEnd),
             ),
@@ -285,7 +285,7 @@ fn line_break(line: LineState) -> Pieces
     ensures { result ≡ break line }
 {
     Pieces::two(
-        given(is_start(line), Piece::Space),
+        if_given(is_start(line), Piece::Space),
         Piece::Insert(TagName::LineBreak),
     )
 }

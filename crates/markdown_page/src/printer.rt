@@ -24,7 +24,7 @@ use crate::context::{Context, character_seam};
 use crate::destinations::address_at;
 use crate::marks::TagName;
 use crate::pen::Pen;
-use crate::pieces::{Piece, closing, given, opening, other_pieces};
+use crate::pieces::{Piece, closing, if_given, opening, other_pieces};
 use crate::runs::{is_open, run_end};
 use crate::shape::{has_emphasis, inner_kind, is_from_note, is_white, shaped_glyph, shaped_path};
 use doc_columns::ColumnDocument;
@@ -272,7 +272,7 @@ impl<'a> MarkdownPage<'a> {
         ensures document { self.new.document.now ≡ self.old.document.now }
         ensures context { self.new.context ≡ record self.old.context { seam = text_seam self.old.context.seam (code ∷ []) } }
     {
-        let piece = given(
+        let piece = if_given(
             self.context.seam.is_parted(code),
             Piece::Insert(TagName::Comment),
         );

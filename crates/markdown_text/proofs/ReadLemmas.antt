@@ -9,27 +9,12 @@ use Rattle.std.specs.List.{list_all}
 use Rattle.markdown_text.specs.declared.line.LineState.{LineState}
 use Rattle.markdown_text.specs.declared.line.LineState.TheVariants.{Start, Digits, Within, Bracket, Colon}
 use Rattle.markdown_text.specs.Lines.{is_special, after_character, after_markup, after_markups, after_tag}
-use Rattle.markdown_text.specs.Tokens.{Token, Character, Markup, Tag, Destination, after_token, after_tokens, are_right}
+use Rattle.markdown_text.specs.Tokens.{Token, Character, Markup, Tag, Destination, after_token, after_tokens, are_valid}
 use Rattle.markdown_text.specs.Tokens.{destination_code, destination_text, escaped, escaped_by, is_bracket}
-use Rattle.markdown_text.specs.Tokens.{is_destination_markup, is_right, printed_from, printed_token, reference}
+use Rattle.markdown_text.specs.Tokens.{is_destination_markup, is_valid, printed_from, printed_token, reference}
 use Rattle.markdown_text.specs.Reading.{In_text, In_tag, In_destination, all_as_read, as_read, read_from}
 use Rattle.markdown_text.specs.Laws.{MarkdownIsReadBack, TextsAreReadBack}
-
-both_first : (a b : Bool) → (a && b) ≡ true → a ≡ true
-both_first true b e = refl
-both_first false b e = e
-
-both_second : (a b : Bool) → (a && b) ≡ true → b ≡ true
-both_second true b e = e
-both_second false b e = absurd (cc (e))
-
-both_true : (a b : Bool) → a ≡ true → b ≡ true → (a && b) ≡ true
-both_true true b e f = f
-both_true false b e f = absurd (cc (e))
-
-not_true : (a : Bool) → not a ≡ true → a ≡ false
-not_true true e = absurd (cc (e))
-not_true false e = refl
+use Rattle.doc_bits.proofs.TestLemmas.{and_true, and_first, and_second, not_true}
 
 -- none of four
 record NoneOf (a b c d : Bool) : Type 0 where
@@ -144,9 +129,9 @@ read-tag : (state : LineState) (so_far inner rest : List ℕ) → list_all (λ c
 read-tag state so_far [] rest closed =
     ap (λ t. Tag t ∷ read_from (In_text (after_tag state)) rest) (sym (append-nil so_far))
 read-tag state so_far (code ∷ inner) rest closed =
-    let here : (code == 62) ≡ false = not_true (code == 62) (both_first (not (code == 62)) (list_all (λ c. not (c ==
+    let here : (code == 62) ≡ false = not_true (code == 62) (and_first (not (code == 62)) (list_all (λ c. not (c ==
     62)) inner) closed) in
-    let more : list_all (λ c. not (c == 62)) inner ≡ true = both_second (not (code == 62)) (list_all (λ c. not (c ==
+    let more : list_all (λ c. not (c == 62)) inner ≡ true = and_second (not (code == 62)) (list_all (λ c. not (c ==
     62)) inner) closed in
     ap (λ b. cond b (Tag so_far ∷ read_from (In_text (after_tag state)) (inner ++ 62 ∷ rest)) (read_from (In_tag state
     (so_far ++ code ∷ [])) (inner ++ 62 ∷ rest))) here
@@ -188,7 +173,7 @@ destination_begins Colon text e = absurd (cc (e))
 
 -- ---- tokens
 
-read-token : (state : LineState) (token : Token) (rest : List ℕ) → is_right state token ≡ true →
+read-token : (state : LineState) (token : Token) (rest : List ℕ) → is_valid state token ≡ true →
     read_from (In_text state) (printed_token state token ++ rest) ≡ as_read state token ∷ read_from (In_text
     (after_token state token)) rest
 read-token state (Character code) rest right = read-character state rest code
@@ -204,23 +189,23 @@ read-token state (Destination url) rest right =
     ∙ (ap (read_from (In_destination [])) (append_assoc (destination_text url) (41 ∷ []) rest)
     ∙ read-destination [] url rest)
 
-read_all : (state : LineState) (tokens : List Token) → are_right state tokens ≡ true →
+read_all : (state : LineState) (tokens : List Token) → are_valid state tokens ≡ true →
     read_from (In_text state) (printed_from state tokens) ≡ all_as_read state tokens
 read_all state [] right = refl
 read_all state (token ∷ tokens) right =
     read-token state token (printed_from (after_token state token) tokens)
-    (both_first (is_right state token) (are_right (after_token state token) tokens) right)
+    (and_first (is_valid state token) (are_valid (after_token state token) tokens) right)
     ∙ ap (λ more. as_read state token ∷ more) (read_all (after_token state token) tokens
-    (both_second (is_right state token) (are_right (after_token state token) tokens) right))
+    (and_second (is_valid state token) (are_valid (after_token state token) tokens) right))
 
 pub read_back : MarkdownIsReadBack
 read_back tokens right = read_all Start tokens right
 
 -- ---- texts
 
-text_is_right : (state : LineState) (text : List ℕ) → are_right state (map Character text) ≡ true
-text_is_right state [] = refl
-text_is_right state (code ∷ text) = text_is_right (after_character state code) text
+text_is_valid : (state : LineState) (text : List ℕ) → are_valid state (map Character text) ≡ true
+text_is_valid state [] = refl
+text_is_valid state (code ∷ text) = text_is_valid (after_character state code) text
 
 text_as_read : (state : LineState) (text : List ℕ) → all_as_read state (map Character text) ≡ map Character text
 text_as_read state [] = refl
@@ -229,7 +214,7 @@ text_as_read state (code ∷ text) =
 
 -- a text is read back
 pub text_back : TextsAreReadBack
-text_back text = read_all Start (map Character text) (text_is_right Start text) ∙ text_as_read Start text
+text_back text = read_all Start (map Character text) (text_is_valid Start text) ∙ text_as_read Start text
 
 -- ---- for callers: tokens one behind the other
 
@@ -246,13 +231,13 @@ printed_from-append state (token ∷ one) more =
     ∙ sym (append_assoc (printed_token state token) (printed_from (after_token state token) one)
     (printed_from (after_tokens (after_token state token) one) more))
 
-pub are_right-append : (state : LineState) (one more : List Token) → are_right state (one ++ more) ≡
-    (are_right state one && are_right (after_tokens state one) more)
-are_right-append state [] more = refl
-are_right-append state (token ∷ one) more =
-    elim (is_right state token) as (λ b. (b && are_right (after_token state token) (one ++ more)) ≡ ((b && are_right
-    (after_token state token) one) && are_right (after_tokens (after_token state token) one) more)) [
-      | true ↦ are_right-append (after_token state token) one more
+pub are_valid-append : (state : LineState) (one more : List Token) → are_valid state (one ++ more) ≡
+    (are_valid state one && are_valid (after_tokens state one) more)
+are_valid-append state [] more = refl
+are_valid-append state (token ∷ one) more =
+    elim (is_valid state token) as (λ b. (b && are_valid (after_token state token) (one ++ more)) ≡ ((b && are_valid
+    (after_token state token) one) && are_valid (after_tokens (after_token state token) one) more)) [
+      | true ↦ are_valid-append (after_token state token) one more
       | false ↦ refl
     ]
 
@@ -266,11 +251,12 @@ pub after_tokens-markup : (state : LineState) (text : List ℕ) → after_tokens
 after_tokens-markup state [] = refl
 after_tokens-markup state (code ∷ text) = after_tokens-markup (after_markup state code) text
 
-pub are_right-markup : (state : LineState) (text : List ℕ) → list_all (λ code. is_right state (Markup code)) text ≡ true →
-    are_right state (map Markup text) ≡ true
-are_right-markup state [] right = refl
-are_right-markup state (code ∷ text) right =
-    both_true (is_right state (Markup code)) (are_right (after_markup state code) (map Markup text))
-    (both_first (is_right state (Markup code)) (list_all (λ c. is_right state (Markup c)) text) right)
-    (are_right-markup (after_markup state code) text
-    (both_second (is_right state (Markup code)) (list_all (λ c. is_right state (Markup c)) text) right))
+pub are_valid-markup : (state : LineState) (text : List ℕ) → list_all (λ code. is_valid state (Markup code)) text ≡ true
+    →
+    are_valid state (map Markup text) ≡ true
+are_valid-markup state [] right = refl
+are_valid-markup state (code ∷ text) right =
+    and_true (is_valid state (Markup code)) (are_valid (after_markup state code) (map Markup text))
+    (and_first (is_valid state (Markup code)) (list_all (λ c. is_valid state (Markup c)) text) right)
+    (are_valid-markup (after_markup state code) text
+    (and_second (is_valid state (Markup code)) (list_all (λ c. is_valid state (Markup c)) text) right))

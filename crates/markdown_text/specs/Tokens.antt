@@ -85,12 +85,12 @@ is_bracket Colon = false
 
 -- markup begins no escape, reference, tag or destination by itself, a tag has no > of its own, and a destination stands
 -- behind a bracket
-abbrev pub is_right : LineState → Token → Bool
-is_right state (Character code) = true
-is_right state (Markup code) = not (is_among (codes "\\&<(") code)
-is_right state (Tag inner) = list_all (λ code. not (code == 62)) inner
-is_right state (Destination url) = is_bracket state
+abbrev pub is_valid : LineState → Token → Bool
+is_valid state (Character code) = true
+is_valid state (Markup code) = not (is_among (codes "\\&<(") code)
+is_valid state (Tag inner) = list_all (λ code. not (code == 62)) inner
+is_valid state (Destination url) = is_bracket state
 
-abbrev pub are_right : LineState → List Token → Bool
-are_right state [] = true
-are_right state (token ∷ tokens) = is_right state token && are_right (after_token state token) tokens
+abbrev pub are_valid : LineState → List Token → Bool
+are_valid state [] = true
+are_valid state (token ∷ tokens) = is_valid state token && are_valid (after_token state token) tokens

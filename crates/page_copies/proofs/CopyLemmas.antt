@@ -5,7 +5,7 @@ use Rattle.std.proofs.Common.{slice_range, map, refl, sym, ap, ◌∙◌, subst,
 use Rattle.std.proofs.lemmas.Bool.{cases_lt}
 use Rattle.std.proofs.lemmas.List.{drop-drop}
 use borrow.Rule.Slice.PartMut.{put_mid}
-use Rattle.doc_bits.proofs.ListLemmas.{length-range}
+use Rattle.doc_bits.proofs.ListLemmas.{length-range, range_index}
 use Rattle.std.specs.List.{flat_map}
 use Rattle.sprm_table.specs.Sprm.{spelling}
 use Rattle.sprm_table.proofs.SprmLemmas.{spelt_unique}
@@ -17,7 +17,7 @@ use Rattle.fkp_pages.specs.Fkp.{page_count, entry_place, entry_byte, least_list}
 use Rattle.page_copies.specs.declared.places.ListPlace.{ListPlace}
 use Rattle.page_copies.specs.Places.{IsPlaceOf, HasListsApart}
 use Rattle.page_copies.specs.Copies.{SkipsList, IsCopyOf, SkipsRun}
-use Rattle.prl_skips.proofs.RangeLemmas.{range_index, range_same, front_same, drop_range, put_length}
+use Rattle.prl_skips.proofs.RangeLemmas.{range_same, front_same, drop_range, put_length}
 use Rattle.prl_skips.proofs.RangeLemmas.{put_before, put_after, put_range}
 use Rattle.page_copies.proofs.PlaceLemmas.{ChangesLists, place_by_at, clear_of, in_order, count_stays, place_stays}
 use Rattle.page_copies.proofs.PlaceLemmas.{place_stood, front_stays}

@@ -2,7 +2,7 @@
 use Rattle.std.proofs.Common.{◌≡◌, ◌↔◌, ◌⊎◌, inl, inr, ℕ, ◌+◌, ◌*◌, ◌≤◌, Bool, true, false, List, length, drop, refl}
 use Rattle.std.proofs.Common.{subst, arith}
 use Rattle.prop_map.specs.declared.acting.Acted.{Acted}
-use Rattle.prop_map.specs.Settings.{Settings}
+use Rattle.prop_map.specs.Settings.{Properties}
 use Rattle.prop_map.specs.Acting.{IsActedBy}
 use Rattle.prl_skips.specs.Skips.{SkipsOrStays, HoldsNoPictures}
 use Rattle.prl_skips.proofs.SkipLemmas.{act_skips}
@@ -20,7 +20,7 @@ use Rattle.page_copies.proofs.NameLemmas.{page_named}
 
 -- ---- what lists do
 
-or_stays : (old new : List ℕ) (groups : ℕ) (before : Settings) (acted : Acted) → HoldsNoPictures groups →
+or_stays : (old new : List ℕ) (groups : ℕ) (before : Properties) (acted : Acted) → HoldsNoPictures groups →
     SkipsOrStays old new → (IsActedBy new groups before acted ↔ IsActedBy old groups before acted)
 or_stays old new groups before acted none s = elim s [
   | inl skips ↦ act_skips old new groups before acted none skips

@@ -1,7 +1,7 @@
 -- What a copy answers at a byte place, and what it means.
 use Rattle.std.specs.Prelude.{◌≡◌, ◌⊎◌, ◌↔◌, ℕ, ◌≤◌, List, length, take, drop}
 use Rattle.prop_map.specs.declared.acting.Acted.{Acted}
-use Rattle.prop_map.specs.Settings.{Settings}
+use Rattle.prop_map.specs.Settings.{Properties}
 use Rattle.prop_map.specs.Acting.{IsActedBy}
 use Rattle.prl_skips.specs.Skips.{HoldsNoPictures}
 use Rattle.fkp_pages.specs.declared.kind.PageKind.{PageKind}
@@ -47,7 +47,7 @@ IsListCopy kind old new = SkipsList kind old new ⊎ (new ≡ old)
 -- its style number is that of the list, and its sprms do what those of the list do
 pub record ActsTheSame (kind : PageKind) (old new : List ℕ) : Type 0 where
   pub istd : take (least_list kind) new ≡ take (least_list kind) old
-  pub acts : (groups : ℕ) (before : Settings) (acted : Acted) → HoldsNoPictures groups →
+  pub acts : (groups : ℕ) (before : Properties) (acted : Acted) → HoldsNoPictures groups →
       (IsActedBy (drop (least_list kind) new) groups before acted
       ↔ IsActedBy (drop (least_list kind) old) groups before acted)
 

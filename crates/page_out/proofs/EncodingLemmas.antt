@@ -38,13 +38,6 @@ ascii_encoded units count within ascii =
     let inside : i < count = omega (arith, below, long) in
     subst (λ unit. unit < 128) (sym (get_or-take count units i 0 inside)) (ascii i inside))))
 
--- units of the rest of a list are units of the list
-pub rest_within : (units : List ℕ) (count more : ℕ) → count ≤ length units →
-    more ≤ length (take (length units - count) (drop count units)) → count + more ≤ length units
-rest_within units count more within few =
-    let whole = take_all (length units - count) (drop count units) (omega (arith, length-drop count units)) in
-    omega (arith, within, few, ap length whole, length-drop count units)
-
 -- the front of a list, and that of the rest behind it
 pub front_more : (units : List ℕ) (count more : ℕ) →
     take (count + more) units ≡ take count units ++ take more (take (length units - count) (drop count units))

@@ -81,7 +81,7 @@ fn put_ascii(units: &[u16], block: &mut [u8], len: usize)
     }
 }
 
-/// The same for characters of any kind, one by one.
+/// Puts the bytes of characters of any kind behind the first bytes of a block, one by one.
 fn put_units(units: &[u16], block: &mut [u8], len: usize) -> (usize, usize)
     requires some { 0 < length units.now }
     requires room { len + PART_LEN ≤ length block.old }

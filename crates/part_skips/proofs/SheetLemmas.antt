@@ -11,7 +11,7 @@ use Rattle.doc_bits.proofs.ListLemmas.{length-range}
 use Rattle.prl_skips.proofs.RangeLemmas.{range_same, put_length, put_before, put_after, put_range}
 use Rattle.style_sheet.specs.declared.styles.Style.{Style}
 use Rattle.style_sheet.specs.Sheet.{Sheet, style_at}
-use Rattle.style_sheet.specs.Counted.{even_up, counted_end, counted_bytes, IsCounted}
+use Rattle.style_sheet.specs.Counted.{even_up, counted_end, counted_bytes, IsCountedPart}
 use Rattle.style_sheet.specs.StyleDefinition.{IsStd}
 use Rattle.style_sheet.specs.Stsh.{cstd, std_base, slot_place, head_of, HasStshif, IsSlotAt, AreSlots}
 use Rattle.style_sheet.specs.Stsh.{SpellsSlotAt, HasStyleSheet}
@@ -47,7 +47,7 @@ pub word_there : (old new : List ℕ) (at : ℕ) →
 word_there old new at same = number_at-same new old at at 2 same
 
 -- the bytes of a slot that did not change
-bytes_there : (old new : List ℕ) (place : ℕ) → length new ≡ length old → IsCounted old place →
+bytes_there : (old new : List ℕ) (place : ℕ) → length new ≡ length old → IsCountedPart old place →
     ((i : ℕ) → place ≤ i → i < counted_end old place → slice_index new i ≡ slice_index old i) →
     counted_bytes new place ≡ counted_bytes old place
 bytes_there old new place len within same =
@@ -84,7 +84,7 @@ pub next_slot : (old now : List ℕ) (count place : ℕ) → SlotsFront old now 
 next_slot old now count place front are low =
     let slot = are count low in
     let place_is = front.place_is in
-    let within : IsCounted old place = subst (IsCounted old) (sym place_is) slot.within in
+    let within : IsCountedPart old place = subst (IsCountedPart old) (sym place_is) slot.within in
     let len = front.len in
     let word = word_there old now place (λ i below. front.rest (place + i) (omega arith)) in
     let bytes = bytes_there old now place len within (λ i low high. front.rest i low) in
@@ -102,7 +102,7 @@ pub slots_more : (old now new : List ℕ) (count place next : ℕ) → SlotsFron
 slots_more old now new count place next front are low next_is puts =
     let slot = are count low in
     let place_is = front.place_is in
-    let within : IsCounted old place = subst (IsCounted old) (sym place_is) slot.within in
+    let within : IsCountedPart old place = subst (IsCountedPart old) (sym place_is) slot.within in
     let len = front.len in
     let new_len = puts.len in
     let word = word_there old now place (λ i below. front.rest (place + i) (omega arith)) in
@@ -253,7 +253,7 @@ sheet_skips old new sheet skips = elim skips [
 -- ---- one slot
 
 -- what is written over the style of a slot
-pub slot_put : (base place count : ℕ) (old mid : List ℕ) → IsCounted old place → count ≡ u16_at old place →
+pub slot_put : (base place count : ℕ) (old mid : List ℕ) → IsCountedPart old place → count ≡ u16_at old place →
     SkipsStd base (slice_range old (place + 2) (place + 2 + count)) mid →
     length mid ≡ length (slice_range old (place + 2) (place + 2 + count)) →
     PutsSlot base place old (put_mid (place + 2) (place + 2 + count - (place + 2)) old mid)

@@ -6,7 +6,7 @@ use Rattle.doc_bits.proofs.NumberLemmas.{number_at-same}
 use Rattle.sprm_table.specs.Sprm.{SpellsSprmList}
 use Rattle.sprm_table.proofs.SprmLemmas.{spelt_unique}
 use Rattle.std.specs.FinMap.{empty}
-use Rattle.prop_map.specs.Settings.{Settings}
+use Rattle.prop_map.specs.Settings.{Properties}
 use Rattle.prop_map.specs.Acting.{ArePropertiesAfter}
 use Rattle.prop_map.specs.Formed.{character_groups, paragraph_groups}
 use Rattle.prl_skips.specs.Skips.{skipped, SkipsOrStays, PutsSkipped, HoldsNoPictures}
@@ -15,14 +15,14 @@ use Rattle.prl_skips.proofs.RangeLemmas.{range_same, drop_range, put_length, put
 use Rattle.style_sheet.specs.declared.styles.Style.{Style}
 use Rattle.style_sheet.specs.declared.styles.Kind.{Kind}
 use Rattle.style_sheet.specs.declared.styles.Kind.TheVariants.{Para, Char, Other}
-use Rattle.style_sheet.specs.Counted.{even_up, counted_end, counted_bytes, IsCounted}
+use Rattle.style_sheet.specs.Counted.{even_up, counted_end, counted_bytes, IsCountedPart}
 use Rattle.style_sheet.specs.StyleDefinition.{stk, cupx, name_len, upxes_start, upx_place, upx, paragraph_list}
 use Rattle.style_sheet.specs.StyleDefinition.{IsStd, IsMapOf, SpellsKind, SpellsStyle, base_of}
 use Rattle.part_skips.specs.Sheets.{SkipsCounted, SkipsBothLists, SkipsOneList, StaysOther, SkipsStd}
 
 -- ---- maps
 
-pub map_before : (old new : List ℕ) (groups : ℕ) (made : Settings) → HoldsNoPictures groups → SkipsOrStays old new →
+pub map_before : (old new : List ℕ) (groups : ℕ) (made : Properties) → HoldsNoPictures groups → SkipsOrStays old new →
     IsMapOf new groups made → IsMapOf old groups made
 map_before old new groups made none skips is = elim skips [
   | inr stays ↦ subst (λ l. IsMapOf l groups made) stays.1 is
@@ -36,7 +36,7 @@ map_before old new groups made none skips is = elim skips [
       }
 ]
 
-pub map_after : (old new : List ℕ) (groups : ℕ) (made : Settings) → HoldsNoPictures groups → SkipsOrStays old new →
+pub map_after : (old new : List ℕ) (groups : ℕ) (made : Properties) → HoldsNoPictures groups → SkipsOrStays old new →
     IsMapOf old groups made → IsMapOf new groups made
 map_after old new groups made none skips is = elim skips [
   | inr stays ↦ subst (λ l. IsMapOf l groups made) (sym stays.1) is
@@ -168,7 +168,7 @@ both_lists base old new std s =
 
 -- the second list is still counted where the first is skipped
 pub second_counted : (base : ℕ) (old mid : List ℕ) → IsStd old base → stk old ≡ 1 →
-    SkipsCounted (upx_place old base 0) 2 old mid → IsCounted mid (upx_place old base 1)
+    SkipsCounted (upx_place old base 0) 2 old mid → IsCountedPart mid (upx_place old base 1)
 second_counted base old mid std para first =
     let p = upx_place old base 0 in
     let q = upx_place old base 1 in
@@ -234,16 +234,16 @@ style_like base old new style same kinds is high =
     }
 
 para_kind : (base : ℕ) (old new : List ℕ) (kind : Kind) → stk old ≡ 1 → stk new ≡ 1 →
-    ((made : Settings) → IsMapOf (paragraph_list old base) paragraph_groups made → IsMapOf (paragraph_list new base)
+    ((made : Properties) → IsMapOf (paragraph_list old base) paragraph_groups made → IsMapOf (paragraph_list new base)
     paragraph_groups made) →
-    ((made : Settings) → IsMapOf (upx old base 1) character_groups made → IsMapOf (upx new base 1) character_groups
+    ((made : Properties) → IsMapOf (upx old base 1) character_groups made → IsMapOf (upx new base 1) character_groups
     made) → SpellsKind old base kind → SpellsKind new base kind
 para_kind base old new (Para pap chp) was now paps chps is = (now, (paps pap is.1.0, chps chp is.1.1))
 para_kind base old new (Char chp) was now paps chps is = absurd (let two = is.0 in omega arith)
 para_kind base old new (Other number upxes) was now paps chps is = absurd (let three = is.1.0 in omega arith)
 
 char_kind : (base : ℕ) (old new : List ℕ) (kind : Kind) → stk old ≡ 2 → stk new ≡ 2 →
-    ((made : Settings) → IsMapOf (upx old base 0) character_groups made → IsMapOf (upx new base 0) character_groups
+    ((made : Properties) → IsMapOf (upx old base 0) character_groups made → IsMapOf (upx new base 0) character_groups
     made) → SpellsKind old base kind → SpellsKind new base kind
 char_kind base old new (Para pap chp) was now chps is = absurd (let one = is.0 in omega arith)
 char_kind base old new (Char chp) was now chps is = (now, chps chp is.1)

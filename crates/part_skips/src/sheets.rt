@@ -1,7 +1,7 @@
 // [MS-DOC] STSH: the lists of its styles, skipped in place.
 ghost use Rattle.std.specs.Prelude.{◌≡◌, ◌^◌, ◌<◌, ◌≤◌, length};
 ghost use Rattle.doc_bits.specs.Number.{u16_at};
-ghost use Rattle.style_sheet.specs.Counted.{IsCounted};
+ghost use Rattle.style_sheet.specs.Counted.{IsCountedPart};
 ghost use Rattle.style_sheet.specs.StyleDefinition.{IsStd};
 ghost use Rattle.style_sheet.specs.Stsh.{HasStshif, IsSlotAt, AreSlots};
 ghost use Rattle.part_skips.specs.Sheets.{SkipsCounted, SkipsStd, PutsSlot, SkipsSlots, SkipsSheet, PutsSheet};
@@ -82,7 +82,7 @@ fn skip_std(std: &mut [u8], base: usize)
 
 /// Skips the codes of the list that stands behind so many bytes of what is counted at a place.
 fn skip_counted(bytes: &mut [u8], at: usize, head: usize)
-    requires counted { IsCounted bytes.old at }
+    requires counted { IsCountedPart bytes.old at }
     requires head { head ≤ u16_at bytes.old at }
     ensures { SkipsCounted at head bytes.old bytes.new }
 {

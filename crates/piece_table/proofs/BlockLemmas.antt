@@ -4,8 +4,8 @@ use Rattle.std.proofs.Common.{refl, sym, ap, ◌∙◌, arith}
 use Rattle.std.proofs.lemmas.List.{take_all}
 use Rattle.std.proofs.lemmas.List.Sums.{sum_by-cons, sum_by-set}
 use Rattle.std.proofs.lemmas.Option.{slice_get_within, get_or_from_slice_get}
-use Rattle.block_lists.specs.declared.places.Spot.{Spot as Place}
-use Rattle.block_lists.specs.Blocks.{units_of, IsSpotOf}
+use Rattle.chunked_list.specs.declared.places.Spot.{Spot as Place}
+use Rattle.chunked_list.specs.Blocks.{units_of, IsSpotOf}
 use Rattle.prop_map.specs.declared.modifiers.Modifier.{Modifier}
 use Rattle.piece_table.specs.declared.pieces.Entry.{Entry}
 use Rattle.piece_table.specs.Piece.{IsPiece, ArePieces}

@@ -1,7 +1,7 @@
 -- The parts of a Clx are the only ones, and the walk over its Prcs finds them.
 use Rattle.std.proofs.Common.{◌≡◌, ℕ, suc, ◌+◌, ◌-◌, ◌≤◌, List, [], ◌∷◌, ◌++◌, length, take, drop, flat_map, All}
 use Rattle.std.proofs.Common.{refl, sym, ap, ◌∙◌, subst, drop-drop, arith, append_assoc, length-append, length-drop}
-use Rattle.std.proofs.lemmas.List.{append-nil, take_all}
+use Rattle.std.proofs.lemmas.List.{append-nil}
 use Rattle.std.proofs.lemmas.Grind.{flat_map-append}
 use Rattle.std.proofs.lemmas.List.Elements.{All-push}
 use Rattle.doc_bits.specs.Rules.{IsLeast, Nowhere}
@@ -124,10 +124,6 @@ prcs_more clx prcs at size are before front =
       within = omega (arith, length-drop at clx);
     } in
     subst (λ g. ArePrcs clx (prcs ++ g ∷ []) (at + 3 + size)) (sym same) more
-
--- a slice from an offset on
-pub rest_is : (xs : List ℕ) (at : ℕ) → take (length xs - at) (drop at xs) ≡ drop at xs
-rest_is xs at = take_all (length xs - at) (drop at xs) (omega (arith, length-drop at xs))
 
 -- where the rest begins
 pub prcs_place : (clx : List ℕ) (prcs : List (List ℕ)) (at : ℕ) → ArePrcs clx prcs at →

@@ -12,10 +12,10 @@ use Rattle.doc_bits.specs.Rules.{Among, Nowhere}
 use Rattle.doc_bits.proofs.NumberLemmas.{length-number_bytes}
 use Rattle.sprm_table.specs.declared.operands.OperandSize.{OperandSize}
 use Rattle.sprm_table.specs.declared.operands.OperandSize.TheVariants.{Fixed, CountedByByte, CountedByWord}
-use Rattle.sprm_table.specs.Codes.{class_of, is_held, is_setting, is_clear}
+use Rattle.sprm_table.specs.Codes.{class_of, is_held, is_property, is_clear}
 use Rattle.sprm_table.specs.Operands.{size_of, operand_bytes}
 use Rattle.sprm_table.specs.Sprm.{Prl, spelling}
-use Rattle.prop_map.specs.Settings.{Settings}
+use Rattle.prop_map.specs.Settings.{Properties}
 use Rattle.prop_map.specs.Acting.{is_kept, concerns_code, left_by, value_after, ArePropertiesAfter}
 use Rattle.prop_map.specs.Formed.{character_groups, paragraph_groups}
 use Rattle.prop_map.specs.Printing.{printed_list}
@@ -39,11 +39,12 @@ use Rattle.piece_table.proofs.SprmModifierLemmas.{none_does}
 
 -- ---- one sprm
 
-concerns_same : (held same setting clear other : Bool) → setting ≡ true → clear ≡ false → ((held && (same && setting))
+concerns_same : (held same property clear other : Bool) → property ≡ true → clear ≡ false → ((held && (same &&
+    property))
     || (held && (clear && other))) ≡ true → same ≡ true
-concerns_same true true setting clear other s k e = refl
-concerns_same true false setting clear other s k e = cc
-concerns_same false same setting clear other s k e = cc
+concerns_same true true property clear other s k e = refl
+concerns_same true false property clear other s k e = cc
+concerns_same false same property clear other s k e = cc
 
 -- what one sprm leaves where nothing was is its own value, at its own code
 value_one : (groups code key : ℕ) (value found : List ℕ) → value_after ((code, value) ∷ []) groups key None ≡ Some
@@ -56,12 +57,12 @@ value_one groups code key value found e =
       | true ↦ λ concerns.
           let left : left_by (Some (code, value)) None ≡ Some found = ap (λ b. left_by (last_or None
           (cond b ((code, value) ∷ []) [])) None) (sym concerns) ∙ e in
-          elim (is_setting (class_of code)) as (λ b. is_setting (class_of code) ≡ b → (key ≡ code) × (found ≡ value)) [
+          elim (is_property (class_of code)) as (λ b. is_property (class_of code) ≡ b → (key ≡ code) × (found ≡ value)) [
             | false ↦ λ sets. let nothing : None ≡ Some found = ap (λ b. cond b (Some value) None) (sym sets) ∙ left
                 in absurd (cc (nothing))
             | true ↦ λ sets.
                 let there : Some value ≡ Some found = ap (λ b. cond b (Some value) None) (sym sets) ∙ left in
-                let same = concerns_same (is_held groups code) (key == code) (is_setting (class_of code))
+                let same = concerns_same (is_held groups code) (key == code) (is_property (class_of code))
                 (is_clear (class_of code)) (not (is_kept key)) sets (sets_not_clears (class_of code) sets)
                 concerns in
                 (eqb-true key code same, cc (there))
@@ -69,7 +70,7 @@ value_one groups code key value found e =
     ] refl
 
 -- a map that has one code at most has one entry at most
-one_entry : (m : Settings) (code : ℕ) (value : List ℕ) (es : List Prl) → entries m ≡ es →
+one_entry : (m : Properties) (code : ℕ) (value : List ℕ) (es : List Prl) → entries m ≡ es →
     ((key : ℕ) (found : List ℕ) → get m key ≡ Some found → (key ≡ code) × (found ≡ value)) →
     length (flat_map spelling es) ≤ length (spelling (code, value))
 one_entry m code value [] is one = omega arith
@@ -104,7 +105,7 @@ sprm_short code operand =
       operand_short (size_of code) operand,
     )
 
-map_short : (groups code operand : ℕ) (m old : Settings) → ((key : ℕ) → get old key ≡ None) → ArePropertiesAfter
+map_short : (groups code operand : ℕ) (m old : Properties) → ((key : ℕ) → get old key ≡ None) → ArePropertiesAfter
     ((code, operand ∷ []) ∷ []) groups old m → length (printed_list m) ≤ 5
 map_short groups code operand m old none after =
     let short = one_entry m code (operand ∷ []) (entries m) refl (λ key found there. value_one groups code key
@@ -125,7 +126,7 @@ sprm_fits code operand modifier does = record {
 
 -- ---- each piece
 
-none_fits : FitsPages no_modifier
+pub none_fits : FitsPages no_modifier
 none_fits = record { chp = rw entries-empty (omega arith); pap = rw entries-empty (omega arith) }
 
 -- what is not too long fits

@@ -7,8 +7,8 @@ use Rattle.std.proofs.lemmas.Bool.{cases_lt}
 use Rattle.std.proofs.lemmas.List.{length-take-le, get_or-take, get_or-drop, get_or_default}
 use Rattle.std.proofs.lemmas.List.Elements.{All-get_or}
 use Rattle.std.proofs.lemmas.List.Sums.{sum_by_more}
-use Rattle.block_lists.specs.declared.places.Spot.{Spot as Place}
-use Rattle.block_lists.specs.Blocks.{IsSpotOf}
+use Rattle.chunked_list.specs.declared.places.Spot.{Spot as Place}
+use Rattle.chunked_list.specs.Blocks.{IsSpotOf}
 use Rattle.std.proofs.lemmas.Option.{slice_get_within, get_or_from_slice_get}
 use Rattle.prop_map.specs.declared.modifiers.Modifier.{Modifier}
 use Rattle.prop_map.specs.Modifiers.{IsFormedModifier}

@@ -81,7 +81,7 @@ pub record IsFaultyPrc (parts : ClxParts) (at number place : ℕ) : Type 0 where
   pub there : slice_get parts.prcs number ≡ Some grpprl
   pub fault : From (at + (prc_place parts.prcs number + 3)) (HasSprmFaultAt grpprl prc_groups) place
 
--- Profile: the settings of a modifier fit a page, as those of characters and of a mark
+-- Profile: the properties of a modifier fit a page, as those of characters and of a mark
 pub record FitsPages (modifier : Modifier) : Type 0 where
   pub chp : length (printed_list modifier.chp) ≤ 255
   pub pap : length (printed_list modifier.pap) ≤ 480

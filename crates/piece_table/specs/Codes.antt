@@ -2,13 +2,13 @@
 use Rattle.std.specs.Prelude.{ℕ, List, Bool, Option, refl}
 use Rattle.std.specs.Coded.{Coded, code_by, coded×, coded_ℕ, coded_bool, coded_list, coded_option}
 use Rattle.prop_map.specs.declared.modifiers.Modifier.{Modifier}
-use Rattle.prop_map.specs.Settings.{Settings, settings_code}
+use Rattle.prop_map.specs.Settings.{Properties, properties_code}
 use Rattle.piece_table.specs.Piece.{TextPiece, PieceTable}
 
 abbrev pub modifier_code : Coded Modifier
 modifier_code =
-    code_by (Option ℕ × (Bool × (Settings × Settings)))
-    (coded× (coded_option coded_ℕ) (coded× coded_bool (coded× settings_code settings_code)))
+    code_by (Option ℕ × (Bool × (Properties × Properties)))
+    (coded× (coded_option coded_ℕ) (coded× coded_bool (coded× properties_code properties_code)))
     (λ m. (m.istd, (m.clear, (m.chp, m.pap))))
     (λ p. record { istd = p.0; clear = p.1.0; chp = p.1.1.0; pap = p.1.1.1 })
     (λ _. refl)

@@ -6,7 +6,7 @@ ghost use Rattle.prop_map.specs.Modifiers.{IsFormedModifier};
 ghost use Rattle.piece_table.specs.Piece.{ArePieces, IsPiece, IsNoLarger, flat_pieces, total_length};
 ghost use Rattle.piece_table.specs.Changes.{IsSpot, HasBegin, fresh_places, fresh_units, AreModified};
 
-use crate::cutting::{cut, cut_range, met, put, units_of};
+use crate::cutting::{cut, cut_range, entries_in, put, units_of};
 use crate::renumber::{Copies, Renumbering, compose_all, copy_all};
 use crate::{Piece, PieceList, Spot};
 use doc_bits::{Ledger, Memory, Steps};
@@ -108,7 +108,7 @@ impl PieceList {
         ensures memory { OnOk result (IsNoLarger self.old self.new) }
     {
         let alloc = *self.modifiers.allocator();
-        let range = met(&self.entries, from, to)?;
+        let range = entries_in(&self.entries, from, to)?;
         let numbers = compose_all(alloc, &range, &mut self.modifiers, by)?;
         let (first, last) = cut_range(&mut self.entries, from, to, self.total);
         self.entries.change(first, last, &Renumbering { numbers });

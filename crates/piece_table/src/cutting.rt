@@ -7,7 +7,7 @@ ghost use Rattle.piece_table.specs.Cuts.{entry_units, front_entry, back_entry, f
 ghost use Rattle.piece_table.specs.Cuts.{IsCut, IsCutTwice, AreMet};
 
 use crate::pieces::{Entry, Piece};
-use block_lists::BlockList;
+use chunked_list::BlockList;
 use doc_bits::Memory;
 
 impl Entry {
@@ -123,7 +123,11 @@ pub(crate) fn units_of(fresh: Option<Piece>) -> u32
 }
 
 /// The entries that a range of CPs meets.
-pub(crate) fn met(entries: &BlockList<Entry>, from: u32, to: u32) -> Result<Vec<Entry>, Memory>
+pub(crate) fn entries_in(
+    entries: &BlockList<Entry>,
+    from: u32,
+    to: u32,
+) -> Result<Vec<Entry>, Memory>
     requires order { from < to }
     requires within { to ≤ entry_units entries.now.items }
     requires few { length entries.now.items < 2 ^ 32 }

@@ -22,7 +22,7 @@ const RULE_PRM: u8 = 30;
 const MAX_PIECES: usize = 16_384;
 
 /// Names the first broken rule on the pieces. `base` is where their Plc begins in the table stream.
-pub fn judge(
+pub fn check(
     plc: &Plc<'_>,
     base: u32,
     prcs: usize,
@@ -47,7 +47,7 @@ pub fn judge(
             offset,
         });
     }
-    if let Some(offset) = unread(plc, base, prcs) {
+    if let Some(offset) = first_unread(plc, base, prcs) {
         return Err(ClxFault::Rule {
             rule: RULE_PRM,
             offset,
@@ -110,7 +110,7 @@ fn is_outside(piece: Piece, bounds: TextBounds) -> bool
 }
 
 /// The first piece whose Prm is not read: the place of the Prm.
-fn unread(plc: &Plc<'_>, base: u32, prcs: usize) -> Option<u32>
+fn first_unread(plc: &Plc<'_>, base: u32, prcs: usize) -> Option<u32>
     requires table { IsPlcPcd plc.now }
     requires place { base + length plc.now.bytes < 2 ^ 32 }
     ensures { LeastOrNone (Among plc.now.count (IsUnread plc.now base prcs)) result }

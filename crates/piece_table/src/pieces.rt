@@ -2,7 +2,7 @@ ghost use Rattle.std.specs.Prelude.{◌≡◌, ◌+◌, ◌*◌, ◌^◌, ◌<�
 ghost use Rattle.std.specs.Prelude.{length, map, slice_get, Some, option_map, IfOk};
 ghost use Rattle.piece_table.specs.Piece.{PieceTable, total_length, unit_bytes, piece_end, IsPiece};
 
-use block_lists::{BlockList, Measured};
+use chunked_list::{BlockList, Measured};
 use doc_bits::Memory;
 use prop_map::Modifier;
 use std::alloc::Global;

@@ -8,7 +8,7 @@ ghost use Rattle.piece_table.specs.Front.{clx_parts};
 ghost use Rattle.piece_table.specs.Piece.{total_length, bare_piece};
 
 use crate::collect::pieces_of;
-use crate::judge::judge;
+use crate::judge::check;
 use crate::parts::{Parts, parts_of};
 use crate::prcs::{faulty_prc, named_prcs, prc_modifiers};
 use crate::{ClxFault, PieceList, TextBounds};
@@ -65,7 +65,7 @@ fn read_parts(
     ensures total { IfOk result (λ list. total_length list.pieces ≡ text_len) }
     ensures fit { IfOk result (λ list. All (λ piece. FitsPages piece.modifier) list.pieces) }
 {
-    judge(
+    check(
         &parts.plc,
         at + parts.place as u32,
         parts.prcs.len(),

@@ -11,7 +11,7 @@ use std::alloc::Global;
 impl PieceList {
     /// The pieces again, each at the byte of `WordDocument` that is given beside it, or where it was. A piece at a new
     /// place has units of two bytes and no modifier.
-    pub fn renewed(&self, alloc: Global, places: &[Option<u32>]) -> Result<PieceList, Memory>
+    pub fn renew(&self, alloc: Global, places: &[Option<u32>]) -> Result<PieceList, Memory>
         requires places { AreNewPlaces places.now self.now.pieces }
         ensures { IfOk result (λ list. list.pieces ≡ renewed_pieces places.now self.now.pieces) }
     {
@@ -38,7 +38,7 @@ fn moved(alloc: Global, entries: &[Entry], places: &[Option<u32>]) -> Result<Vec
 }
 
 impl Entry {
-    /// The same entry, or one at a new place.
+    /// The entry, or one at a new place.
     fn moved(self, place: Option<u32>) -> Entry
         ensures { result ≡ moved_entry place self }
     {

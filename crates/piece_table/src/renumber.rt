@@ -8,7 +8,7 @@ ghost use Rattle.piece_table.specs.Cuts.{renumbered};
 ghost use Rattle.piece_table.specs.Renumbering.{HaveComposed, HaveCopied};
 
 use crate::pieces::Entry;
-use block_lists::Mapping;
+use chunked_list::Mapping;
 use doc_bits::Memory;
 use prop_map::Modifier;
 use std::alloc::Global;

@@ -4,7 +4,7 @@ ghost use Rattle.prop_map.specs.Modifiers.{IsFormedModifier};
 ghost use Rattle.piece_table.specs.Piece.{bare_piece, IsPiece};
 
 use crate::pieces::{Entry, Piece, PieceList};
-use block_lists::Walk;
+use chunked_list::Walk;
 use prop_map::Modifier;
 use std::marker::Model;
 

@@ -20,7 +20,7 @@ use Rattle.style_sheet.specs.Formed.{IsFormedStyle, IsFormedSlot, IsFormedSheet}
 use Rattle.doc_parts.specs.Bookmarks.{HasFileNumbers}
 use Rattle.plain_doc.specs.Document.{HasPropertyMaps, IsFormedItem, IsFormedText}
 use Rattle.plain_doc.specs.NothingCarried.{empty_parts_are_short, no_lists, no_flags, no_streams}
-use Rattle.plain_doc.specs.Blank.{blank_item, one_setting, normal_style, heading_style, default_font_style}
+use Rattle.plain_doc.specs.Blank.{blank_item, one_property, normal_style, heading_style, default_font_style}
 use Rattle.plain_doc.specs.Blank.{blank_sheet, word_clsid, blank_carried, blank_document}
 use Rattle.doc_bits.specs.Number.{AreBytes}
 use Rattle.doc_bits.proofs.ByteListLemmas.{no_bytes, one_byte}
@@ -57,11 +57,11 @@ blank_item_maps =
 
 -- ---- the styles
 
-pub outline_level : IsPropertyMap paragraph_groups (one_setting 0x2640 0)
+pub outline_level : IsPropertyMap paragraph_groups (one_property 0x2640 0)
 outline_level =
     stay_formed paragraph_groups empty (0x2640, 0 ∷ []) (IsPropertyMap-empty paragraph_groups)
     (record {
-      setting = record {
+      property = record {
         entry = record { some = omega arith; word = omega arith; size = refl };
         held = refl;
         sets = refl;
@@ -69,11 +69,11 @@ outline_level =
       bytes = one_byte 0 (omega arith);
     })
 
-pub bold : IsPropertyMap character_groups (one_setting 0x0835 1)
+pub bold : IsPropertyMap character_groups (one_property 0x0835 1)
 bold =
     stay_formed character_groups empty (0x0835, 1 ∷ []) (IsPropertyMap-empty character_groups)
     (record {
-      setting = record {
+      property = record {
         entry = record { some = omega arith; word = omega arith; size = refl };
         held = refl;
         sets = refl;

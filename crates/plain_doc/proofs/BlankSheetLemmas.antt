@@ -17,15 +17,15 @@ use Rattle.style_sheet.specs.Chain.{kind_at, kind_in, base_at, AreOfOneKind, IsB
 use Rattle.style_sheet.specs.Counted.{written_counted}
 use Rattle.style_sheet.specs.Written.{word, written_stk, written_base, written_slot, written_front, written_sheet}
 use Rattle.style_sheet.specs.Written.{IsWritable}
-use Rattle.plain_doc.specs.Blank.{one_setting, normal_style, heading_style, default_font_style, blank_sheet}
+use Rattle.plain_doc.specs.Blank.{one_property, normal_style, heading_style, default_font_style, blank_sheet}
 use Rattle.plain_doc.specs.RulesOfSheet.{HasShortKind, HasShortStyle}
 
--- ---- the bytes of their settings
+-- ---- the bytes of their properties
 
 pub none_printed : printed_list empty ≡ []
 none_printed = ap (flat_map spelling) entries-empty
 
-pub one_printed : (code byte : ℕ) → printed_list (one_setting code byte) ≡ flat_map spelling ((code, byte ∷ []) ∷ [])
+pub one_printed : (code byte : ℕ) → printed_list (one_property code byte) ≡ flat_map spelling ((code, byte ∷ []) ∷ [])
 one_printed code byte =
     ap (flat_map spelling)
     (entries-insert nat_cmp_total empty code (byte ∷ []) ∙ ap (put nat_cmp code (byte ∷ [])) entries-empty)
@@ -59,7 +59,7 @@ slot (suc (suc (suc (suc (suc (suc (suc (suc (suc (suc (suc (suc (suc (suc (suc 
 
 one_kind : (istd i : ℕ) → 0 < kind_at blank_sheet istd → i < 1 →
     AreOfOneKind blank_sheet istd (slice_index (istd ∷ []) i)
-one_kind istd zero some low = record { settings = some; same = refl }
+one_kind istd zero some low = record { properties = some; same = refl }
 one_kind istd (suc i) some low = absurd (omega (arith, low))
 
 root_chain : (istd : ℕ) → base_at blank_sheet istd ≡ None → 0 < kind_at blank_sheet istd →
@@ -79,8 +79,8 @@ two_links zero low = refl
 two_links (suc i) low = absurd (omega (arith, low))
 
 two_kinds : (i : ℕ) → i < 2 → AreOfOneKind blank_sheet 1 (slice_index (0 ∷ 1 ∷ []) i)
-two_kinds zero low = record { settings = omega arith; same = refl }
-two_kinds (suc zero) low = record { settings = omega arith; same = refl }
+two_kinds zero low = record { properties = omega arith; same = refl }
+two_kinds (suc zero) low = record { properties = omega arith; same = refl }
 two_kinds (suc (suc i)) low = absurd (omega (arith, low))
 
 two_once : (i j : ℕ) → i < j → j < 2 → slice_index (0 ∷ 1 ∷ []) i ≡ slice_index (0 ∷ 1 ∷ []) j → ⊥
@@ -112,7 +112,7 @@ chain_at istd (inr (inr (inr none))) some =
 pub blank_bases : HasSoundBases blank_sheet
 blank_bases = record { normal = refl; chains = λ istd some. chain_at istd (slot istd) some }
 
--- ---- their settings are short
+-- ---- their properties are short
 
 normal_short : HasShortKind normal_style.kind
 normal_short = let none = ap length none_printed in (omega (arith, none), omega (arith, none))
@@ -120,8 +120,8 @@ normal_short = let none = ap length none_printed in (omega (arith, none), omega 
 heading_short : HasShortKind heading_style.kind
 unfolding number_bytes
 heading_short =
-    let level : length (printed_list (one_setting 0x2640 0)) ≡ 3 = ap length (one_printed 0x2640 0) in
-    let bold : length (printed_list (one_setting 0x0835 1)) ≡ 3 = ap length (one_printed 0x0835 1) in
+    let level : length (printed_list (one_property 0x2640 0)) ≡ 3 = ap length (one_printed 0x2640 0) in
+    let bold : length (printed_list (one_property 0x0835 1)) ≡ 3 = ap length (one_printed 0x0835 1) in
     (omega (arith, level), omega (arith, bold))
 
 font_short : HasShortKind default_font_style.kind

@@ -108,7 +108,7 @@ slice_get-after : {A : Type 0} (xs ys : List A) → slice_get (xs ++ ys) (length
 slice_get-after [] ys = refl
 slice_get-after (x ∷ xs) ys = slice_get-after xs ys
 
-joins_nothing : {A : Type 0} (joins : A → A → Bool) (x : Option A) → joins_next joins x None ≡ false
+pub joins_nothing : {A : Type 0} (joins : A → A → Bool) (x : Option A) → joins_next joins x None ≡ false
 joins_nothing joins None = refl
 joins_nothing joins (Some x) = refl
 

@@ -28,7 +28,7 @@ ended_last list depth some fits =
     let e : depth ≡ (depth - 1) + 1 = omega arith in
     ap (λ n. ended (reverse (take n list))) e ∙ ap ended (turned list (depth - 1) (omega arith))
 
-characters-append : (front back : List Item) →
+pub characters-append : (front back : List Item) →
     field_characters (front ++ back) ≡ field_characters front ++ field_characters back
 characters-append front back =
     ap (λ items. map (λ item. item.unit) items) (filter-append (λ item. is_some item.fld) front back)

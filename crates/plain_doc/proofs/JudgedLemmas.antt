@@ -8,11 +8,11 @@ use Rattle.plain_doc.specs.declared.document.Document.{Document}
 use Rattle.plain_doc.specs.declared.rules_counts.Counts.{Counts}
 use Rattle.plain_doc.specs.declared.rules_texts.Side.TheVariants.{Notes, Heads}
 use Rattle.plain_doc.specs.Marks.{HasFormedBookmarks, most_bookmarks}
-use Rattle.plain_doc.specs.RulesOfItems.{IsWrongItem, HasShortSettings}
+use Rattle.plain_doc.specs.RulesOfItems.{IsWrongItem, HasShortProperties}
 use Rattle.plain_doc.specs.RulesOfSheet.{HasShortStyle, FitsStd, heads_of_sections, item_count, most_items}
-use Rattle.plain_doc.specs.Sound.{IsSound, IsRightSheet}
+use Rattle.plain_doc.specs.Sound.{IsSound, IsValidSheet}
 use Rattle.plain_doc.specs.TextRules.{BreaksText}
-use Rattle.plain_doc.specs.TextWalk.{KeepsTextRules, AreRightTexts, AreTextsRight, HasCounts}
+use Rattle.plain_doc.specs.TextWalk.{KeepsTextRules, AreValidTexts, AreTextsRight, HasCounts}
 use Rattle.plain_doc.proofs.BookmarkRuleLemmas.{none_wrong_bookmarks}
 use Rattle.plain_doc.proofs.SheetLemmas.{no_style, texts_after}
 use Rattle.plain_doc.proofs.TextPlaceLemmas.{first_in_heads}
@@ -20,14 +20,14 @@ use Rattle.plain_doc.proofs.TextWalkLemmas.{texts_right}
 
 -- the texts of a document are its main text, its notes and its header texts
 pub all_texts : (document : Document) → KeepsTextRules document.sheet Main document.main →
-    AreRightTexts document.sheet Notes document.notes → AreRightTexts document.sheet Heads document.heads →
+    AreValidTexts document.sheet Notes document.notes → AreValidTexts document.sheet Heads document.heads →
     AreTextsRight document
 all_texts document main notes heads =
     texts_right document
     (λ rule. first_in_heads document (BreaksText rule document.sheet) None (main rule) (notes rule) (heads rule))
 
 -- what the counts and the bookmarks of a document are to be
-pub record HasRightCounts (document : Document) (counts : Counts) : Type 0 where
+pub record HasValidCounts (document : Document) (counts : Counts) : Type 0 where
   pub counted : HasCounts document.main counts
   pub notes : length document.notes ≡ counts.notes
   pub heads : length document.heads ≡ heads_of_sections counts.sections
@@ -36,8 +36,8 @@ pub record HasRightCounts (document : Document) (counts : Counts) : Type 0 where
   pub few_bookmarks : length document.bookmarks ≤ most_bookmarks
   pub names : Nowhere (HasSameName document.bookmarks)
 
-pub judged_sound : (document : Document) (counts : Counts) → AreTextsRight document → IsRightSheet document.sheet →
-    HasRightCounts document counts → IsSound document
+pub judged_sound : (document : Document) (counts : Counts) → AreTextsRight document → IsValidSheet document.sheet →
+    HasValidCounts document counts → IsSound document
 judged_sound document counts texts sheet right = record {
   rules = (
     texts.rules,
@@ -55,8 +55,8 @@ judged_sound document counts texts sheet right = record {
           ),
         ),
         (
-          texts_after document (λ part text. IsWrongItem (λ i item. HasShortSettings item) text)
-              (λ istd. ¬ (HasShortStyle document.sheet istd)) None sheet.short texts.settings,
+          texts_after document (λ part text. IsWrongItem (λ i item. HasShortProperties item) text)
+              (λ istd. ¬ (HasShortStyle document.sheet istd)) None sheet.short texts.properties,
           no_style (λ istd. ¬ (FitsStd document.sheet istd)) sheet.writable,
         ),
       ),

@@ -3,12 +3,12 @@ use Rattle.std.proofs.Common.{◌∙◌, sym}
 use Rattle.doc_bits.specs.Places.{Upto}
 use Rattle.doc_bits.proofs.RuleLemmas.{least_of_all}
 use Rattle.plain_doc.specs.Sound.{document_rules, FirstDocFaultIsLeast, SoundSheetIsWritable}
-use Rattle.plain_doc.specs.RightDocument.{SoundDocumentsAreRight}
-use Rattle.plain_doc.specs.Settings.{EqualSettingsAreSame}
+use Rattle.plain_doc.specs.RightDocument.{SoundDocumentsAreValid}
+use Rattle.plain_doc.specs.Settings.{EqualPropertiesAreSame}
 use Rattle.plain_doc.specs.Stretches.{ItemsAreCutIntoStretches, StretchesAreOne}
 use Rattle.plain_doc.proofs.CutLemmas.{are_stretches, stretches_only}
-use Rattle.plain_doc.proofs.RightLemmas.{sound_is_right, right_is_sound}
-use Rattle.plain_doc.proofs.SettingsLemmas.{same_settings-Decides}
+use Rattle.plain_doc.proofs.RightLemmas.{sound_is_valid, right_is_sound}
+use Rattle.plain_doc.proofs.SettingsLemmas.{same_properties-Decides}
 use Rattle.plain_doc.proofs.SoundLemmas.{document_rules-IsSingle, document_rules-Ascends}
 
 pub first_fault_least : FirstDocFaultIsLeast
@@ -16,11 +16,11 @@ first_fault_least document number place first =
     least_of_all Upto (document_rules document) 60 72 number place (document_rules-IsSingle document)
     (document_rules-Ascends document) first
 
-pub sound_are_right : SoundDocumentsAreRight
-sound_are_right document = (sound_is_right document, right_is_sound document)
+pub sound_are_valid : SoundDocumentsAreValid
+sound_are_valid document = (sound_is_valid document, right_is_sound document)
 
 pub sound_sheet_writable : SoundSheetIsWritable
-sound_sheet_writable document sound = (sound_is_right document sound).writable
+sound_sheet_writable document sound = (sound_is_valid document sound).writable
 
 pub cut_into_stretches : ItemsAreCutIntoStretches
 cut_into_stretches joins items = are_stretches joins items
@@ -29,5 +29,5 @@ pub one_cut : StretchesAreOne
 one_cut joins items one other cut another =
     stretches_only joins items one cut ∙ sym (stretches_only joins items other another)
 
-pub equal_are_same : EqualSettingsAreSame
-equal_are_same one other = same_settings-Decides one other
+pub equal_are_same : EqualPropertiesAreSame
+equal_are_same one other = same_properties-Decides one other

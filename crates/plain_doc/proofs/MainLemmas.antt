@@ -14,7 +14,7 @@ use Rattle.plain_doc.specs.declared.document.Document.{Document}
 use Rattle.plain_doc.specs.Document.{HasPropertyMaps, IsFormedItem, IsFormedText}
 use Rattle.plain_doc.specs.Paragraphs.{EndsParagraph, HasNoParagraphEnd}
 use Rattle.plain_doc.specs.RulesOfTexts.{last_unit}
-use Rattle.plain_doc.specs.RightDocument.{IsRightText, IsRightDocument}
+use Rattle.plain_doc.specs.RightDocument.{IsValidText, IsValidDocument}
 
 -- the last item of a text, a paragraph mark
 pub record HasLastMark (text : List Item) : Type 0 where
@@ -23,7 +23,7 @@ pub record HasLastMark (text : List Item) : Type 0 where
   pub here : slice_get text (length text - 1) ≡ Some item
   pub unit : item.unit ≡ paragraph_mark
 
-pub main_right : (document : Document) → IsRightDocument document → IsRightText document.sheet Main document.main
+pub main_right : (document : Document) → IsValidDocument document → IsValidText document.sheet Main document.main
 main_right document right = right.texts Main document.main refl
 
 -- a text that ends with the unit of a paragraph's end has an item there
@@ -40,35 +40,35 @@ ends_with_mark text unit = elim (slice_get_cases text (length text - 1)).1 [
   | inr past ↦ absurd (none-some paragraph_mark (sym (ap (option_map (λ i. i.unit)) past.1) ∙ unit))
 ]
 
-pub main_ends : (document : Document) → IsRightDocument document → HasLastMark document.main
+pub main_ends : (document : Document) → IsValidDocument document → HasLastMark document.main
 main_ends document right = elim (main_right document right).ends [
   | inl unit ↦ ends_with_mark document.main unit
   | inr head ↦ let e = ap rank head.0.1 in absurd (omega arith)
 ]
 
 -- the last item of the main text has a mark
-pub last_marked : (document : Document) (right : IsRightDocument document) → IsSome (main_ends document right).item.mark
+pub last_marked : (document : Document) (right : IsValidDocument document) → IsSome (main_ends document right).item.mark
 last_marked document right =
     let last = main_ends document right in
     let placed = (main_right document right).placed (length document.main - 1) last.item last.here in
     placed.mark.1 (inl last.unit)
 
 -- and a section ends there
-pub ends_main : (document : Document) (right : IsRightDocument document) → IsSome (main_ends document right).item.sect
+pub ends_main : (document : Document) (right : IsValidDocument document) → IsSome (main_ends document right).item.sect
 ends_main document right =
     let last = main_ends document right in
     let some = last.some in
     let placed = (main_right document right).placed (length document.main - 1) last.item last.here in
     placed.section.last refl (let e : length document.main - 1 + 1 ≡ length document.main = omega (arith, some) in e)
 
-pub last_ends : (document : Document) → IsRightDocument document →
+pub last_ends : (document : Document) → IsValidDocument document →
     EndsParagraph document.main (length document.main - 1)
 last_ends document right =
     let last = main_ends document right in
     record { item = last.item; here = last.here; marked = last_marked document right }
 
 -- a paragraph ends from each item on
-pub some_end : (document : Document) (pos : ℕ) → IsRightDocument document → pos < length document.main →
+pub some_end : (document : Document) (pos : ℕ) → IsValidDocument document → pos < length document.main →
     ¬ (HasNoParagraphEnd document.main pos)
 some_end document pos right h none = none (length document.main - 1) (omega (arith, h)) (last_ends document right)
 

@@ -9,7 +9,7 @@ use Rattle.style_sheet.specs.Sheet.{Sheet}
 use Rattle.plain_doc.specs.declared.item.Item.{Item}
 use Rattle.plain_doc.specs.RulesOfItems.{IsPlacedRight}
 use Rattle.plain_doc.specs.RulesOfTexts.{EndsRight}
-use Rattle.plain_doc.specs.RightDocument.{IsRightText}
+use Rattle.plain_doc.specs.RightDocument.{IsValidText}
 use Rattle.plain_doc.proofs.TextWalkLemmas.{last_is_mark}
 
 -- the three units that end a paragraph
@@ -61,7 +61,7 @@ section_unit part text i item ends placed here sect =
     ]
 
 pub marked_at_ends : (sheet : Sheet) (part : Where) (text : List Item) (i : ℕ) (item : Item) →
-    IsRightText sheet part text →
+    IsValidText sheet part text →
     slice_get text i ≡ Some item → is_some item.mark ≡ is_paragraph_end item.unit (is_some item.sect)
 unfolding EndsBy
 marked_at_ends sheet part text i item right here =

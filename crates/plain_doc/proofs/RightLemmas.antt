@@ -15,13 +15,13 @@ use Rattle.plain_doc.specs.declared.item.Item.{Item}
 use Rattle.plain_doc.specs.declared.document.Document.{Document}
 use Rattle.plain_doc.specs.Nesting.{field_characters, most_open, BreaksNesting}
 use Rattle.plain_doc.specs.Rows.{FitsRow, open_cells, BreaksRows, paragraph_value, is_row_mark, is_mark_outside}
-use Rattle.plain_doc.specs.RulesOfItems.{IsWrongItem, IsPlacedRight, HasMarkRight, HasSectionRight, HasShortSettings}
+use Rattle.plain_doc.specs.RulesOfItems.{IsWrongItem, IsPlacedRight, HasMarkRight, HasSectionRight, HasShortProperties}
 use Rattle.plain_doc.specs.RulesOfItems.{IsShortPap, IsShortSect, printed_length}
 use Rattle.plain_doc.specs.RulesOfTexts.{InTexts, text_of, EndsRight, HasWrongEnd, HasParagraphStyle, last_unit}
 use Rattle.plain_doc.specs.RulesOfSheet.{HasShortKind, note_count, head_count, item_count, most_items}
 use Rattle.plain_doc.specs.Marks.{most_bookmarks, HasWrongBookmarks}
 use Rattle.plain_doc.specs.Sound.{IsSound, document_rules}
-use Rattle.plain_doc.specs.RightDocument.{HoldsAtItems, IsRightText, IsRightDocument}
+use Rattle.plain_doc.specs.RightDocument.{HoldsAtItems, IsValidText, IsValidDocument}
 use Rattle.style_sheet.proofs.BaseLemmas.{unbroken_bases}
 use Rattle.plain_doc.proofs.WalkLemmas.{after_all}
 use Rattle.plain_doc.proofs.NestingLemmas.{nest_passes}
@@ -75,7 +75,7 @@ row_settled cells item wrong = record {
       (implied wrong (λ right. right.outside));
 }
 
-short_settled : (item : Item) → ¬ ¬ (HasShortSettings item) → HasShortSettings item
+short_settled : (item : Item) → ¬ ¬ (HasShortProperties item) → HasShortProperties item
 short_settled item wrong = record {
   chp = settled (at_most_or (printed_length item.chp) 255) (implied wrong (λ right. right.chp));
   pap =
@@ -108,7 +108,7 @@ items_right such text settles none i item here =
     settles i item (λ wrong. none i (record { item = item; there = here; wrong = wrong }))
 
 -- each is right, so none is wrong
-none_wrong : (such : ℕ → Item → Type 0) (text : List Item) → HoldsAtItems text such → (i : ℕ) →
+pub none_wrong : (such : ℕ → Item → Type 0) (text : List Item) → HoldsAtItems text such → (i : ℕ) →
     ¬ (IsWrongItem such text i)
 none_wrong such text right i wrong = wrong.wrong (right i wrong.item wrong.there)
 
@@ -121,7 +121,7 @@ in_text document breaks none part text there i broken =
 -- ---- from soundness
 
 text_right : (document : Document) → IsSound document → (part : Where) (text : List Item) →
-    text_of document part ≡ Some text → IsRightText document.sheet part text
+    text_of document part ≡ Some text → IsValidText document.sheet part text
 text_right document sound part text there = record {
   ends =
       settled (ends_or part text)
@@ -147,8 +147,8 @@ text_right document sound part text there = record {
       (in_text document (λ part text. IsWrongItem (λ place item. HasParagraphStyle document.sheet item) text)
       sound.rules.0.1.1.1.1 part text there);
   short =
-      items_right (λ i item. HasShortSettings item) text (λ i item. short_settled item)
-      (in_text document (λ part text. IsWrongItem (λ i item. HasShortSettings item) text)
+      items_right (λ i item. HasShortProperties item) text (λ i item. short_settled item)
+      (in_text document (λ part text. IsWrongItem (λ i item. HasShortProperties item) text)
       (λ place wrong. sound.rules.1.1.1.0 place (inr wrong)) part text there);
 }
 
@@ -160,8 +160,8 @@ bookmarks_few document sound =
       inl (refl, let more : most_bookmarks < length document.bookmarks = omega (arith, wrong) in more),
     ))
 
-pub sound_is_right : (document : Document) → IsSound document → IsRightDocument document
-sound_is_right document sound = record {
+pub sound_is_valid : (document : Document) → IsSound document → IsValidDocument document
+sound_is_valid document sound = record {
   texts = text_right document sound;
   notes =
       settled (equal_or (length document.notes) (note_count document.main))
@@ -191,19 +191,19 @@ sound_is_right document sound = record {
 -- ---- to soundness
 
 -- what each text says holds at each place of a rule on texts
-nowhere_in_texts : (document : Document) (breaks : Where → List Item → ℕ → Type 0) → IsRightDocument document →
-    ((part : Where) (text : List Item) → IsRightText document.sheet part text → (i : ℕ) → ¬ (breaks part text i)) →
+nowhere_in_texts : (document : Document) (breaks : Where → List Item → ℕ → Type 0) → IsValidDocument document →
+    ((part : Where) (text : List Item) → IsValidText document.sheet part text → (i : ℕ) → ¬ (breaks part text i)) →
     Nowhere (InTexts document breaks)
 nowhere_in_texts document breaks right none place w =
     none place.0 w.text (right.texts place.0 w.text w.there) place.1 w.broken
 
-unbroken : (document : Document) → IsRightDocument document → (istd : ℕ) → ¬ (BreaksBases document.sheet istd)
+unbroken : (document : Document) → IsValidDocument document → (istd : ℕ) → ¬ (BreaksBases document.sheet istd)
 unbroken document right istd broken = elim broken [
   | inl normal ↦ normal.1 right.bases.normal
-  | inr none ↦ let found = right.bases.chains istd none.settings in none.none found.0 found.1
+  | inr none ↦ let found = right.bases.chains istd none.properties in none.none found.0 found.1
 ]
 
-pub right_is_sound : (document : Document) → IsRightDocument document → IsSound document
+pub right_is_sound : (document : Document) → IsValidDocument document → IsSound document
 right_is_sound document right =
     let sheet = document.sheet in
     let ends = nowhere_in_texts document HasWrongEnd right (λ part text t i w. w.1 t.ends) in
@@ -224,8 +224,8 @@ right_is_sound document right =
     nowhere_in_texts document (λ part text. IsWrongItem (λ place item. HasParagraphStyle sheet item) text) right
     (λ part text t. none_wrong (λ i item. HasParagraphStyle sheet item) text t.styles) in
     let short =
-    nowhere_in_texts document (λ part text. IsWrongItem (λ i item. HasShortSettings item) text) right
-    (λ part text t. none_wrong (λ i item. HasShortSettings item) text t.short) in
+    nowhere_in_texts document (λ part text. IsWrongItem (λ i item. HasShortProperties item) text) right
+    (λ part text t. none_wrong (λ i item. HasShortProperties item) text t.short) in
     let marks : Nowhere (HasWrongBookmarks document) = λ place w. elim w.1 [
       | inl many ↦ omega (arith, many.1, right.few_bookmarks)
       | inr twice ↦ right.names place.1 twice.1

@@ -1,4 +1,4 @@
--- Two settings are the same where their entries are.
+-- Two properties are the same where their entries are.
 use Rattle.std.proofs.Common.{◌≡◌, ap, refl, List, [], ◌∷◌}
 use Rattle.std.specs.Prelude.{◌&&◌, ◌==◌}
 use Rattle.std.specs.Bool.{Decides}
@@ -7,8 +7,8 @@ use Rattle.std.specs.Str.{bytes_eq}
 use Rattle.std.proofs.lemmas.Bool.Decides.{Decides-and, Decides-like, Decides-eqb}
 use Rattle.std.proofs.lemmas.Slice.Eq.{bytes_eq-Decides}
 use Rattle.sprm_table.specs.Sprm.{Prl}
-use Rattle.prop_map.specs.Settings.{Settings}
-use Rattle.plain_doc.specs.Settings.{same_prls, same_settings}
+use Rattle.prop_map.specs.Settings.{Properties}
+use Rattle.plain_doc.specs.Settings.{same_prls, same_properties}
 
 heads : (a b : Prl) (more others : List Prl) → a ∷ more ≡ b ∷ others → (a.0 ≡ b.0) × ((a.1 ≡ b.1) × (more ≡ others))
 heads a b more others e =
@@ -24,6 +24,6 @@ same_prls-Decides (a ∷ more) (b ∷ others) =
     (Decides-and (a.0 == b.0) (bytes_eq a.1 b.1 && same_prls more others) (Decides-eqb a.0 b.0)
     (Decides-and (bytes_eq a.1 b.1) (same_prls more others) (bytes_eq-Decides a.1 b.1) (same_prls-Decides more others)))
 
-pub same_settings-Decides : (one other : Settings) → Decides (same_settings one other) (one ≡ other)
-same_settings-Decides one other =
+pub same_properties-Decides : (one other : Properties) → Decides (same_properties one other) (one ≡ other)
+same_properties-Decides one other =
     Decides-like _ (same_entries_map one other) (ap entries) (same_prls-Decides (entries one) (entries other))

@@ -7,11 +7,11 @@ use Rattle.doc_bits.specs.Rules.{Nowhere}
 use Rattle.style_sheet.specs.Sheet.{Sheet, style_at}
 use Rattle.style_sheet.specs.Written.{written_slot}
 use Rattle.plain_doc.specs.declared.rules_sheet.StyleRule.{StyleRule}
-use Rattle.plain_doc.specs.declared.rules_sheet.StyleRule.TheVariants.{Settings, Written}
-use Rattle.plain_doc.specs.StyleRules.{IsRightStyle, IsWrongStyle}
+use Rattle.plain_doc.specs.declared.rules_sheet.StyleRule.TheVariants.{Properties, Written}
+use Rattle.plain_doc.specs.StyleRules.{IsValidStyle, IsWrongStyle}
 
-right_past : (rule : StyleRule) (sheet : Sheet) (istd : ℕ) → style_at sheet istd ≡ None → IsRightStyle rule sheet istd
-right_past Settings sheet istd none = λ style is. absurd (none-some style (sym none ∙ is))
+right_past : (rule : StyleRule) (sheet : Sheet) (istd : ℕ) → style_at sheet istd ≡ None → IsValidStyle rule sheet istd
+right_past Properties sheet istd none = λ style is. absurd (none-some style (sym none ∙ is))
 right_past Written sheet istd none = subst (λ slot. length (written_slot istd slot) ≤ 32767) (sym none) (omega arith)
 
 wrong_within : (rule : StyleRule) (sheet : Sheet) (istd : ℕ) → IsWrongStyle rule sheet istd → istd < length sheet.styles

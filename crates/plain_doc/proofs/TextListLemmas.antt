@@ -8,7 +8,7 @@ use Rattle.std.proofs.lemmas.List.Concat.{flat_map-cons}
 use Rattle.std.proofs.lemmas.List.Elements.{All-nil, All-append}
 use Rattle.std.proofs.lemmas.Option.{same_Some, none-some, slice_get_within}
 use Rattle.doc_bits.proofs.TogetherLemmas.{in_front, in_back}
-use Rattle.prop_map.specs.Settings.{Settings}
+use Rattle.prop_map.specs.Settings.{Properties}
 use Rattle.doc_parts.specs.Cps.{AreCpsInOrder}
 use Rattle.doc_parts.specs.Stories.{cut_cps}
 use Rattle.doc_parts.proofs.CpLemmas.{Rise, rise_lower, Climb, climb_lower, climb_in_order}
@@ -102,7 +102,7 @@ some_collected what from (first ∷ items) (suc k) item here some =
 
 -- ---- where sections begin
 
-pub starts_rise : (start high : ℕ) (sections : List (ℕ × Settings)) →
+pub starts_rise : (start high : ℕ) (sections : List (ℕ × Properties)) →
     Rise start high (map (λ section. section.0) sections) → Rise start high (starts_from start sections)
 unfolding starts_from
 starts_rise start high [] rise = tt
@@ -117,20 +117,20 @@ starts_rise start high (section ∷ sections) rise =
       ),
     )
 
-pub first_start : (sections : List (ℕ × Settings)) → slice_index (starts_from 0 sections) 0 ≡ 0
+pub first_start : (sections : List (ℕ × Properties)) → slice_index (starts_from 0 sections) 0 ≡ 0
 unfolding starts_from
 first_start [] = refl
 first_start (section ∷ sections) = refl
 
 -- a later section begins right behind the last CP of the one before it
-pub next_start : (start : ℕ) (sections : List (ℕ × Settings)) (k : ℕ) (section : ℕ × Settings) →
+pub next_start : (start : ℕ) (sections : List (ℕ × Properties)) (k : ℕ) (section : ℕ × Properties) →
     slice_get sections k ≡ Some section → suc k < length sections →
     slice_index (starts_from start sections) (suc k) ≡ section.0 + 1
 unfolding starts_from
 next_start start [] k section here below = absurd (omega arith)
 next_start start (first ∷ []) k section here below = absurd (omega arith)
 next_start start (first ∷ (second ∷ sections)) zero section here below =
-    ap (λ (s : ℕ × Settings). s.0 + 1) (same_Some first section here)
+    ap (λ (s : ℕ × Properties). s.0 + 1) (same_Some first section here)
 next_start start (first ∷ (second ∷ sections)) (suc k) section here below =
     next_start (first.0 + 1) (second ∷ sections) k section here (omega arith)
 

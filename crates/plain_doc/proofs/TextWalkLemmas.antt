@@ -12,7 +12,7 @@ use Rattle.text_codes.specs.Paragraph.{paragraph_mark}
 use Rattle.style_sheet.specs.Sheet.{Sheet}
 use Rattle.plain_doc.specs.declared.item.Item.{Item}
 use Rattle.plain_doc.specs.declared.document.Document.{Document}
-use Rattle.plain_doc.specs.declared.rules_texts.ItemRule.TheVariants.{Placing, Styles, Settings}
+use Rattle.plain_doc.specs.declared.rules_texts.ItemRule.TheVariants.{Placing, Styles, Properties}
 use Rattle.plain_doc.specs.declared.rules_texts.TextRule.{TextRule}
 use Rattle.plain_doc.specs.declared.rules_texts.TextRule.TheVariants.{End, Fields, Rows, Each}
 use Rattle.plain_doc.specs.declared.text_walk.TextWalk.{TextWalk}
@@ -22,12 +22,13 @@ use Rattle.plain_doc.specs.Rows.{FitsRow, cells_after, is_row_mark, is_cell_mark
 use Rattle.plain_doc.specs.RulesOfItems.{IsWrongItem}
 use Rattle.plain_doc.specs.RulesOfSheet.{note_count, section_count}
 use Rattle.plain_doc.specs.RulesOfTexts.{EndsRight, InTexts, last_unit}
-use Rattle.plain_doc.specs.TextRules.{IsRightItem, BreaksText}
+use Rattle.plain_doc.specs.TextRules.{IsValidItem, BreaksText}
 use Rattle.plain_doc.specs.TextWalk.{PassesItem, HasPassed, KeepsTextRules, AreTextsRight}
 use Rattle.plain_doc.proofs.WalkLemmas.{after_all}
 use Rattle.plain_doc.proofs.FieldLemmas.{open_after, open_still, nothing_open}
 use Rattle.plain_doc.proofs.RowLemmas.{RightIn, open_cells-nil, open_cells_more, no_row_open}
 use Rattle.plain_doc.proofs.ItemLemmas.{right_there, wrong_within}
+use Rattle.doc_parts.proofs.ApartLemmas.{one_at_most}
 
 open_by : (has : Bool) (text : List Item) (i : ℕ) (item : Item) (fields next : Open) → i < length text →
     item ≡ get_or text i item → is_some item.fld ≡ has →
@@ -63,13 +64,9 @@ count_more such text i item h is =
     sum_by_more one text i item h ∙ ap (λ x. count_by such (take i text) + one x) (sym is) in
     omega arith
 
-one_or_none : (is : Bool) → cond is 1 0 ≤ 1
-one_or_none true = omega arith
-one_or_none false = omega arith
-
 -- of one item there is at most one
 at_most_one : (such : Item → Bool) (item : Item) → count_by such (item ∷ []) ≤ 1
-at_most_one such item = let few = one_or_none (such item) in omega arith
+at_most_one such item = let few = one_at_most (such item) in omega arith
 
 pub none_passed : (sheet : Sheet) (part : Where) (text : List Item) →
     HasPassed sheet part text 0 (record { fields = []; cells = 0; notes = 0; sections = 0 })
@@ -89,8 +86,8 @@ pub one_passed : (sheet : Sheet) (part : Where) (text : List Item) (i : ℕ) (it
     PassesItem sheet part (length text) i item before after → HasPassed sheet part text (i + 1) after
 one_passed sheet part text i item before after h is passed passes = record {
   right =
-      λ rule. below_more (λ k. IsWrongItem (IsRightItem rule sheet part (length text)) text k → ⊥) i
-      (passed.right rule) (right_there (IsRightItem rule sheet part (length text)) text i item is
+      λ rule. below_more (λ k. IsWrongItem (IsValidItem rule sheet part (length text)) text k → ⊥) i
+      (passed.right rule) (right_there (IsValidItem rule sheet part (length text)) text i item is
       (passes.right rule));
   rows =
       below_more (λ k. IsWrongItem (RightIn text) text k → ⊥) i passed.rows
@@ -135,12 +132,12 @@ all_passed sheet part text walk ends passed no_cells no_fields Fields =
 all_passed sheet part text walk ends passed no_cells no_fields Rows =
     no_row_open text passed.rows (sym passed.cells ∙ no_cells)
 all_passed sheet part text walk ends passed no_cells no_fields (Each rule) =
-    λ p wrong. passed.right rule p (wrong_within (IsRightItem rule sheet part (length text)) text p wrong) wrong
+    λ p wrong. passed.right rule p (wrong_within (IsValidItem rule sheet part (length text)) text p wrong) wrong
 
 -- texts that break none of the rules
 pub texts_right : (document : Document) →
     ((rule : TextRule) → Nowhere (InTexts document (BreaksText rule document.sheet))) → AreTextsRight document
 texts_right document right = record {
   rules = (right End, (right (Each Placing), (right Fields, (right Rows, right (Each Styles)))));
-  settings = right (Each Settings);
+  properties = right (Each Properties);
 }

@@ -2,7 +2,7 @@
 use Rattle.std.specs.Prelude.{ℕ, List, [], ◌∷◌, ◌++◌, replicate, codes, Some, None}
 use Rattle.std.specs.FinMap.{insert, empty}
 use Rattle.text_codes.specs.Paragraph.{paragraph_mark}
-use Rattle.prop_map.specs.Settings.{Settings}
+use Rattle.prop_map.specs.Settings.{Properties}
 use Rattle.style_sheet.specs.declared.styles.Style.{Style}
 use Rattle.style_sheet.specs.declared.styles.Kind.TheVariants.{Para, Char}
 use Rattle.style_sheet.specs.Sheet.{Sheet}
@@ -23,8 +23,8 @@ blank_item = record {
 }
 
 -- [MS-DOC] sprmPOutLvl 2640, sprmCFBold 0835
-abbrev pub one_setting : ℕ → ℕ → Settings
-one_setting code byte = insert empty code (byte ∷ [])
+abbrev pub one_property : ℕ → ℕ → Properties
+one_property code byte = insert empty code (byte ∷ [])
 
 abbrev pub normal_style : Style
 normal_style = record {
@@ -45,7 +45,7 @@ heading_style = record {
   next = 0;
   grfstd = 0;
   name = codes "heading 1";
-  kind = Para (one_setting 0x2640 0) (one_setting 0x0835 1);
+  kind = Para (one_property 0x2640 0) (one_property 0x0835 1);
 }
 
 abbrev pub default_font_style : Style

@@ -1,7 +1,7 @@
 -- What the items of a text have, listed by their CPs, and the CPs that cut texts which stand one after the other.
 use Rattle.std.specs.Prelude.{ℕ, ◌+◌, Bool, true, false, List, [], ◌∷◌, length, map, option_map, Option, Some, None}
 use Rattle.std.specs.List.{flat_map}
-use Rattle.prop_map.specs.Settings.{Settings}
+use Rattle.prop_map.specs.Settings.{Properties}
 use Rattle.doc_parts.specs.declared.lists.Fld.{Fld}
 use Rattle.doc_parts.specs.declared.lists.NoteRef.{NoteRef}
 use Rattle.plain_doc.specs.declared.item.Item.{Item}
@@ -23,7 +23,7 @@ collected what cp [] = []
 collected what cp (item ∷ items) = entry_before (what item) cp (collected what (cp + 1) items)
 
 -- the sections of the main text, by the CPs of their last items
-abbrev pub sections_of : List Item → List (ℕ × Settings)
+abbrev pub sections_of : List Item → List (ℕ × Properties)
 sections_of main = collected (λ item. item.sect) 0 main
 
 -- the unit and the byte of a field character

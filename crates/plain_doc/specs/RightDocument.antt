@@ -8,7 +8,7 @@ use Rattle.plain_doc.specs.declared.item.Item.{Item}
 use Rattle.plain_doc.specs.declared.document.Document.{Document}
 use Rattle.plain_doc.specs.Nesting.{AreFields, field_characters, most_open}
 use Rattle.plain_doc.specs.Rows.{FitsRow, open_cells}
-use Rattle.plain_doc.specs.RulesOfItems.{IsPlacedRight, HasShortSettings}
+use Rattle.plain_doc.specs.RulesOfItems.{IsPlacedRight, HasShortProperties}
 use Rattle.plain_doc.specs.RulesOfTexts.{text_of, EndsRight, HasParagraphStyle}
 use Rattle.plain_doc.specs.RulesOfSheet.{HasShortStyle, note_count, head_count, item_count, most_items}
 use Rattle.doc_bits.specs.Rules.{Nowhere}
@@ -21,21 +21,22 @@ abbrev pub HoldsAtItems : List Item → (ℕ → Item → Type 0) → Type 0
 HoldsAtItems text such = (i : ℕ) (item : Item) → slice_get text i ≡ Some item → such i item
 
 -- the text ends right, its items are right where they stand, its fields nest, and no row is open at its end
-pub record IsRightText (sheet : Sheet) (part : Where) (text : List Item) : Type 0 where
+pub record IsValidText (sheet : Sheet) (part : Where) (text : List Item) : Type 0 where
   pub ends : EndsRight part text
   pub placed : HoldsAtItems text (IsPlacedRight part (length text))
   pub fields : AreFields most_open (field_characters text)
   pub rows : HoldsAtItems text (λ i item. FitsRow (open_cells (take i text)) item)
   pub row_ends : open_cells text ≡ 0
   pub styles : HoldsAtItems text (λ i item. HasParagraphStyle sheet item)
-  pub short : HoldsAtItems text (λ i item. HasShortSettings item)
+  pub short : HoldsAtItems text (λ i item. HasShortProperties item)
 
 -- each text is right; there are as many notes and header texts as there should be, and not too many items; the styles
--- have bases that end, and settings that fit the pages of a file and an STD; the bookmarks are formed, and none has the
+-- have bases that end, and properties that fit the pages of a file and an STD; the bookmarks are formed, and none has
+-- the
 -- name of an earlier one
-pub record IsRightDocument (document : Document) : Type 0 where
+pub record IsValidDocument (document : Document) : Type 0 where
   pub texts :
-      (part : Where) (text : List Item) → text_of document part ≡ Some text → IsRightText document.sheet part text
+      (part : Where) (text : List Item) → text_of document part ≡ Some text → IsValidText document.sheet part text
   pub notes : length document.notes ≡ note_count document.main
   pub heads : length document.heads ≡ head_count document.main
   pub few : item_count document ≤ most_items
@@ -47,5 +48,5 @@ pub record IsRightDocument (document : Document) : Type 0 where
   pub names : Nowhere (HasSameName document.bookmarks)
 
 -- a document breaks no rule exactly where it is right in each place
-abbrev pub SoundDocumentsAreRight : Type 0
-SoundDocumentsAreRight = (document : Document) → IsSound document ↔ IsRightDocument document
+abbrev pub SoundDocumentsAreValid : Type 0
+SoundDocumentsAreValid = (document : Document) → IsSound document ↔ IsValidDocument document

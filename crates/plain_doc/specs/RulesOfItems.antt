@@ -4,7 +4,7 @@ use Rattle.std.specs.Option.{ForSome}
 use Rattle.doc_bits.specs.declared.places.Where.{Where}
 use Rattle.doc_bits.specs.declared.places.Where.TheVariants.{Main}
 use Rattle.text_codes.specs.Paragraph.{paragraph_mark, cell_mark, section_mark}
-use Rattle.prop_map.specs.Settings.{Settings}
+use Rattle.prop_map.specs.Settings.{Properties}
 use Rattle.prop_map.specs.Printing.{printed_list}
 use Rattle.plain_doc.specs.declared.item.Item.{Item}
 
@@ -40,21 +40,21 @@ pub record IsPlacedRight (part : Where) (len place : ℕ) (item : Item) : Type 0
   pub note : HasNoteRight part item
 
 -- the number of bytes that a map is printed as
-abbrev pub printed_length : Settings → ℕ
+abbrev pub printed_length : Properties → ℕ
 printed_length map = length (printed_list map)
 
 -- Profile: a Chpx holds 255 bytes, a Papx 480 beside its style number, a Sepx 500
-abbrev pub IsShortChp : Settings → Type 0
+abbrev pub IsShortChp : Properties → Type 0
 IsShortChp chp = printed_length chp ≤ 255
 
-abbrev pub IsShortPap : Settings → Type 0
+abbrev pub IsShortPap : Properties → Type 0
 IsShortPap pap = printed_length pap ≤ 480
 
-abbrev pub IsShortSect : Settings → Type 0
+abbrev pub IsShortSect : Properties → Type 0
 IsShortSect sect = printed_length sect ≤ 500
 
--- the settings of the item are short enough for the pages of a file
-pub record HasShortSettings (item : Item) : Type 0 where
+-- the properties of the item are short enough for the pages of a file
+pub record HasShortProperties (item : Item) : Type 0 where
   pub chp : IsShortChp item.chp
   pub pap : ForSome item.mark (λ mark. IsShortPap mark.pap)
   pub sect : ForSome item.sect IsShortSect

@@ -16,13 +16,13 @@ use Rattle.plain_doc.specs.RulesOfItems.{IsShortChp, IsShortPap}
 abbrev pub InSheet : (ℕ → Type 0) → Place → Type 0
 InSheet breaks place = (place.0 ≡ SheetPart) × breaks place.1
 
--- the settings of a style are short enough for the pages of a file
+-- the properties of a style are short enough for the pages of a file
 abbrev pub HasShortKind : Kind → Type 0
 HasShortKind (Para pap chp) = IsShortPap pap × IsShortChp chp
 HasShortKind (Char chp) = IsShortChp chp
 HasShortKind (Other stk upxes) = ⊤
 
--- the settings of the style of this number, where there is one
+-- the properties of the style of this number, where there is one
 abbrev pub HasShortStyle : Sheet → ℕ → Type 0
 HasShortStyle sheet istd = ForSome (style_at sheet istd) (λ style. HasShortKind style.kind)
 

@@ -10,7 +10,7 @@ use Rattle.plain_doc.specs.declared.document.Document.{Document}
 use Rattle.plain_doc.specs.Marks.{HasFormedBookmarks, HasWrongBookmarks}
 use Rattle.plain_doc.specs.Nesting.{BreaksNesting}
 use Rattle.plain_doc.specs.Rows.{BreaksRows}
-use Rattle.plain_doc.specs.RulesOfItems.{IsWrongItem, IsPlacedRight, HasShortSettings}
+use Rattle.plain_doc.specs.RulesOfItems.{IsWrongItem, IsPlacedRight, HasShortProperties}
 use Rattle.plain_doc.specs.RulesOfTexts.{InTexts, HasWrongEnd, HasParagraphStyle}
 use Rattle.plain_doc.specs.RulesOfSheet.{InSheet, HasShortStyle, FitsStd, note_count, head_count, IsOtherCount}
 use Rattle.plain_doc.specs.RulesOfSheet.{HasTooManyItems}
@@ -38,16 +38,16 @@ count_rules document =
     rule 68 (HasTooManyItems document) then
     rule 69 (HasWrongBookmarks document)
 
--- the settings of a style or of an item are too long for the pages of a file
-abbrev pub HasLongSettings : Document → Place → Type 0
-HasLongSettings document place =
+-- the properties of a style or of an item are too long for the pages of a file
+abbrev pub HasLongProperties : Document → Place → Type 0
+HasLongProperties document place =
     InSheet (λ istd. ¬ (HasShortStyle document.sheet istd)) place ⊎
-    InTexts document (λ part text. IsWrongItem (λ i item. HasShortSettings item) text) place
+    InTexts document (λ part text. IsWrongItem (λ i item. HasShortProperties item) text) place
 
--- the settings fit the pages of a file, and each style fits an STD
+-- the properties fit the pages of a file, and each style fits an STD
 abbrev pub size_rules : Document → Rules Place
 size_rules document =
-    rule 70 (HasLongSettings document) then
+    rule 70 (HasLongProperties document) then
     rule 71 (InSheet (λ istd. ¬ (FitsStd document.sheet istd)))
 
 abbrev pub document_rules : Document → Rules Place
@@ -58,7 +58,7 @@ document_rules document =
     size_rules document
 
 -- the styles of the sheet break no rule
-pub record IsRightSheet (sheet : Sheet) : Type 0 where
+pub record IsValidSheet (sheet : Sheet) : Type 0 where
   pub bases : Nowhere (BreaksBases sheet)
   pub short : Nowhere (λ istd. ¬ (HasShortStyle sheet istd))
   pub writable : Nowhere (λ istd. ¬ (FitsStd sheet istd))

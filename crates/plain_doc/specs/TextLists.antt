@@ -1,6 +1,6 @@
 -- The lists that a saved document has of its texts: the CPs that cut them, and where sections begin.
 use Rattle.std.specs.Prelude.{ℕ, ◌+◌, List, [], ◌∷◌}
-use Rattle.prop_map.specs.Settings.{Settings}
+use Rattle.prop_map.specs.Settings.{Properties}
 use Rattle.plain_doc.specs.declared.item.Item.{Item}
 use Rattle.plain_doc.specs.Collected.{cuts_from}
 
@@ -10,6 +10,6 @@ cuts_of [] texts = []
 cuts_of (item ∷ items) texts = cuts_from 0 texts
 
 -- where sections begin, by their last CPs: the first at a CP, and each later one right behind the one before it
-unfoldable pub starts_from : ℕ → List (ℕ × Settings) → List ℕ
+unfoldable pub starts_from : ℕ → List (ℕ × Properties) → List ℕ
 starts_from start [] = []
 starts_from start (section ∷ sections) = start ∷ starts_from (section.0 + 1) sections

@@ -15,12 +15,12 @@ use Rattle.plain_doc.specs.Nesting.{most_open, field_characters}
 use Rattle.plain_doc.specs.OpenFields.{after_item, after_all}
 use Rattle.plain_doc.specs.Rows.{FitsRow, open_cells, cells_after}
 use Rattle.plain_doc.specs.RulesOfSheet.{note_count, section_count}
-use Rattle.plain_doc.specs.RulesOfItems.{IsWrongItem, HasShortSettings}
+use Rattle.plain_doc.specs.RulesOfItems.{IsWrongItem, HasShortProperties}
 use Rattle.plain_doc.specs.RulesOfTexts.{InTexts, EndsRight}
 use Rattle.plain_doc.specs.Sound.{text_rules}
-use Rattle.plain_doc.specs.TextRules.{IsRightItem, BreaksText, InList}
+use Rattle.plain_doc.specs.TextRules.{IsValidItem, BreaksText, InList}
 
--- an item that ends nothing and has nothing beside its settings
+-- an item that ends nothing and has nothing beside its properties
 pub record IsPlain (item : Item) : Type 0 where
   pub mark : item.mark ≡ None
   pub sect : item.sect ≡ None
@@ -32,7 +32,7 @@ pub record IsPlain (item : Item) : Type 0 where
 -- the item breaks no rule where it stands, and what the walk carries after it
 pub record PassesItem (sheet : Sheet) (part : Where) (len place : ℕ) (item : Item) (before after : TextWalk) :
     Type 0 where
-  pub right : (rule : ItemRule) → IsRightItem rule sheet part len place item
+  pub right : (rule : ItemRule) → IsValidItem rule sheet part len place item
   pub row : FitsRow before.cells item
   pub cells : after.cells ≡ cells_after before.cells item
   pub fields : after_item most_open item before.fields ≡ Some after.fields
@@ -41,7 +41,7 @@ pub record PassesItem (sheet : Sheet) (part : Where) (len place : ℕ) (item : I
 
 -- the items before this place are passed, and what the walk carries then
 pub record HasPassed (sheet : Sheet) (part : Where) (text : List Item) (i : ℕ) (walk : TextWalk) : Type 0 where
-  pub right : (rule : ItemRule) (k : ℕ) → k < i → IsWrongItem (IsRightItem rule sheet part (length text)) text k → ⊥
+  pub right : (rule : ItemRule) (k : ℕ) → k < i → IsWrongItem (IsValidItem rule sheet part (length text)) text k → ⊥
   pub rows : (k : ℕ) → k < i → IsWrongItem (λ at item. FitsRow (open_cells (take at text)) item) text k → ⊥
   pub cells : walk.cells ≡ open_cells (take i text)
   pub fields : after_all most_open (field_characters (take i text)) (Some []) ≡ Some walk.fields
@@ -53,10 +53,10 @@ pub record HasPassed (sheet : Sheet) (part : Where) (text : List Item) (i : ℕ)
 abbrev pub KeepsTextRules : Sheet → Where → List Item → Type 0
 KeepsTextRules sheet part text = (rule : TextRule) → Nowhere (BreaksText rule sheet part text)
 
--- no text of the document does, and the settings of no item are too long
+-- no text of the document does, and the properties of no item are too long
 pub record AreTextsRight (document : Document) : Type 0 where
   pub rules : Hold (text_rules document)
-  pub settings : Nowhere (InTexts document (λ part text. IsWrongItem (λ i item. HasShortSettings item) text))
+  pub properties : Nowhere (InTexts document (λ part text. IsWrongItem (λ i item. HasShortProperties item) text))
 
 -- how many items of the text refer to notes, and how many end a section
 pub record HasCounts (text : List Item) (counts : Counts) : Type 0 where
@@ -71,5 +71,5 @@ EndsWalk walk counts =
     HasPassed sheet part text (length text) walk → KeepsTextRules sheet part text × HasCounts text counts
 
 -- no text of the list breaks one of the rules on texts
-abbrev pub AreRightTexts : Sheet → Side → List (List Item) → Type 0
-AreRightTexts sheet side texts = (rule : TextRule) → Nowhere (InList side texts (BreaksText rule sheet))
+abbrev pub AreValidTexts : Sheet → Side → List (List Item) → Type 0
+AreValidTexts sheet side texts = (rule : TextRule) → Nowhere (InList side texts (BreaksText rule sheet))

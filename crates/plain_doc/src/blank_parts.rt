@@ -1,29 +1,23 @@
 // The blank document.
 ghost use Rattle.std.specs.Prelude.{◌≡◌, ◌+◌, ◌<◌, ◌≤◌};
 ghost use Rattle.std.specs.Prelude.{[], ◌∷◌, ◌++◌, length, replicate, Some, None, IfOk};
-ghost use Rattle.plain_doc.specs.Blank.{blank_item, normal_style, heading_style, default_font_style, one_setting};
+ghost use Rattle.plain_doc.specs.Blank.{blank_item, normal_style, heading_style, default_font_style, one_property};
 ghost use Rattle.plain_doc.specs.Blank.{blank_sheet, blank_carried, blank_document};
 
 use crate::document::{AllTexts, OtherParts};
-use crate::rules_counts::{HEADS_A_SECTION, SEPARATORS};
+use crate::rules_counts::{HEADERS_PER_SECTION, SEPARATORS};
 use crate::{Carried, Document, Item, Items, Mark, Texts};
 use cfb_streams::Streams;
 use doc_bits::{Bytes, Memory, Units};
 use doc_parts::Bookmarks;
 use prop_map::PropMap;
-use sprm_table::Code;
+use sprm_table::{Code, SPRM_C_F_BOLD, SPRM_P_OUT_LVL};
 use std::alloc::Global;
 use style_sheet::{Kind, Style, StyleSheet};
 use text_codes::PARAGRAPH_MARK;
 
 /// The header texts of one section, with the six separators of the notes.
-const HEADS: usize = SEPARATORS + HEADS_A_SECTION;
-
-/// [MS-DOC] sprmPOutLvl.
-const SPRM_P_OUT_LVL: Code = Code(0x2640);
-
-/// [MS-DOC] sprmCFBold.
-const SPRM_C_F_BOLD: Code = Code(0x0835);
+const HEADS: usize = SEPARATORS + HEADERS_PER_SECTION;
 
 /// [MS-DOC] stiMax and istdMaxFixed of Word 97.
 const STI_MAX: u16 = 91;
@@ -178,9 +172,9 @@ fn default_font(alloc: Global) -> Result<Style, Memory>
     ))
 }
 
-/// A map of one setting of one byte.
+/// A map of one property of one byte.
 fn map_of(alloc: Global, code: Code, byte: u8) -> Result<PropMap, Memory>
-    ensures { IfOk result (λ map. map ≡ one_setting code.0 byte) }
+    ensures { IfOk result (λ map. map ≡ one_property code.0 byte) }
 {
     let mut map = PropMap::new(alloc);
     map.set(code, &[byte])?;

@@ -38,7 +38,7 @@ pub struct Carried {
 }
 
 impl Carried {
-    /// The same parts and streams.
+    /// A copy of the parts and streams.
     pub fn copy(&self, alloc: Global) -> Result<Carried, Memory>
         ensures { IfOk result (λ copy. copy ≡ self.now) }
     {
@@ -48,7 +48,7 @@ impl Carried {
         Ok(self.with_parts(parts, lists, streams))
     }
 
-    /// The same numbers with these parts, which are the same.
+    /// What is carried, with these parts in place of its own.
     fn with_parts(&self, parts: ThreeParts, lists: ThreeParts, streams: Streams) -> Carried
         requires fonts { parts.first ≡ self.now.fonts }
         requires dop { parts.second ≡ self.now.dop }
@@ -130,7 +130,7 @@ struct ThreeParts {
     third: Bytes,
 }
 
-/// The same three parts.
+/// Copies of three parts.
 fn copy_parts(
     alloc: Global,
     first: &Bytes,
@@ -151,7 +151,7 @@ fn copy_parts(
     })
 }
 
-/// The same bytes.
+/// A copy of the bytes.
 fn copy_part(alloc: Global, part: &Bytes) -> Result<Bytes, Memory>
     ensures { IfOk result (λ copy. copy ≡ part.now) }
 {
@@ -165,7 +165,7 @@ fn same_bytes(part: &Bytes, other: &Bytes) -> bool
     part.as_slice() == other.as_slice()
 }
 
-/// The same streams.
+/// A copy of the streams.
 fn copy_streams(alloc: Global, streams: &Streams) -> Result<Streams, Memory>
     ensures { IfOk result (λ copy. copy ≡ streams.now) }
 {

@@ -25,7 +25,7 @@ pub struct Document {
 }
 
 impl Document {
-    /// The same document. Maps and styles are shared.
+    /// A copy of the document, which shares its maps and styles.
     pub fn copy(&self, alloc: Global) -> Result<Document, Memory>
         ensures { IfOk result (λ copy. copy ≡ self.now) }
     {
@@ -64,7 +64,7 @@ impl Document {
     }
 }
 
-/// The same texts. Their maps are shared.
+/// Copies of the texts, which share their maps.
 fn copy_texts(alloc: Global, main: &Items, notes: &Texts, heads: &Texts) -> Result<AllTexts, Memory>
     ensures main { IfOk result (λ texts. texts.main ≡ main.now) }
     ensures notes { IfOk result (λ texts. texts.notes ≡ notes.now) }
@@ -84,7 +84,7 @@ pub(crate) struct OtherParts {
     pub(crate) bookmarks: Bookmarks,
 }
 
-/// The same parts. Styles are shared.
+/// Copies of the other parts, which share their styles.
 fn copy_others(
     alloc: Global,
     sheet: &StyleSheet,

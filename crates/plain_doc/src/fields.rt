@@ -7,23 +7,15 @@ ghost use Rattle.plain_doc.specs.OpenFields.{begun, separated, ended, after_unit
 
 use crate::Item;
 use std::marker::Model;
+use text_codes::{FIELD_BEGIN, FIELD_END, FIELD_SEPARATOR};
 
 /// The most fields that may be open at once.
-const MOST_OPEN: usize = 128;
-
-/// The character that begins a field.
-const FIELD_BEGIN: u16 = 0x13;
-
-/// The character between the instruction of a field and its result.
-const FIELD_SEPARATOR: u16 = 0x14;
-
-/// The character that ends a field.
-const FIELD_END: u16 = 0x15;
+const MAX_OPEN: usize = 128;
 
 /// The fields that are open: for each, the outermost first, whether its separator has been met.
 #[derive(Drop)]
 pub(crate) struct OpenFields {
-    separated: [bool; MOST_OPEN],
+    separated: [bool; MAX_OPEN],
     depth: usize,
 }
 
@@ -43,7 +35,7 @@ impl OpenFields {
         ensures { result ≡ [] }
     {
         OpenFields {
-            separated: [false; MOST_OPEN],
+            separated: [false; MAX_OPEN],
             depth: 0,
         }
     }
@@ -59,7 +51,7 @@ impl OpenFields {
     fn begin(&mut self) -> bool
         ensures { MatchBool result (begun most_open self.old ≡ Some self.new) (begun most_open self.old ≡ None) }
     {
-        if self.depth == MOST_OPEN {
+        if self.depth == MAX_OPEN {
             return false;
         }
         self.separated[self.depth] = false;

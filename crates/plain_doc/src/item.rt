@@ -12,7 +12,7 @@ pub enum NoteKind {
     Custom,
 }
 
-/// What ends a paragraph: its style, and the settings that its mark has beside the style's.
+/// What ends a paragraph: its style, and the properties that its mark has beside the style's.
 #[derive(Drop)]
 pub struct Mark {
     pub istd: u16,
@@ -20,7 +20,7 @@ pub struct Mark {
 }
 
 impl Mark {
-    /// The same mark. Its map is shared.
+    /// A copy of the mark, which shares its map.
     pub fn copy(&self, alloc: Global) -> Result<Mark, Memory>
         ensures { IfOk result (λ copy. copy ≡ self.now) }
     {
@@ -38,7 +38,7 @@ impl Mark {
     }
 }
 
-/// A unit of a text: its settings beside the style's, whether it ends a paragraph or a section, the
+/// A unit of a text: its properties beside the style's, whether it ends a paragraph or a section, the
 /// byte of a field character, and whether it refers to a note.
 #[derive(Drop)]
 pub struct Item {
@@ -51,13 +51,13 @@ pub struct Item {
 }
 
 impl Item {
-    /// The same item. Its maps are shared.
+    /// A copy of the item, which shares its maps.
     pub fn copy(&self, alloc: Global) -> Result<Item, Memory>
         ensures { IfOk result (λ copy. copy ≡ self.now) }
     {
         let chp = self.chp.copy(alloc)?;
         let mark = copy_mark(alloc, &self.mark)?;
-        let sect = copy_sect(alloc, &self.sect)?;
+        let sect = copy_section(alloc, &self.sect)?;
         Ok(self.with_maps(chp, mark, sect))
     }
 
@@ -83,13 +83,13 @@ impl Item {
             && self.fld == other.fld
             && self.note == other.note
             && same_mark(&self.mark, &other.mark)
-            && same_sect(&self.sect, &other.sect)
+            && same_section(&self.sect, &other.sect)
             && self.chp.equal(&other.chp)
     }
 }
 
-/// The same mark, where there is one.
-fn copy_mark(alloc: Global, mark: &Option<Mark>) -> Result<Option<Mark>, Memory>
+/// A copy of the mark, where there is one.
+pub fn copy_mark(alloc: Global, mark: &Option<Mark>) -> Result<Option<Mark>, Memory>
     ensures { IfOk result (λ copy. copy ≡ mark.now) }
 {
     match mark {
@@ -98,8 +98,8 @@ fn copy_mark(alloc: Global, mark: &Option<Mark>) -> Result<Option<Mark>, Memory>
     }
 }
 
-/// The same settings of a section, where there are some.
-fn copy_sect(alloc: Global, sect: &Option<PropMap>) -> Result<Option<PropMap>, Memory>
+/// A copy of the properties of a section, where there are some.
+pub fn copy_section(alloc: Global, sect: &Option<PropMap>) -> Result<Option<PropMap>, Memory>
     ensures { IfOk result (λ copy. copy ≡ sect.now) }
 {
     match sect {
@@ -109,7 +109,7 @@ fn copy_sect(alloc: Global, sect: &Option<PropMap>) -> Result<Option<PropMap>, M
 }
 
 /// Whether both are the same mark, or none.
-fn same_mark(mark: &Option<Mark>, other: &Option<Mark>) -> bool
+pub fn same_mark(mark: &Option<Mark>, other: &Option<Mark>) -> bool
     ensures { IsTrue result ↔ mark.now ≡ other.now }
 {
     match (mark, other) {
@@ -119,8 +119,8 @@ fn same_mark(mark: &Option<Mark>, other: &Option<Mark>) -> bool
     }
 }
 
-/// Whether both are the same settings of a section, or none.
-fn same_sect(sect: &Option<PropMap>, other: &Option<PropMap>) -> bool
+/// Whether both are the same properties of a section, or none.
+pub fn same_section(sect: &Option<PropMap>, other: &Option<PropMap>) -> bool
     ensures { IsTrue result ↔ sect.now ≡ other.now }
 {
     match (sect, other) {

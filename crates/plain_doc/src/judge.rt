@@ -7,10 +7,10 @@ ghost use Rattle.plain_doc.specs.RulesOfTexts.{InTexts};
 ghost use Rattle.plain_doc.specs.TextRules.{BreaksText};
 ghost use Rattle.plain_doc.specs.TextWalk.{AreTextsRight, HasCounts};
 ghost use Rattle.plain_doc.specs.Sound.{IsSound, NamesFirstRule, document_rules, text_rules, base_rules, count_rules};
-ghost use Rattle.plain_doc.specs.Sound.{size_rules, HasLongSettings};
+ghost use Rattle.plain_doc.specs.Sound.{size_rules, HasLongProperties};
 
 use crate::Document;
-use crate::rules_counts::{Counts, HEADS_A_SECTION, SEPARATORS, all_items, counts_in};
+use crate::rules_counts::{Counts, HEADERS_PER_SECTION, SEPARATORS, all_items, counts_in};
 use crate::rules_sheet::{StyleRule, wrong_style};
 use crate::rules_texts::{ItemRule, TextRule, first_in_texts};
 use crate::text_walk::right_counts;
@@ -33,19 +33,19 @@ const RULE_NOTES: u8 = 66;
 
 const RULE_HEADS: u8 = 67;
 
-const RULE_ITEMS: u8 = 68;
+pub const RULE_ITEMS: u8 = 68;
 
 const RULE_BOOKMARKS: u8 = 69;
 
-const RULE_SETTINGS: u8 = 70;
+pub const RULE_SETTINGS: u8 = 70;
 
-const RULE_STD: u8 = 71;
+pub const RULE_STD: u8 = 71;
 
 /// The most items of all texts.
-const MOST_ITEMS: u32 = 499_998;
+const MAX_ITEMS: u32 = 499_998;
 
 /// The most bookmarks.
-const MOST_BOOKMARKS: usize = 16_000;
+pub const MAX_BOOKMARKS: usize = 16_000;
 
 /// The first broken rule, at its first place: an item of a text, a style of the sheet, or a number
 /// of texts or items.
@@ -64,50 +64,50 @@ pub fn check(document: &Document) -> Result<(), DocFault>
 {
     // Only where one walk over the texts finds something wrong they are judged rule by rule.
     match right_counts(document) {
-        Some(counts) => judge_beside(document, counts),
-        None => judge_each(document),
+        Some(counts) => check_beside(document, counts),
+        None => check_each(document),
     }
 }
 
 /// Judges a document whose texts break no rule on texts.
-fn judge_beside(document: &Document, counts: Counts) -> Result<(), DocFault>
+fn check_beside(document: &Document, counts: Counts) -> Result<(), DocFault>
     requires right { AreTextsRight document.now }
     requires counts { HasCounts document.now.main counts }
     requires bookmarks { HasFormedBookmarks document.now }
     ensures { MatchResult result (λ _. IsSound document.now) (NamesFirstRule (document_rules document.now)) }
 {
-    judge_bases(document)?;
-    judge_counts(document, counts)?;
-    judge_sizes(document, first_long_style(document))?;
+    check_bases(document)?;
+    check_counts(document, counts)?;
+    check_sizes(document, first_long_style(document))?;
     Ok(())
 }
 
-/// The same of any document, rule by rule.
-fn judge_each(document: &Document) -> Result<(), DocFault>
+/// Checks any document, rule by rule.
+fn check_each(document: &Document) -> Result<(), DocFault>
     requires { HasFormedBookmarks document.now }
     ensures { MatchResult result (λ _. IsSound document.now) (NamesFirstRule (document_rules document.now)) }
 {
-    judge_texts(document)?;
-    judge_bases(document)?;
-    judge_counts(document, counts_in(document.main.as_slice()))?;
-    judge_sizes(document, first_long(document))?;
+    check_texts(document)?;
+    check_bases(document)?;
+    check_counts(document, counts_in(document.main.as_slice()))?;
+    check_sizes(document, first_long(document))?;
     Ok(())
 }
 
 /// Judges the texts by the rules 60 to 64.
-fn judge_texts(document: &Document) -> Result<(), DocFault>
+fn check_texts(document: &Document) -> Result<(), DocFault>
     ensures { MatchResult result (λ _. Hold (text_rules document.now)) (NamesFirstRule (text_rules document.now)) }
 {
-    judge_text_rule(document, RULE_ENDS, TextRule::End)?;
-    judge_text_rule(document, RULE_PLACING, TextRule::Each(ItemRule::Placing))?;
-    judge_text_rule(document, RULE_FIELDS, TextRule::Fields)?;
-    judge_text_rule(document, RULE_ROWS, TextRule::Rows)?;
-    judge_text_rule(document, RULE_STYLES, TextRule::Each(ItemRule::Styles))?;
+    check_text_rule(document, RULE_ENDS, TextRule::End)?;
+    check_text_rule(document, RULE_PLACING, TextRule::Each(ItemRule::Placing))?;
+    check_text_rule(document, RULE_FIELDS, TextRule::Fields)?;
+    check_text_rule(document, RULE_ROWS, TextRule::Rows)?;
+    check_text_rule(document, RULE_STYLES, TextRule::Each(ItemRule::Styles))?;
     Ok(())
 }
 
 /// Judges the texts by a rule, which has this number.
-fn judge_text_rule(document: &Document, number: u8, rule: TextRule) -> Result<(), DocFault>
+fn check_text_rule(document: &Document, number: u8, rule: TextRule) -> Result<(), DocFault>
     ensures { MatchResult result
         (λ _. Nowhere (InTexts document.now (BreaksText rule document.now.sheet)))
         (NamesFirstRule (rule_of number (InTexts document.now (BreaksText rule document.now.sheet)))) }
@@ -119,7 +119,7 @@ fn judge_text_rule(document: &Document, number: u8, rule: TextRule) -> Result<()
 }
 
 /// Judges the bases of styles, rule 65.
-fn judge_bases(document: &Document) -> Result<(), DocFault>
+fn check_bases(document: &Document) -> Result<(), DocFault>
     ensures { MatchResult result (λ _. Hold (base_rules document.now)) (NamesFirstRule (base_rules document.now)) }
 {
     match document.sheet.broken_base() {
@@ -129,7 +129,7 @@ fn judge_bases(document: &Document) -> Result<(), DocFault>
 }
 
 /// Judges the numbers of texts, items and bookmarks, and the names of these, rules 66 to 69.
-fn judge_counts(document: &Document, counts: Counts) -> Result<(), DocFault>
+fn check_counts(document: &Document, counts: Counts) -> Result<(), DocFault>
     requires counts { HasCounts document.now.main counts }
     requires bookmarks { HasFormedBookmarks document.now }
     ensures { MatchResult result (λ _. Hold (count_rules document.now)) (NamesFirstRule (count_rules document.now)) }
@@ -139,24 +139,24 @@ fn judge_counts(document: &Document, counts: Counts) -> Result<(), DocFault>
         return Err(fault(RULE_NOTES, Where::Main, notes as u32));
     }
     let heads = document.heads.len();
-    if heads != SEPARATORS + HEADS_A_SECTION * counts.sections {
+    if heads != SEPARATORS + HEADERS_PER_SECTION * counts.sections {
         return Err(fault(RULE_HEADS, Where::Main, heads as u32));
     }
-    if all_items(document) > MOST_ITEMS as u128 {
-        return Err(fault(RULE_ITEMS, Where::Main, MOST_ITEMS));
+    if all_items(document) > MAX_ITEMS as u128 {
+        return Err(fault(RULE_ITEMS, Where::Main, MAX_ITEMS));
     }
-    judge_bookmarks(document)?;
+    check_bookmarks(document)?;
     Ok(())
 }
 
 /// Judges the number of bookmarks and their names, rule 69.
-fn judge_bookmarks(document: &Document) -> Result<(), DocFault>
+fn check_bookmarks(document: &Document) -> Result<(), DocFault>
     requires { HasFormedBookmarks document.now }
     ensures { MatchResult result
         (λ _. Nowhere (HasWrongBookmarks document.now))
         (NamesFirstRule (rule_of 69 (HasWrongBookmarks document.now))) }
 {
-    if document.bookmarks.len() > MOST_BOOKMARKS {
+    if document.bookmarks.len() > MAX_BOOKMARKS {
         return Err(fault(RULE_BOOKMARKS, Where::Main, 0));
     }
     match document.bookmarks.same_name() {
@@ -165,9 +165,9 @@ fn judge_bookmarks(document: &Document) -> Result<(), DocFault>
     }
 }
 
-/// `long` is the first place where settings are too long.
-fn judge_sizes(document: &Document, long: Option<(Where, u32)>) -> Result<(), DocFault>
-    requires { LeastPlaceOrNone (HasLongSettings document.now) long }
+/// `long` is the first place where properties are too long.
+fn check_sizes(document: &Document, long: Option<(Where, u32)>) -> Result<(), DocFault>
+    requires { LeastPlaceOrNone (HasLongProperties document.now) long }
     ensures { MatchResult result (λ _. Hold (size_rules document.now)) (NamesFirstRule (size_rules document.now)) }
 {
     if let Some((place, at)) = long {
@@ -179,22 +179,22 @@ fn judge_sizes(document: &Document, long: Option<(Where, u32)>) -> Result<(), Do
     }
 }
 
-/// The first place where settings are too long. Styles come before texts.
+/// The first place where properties are too long. Styles come before texts.
 fn first_long(document: &Document) -> Option<(Where, u32)>
-    ensures { LeastPlaceOrNone (HasLongSettings document.now) result }
+    ensures { LeastPlaceOrNone (HasLongProperties document.now) result }
 {
-    if let Some(istd) = wrong_style(StyleRule::Settings, &document.sheet) {
+    if let Some(istd) = wrong_style(StyleRule::Properties, &document.sheet) {
         return Some((Where::Sheet, istd));
     }
-    first_in_texts(TextRule::Each(ItemRule::Settings), document)
+    first_in_texts(TextRule::Each(ItemRule::Properties), document)
 }
 
-/// The same, where no settings of texts are too long.
+/// The first place where the properties of a style are too long, where no properties of texts are.
 fn first_long_style(document: &Document) -> Option<(Where, u32)>
     requires { AreTextsRight document.now }
-    ensures { LeastPlaceOrNone (HasLongSettings document.now) result }
+    ensures { LeastPlaceOrNone (HasLongProperties document.now) result }
 {
-    match wrong_style(StyleRule::Settings, &document.sheet) {
+    match wrong_style(StyleRule::Properties, &document.sheet) {
         None => None,
         Some(istd) => Some((Where::Sheet, istd)),
     }

@@ -1,7 +1,7 @@
 // Laws over the definitions alone.
 ghost use Rattle.plain_doc.specs.Sound.{FirstDocFaultIsLeast, SoundSheetIsWritable};
-ghost use Rattle.plain_doc.specs.RightDocument.{SoundDocumentsAreRight};
-ghost use Rattle.plain_doc.specs.Settings.{EqualSettingsAreSame};
+ghost use Rattle.plain_doc.specs.RightDocument.{SoundDocumentsAreValid};
+ghost use Rattle.plain_doc.specs.Settings.{EqualPropertiesAreSame};
 ghost use Rattle.plain_doc.specs.Stretches.{ItemsAreCutIntoStretches, StretchesAreOne};
 
 /// The first broken rule of a document is the least of all that are broken, at its least place.
@@ -15,8 +15,8 @@ pub fn sound_sheet_is_writable()
 {}
 
 /// A document breaks no rule exactly where it is right in each place.
-pub fn sound_documents_are_right()
-    ensures { SoundDocumentsAreRight }
+pub fn sound_documents_are_valid()
+    ensures { SoundDocumentsAreValid }
 {}
 
 /// The stretches of items are the items, in their order; within a stretch each item joins the next
@@ -30,7 +30,7 @@ pub fn stretches_are_one()
     ensures { StretchesAreOne }
 {}
 
-/// Settings are equal exactly where they are the same map.
-pub fn equal_settings_are_same()
-    ensures { EqualSettingsAreSame }
+/// Properties are equal exactly where they are the same map.
+pub fn equal_properties_are_same()
+    ensures { EqualPropertiesAreSame }
 {}

@@ -25,16 +25,18 @@ pub use blank_parts::blank;
 pub use carried::Carried;
 pub use document::{Document, equal};
 pub use formed::{blank_is_formed, documents_are_formed};
-pub use item::{Item, Mark, NoteKind};
+pub use item::{Item, Mark, NoteKind, copy_mark, copy_section, same_mark, same_section};
 pub use items::Items;
-pub use judge::{DocFault, check};
+pub use judge::{DocFault, MAX_BOOKMARKS, RULE_ITEMS, RULE_SETTINGS, RULE_STD, check};
 pub use laws::{
-    equal_settings_are_same, first_doc_fault_is_least, items_are_cut_into_stretches,
-    sound_documents_are_right, sound_sheet_is_writable, stretches_are_one,
+    equal_properties_are_same, first_doc_fault_is_least, items_are_cut_into_stretches,
+    sound_documents_are_valid, sound_sheet_is_writable, stretches_are_one,
 };
 pub use paragraphs::paragraph_end;
-pub use rules_counts::{Counts, HEADS_A_SECTION, SEPARATORS, all_items, notes_in, sections_in};
-pub use rules_sheet::is_right_sheet;
+pub use ranges::{has_field_byte, has_style_number, is_byte, is_word};
+pub use rules_counts::{Counts, HEADERS_PER_SECTION, SEPARATORS, all_items, notes_in, sections_in};
+pub use rules_items::MAX_CHPX_GRPPRL;
+pub use rules_sheet::is_valid_sheet;
 pub use rules_texts::{ItemRule, Side, TextRule, is_head};
 pub use text_walk::TextWalk;
 pub use texts::Texts;

@@ -9,7 +9,7 @@ use doc_bits::Memory;
 use std::alloc::Global;
 
 impl Carried {
-    /// The same, but for the bytes of stream `i`. Each stream is copied once.
+    /// The parts and streams with other bytes of stream `i`. Each stream is copied once.
     pub fn with_stream(self, alloc: Global, i: usize, bytes: &[u8]) -> Result<Carried, Memory>
         requires there { i < length self.streams }
         requires room { AreCarriedStreams (with_bytes self.streams i bytes.now) }
@@ -22,7 +22,7 @@ impl Carried {
     }
 }
 
-/// The same streams, but for the bytes of stream `i`.
+/// A copy of the streams, but for the bytes of stream `i`.
 fn copy_streams_with(
     alloc: Global,
     streams: &Streams,

@@ -27,7 +27,7 @@ fn is_formed(item: &Item)
 }
 
 /// The style number of a mark has 16 bits.
-fn has_style_number(mark: &Option<Mark>)
+pub fn has_style_number(mark: &Option<Mark>)
     ensures { ForSome mark.now (λ mark. mark.istd < 2 ^ 16) }
 {
     if let Some(mark) = mark {
@@ -36,7 +36,7 @@ fn has_style_number(mark: &Option<Mark>)
 }
 
 /// The byte of a field character is one.
-fn has_field_byte(fld: &Option<u8>)
+pub fn has_field_byte(fld: &Option<u8>)
     ensures { ForSome fld.now (λ byte. byte < 2 ^ 8) }
 {
     if let Some(byte) = fld {
@@ -50,11 +50,11 @@ pub(crate) fn are_bytes(bytes: &[u8])
 {}
 
 /// A number of 16 bits is below 2^16.
-pub(crate) fn is_word(number: u16)
+pub fn is_word(number: u16)
     ensures { number < 2 ^ 16 }
 {}
 
 /// A byte is below 256.
-fn is_byte(number: u8)
+pub fn is_byte(number: u8)
     ensures { number < 2 ^ 8 }
 {}

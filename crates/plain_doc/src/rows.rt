@@ -6,17 +6,8 @@ ghost use Rattle.plain_doc.specs.Rows.{paragraph_value, is_on, is_row_mark, is_m
 ghost use Rattle.plain_doc.specs.Rows.{BreaksRows, cells_after};
 
 use crate::Item;
-use sprm_table::Code;
+use sprm_table::{Code, SPRM_P_F_IN_TABLE, SPRM_P_F_TTP, SPRM_T_DEF_TABLE};
 use text_codes::CELL_MARK;
-
-/// The paragraph is in a table.
-const SPRM_P_F_IN_TABLE: Code = Code(0x2416);
-
-/// The mark ends a row.
-const SPRM_P_F_TTP: Code = Code(0x2417);
-
-/// The cells of a row: their number, and where each ends.
-const SPRM_T_DEF_TABLE: Code = Code(0xD608);
 
 /// The first item that breaks a row, or the length of a text that ends in one.
 pub(crate) fn wrong_row(text: &[Item]) -> Option<u32>
@@ -66,7 +57,7 @@ pub(crate) fn next_cells(cells: usize, item: &Item) -> usize
 fn has_cells(item: &Item, cells: usize) -> bool
     ensures { IsTrue result ↔ HasCells (paragraph_value item.now 0xD608) cells }
 {
-    match paragraph_setting(item, SPRM_T_DEF_TABLE) {
+    match paragraph_property(item, SPRM_T_DEF_TABLE) {
         None => false,
         Some(value) => !value.is_empty() && value[0] as usize == cells,
     }
@@ -90,14 +81,14 @@ fn ends_outside(item: &Item) -> bool
 fn is_set(item: &Item, code: Code) -> bool
     ensures { result ≡ is_on (paragraph_value item.now code.0) }
 {
-    match paragraph_setting(item, code) {
+    match paragraph_property(item, code) {
         None => false,
         Some(value) => value.len() == 1 && value[0] == 1,
     }
 }
 
 /// The value that the item's mark, where there is one, has at the code.
-fn paragraph_setting(item: &Item, code: Code) -> Option<&[u8]>
+fn paragraph_property(item: &Item, code: Code) -> Option<&[u8]>
     ensures { option_map (λ v. v.now) result ≡ paragraph_value item.now code.0 }
 {
     match &item.mark {

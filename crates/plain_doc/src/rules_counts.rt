@@ -10,7 +10,7 @@ use crate::{Document, Item, Texts};
 pub const SEPARATORS: usize = 6;
 
 /// [MS-DOC] PlcfHdd: each section has six headers and footers.
-pub const HEADS_A_SECTION: usize = 6;
+pub const HEADERS_PER_SECTION: usize = 6;
 
 /// How many items of a text refer to notes, and how many end a section.
 #[derive(Clone, Copy)]

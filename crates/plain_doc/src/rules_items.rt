@@ -6,21 +6,21 @@ ghost use Rattle.doc_bits.specs.declared.places.Where.TheVariants.{Main};
 ghost use Rattle.prop_map.specs.Formed.{IsFormedMap};
 ghost use Rattle.plain_doc.specs.Document.{HasPropertyMaps};
 ghost use Rattle.plain_doc.specs.RulesOfItems.{HasMarkRight, HasSectionRight, HasFieldRight, HasNoteRight};
-ghost use Rattle.plain_doc.specs.RulesOfItems.{IsPlacedRight, IsShortChp, IsShortPap, IsShortSect, HasShortSettings};
+ghost use Rattle.plain_doc.specs.RulesOfItems.{IsPlacedRight, IsShortChp, IsShortPap, IsShortSect, HasShortProperties};
 
 use crate::{Item, Mark};
 use doc_bits::Where;
 use prop_map::PropMap;
 use text_codes::{CELL_MARK, PARAGRAPH_MARK, SECTION_MARK};
 
-/// The most bytes of the printed settings of a character: a Chpx counts them by a byte.
-const CHP_MOST: u64 = 255;
+/// The most bytes of the printed properties of a character: a Chpx counts them by a byte.
+pub const MAX_CHPX_GRPPRL: u64 = 255;
 
-/// The most bytes of the printed settings of a mark: a Papx holds so many beside its style number.
-const PAP_MOST: u64 = 480;
+/// The most bytes of the printed properties of a mark: a Papx holds so many beside its style number.
+const MAX_PAPX_GRPPRL: u64 = 480;
 
-/// The most bytes of the printed settings of a section.
-const SECT_MOST: u64 = 500;
+/// The most bytes of the printed properties of a section.
+const MAX_SEPX_GRPPRL: u64 = 500;
 
 /// Whether what the item has stands where it may, in a text of so many items.
 pub(crate) fn is_placed_right(part: Where, len: usize, place: usize, item: &Item) -> bool
@@ -72,31 +72,31 @@ fn has_note_right(part: Where, item: &Item) -> bool
     item.note.is_none() || part == Where::Main
 }
 
-/// Whether the settings of an item are short enough for a file.
-pub(crate) fn has_short_settings(item: &Item) -> bool
+/// Whether the properties of an item are short enough for a file.
+pub(crate) fn has_short_properties(item: &Item) -> bool
     requires { HasPropertyMaps item.now }
-    ensures { IsTrue result ↔ HasShortSettings item.now }
+    ensures { IsTrue result ↔ HasShortProperties item.now }
 {
     is_short_chp(&item.chp) && has_short_pap(&item.mark) && has_short_sect(&item.sect)
 }
 
-/// Whether the settings of a character are short enough for a file.
+/// Whether the properties of a character are short enough for a file.
 pub(crate) fn is_short_chp(chp: &PropMap) -> bool
     requires { IsFormedMap chp.now }
     ensures { IsTrue result ↔ IsShortChp chp.now }
 {
-    chp.printed_len() <= CHP_MOST
+    chp.printed_len() <= MAX_CHPX_GRPPRL
 }
 
-/// Whether the settings of a mark are short enough for a file.
+/// Whether the properties of a mark are short enough for a file.
 pub(crate) fn is_short_pap(pap: &PropMap) -> bool
     requires { IsFormedMap pap.now }
     ensures { IsTrue result ↔ IsShortPap pap.now }
 {
-    pap.printed_len() <= PAP_MOST
+    pap.printed_len() <= MAX_PAPX_GRPPRL
 }
 
-/// The same of a mark, where there is one.
+/// Whether the properties of a mark, where there is one, are short enough for a file.
 fn has_short_pap(mark: &Option<Mark>) -> bool
     requires { ForSome mark.now (λ mark. IsFormedMap mark.pap) }
     ensures { IsTrue result ↔ ForSome mark.now (λ mark. IsShortPap mark.pap) }
@@ -107,13 +107,13 @@ fn has_short_pap(mark: &Option<Mark>) -> bool
     }
 }
 
-/// Whether the settings of a section, where one ends, are short enough for a file.
+/// Whether the properties of a section, where one ends, are short enough for a file.
 fn has_short_sect(sect: &Option<PropMap>) -> bool
     requires { ForSome sect.now IsFormedMap }
     ensures { IsTrue result ↔ ForSome sect.now IsShortSect }
 {
     match sect {
         None => true,
-        Some(sect) => sect.printed_len() <= SECT_MOST,
+        Some(sect) => sect.printed_len() <= MAX_SEPX_GRPPRL,
     }
 }

@@ -5,12 +5,12 @@ ghost use Rattle.doc_bits.specs.Places.{LeastPlaceOrNone};
 ghost use Rattle.plain_doc.specs.Document.{IsFormedText, HasPropertyMaps};
 ghost use Rattle.plain_doc.specs.RulesOfItems.{IsWrongItem};
 ghost use Rattle.plain_doc.specs.RulesOfTexts.{InTexts, HasWrongEnd, EndsRight, IsHead, HasParagraphStyle};
-ghost use Rattle.plain_doc.specs.TextRules.{IsRightItem, BreaksText, InList, part_of};
+ghost use Rattle.plain_doc.specs.TextRules.{IsValidItem, BreaksText, InList, part_of};
 ghost use Rattle.style_sheet.specs.Chain.{kind_at};
 
 use crate::fields::wrong_field;
 use crate::rows::wrong_row;
-use crate::rules_items::{has_short_settings, is_placed_right};
+use crate::rules_items::{has_short_properties, is_placed_right};
 use crate::{Document, Item, Texts};
 use doc_bits::Where;
 use style_sheet::{Kind, StyleSheet};
@@ -23,8 +23,8 @@ pub enum ItemRule {
     Placing,
     /// The style of a mark is one of paragraphs.
     Styles,
-    /// The settings are short enough for a file.
-    Settings,
+    /// The properties are short enough for a file.
+    Properties,
 }
 
 /// A rule on each text.
@@ -71,7 +71,7 @@ pub(crate) fn first_in_texts(rule: TextRule, document: &Document) -> Option<(Whe
     first_in_list(rule, &document.sheet, Side::Heads, &document.heads)
 }
 
-/// The same in the notes or in the header texts.
+/// The first place where a note or a header text breaks the rule.
 fn first_in_list(
     rule: TextRule,
     sheet: &StyleSheet,
@@ -139,10 +139,10 @@ pub fn is_head(part: Where) -> bool
 /// The first item that is not right by the rule.
 fn wrong_item(rule: ItemRule, sheet: &StyleSheet, part: Where, text: &[Item]) -> Option<u32>
     requires { IsFormedText text.now }
-    ensures { LeastOrNone (IsWrongItem (IsRightItem rule sheet.now part (length text.now)) text.now) result }
+    ensures { LeastOrNone (IsWrongItem (IsValidItem rule sheet.now part (length text.now)) text.now) result }
 {
     for (i, item) in text.iter().enumerate() {
-        if !is_right(rule, sheet, part, text.len(), i, item) {
+        if !is_valid(rule, sheet, part, text.len(), i, item) {
             return Some(i as u32);
         }
     }
@@ -150,7 +150,7 @@ fn wrong_item(rule: ItemRule, sheet: &StyleSheet, part: Where, text: &[Item]) ->
 }
 
 /// Whether an item is right by the rule, in a text of so many items.
-fn is_right(
+fn is_valid(
     rule: ItemRule,
     sheet: &StyleSheet,
     part: Where,
@@ -160,12 +160,12 @@ fn is_right(
 ) -> bool
     requires place { place < 2 ^ 32 }
     requires maps { HasPropertyMaps item.now }
-    ensures { IsTrue result ↔ IsRightItem rule sheet.now part len place item.now }
+    ensures { IsTrue result ↔ IsValidItem rule sheet.now part len place item.now }
 {
     match rule {
         ItemRule::Placing => is_placed_right(part, len, place, item),
         ItemRule::Styles => has_paragraph_style(sheet, item),
-        ItemRule::Settings => has_short_settings(item),
+        ItemRule::Properties => has_short_properties(item),
     }
 }
 

@@ -4,13 +4,13 @@ ghost use Rattle.std.specs.Prelude.{◌≡◌, ◌+◌, ◌^◌, ◌<◌, ◌≤
 ghost use Rattle.std.specs.Prelude.{◌↔◌, [], IsTrue, IfSome};
 ghost use Rattle.doc_bits.specs.declared.places.Where.TheVariants.{Main};
 ghost use Rattle.plain_doc.specs.Document.{IsFormedText, HasPropertyMaps};
-ghost use Rattle.plain_doc.specs.TextWalk.{IsPlain, PassesItem, KeepsTextRules, AreTextsRight, AreRightTexts};
+ghost use Rattle.plain_doc.specs.TextWalk.{IsPlain, PassesItem, KeepsTextRules, AreTextsRight, AreValidTexts};
 ghost use Rattle.plain_doc.specs.TextWalk.{EndsWalk, HasCounts};
 
 use crate::fields::OpenFields;
 use crate::rows::{fits_row, next_cells};
 use crate::rules_counts::Counts;
-use crate::rules_items::{has_short_settings, is_placed_right, is_short_chp};
+use crate::rules_items::{has_short_properties, is_placed_right, is_short_chp};
 use crate::rules_texts::{Side, ends_right, has_paragraph_style};
 use crate::{Document, Item, Texts};
 use doc_bits::Where;
@@ -32,8 +32,8 @@ pub(crate) fn right_counts(document: &Document) -> Option<Counts>
 {
     let sheet = &document.sheet;
     let counts = walk_text(sheet, Where::Main, document.main.as_slice())?;
-    if are_right(sheet, Side::Notes, &document.notes)
-        && are_right(sheet, Side::Heads, &document.heads)
+    if are_valid(sheet, Side::Notes, &document.notes)
+        && are_valid(sheet, Side::Heads, &document.heads)
     {
         Some(counts)
     } else {
@@ -42,8 +42,8 @@ pub(crate) fn right_counts(document: &Document) -> Option<Counts>
 }
 
 /// Whether no text of the list breaks a rule on texts.
-fn are_right(sheet: &StyleSheet, side: Side, texts: &Texts) -> bool
-    ensures { IsTrue result → AreRightTexts sheet.now side texts.now }
+fn are_valid(sheet: &StyleSheet, side: Side, texts: &Texts) -> bool
+    ensures { IsTrue result → AreValidTexts sheet.now side texts.now }
 {
     for k in 0..texts.len() {
         let part = side.part(k as u32);
@@ -107,7 +107,7 @@ impl TextWalk {
         self.pass_marked(sheet, part, len, place, item)
     }
 
-    /// The same of any item. Most items don't come here, and the loop over those stays small.
+    /// Goes past any item, where it breaks no rule. Most items don't come here, and the loop over those stays small.
     #[inline(never)]
     pub fn pass_marked(
         &mut self,
@@ -124,7 +124,7 @@ impl TextWalk {
     {
         let right = is_placed_right(part, len, place, item)
             && has_paragraph_style(sheet, item)
-            && has_short_settings(item)
+            && has_short_properties(item)
             && fits_row(self.cells, item);
         if !right {
             return false;
@@ -150,7 +150,7 @@ impl TextWalk {
     }
 }
 
-/// Whether the item ends nothing and has nothing beside its settings.
+/// Whether the item ends nothing and has nothing beside its properties.
 fn is_plain(item: &Item) -> bool
     ensures { IsTrue result ↔ IsPlain item.now }
 {

@@ -3,12 +3,7 @@ use Rattle.std.proofs.Common.{◌≡◌, ℕ, ◌+◌, ◌-◌, ◌<◌, ◌≤�
 use Rattle.std.proofs.Common.{slice_range, sym, ap, ◌∙◌, arith, length-append, length-drop}
 use Rattle.std.proofs.lemmas.List.{ext_get_or, get_or-take, get_or-drop, get_or_append_left, get_or-append_right}
 use Rattle.std.proofs.lemmas.List.{length-take-le, drop-take, drop-drop, append_assoc}
-use Rattle.doc_bits.proofs.ListLemmas.{length-range, range_mid}
-
--- what stands at a place of a range
-pub range_index : (xs : List ℕ) (from to i : ℕ) → i < to - from →
-    slice_index (slice_range xs from to) i ≡ slice_index xs (from + i)
-range_index xs from to i h = get_or-take (to - from) (drop from xs) i 0 h ∙ get_or-drop from xs i 0
+use Rattle.doc_bits.proofs.ListLemmas.{length-range, range_mid, range_index}
 
 -- what a range has, its bytes have
 pub byte_of_range : (a b : List ℕ) (from to i : ℕ) → from ≤ i → i < to →

@@ -9,16 +9,16 @@ use Rattle.std.proofs.lemmas.Bool.{eqb-true}
 use Rattle.std.proofs.lemmas.List.Elements.{All-head, All-tail, All-nil, All-cons}
 use Rattle.sprm_table.specs.declared.codes.Class.{Class}
 use Rattle.sprm_table.specs.declared.codes.Class.TheVariants.{Plain, Toggle, Clear, Style, Refused}
-use Rattle.sprm_table.specs.Codes.{sgc, is_held, is_among, toggles, refused_codes, class_of, is_setting, is_clear}
+use Rattle.sprm_table.specs.Codes.{sgc, is_held, is_among, toggles, refused_codes, class_of, is_property, is_clear}
 use Rattle.sprm_table.specs.Codes.{is_style, IsRefusedIn}
 use Rattle.sprm_table.specs.Operands.{size_of, IsSizeOf}
 use Rattle.sprm_table.specs.Sprm.{Prl, IsPrl, IsAcceptedList}
 use Rattle.sprm_table.proofs.SprmLemmas.{spelt_unique}
 use Rattle.prop_map.specs.declared.acting.Acted.{Acted}
 use Rattle.prop_map.specs.declared.modifiers.Modifier.{Modifier}
-use Rattle.prop_map.specs.Settings.{Settings}
+use Rattle.prop_map.specs.Settings.{Properties}
 use Rattle.prop_map.specs.Formed.{character_groups, paragraph_groups}
-use Rattle.prop_map.specs.Acting.{is_kept, concerns_code, left_by, value_after, names_style, style_of}
+use Rattle.prop_map.specs.Acting.{is_kept, concerns_code, left_by, value_after, names_style, style_named}
 use Rattle.prop_map.specs.Acting.{ArePropertiesAfter, IsActed, IsActedBy}
 use Rattle.prop_map.specs.Modifiers.{IsModifierOf, IsSpeltModifier}
 use Rattle.prl_skips.specs.Skips.{picture_code, skipped_code, skipped, SkipsRefused, HoldsNoPictures}
@@ -189,7 +189,7 @@ not_held groups code none among = ap (λ s. groups / 2 ^ s % 2 == 1) (picture_gr
 
 -- what is not held passes no test, and what is not read sets, removes and names nothing
 concerns_none : (held same kept : Bool) (class : Class) → class ≡ Refused →
-    ((held && (same && is_setting class)) || (held && (is_clear class && not kept))) ≡ false
+    ((held && (same && is_property class)) || (held && (is_clear class && not kept))) ≡ false
 concerns_none true true kept class e = rw e refl
 concerns_none true false kept class e = rw e refl
 concerns_none false same kept class e = refl
@@ -211,7 +211,7 @@ unheld_one held first e = rw e refl
 no_concern : (groups code : ℕ) → HoldsNoPictures groups → PassesNone (concerns_code groups code)
 no_concern groups code none prl among = (
   concerns_none (is_held groups prl.0) (code == prl.0) (is_kept code) (class_of prl.0) (refused_class prl.0 among),
-  unheld (is_held groups (picture_code prl.0)) (code == picture_code prl.0 && is_setting (class_of (picture_code
+  unheld (is_held groups (picture_code prl.0)) (code == picture_code prl.0 && is_property (class_of (picture_code
       prl.0)))
       (is_clear (class_of (picture_code prl.0)) && not (is_kept code)) (not_held groups prl.0 none among),
 )
@@ -239,19 +239,19 @@ value_skips prls groups code before none =
     none) prls)
 
 pub style_skips : (prls : List Prl) (groups : ℕ) → HoldsNoPictures groups →
-    style_of (map skipped prls) groups ≡ style_of prls groups
+    style_named (map skipped prls) groups ≡ style_named prls groups
 style_skips prls groups none =
     ap (λ l. option_map (λ prl. u16_at prl.1 0) (last_or None l))
     (filter_skips (names_style groups) (no_name groups none) prls)
 
-pub make_skips : (prls : List Prl) (groups : ℕ) (before after : Settings) → HoldsNoPictures groups →
+pub make_skips : (prls : List Prl) (groups : ℕ) (before after : Properties) → HoldsNoPictures groups →
     (ArePropertiesAfter (map skipped prls) groups before after ↔ ArePropertiesAfter prls groups before after)
 make_skips prls groups before after none = (
   λ h code. h code ∙ value_skips prls groups code (get before code) none,
   λ h code. h code ∙ sym (value_skips prls groups code (get before code) none),
 )
 
-acted_skips : (prls : List Prl) (groups : ℕ) (before : Settings) (acted : Acted) → HoldsNoPictures groups →
+acted_skips : (prls : List Prl) (groups : ℕ) (before : Properties) (acted : Acted) → HoldsNoPictures groups →
     (IsActed (map skipped prls) groups before acted ↔ IsActed prls groups before acted)
 acted_skips prls groups before acted none = (
   λ h. record
@@ -262,7 +262,7 @@ acted_skips prls groups before acted none = (
   },
 )
 
-pub act_skips : (old new : List ℕ) (groups : ℕ) (before : Settings) (acted : Acted) → HoldsNoPictures groups →
+pub act_skips : (old new : List ℕ) (groups : ℕ) (before : Properties) (acted : Acted) → HoldsNoPictures groups →
     SkipsRefused old new → (IsActedBy new groups before acted ↔ IsActedBy old groups before acted)
 act_skips old new groups before acted none s = (
   λ h prls spelt. subst (λ l. IsActed l groups before acted) (spelt_unique old s.prls prls s.spelt spelt)

@@ -1,5 +1,5 @@
 -- Going through a list whose codes are skipped in place.
-use Rattle.std.proofs.Common.{◌≡◌, ℕ, ◌+◌, Bool, true, false, ◌||◌, List, [], ◌∷◌, ◌++◌, length, take, drop}
+use Rattle.std.proofs.Common.{◌≡◌, ℕ, ◌+◌, List, [], ◌∷◌, ◌++◌, length, take, drop}
 use Rattle.std.proofs.Common.{map, refl, sym, ap, ◌∙◌}
 use Rattle.std.proofs.Common.{subst, slice_range, arith, append_assoc, length-append, length-drop}
 use Rattle.std.specs.List.{All, flat_map}
@@ -192,9 +192,3 @@ pub all_there : (old now : List ℕ) (at : ℕ) (front : SkipsFront old now at) 
 all_there old now at front list e none =
     let same = e ∙ rest_there old now at front in
     front_all old now at front (none front.others (subst (λ l. SpellsSprmList l front.others) (sym same) front.left))
-
--- neither of two is there
-pub neither : (a b : Bool) → (a || b) ≡ false → (a ≡ false) × (b ≡ false)
-neither false false e = (refl, refl)
-neither false true e = absurd (cc e)
-neither true b e = absurd (cc e)

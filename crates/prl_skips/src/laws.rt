@@ -12,7 +12,7 @@ pub fn skips_are_accepted()
     ensures { SkipsAreAccepted }
 {}
 
-/// Skipped entries make of settings what the entries make of them.
+/// Skipped entries make of properties what the entries make of them.
 pub fn skips_make_the_same()
     ensures { SkipsMakeTheSame }
 {}

@@ -15,7 +15,7 @@ const GROUP: u16 = 0x0400;
 const PICTURE: u16 = 0x0C00;
 
 /// The code itself, or with the group of pictures where it is not read.
-fn skipped(code: Code) -> Code
+fn skip_code(code: Code) -> Code
     ensures { result.0 ≡ skipped_code code.0 }
 {
     match class(code) {
@@ -44,7 +44,7 @@ fn skip_at(list: &mut [u8], at: usize, code: Code) -> bool
     ensures put { list.new ≡ take at list.old ++ (number_bytes 2 (skipped_code code.0) ++ drop (at + 2) list.old) }
     ensures same { result ≡ false → skipped_code code.0 ≡ code.0 }
 {
-    let skipped = skipped(code);
+    let skipped = skip_code(code);
     put16(list, at, skipped.0);
     skipped != code
 }

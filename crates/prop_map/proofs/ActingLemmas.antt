@@ -10,12 +10,12 @@ use Rattle.std.specs.FinMap.{get, empty, get-empty}
 use Rattle.std.proofs.lemmas.Bool.{eqb-true}
 use Rattle.sprm_table.specs.declared.Class.{Class}
 use Rattle.sprm_table.specs.declared.Class.TheVariants.{Plain, Toggle, Clear, Style, Refused}
-use Rattle.sprm_table.specs.Codes.{is_held, class_of, is_setting, is_clear}
+use Rattle.sprm_table.specs.Codes.{is_held, class_of, is_property, is_clear}
 use Rattle.sprm_table.specs.Sprm.{Prl, IsPrl}
-use Rattle.prop_map.specs.Settings.{Settings}
+use Rattle.prop_map.specs.Settings.{Properties}
 use Rattle.doc_bits.specs.Number.{AreBytes}
 use Rattle.prop_map.specs.Formed.{IsMapEntry, IsPropertyMap}
-use Rattle.prop_map.specs.Acting.{is_kept, concerns_code, left_by, value_after, names_style, style_of}
+use Rattle.prop_map.specs.Acting.{is_kept, concerns_code, left_by, value_after, names_style, style_named}
 use Rattle.prop_map.specs.Acting.{ArePropertiesAfter}
 
 -- ---- the last of two lists
@@ -54,8 +54,8 @@ map_either : (f : Prl → ℕ) (a o : Option Prl) → option_map f (option_or a 
 map_either f None o = refl
 map_either f (Some a) o = refl
 
-pub style_of-append : (first next : List Prl) (groups : ℕ) → style_of (first ++ next) groups ≡ option_or
-    (style_of next groups) (style_of first groups)
+pub style_of-append : (first next : List Prl) (groups : ℕ) → style_named (first ++ next) groups ≡ option_or
+    (style_named next groups) (style_named first groups)
 style_of-append first next groups = ap (option_map _) (last_of_two (names_style groups) first next) ∙ map_either _
     (last_or None (filter (names_style groups) next)) (last_or None (filter (names_style groups) first))
 
@@ -63,17 +63,17 @@ style_of-append first next groups = ap (option_map _) (last_of_two (names_style 
 
 -- it sets
 pub value_after-set : (groups code key : ℕ) (value : List ℕ) (before : Option (List ℕ)) → is_held groups key ≡ true →
-    is_setting (class_of key) ≡ true → is_clear (class_of key) ≡ false → cond (eq_by_cmp nat_cmp code key)
+    is_property (class_of key) ≡ true → is_clear (class_of key) ≡ false → cond (eq_by_cmp nat_cmp code key)
     (Some value) before ≡ value_after ((key, value) ∷ []) groups code before
 value_after-set groups code key value before held sets clears =
     rw (held, clears, unsigned_tied code key)
     (elim (code == key) as (λ b. cond b (Some value) before ≡ left_by (last_or None
-    (cond ((b && is_setting (class_of key)) || false) ((key, value) ∷ []) [])) before) [
+    (cond ((b && is_property (class_of key)) || false) ((key, value) ∷ []) [])) before) [
       | true ↦ rw (sets, sets) refl
       | false ↦ refl
     ])
 
-clear_case : (b kept : Bool) (prl : Prl) (before : Option (List ℕ)) → is_setting (class_of prl.0) ≡ false →
+clear_case : (b kept : Bool) (prl : Prl) (before : Option (List ℕ)) → is_property (class_of prl.0) ≡ false →
     cond kept before None ≡ left_by (last_or None (cond ((b && false) || not kept) (prl ∷ []) [])) before
 clear_case true true prl before sets = refl
 clear_case true false prl before sets = rw sets refl
@@ -82,7 +82,7 @@ clear_case false false prl before sets = rw sets refl
 
 -- it clears
 pub value_after-clear : (groups code key : ℕ) (value : List ℕ) (before : Option (List ℕ)) → is_held groups key ≡
-    true → is_setting (class_of key) ≡ false → is_clear (class_of key) ≡ true → cond (is_kept code) before None ≡
+    true → is_property (class_of key) ≡ false → is_clear (class_of key) ≡ true → cond (is_kept code) before None ≡
     value_after ((key, value) ∷ []) groups code before
 value_after-clear groups code key value before held sets clears = rw (held, sets, clears) (clear_case (code == key)
     (is_kept code) (key, value) before sets)
@@ -94,7 +94,7 @@ pub last_has : (P : Prl → Type 0) (xs : List Prl) (x : Prl) (o : Option Prl) �
 last_has P [] x o h all e = subst (λ r. IfSome r P) e h
 last_has P (y ∷ ys) x o h all e = last_has P ys x (Some y) (All-head P y ys all) (All-tail P y ys all) e
 
-pub sets_not_clears : (kind : Class) → is_setting kind ≡ true → is_clear kind ≡ false
+pub sets_not_clears : (kind : Class) → is_property kind ≡ true → is_clear kind ≡ false
 sets_not_clears Plain h = refl
 sets_not_clears Toggle h = refl
 sets_not_clears Clear h = cc
@@ -123,24 +123,24 @@ formed_from : (groups code : ℕ) (value : List ℕ) (list : List Prl) (before :
     (code, value)
 formed_from groups code value list before None was entries values old e = old e
 formed_from groups code value list before (Some prl) was entries values old e =
-    let sets = set_value (is_setting (class_of prl.0)) prl.1 value e in
+    let sets = set_value (is_property (class_of prl.0)) prl.1 value e in
     let entry = last_has IsPrl (filter (concerns_code groups code) list) prl None tt (All-filter (concerns_code groups
     code) IsPrl list entries) was in
     let bytes = last_has HasByteValue (filter (concerns_code groups code) list) prl None tt (All-filter (concerns_code
     groups code) HasByteValue list values) was in
     let concerns = last_has (λ x. concerns_code groups code x ≡ true) (filter (concerns_code groups code) list) prl
     None tt (filter_passes (concerns_code groups code) list) was in
-    let facts = concern_case (is_held groups prl.0) (code == prl.0) (is_setting (class_of prl.0))
+    let facts = concern_case (is_held groups prl.0) (code == prl.0) (is_property (class_of prl.0))
     (is_clear (class_of prl.0)) (not (is_kept code)) sets.0 (sets_not_clears (class_of prl.0) sets.0) concerns in
     let key = eqb-true code prl.0 facts.1 in
     let same : prl ≡ (code, value) = λ i. (sym key i, sets.1 i) in
     subst (IsMapEntry groups) same (record {
-      setting = record { entry = entry; held = facts.0; sets = sets.0 };
+      property = record { entry = entry; held = facts.0; sets = sets.0 };
       bytes = bytes;
     })
 
 -- a list whose values are bytes puts into a map only what a map may hold
-pub IsPropertyMap-after : (list : List Prl) (groups : ℕ) (old new : Settings) → All IsPrl list → All HasByteValue
+pub IsPropertyMap-after : (list : List Prl) (groups : ℕ) (old new : Properties) → All IsPrl list → All HasByteValue
     list → ArePropertiesAfter list groups old new → IsPropertyMap groups old → IsPropertyMap groups new
 IsPropertyMap-after list groups old new entries values after formed code value e =
     formed_from groups code value list (get old code) (last_or None (filter (concerns_code groups code) list)) refl

@@ -11,7 +11,7 @@ use Rattle.sprm_table.specs.declared.operands.OperandSize.{OperandSize}
 use Rattle.sprm_table.specs.declared.operands.OperandSize.TheVariants.{Fixed, CountedByByte, CountedByWord}
 use Rattle.sprm_table.specs.Operands.{size_of, operand_bytes}
 use Rattle.sprm_table.specs.Sprm.{Prl, spelling, SpellsSprmList}
-use Rattle.prop_map.specs.Acting.{names_style, style_of}
+use Rattle.prop_map.specs.Acting.{names_style, style_named}
 use Rattle.prop_map.proofs.ActingLemmas.{HasByteValue, last_has}
 
 value_bytes : (size : OperandSize) (value : List ℕ) → AreBytes (operand_bytes size value) → AreBytes value
@@ -40,7 +40,8 @@ style_from (Some prl) n has e = subst (λ k. k < 65536) (ap (λ o. unwrap_or o 0
     (has prl refl))
 
 -- so the style that they name has 16 bits
-pub style_small : (prls : List Prl) (groups n : ℕ) → All HasByteValue prls → style_of prls groups ≡ Some n → n < 65536
+pub style_small : (prls : List Prl) (groups n : ℕ) → All HasByteValue prls → style_named prls groups ≡ Some n → n <
+    65536
 style_small prls groups n all e =
     style_from (last_or None (filter (names_style groups) prls)) n
     (λ x was. last_has HasByteValue (filter (names_style groups) prls) x None tt (All-filter (names_style groups)

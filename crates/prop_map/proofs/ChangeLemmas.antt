@@ -12,7 +12,7 @@ use Rattle.std.specs.FinMap.{find, put, is_sorted, from_sorted, retain_keys, ins
 use Rattle.std.specs.FinMap.{get-from_sorted, same_map, nat_cmp-IsAntisymmetric}
 use Rattle.std.specs.FinMap.Entries.{by_order, where_key, is_sorted-where_key, find-where_key, find-append}
 use Rattle.doc_bits.proofs.TestLemmas.{either}
-use Rattle.prop_map.specs.Settings.{Settings}
+use Rattle.prop_map.specs.Settings.{Properties}
 use Rattle.prop_map.specs.Entries.{Entries}
 use Rattle.prop_map.proofs.EntriesLemmas.{true_of, of_true, rises, find_gap}
 
@@ -45,7 +45,7 @@ pub sorted-where : (p : ℕ → Bool) (es : Entries) → IsTrue (is_sorted nat_c
     IsTrue (is_sorted nat_cmp (where_key nat_cmp p es))
 sorted-where p es h = true_of _ (is_sorted-where_key nat_cmp p es (of_true _ h))
 
-pub get-retained : (m : Settings) (p : ℕ → Bool) (q : ℕ) → get (retain_keys m p) q ≡ cond (p q) (get m q) None
+pub get-retained : (m : Properties) (p : ℕ → Bool) (q : ℕ) → get (retain_keys m p) q ≡ cond (p q) (get m q) None
 get-retained m p q = get-retain_keys m p q (λ x e. alike p q x e)
 
 pub from_sorted-where : (p : ℕ → Bool) (es : Entries) → IsTrue (is_sorted nat_cmp es) → from_sorted {R = nat_cmp}
@@ -59,7 +59,7 @@ from_sorted-where p es h = same_map nat_cmp_total nat_cmp-IsAntisymmetric _ _ (�
 -- ---- the entries of a map in order, each put over another map
 
 -- the code of an entry is not among the entries before it
-find-earlier : (es : Entries) (i : ℕ) (d : ℕ × List ℕ) → IsTrue (is_sorted nat_cmp es) → i < length es →
+pub find-earlier : (es : Entries) (i : ℕ) (d : ℕ × List ℕ) → IsTrue (is_sorted nat_cmp es) → i < length es →
     find nat_cmp (get_or es i d).0 (take i es) ≡ None
 find-earlier es i d h within =
     let long : length (take i es) ≡ i = omega (arith, length-take i es) in
@@ -68,16 +68,16 @@ find-earlier es i d h within =
     (λ j e low l. absurd (omega arith))
 
 -- how far the entries of a map were put over another
-pub record HasPutUpTo (all : Entries) (before : Settings) (left : Entries) (now : Settings) : Type 0 where
+pub record HasPutUpTo (all : Entries) (before : Properties) (left : Entries) (now : Properties) : Type 0 where
   pub done : Entries
   pub joined : all ≡ done ++ left
   pub got : (code : ℕ) → get now code ≡ option_or (find nat_cmp code done) (get before code)
 
-pub none_put : (all left : Entries) (before : Settings) → all ≡ left → HasPutUpTo all before left before
+pub none_put : (all left : Entries) (before : Properties) → all ≡ left → HasPutUpTo all before left before
 none_put all left before e = record { done = []; joined = e; got = λ code. refl }
 
 -- an entry more
-pub put_next : (all left : Entries) (before now next : Settings) (code : ℕ) (value : List ℕ) →
+pub put_next : (all left : Entries) (before now next : Properties) (code : ℕ) (value : List ℕ) →
     IsTrue (is_sorted nat_cmp all) → HasPutUpTo all before ((code, value) ∷ left) now → next ≡ insert now code value →
     HasPutUpTo all before left next
 put_next all left before now next code value sorted h e =
@@ -107,7 +107,7 @@ put_next all left before now next code value sorted h e =
     }
 
 -- all of them
-pub put_whole : (all : Entries) (before now : Settings) → HasPutUpTo all before [] now → (code : ℕ) →
+pub put_whole : (all : Entries) (before now : Properties) → HasPutUpTo all before [] now → (code : ℕ) →
     get now code ≡ option_or (find nat_cmp code all) (get before code)
 put_whole all before now h code = h.got code ∙ ap (λ l. option_or (find nat_cmp code l) (get before code))
     (sym (h.joined ∙ append-nil h.done))

@@ -8,7 +8,7 @@ use Rattle.std.specs.Cmp.{nat_cmp_total, nat_cmp_is, ranked}
 use Rattle.std.specs.FinMap.{find, put, is_sorted, entries, entries_sorted, entries-from_sorted, entries-insert}
 use Rattle.std.specs.FinMap.{from_sorted, insert, empty, len-empty, len-entries, same_entries_map}
 use Rattle.std.specs.FinMap.Entries.{below_all, is_sorted-put}
-use Rattle.prop_map.specs.Settings.{Settings}
+use Rattle.prop_map.specs.Settings.{Properties}
 use Rattle.prop_map.specs.Entries.{Entries}
 
 pub true_of : (b : Bool) → T b → IsTrue b
@@ -95,7 +95,7 @@ find_gap (suc at) code (e ∷ es) within below above =
 pub entries-empty : entries {K = ℕ} {X = List ℕ} {R = nat_cmp} empty ≡ []
 entries-empty = nil_from_length _ (sym (len-entries empty) ∙ len-empty nat_cmp (List ℕ))
 
-pub from_sorted-entries : (m : Settings) → from_sorted (entries m) ≡ m
+pub from_sorted-entries : (m : Properties) → from_sorted (entries m) ≡ m
 from_sorted-entries m = same_entries_map _ _ (entries-from_sorted nat_cmp (entries m) (entries_sorted m))
 
 pub from_sorted-nil : from_sorted {K = ℕ} {X = List ℕ} {R = nat_cmp} [] ≡ empty

@@ -5,10 +5,10 @@ use Rattle.std.proofs.lemmas.Bool.{cases_Bool}
 use Rattle.std.specs.Cmp.{nat_cmp_total}
 use Rattle.std.specs.List.{last_or}
 use Rattle.std.specs.FinMap.{get, insert, get-insert}
-use Rattle.sprm_table.specs.Codes.{is_held, class_of, is_setting, is_clear}
+use Rattle.sprm_table.specs.Codes.{is_held, class_of, is_property, is_clear}
 use Rattle.sprm_table.specs.Sprm.{Prl}
 use Rattle.prop_map.specs.declared.modifiers.Modifier.{Modifier}
-use Rattle.prop_map.specs.Settings.{Settings}
+use Rattle.prop_map.specs.Settings.{Properties}
 use Rattle.prop_map.specs.Acting.{is_kept, left_by, value_after, ArePropertiesAfter}
 use Rattle.prop_map.specs.Modifiers.{IsCharacterAfter, IsMarkAfter}
 use Rattle.prop_map.specs.Overlay.{cleared, modified_characters, modified_paragraph}
@@ -19,8 +19,8 @@ use Rattle.prop_map.proofs.MapLemmas.{is_modified_characters, is_modified_paragr
 -- ---- a list of sprms
 
 -- a map after the list
-pub record ComesAfter (list : List Prl) (groups : ℕ) (old : Settings) : Type 0 where
-  pub new : Settings
+pub record ComesAfter (list : List Prl) (groups : ℕ) (old : Properties) : Type 0 where
+  pub new : Properties
   pub after : ArePropertiesAfter list groups old new
 
 -- an entry that does nothing
@@ -29,10 +29,10 @@ nothing_said : (b kept : Bool) (prl : Prl) (before : Option (List ℕ)) → befo
 nothing_said true kept prl before = refl
 nothing_said false kept prl before = refl
 
-after_one : (prl : Prl) (groups : ℕ) (old : Settings) → ComesAfter (prl ∷ []) groups old
+after_one : (prl : Prl) (groups : ℕ) (old : Properties) → ComesAfter (prl ∷ []) groups old
 after_one prl groups old = elim (cases_Bool (is_held groups prl.0)) [
   | inr other ↦ record { new = old; after = λ code. rw other refl }
-  | inl held ↦ elim (cases_Bool (is_setting (class_of prl.0))) [
+  | inl held ↦ elim (cases_Bool (is_property (class_of prl.0))) [
     | inl sets ↦ record {
       new = insert old prl.0 prl.1;
       after = λ code.
@@ -54,7 +54,7 @@ after_one prl groups old = elim (cases_Bool (is_held groups prl.0)) [
   ]
 ]
 
-pub after_list : (list : List Prl) (groups : ℕ) (old : Settings) → ComesAfter list groups old
+pub after_list : (list : List Prl) (groups : ℕ) (old : Properties) → ComesAfter list groups old
 after_list [] groups old = record { new = old; after = λ code. refl }
 after_list (prl ∷ prls) groups old =
     let first = after_one prl groups old in
@@ -69,20 +69,20 @@ after_list (prl ∷ prls) groups old =
 -- ---- a map over another
 
 -- a character's map after a modifier, and a mark's
-pub record HasCharacterAfter (modifier : Modifier) (old : Settings) : Type 0 where
-  pub new : Settings
+pub record HasCharacterAfter (modifier : Modifier) (old : Properties) : Type 0 where
+  pub new : Properties
   pub after : IsCharacterAfter modifier old new
 
-pub character_after : (modifier : Modifier) (old : Settings) → HasCharacterAfter modifier old
+pub character_after : (modifier : Modifier) (old : Properties) → HasCharacterAfter modifier old
 character_after modifier old = record {
   new = modified_characters modifier old;
   after = is_modified_characters
       modifier old;
 }
 
-pub record HasMarkAfter (modifier : Modifier) (old : Settings) : Type 0 where
-  pub new : Settings
+pub record HasMarkAfter (modifier : Modifier) (old : Properties) : Type 0 where
+  pub new : Properties
   pub after : IsMarkAfter modifier old new
 
-pub mark_after : (modifier : Modifier) (old : Settings) → HasMarkAfter modifier old
+pub mark_after : (modifier : Modifier) (old : Properties) → HasMarkAfter modifier old
 mark_after modifier old = record { new = modified_paragraph modifier old; after = is_modified_paragraph modifier old }

@@ -9,12 +9,13 @@ use Rattle.std.specs.List.{All, filter, last_or}
 use Rattle.std.specs.FinMap.{get, get-insert, same_map, nat_cmp-IsAntisymmetric}
 use Rattle.sprm_table.specs.declared.Class.{Class}
 use Rattle.sprm_table.specs.declared.Class.TheVariants.{Plain, Toggle, Clear, Style, Refused}
-use Rattle.sprm_table.specs.Codes.{is_held, class_of, is_setting, is_clear}
+use Rattle.sprm_table.specs.Codes.{is_held, class_of, is_property, is_clear}
 use Rattle.sprm_table.specs.Sprm.{Prl}
 use Rattle.prop_map.specs.Formed.{character_groups, paragraph_groups, IsMapEntry}
 use Rattle.prop_map.specs.Acting.{is_kept, sets_code, clears_code, concerns_code, left_by, value_after}
-use Rattle.prop_map.specs.Laws.{SaidCodeByCode, ListsActInTurn, ActingIsOne, ModifierIsOne, SettingsStayFormed}
+use Rattle.prop_map.specs.Laws.{SaidCodeByCode, ListsActInTurn, ActingIsOne, ModifierIsOne, PropertiesStayFormed}
 use Rattle.prop_map.proofs.ActingLemmas.{value_after-append, style_of-append}
+use Rattle.doc_bits.proofs.TestLemmas.{or_second}
 
 pub acting_one : ActingIsOne
 acting_one list groups old one other h k = same_map nat_cmp_total nat_cmp-IsAntisymmetric one other (λ code. h code ∙
@@ -34,18 +35,18 @@ act_in_turn first next groups = record {
   style = style_of-append first next groups;
 }
 
--- ---- a setting put into a map
+-- ---- a property put into a map
 
 put_formed : (b : Bool) (here : List ℕ) (old : Option (List ℕ)) (value : List ℕ) (P : Type 0) →
     (b ≡ true → here ≡ value → P) → (old ≡ Some value → P) → cond b (Some here) old ≡ Some value → P
 put_formed true here old value P same other e = same refl (cc)
 put_formed false here old value P same other e = other e
 
-pub stay_formed : SettingsStayFormed
-stay_formed groups map prl formed setting code value e =
+pub stay_formed : PropertiesStayFormed
+stay_formed groups map prl formed property code value e =
     put_formed (eq_by_cmp nat_cmp code prl.0) prl.1 (get map code) value (IsMapEntry groups (code, value))
     (λ tied here. let key = eqb-true code prl.0 (sym (unsigned_tied code prl.0) ∙ tied) in subst (IsMapEntry groups)
-    (λ i. (sym key i, here i)) setting)
+    (λ i. (sym key i, here i)) property)
     (formed code value)
     (sym (get-insert nat_cmp_total map prl.0 prl.1 code) ∙ e)
 
@@ -73,22 +74,18 @@ second true true c e = refl
 second true false c e = cc
 second false b c e = cc
 
-clears_sets_none : (kind : Class) → is_clear kind ≡ true → is_setting kind ≡ false
+clears_sets_none : (kind : Class) → is_clear kind ≡ true → is_property kind ≡ false
 clears_sets_none Plain e = cc
 clears_sets_none Toggle e = cc
 clears_sets_none Clear e = refl
 clears_sets_none Style e = refl
 clears_sets_none Refused e = refl
 
-or_true : (a b : Bool) → b ≡ true → (a || b) ≡ true
-or_true true b e = refl
-or_true false b e = e
-
 -- an entry that removes a code leaves nothing there
 one_removes : (groups code : ℕ) (prl : Prl) (before : Option (List ℕ)) → clears_code groups code prl ≡ true →
     value_after (prl ∷ []) groups code before ≡ None
 one_removes groups code prl before clears =
-    let concerns : concerns_code groups code prl ≡ true = or_true (sets_code groups code prl) (clears_code groups code
+    let concerns : concerns_code groups code prl ≡ true = or_second (sets_code groups code prl) (clears_code groups code
     prl) clears in
     let none = clears_sets_none (class_of prl.0) (second (is_held groups prl.0) (is_clear (class_of prl.0))
     (not (is_kept code)) clears) in
@@ -116,11 +113,11 @@ leaves_none groups code (e ∷ es) sets =
 set_last : (groups code : ℕ) (prl : Prl) (back : List Prl) (before : Option (List ℕ)) → sets_code groups code prl ≡
     true → filter (concerns_code groups code) back ≡ [] → value_after (prl ∷ back) groups code before ≡ Some prl.1
 set_last groups code prl back before sets none =
-    let setting = third (is_held groups prl.0) (code == prl.0) (is_setting (class_of prl.0)) sets in
+    let property = third (is_held groups prl.0) (code == prl.0) (is_property (class_of prl.0)) sets in
     let concerns : concerns_code groups code prl ≡ true = ap (λ b. b || clears_code groups code prl) sets in
     ap (λ b. left_by (last_or None (cond b (prl ∷ filter (concerns_code groups code) back)
     (filter (concerns_code groups code) back))) before) concerns
-    ∙ (ap (λ l. left_by (last_or None (prl ∷ l)) before) none ∙ rw setting refl)
+    ∙ (ap (λ l. left_by (last_or None (prl ∷ l)) before) none ∙ rw property refl)
 
 pub code_by_code : SaidCodeByCode
 code_by_code groups code before = record {

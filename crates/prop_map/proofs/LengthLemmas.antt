@@ -8,7 +8,7 @@ use Rattle.sprm_table.specs.declared.operands.OperandSize.{OperandSize}
 use Rattle.sprm_table.specs.declared.operands.OperandSize.TheVariants.{Fixed, CountedByByte, CountedByWord}
 use Rattle.sprm_table.specs.Operands.{size_of, IsSizeOf}
 use Rattle.sprm_table.specs.Sprm.{Prl, IsPrl, spelling}
-use Rattle.prop_map.specs.Settings.{Settings}
+use Rattle.prop_map.specs.Settings.{Properties}
 use Rattle.prop_map.specs.Entries.{Entries}
 use Rattle.prop_map.specs.Block.{block_bytes, entry_bytes}
 use Rattle.prop_map.specs.Formed.{IsFormedMap}
@@ -60,7 +60,7 @@ small_list (prl ∷ prls) all =
     let others = small_list prls (All-tail IsPrl prl prls all) in
     omega arith
 
-pub small_map : (m : Settings) → IsFormedMap m → length (printed_list m) < 2 ^ 33
+pub small_map : (m : Properties) → IsFormedMap m → length (printed_list m) < 2 ^ 33
 small_map m formed =
     let list = small_list (entries m) (prls_of m formed) in
     let few = few_len m formed in

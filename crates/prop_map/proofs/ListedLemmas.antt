@@ -11,17 +11,17 @@ use Rattle.std.specs.List.{All, filter, last_or}
 use Rattle.std.specs.FinMap.{get, get-entries, get-empty, entries, entries_sorted}
 use Rattle.doc_bits.specs.Number.{number_bytes, u16_at}
 use Rattle.doc_bits.proofs.NumberLemmas.{length-number_bytes, number_at-number_bytes}
-use Rattle.sprm_table.specs.Codes.{is_held, class_of, is_setting, is_clear, IsRefusedIn}
-use Rattle.sprm_table.specs.Sprm.{Prl, IsPrl, IsSetting, SpellsSprmList, IsAcceptedList}
-use Rattle.sprm_table.proofs.SprmLemmas.{spelt_unique}
+use Rattle.sprm_table.specs.Codes.{is_held, class_of, is_property, is_clear, IsRefusedIn}
+use Rattle.sprm_table.specs.Sprm.{Prl, IsPrl, IsProperty, SpellsSprmList, IsAcceptedList}
+use Rattle.sprm_table.proofs.SprmLemmas.{spelt_unique, spells_joined}
 use Rattle.prop_map.specs.declared.modifiers.Modifier.{Modifier}
-use Rattle.prop_map.specs.Settings.{Settings}
+use Rattle.prop_map.specs.Settings.{Properties}
 use Rattle.prop_map.specs.Formed.{IsPropertyMap, character_groups, paragraph_groups, prc_groups}
-use Rattle.prop_map.specs.Acting.{is_kept, concerns_code, left_by, value_after, style_of}
+use Rattle.prop_map.specs.Acting.{is_kept, concerns_code, left_by, value_after, style_named}
 use Rattle.prop_map.specs.Modifiers.{clears_characters, style_prls, clear_prls, modifier_prls, printed_modifier}
 use Rattle.prop_map.specs.Modifiers.{IsModifierOf, IsFormedModifier}
 use Rattle.prop_map.proofs.ActingLemmas.{value_after-append, style_of-append, sets_not_clears}
-use Rattle.prop_map.proofs.PrintLemmas.{prls_of, settings_of, spells_entries, none_refused, value_after-entries}
+use Rattle.prop_map.proofs.PrintLemmas.{prls_of, properties_of, none_refused, value_after-entries}
 use Rattle.prop_map.proofs.PrintLemmas.{style_of-entries}
 use Rattle.prop_map.proofs.GroupLemmas.{character_apart, paragraph_apart}
 
@@ -34,24 +34,24 @@ unheld false sets clears same other h = refl
 unheld true sets clears same other h = cc
 
 none_held : (groups held code : ℕ) → ((key : ℕ) → is_held held key ≡ true → is_held groups key ≡ false) →
-    (es : List Prl) → All (IsSetting held) es → filter (concerns_code groups code) es ≡ []
+    (es : List Prl) → All (IsProperty held) es → filter (concerns_code groups code) es ≡ []
 none_held groups held code apart [] all = refl
 none_held groups held code apart (e ∷ es) all =
-    let setting = All-head (IsSetting held) e es all in
-    rw (unheld (is_held groups e.0) (is_setting (class_of e.0)) (is_clear (class_of e.0)) (code == e.0)
-    (not (is_kept code)) (apart e.0 setting.held)) (none_held groups held code apart es (All-tail (IsSetting held)
+    let property = All-head (IsProperty held) e es all in
+    rw (unheld (is_held groups e.0) (is_property (class_of e.0)) (is_clear (class_of e.0)) (code == e.0)
+    (not (is_kept code)) (apart e.0 property.held)) (none_held groups held code apart es (All-tail (IsProperty held)
     e es all))
 
 unheld_keeps : (groups held code : ℕ) (es : List Prl) (before : Option (List ℕ)) → ((key : ℕ) → is_held held key ≡
-    true → is_held groups key ≡ false) → All (IsSetting held) es → value_after es groups code before ≡ before
+    true → is_held groups key ≡ false) → All (IsProperty held) es → value_after es groups code before ≡ before
 unheld_keeps groups held code es before apart all = rw (none_held groups held code apart es all) refl
 
-none_clear : (held : ℕ) (es : List Prl) → All (IsSetting held) es → clears_characters es ≡ false
+none_clear : (held : ℕ) (es : List Prl) → All (IsProperty held) es → clears_characters es ≡ false
 none_clear held [] all = refl
 none_clear held (e ∷ es) all =
-    let setting = All-head (IsSetting held) e es all in
+    let property = All-head (IsProperty held) e es all in
     and_or (is_held character_groups e.0) (is_clear (class_of e.0)) (clears_characters es) (sets_not_clears
-    (class_of e.0) setting.sets) (none_clear held es (All-tail (IsSetting held) e es all))
+    (class_of e.0) property.sets) (none_clear held es (All-tail (IsProperty held) e es all))
   where
     and_or : (a b c : Bool) → b ≡ false → c ≡ false → ((a && b) || c) ≡ false
     and_or a true c e f = cc
@@ -71,14 +71,15 @@ style_keeps (Some n) groups code before = rw (concerns_none (is_held groups 0x46
     concerns_none false same other = refl
 
 -- it names the style
-style_of-style : (istd : Option ℕ) → MatchOption istd ⊤ (λ n. n < 65536) → style_of (style_prls istd) paragraph_groups
+style_of-style : (istd : Option ℕ) → MatchOption istd ⊤ (λ n. n < 65536) → style_named (style_prls istd)
+    paragraph_groups
     ≡ istd
 style_of-style None word = refl
 style_of-style (Some n) word = ap Some (ap (λ bytes. u16_at bytes 0) (sym (append-nil (number_bytes 2 n))) ∙
     number_at-number_bytes 2 n [] word)
 
 -- the clear as an entry names no style, and does nothing to marks
-style_of-clear : (clear : Bool) → style_of (clear_prls clear) paragraph_groups ≡ None
+style_of-clear : (clear : Bool) → style_named (clear_prls clear) paragraph_groups ≡ None
 style_of-clear true = refl
 style_of-clear false = refl
 
@@ -105,9 +106,9 @@ clears-style None = refl
 clears-style (Some n) = refl
 
 -- a map's own entries give the map
-own_entries : (groups code : ℕ) (m : Settings) → IsPropertyMap groups m → value_after (entries m) groups code None ≡
+own_entries : (groups code : ℕ) (m : Properties) → IsPropertyMap groups m → value_after (entries m) groups code None ≡
     get m code
-own_entries groups code m formed = value_after-entries groups code (entries m) (entries_sorted m) (settings_of groups
+own_entries groups code m formed = value_after-entries groups code (entries m) (entries_sorted m) (properties_of groups
     m formed) ∙ sym (get-entries m code)
 
 -- ---- the whole list
@@ -128,9 +129,9 @@ read_back m formed word =
     let pap = entries m.pap in
     let clear = clear_prls m.clear in
     let chp = entries m.chp in
-    let paps = settings_of paragraph_groups m.pap formed.pap in
-    let chps = settings_of character_groups m.chp formed.chp in
-    let no_style : style_of (pap ++ (clear ++ chp)) paragraph_groups ≡ None =
+    let paps = properties_of paragraph_groups m.pap formed.pap in
+    let chps = properties_of character_groups m.chp formed.chp in
+    let no_style : style_named (pap ++ (clear ++ chp)) paragraph_groups ≡ None =
     style_of-append pap (clear ++ chp) paragraph_groups
     ∙ rw (
       style_of-append clear chp paragraph_groups,
@@ -141,7 +142,7 @@ read_back m formed word =
     ) refl in
     record {
       style = sym (style_of-append style (pap ++ (clear ++ chp)) paragraph_groups ∙
-          (ap (λ o. option_or o (style_of style paragraph_groups)) no_style ∙ style_of-style m.istd word));
+          (ap (λ o. option_or o (style_named style paragraph_groups)) no_style ∙ style_of-style m.istd word));
       marks = λ code. sym (ap (value_after (modifier_prls m) paragraph_groups code) (get-empty nat_cmp code)
           ∙ (in_a_row style pap clear chp paragraph_groups code None
           ∙ (unheld_keeps paragraph_groups character_groups code chp _ character_apart chps
@@ -205,7 +206,7 @@ all_four P a b c d h i j k = All-append P a (b ++ (c ++ d)) h (All-append P b (c
 
 modifier_spelt : (m : Modifier) → IsFormedModifier m → SpellsSprmList (printed_modifier m) (modifier_prls m)
 modifier_spelt m formed =
-    spells_entries (modifier_prls m) (all_four IsPrl (style_prls m.istd) (entries m.pap) (clear_prls m.clear)
+    spells_joined (modifier_prls m) (all_four IsPrl (style_prls m.istd) (entries m.pap) (clear_prls m.clear)
     (entries m.chp)
     (style_listed m.istd) (prls_of m.pap (paragraph_groups, formed.pap)) (clear_listed m.clear) (prls_of m.chp
     (character_groups, formed.chp)))
@@ -216,9 +217,9 @@ modifier_accepted m formed = record {
   spelt = modifier_spelt m formed;
   accepted = all_four (λ prl. ¬ (IsRefusedIn prc_groups prl.0)) (style_prls m.istd) (entries m.pap)
       (clear_prls m.clear) (entries m.chp)
-      (style_unrefused m.istd prc_groups) (none_refused paragraph_groups prc_groups (entries m.pap) (settings_of
+      (style_unrefused m.istd prc_groups) (none_refused paragraph_groups prc_groups (entries m.pap) (properties_of
       paragraph_groups m.pap formed.pap))
-      (clear_unrefused m.clear prc_groups) (none_refused character_groups prc_groups (entries m.chp) (settings_of
+      (clear_unrefused m.clear prc_groups) (none_refused character_groups prc_groups (entries m.chp) (properties_of
       character_groups m.chp formed.chp));
 }
 

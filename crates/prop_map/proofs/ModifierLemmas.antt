@@ -7,12 +7,12 @@ use Rattle.std.specs.List.{All, filter, last_or, list_any}
 use Rattle.std.specs.FinMap.{get, get-empty}
 use Rattle.std.specs.Ordering.{nat_cmp}
 use Rattle.std.proofs.lemmas.Bool.{eqb-true}
-use Rattle.doc_bits.proofs.TestLemmas.{both_true}
+use Rattle.doc_bits.proofs.TestLemmas.{both_true, and_false}
 use Rattle.sprm_table.specs.declared.Class.TheVariants.{Plain, Toggle, Clear, Style, Refused}
-use Rattle.sprm_table.specs.Codes.{is_held, is_among, toggles, refused_codes, class_of, is_setting, is_clear}
+use Rattle.sprm_table.specs.Codes.{is_held, is_among, toggles, refused_codes, class_of, is_property, is_clear}
 use Rattle.sprm_table.specs.Sprm.{Prl}
 use Rattle.prop_map.specs.declared.modifiers.Modifier.{Modifier}
-use Rattle.prop_map.specs.Settings.{Settings}
+use Rattle.prop_map.specs.Settings.{Properties}
 use Rattle.prop_map.specs.Formed.{IsMapEntry, IsPropertyMap, character_groups, paragraph_groups}
 use Rattle.prop_map.specs.Acting.{is_kept, concerns_code, left_by, value_after}
 use Rattle.prop_map.specs.Modifiers.{value_over, clears_characters, IsModifierOf, DoesAsListed, IsComposed, ActsInTurn}
@@ -67,7 +67,7 @@ from_over : (over before : Option (List ℕ)) (clear : Bool) (code : ℕ) (value
 from_over (Some v) before clear code value P e later earlier = later e
 from_over None before clear code value P e later earlier = earlier (unless (clear && not (is_kept code)) before value e)
 
-pub IsPropertyMap-over : (groups : ℕ) (clear : Bool) (top base made : Settings) → ((code : ℕ) → get made code ≡
+pub IsPropertyMap-over : (groups : ℕ) (clear : Bool) (top base made : Properties) → ((code : ℕ) → get made code ≡
     value_over clear code (get top code) (get base code)) → IsPropertyMap groups top → IsPropertyMap groups base →
     IsPropertyMap groups made
 IsPropertyMap-over groups clear top base made over later earlier code value e =
@@ -125,10 +125,6 @@ concern_clears true true false false kept s e = cc
 concern_clears true false sets false kept s e = cc
 concern_clears false same sets clears kept s e = cc
 
-and_false : (a : Bool) → (a && false) ≡ false
-and_false true = refl
-and_false false = refl
-
 unkept : (prls : List Prl) (code : ℕ) (kept : Bool) → is_kept code ≡ kept →
     last_or None (filter (concerns_code character_groups code) prls) ≡ None → (clears_characters prls && not kept) ≡
     false
@@ -136,7 +132,7 @@ unkept prls code true k was = and_false (clears_characters prls)
 unkept prls code false k was =
     rw (none_listed (concerns_code character_groups code) (λ prl. is_held character_groups prl.0 && is_clear
     (class_of prl.0)) prls
-    (λ x h. clears_concern (is_held character_groups x.0) (code == x.0) (is_setting (class_of x.0))
+    (λ x h. clears_concern (is_held character_groups x.0) (code == x.0) (is_property (class_of x.0))
     (is_clear (class_of x.0)) (is_kept code) k h) was) refl
 
 listed : (q : Prl → Bool) (xs : List Prl) (x : Prl) → ((All (λ y. q y ≡ false) xs) → q x ≡ false) → q x ≡ true →
@@ -152,14 +148,14 @@ character_case : (prls : List Prl) (code : ℕ) (before : Option (List ℕ)) (la
     (left_by last None) before ≡ left_by last before
 character_case prls code before None was = rw (unkept prls code (is_kept code) refl was) refl
 character_case prls code before (Some prl) was =
-    elim (is_setting (class_of prl.0)) as (λ b. is_setting (class_of prl.0) ≡ b → value_over (clears_characters prls)
+    elim (is_property (class_of prl.0)) as (λ b. is_property (class_of prl.0) ≡ b → value_over (clears_characters prls)
     code (cond b (Some prl.1) None) before ≡ cond b (Some prl.1) None) [
       | true ↦ λ s. refl
       | false ↦ λ s.
           let concerns = last_has (λ x. concerns_code character_groups code x ≡ true)
           (filter (concerns_code character_groups code) prls) prl None tt (filter_passes (concerns_code
           character_groups code) prls) was in
-          let facts = concern_clears (is_held character_groups prl.0) (code == prl.0) (is_setting (class_of prl.0))
+          let facts = concern_clears (is_held character_groups prl.0) (code == prl.0) (is_property (class_of prl.0))
           (is_clear (class_of prl.0)) (is_kept code) s concerns in
           let clears = listed (λ x. is_held character_groups x.0 && is_clear (class_of x.0)) prls prl
           (λ all. last_has (λ x. (is_held character_groups x.0 && is_clear (class_of x.0)) ≡ false)
@@ -192,14 +188,14 @@ mark_case : (prls : List Prl) (code : ℕ) (before : Option (List ℕ)) (last : 
     left_by last before
 mark_case prls code before None was = refl
 mark_case prls code before (Some prl) was =
-    elim (is_setting (class_of prl.0)) as (λ b. is_setting (class_of prl.0) ≡ b → option_or (cond b (Some prl.1) None)
+    elim (is_property (class_of prl.0)) as (λ b. is_property (class_of prl.0) ≡ b → option_or (cond b (Some prl.1) None)
     before ≡ cond b (Some prl.1) None) [
       | true ↦ λ s. refl
       | false ↦ λ s.
           let concerns = last_has (λ x. concerns_code paragraph_groups code x ≡ true)
           (filter (concerns_code paragraph_groups code) prls) prl None tt (filter_passes (concerns_code
           paragraph_groups code) prls) was in
-          let facts = concern_clears (is_held paragraph_groups prl.0) (code == prl.0) (is_setting (class_of prl.0))
+          let facts = concern_clears (is_held paragraph_groups prl.0) (code == prl.0) (is_property (class_of prl.0))
           (is_clear (class_of prl.0)) (is_kept code) s concerns in
           let both = both_true (is_held paragraph_groups prl.0) (is_clear (class_of prl.0)) facts.0 in
           absurd (let none = clear_not_marked prl.0 both.1 in let held = both.0 in cc)

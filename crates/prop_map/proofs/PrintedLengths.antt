@@ -15,13 +15,13 @@ use Rattle.std.proofs.Common.{◌&&◌}
 use Rattle.sprm_table.specs.Sprm.{Prl, spelling}
 use Rattle.prop_map.specs.Acting.{is_kept}
 use Rattle.prop_map.specs.declared.modifiers.Modifier.{Modifier}
-use Rattle.prop_map.specs.Settings.{Settings}
+use Rattle.prop_map.specs.Settings.{Properties}
 use Rattle.prop_map.specs.Printing.{printed_list}
 use Rattle.prop_map.specs.Modifiers.{value_over, IsOver, IsCharacterAfter, IsMarkAfter, IsComposed, style_prls}
 use Rattle.prop_map.specs.Modifiers.{clear_prls, printed_modifier}
 use Rattle.prop_map.proofs.ChangeLemmas.{get-retained, from_sorted-where}
 use Rattle.prop_map.proofs.EntriesLemmas.{true_of, from_sorted-entries}
-use Rattle.prop_map.proofs.MapLemmas.{same_settings}
+use Rattle.prop_map.proofs.MapLemmas.{same_properties}
 
 abbrev pub spelt_length : List Prl → ℕ
 spelt_length prls = length (flat_map spelling prls)
@@ -54,18 +54,18 @@ spelt_parts p (prl ∷ prls) =
     )
 
 -- the entries of the codes that pass a test
-entries_kept : (map : Settings) (p : ℕ → Bool) → entries (retain_keys map p) ≡ filter (λ prl. p prl.0) (entries map)
+entries_kept : (map : Properties) (p : ℕ → Bool) → entries (retain_keys map p) ≡ filter (λ prl. p prl.0) (entries map)
 entries_kept map p =
     let sorted = entries_sorted map in
     let made : from_sorted (where_key nat_cmp p (entries map)) ≡ retain_keys map p =
     from_sorted-where p (entries map) (true_of _ sorted)
-    ∙ ap (λ (m : Settings). retain_keys m p) (from_sorted-entries map) in
-    ap (λ (m : Settings). entries m) (sym made)
+    ∙ ap (λ (m : Properties). retain_keys m p) (from_sorted-entries map) in
+    ap (λ (m : Properties). entries m) (sym made)
     ∙ entries-from_sorted nat_cmp (where_key nat_cmp p (entries map))
     (is_sorted-where_key nat_cmp p (entries map) sorted)
 
 -- a map by a test on its codes
-kept_parts : (p : ℕ → Bool) (map : Settings) →
+kept_parts : (p : ℕ → Bool) (map : Properties) →
     length (printed_list (retain_keys map p)) + length (printed_list (retain_keys map (λ code. not (p code))))
     ≡ length (printed_list map)
 kept_parts p map =
@@ -83,16 +83,16 @@ kept_value : (small large : Option (List ℕ)) → ((value : List ℕ) → small
 kept_value None large within = refl
 kept_value (Some value) large within = sym (within value refl)
 
--- the settings of a map that another has too
-pub record IsWithin (small large : Settings) : Type 0 where
+-- the properties of a map that another has too
+pub record IsWithin (small large : Properties) : Type 0 where
   pub has : (code : ℕ) (value : List ℕ) → get small code ≡ Some value → get large code ≡ Some value
 
-pub fewer_are_not_longer : (small large : Settings) → IsWithin small large →
+pub fewer_are_not_longer : (small large : Properties) → IsWithin small large →
     length (printed_list small) ≤ length (printed_list large)
 fewer_are_not_longer small large within =
     let p : ℕ → Bool = λ code. is_some (get small code) in
     let same : small ≡ retain_keys large p =
-    same_settings small (retain_keys large p)
+    same_properties small (retain_keys large p)
     (λ code. kept_value (get small code) (get large code) (within.has code) ∙ sym (get-retained large p code)) in
     omega (arith, ap (λ map. length (printed_list map)) same, kept_parts p large)
 
@@ -122,12 +122,12 @@ over_rest : (over new base : Option (List ℕ)) (clear : Bool) (code : ℕ) (val
 over_rest None new base clear code value is here = left_value clear code base value (sym is ∙ here)
 over_rest (Some first) new base clear code value is here = absurd (none-some value here)
 
-pub over_is_not_longer : (clear : Bool) (over base new : Settings) → IsOver clear over base new →
+pub over_is_not_longer : (clear : Bool) (over base new : Properties) → IsOver clear over base new →
     length (printed_list new) ≤ length (printed_list over) + length (printed_list base)
 over_is_not_longer clear over base new is =
     let p : ℕ → Bool = λ code. is_some (get over code) in
     let first : over ≡ retain_keys new p =
-    same_settings over (retain_keys new p)
+    same_properties over (retain_keys new p)
     (λ code. over_kept (get over code) (get new code) (get base code) clear code (is code)
     ∙ sym (get-retained new p code)) in
     let rest : IsWithin (retain_keys new (λ code. not (p code))) base = record {
@@ -150,7 +150,7 @@ over_value clear code over before new value is here =
     is ∙ ap (λ o. value_over clear code o before) here
 
 -- the characters that a modifier sets are no longer than those of what it made
-pub characters_are_not_longer : (modifier : Modifier) (before after : Settings) →
+pub characters_are_not_longer : (modifier : Modifier) (before after : Properties) →
     IsCharacterAfter modifier before after → length (printed_list modifier.chp) ≤ length (printed_list after)
 characters_are_not_longer modifier before after is =
     fewer_are_not_longer modifier.chp after (record {
@@ -159,7 +159,7 @@ characters_are_not_longer modifier before after is =
           here;
     })
 
-pub marks_are_not_longer : (modifier : Modifier) (before after : Settings) → IsMarkAfter modifier before after →
+pub marks_are_not_longer : (modifier : Modifier) (before after : Properties) → IsMarkAfter modifier before after →
     length (printed_list modifier.pap) ≤ length (printed_list after)
 marks_are_not_longer modifier before after is =
     fewer_are_not_longer modifier.pap after (record {

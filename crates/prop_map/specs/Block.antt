@@ -5,7 +5,7 @@ use Rattle.std.specs.Ordering.{nat_cmp}
 use Rattle.std.specs.FinMap.{is_sorted, put, from_sorted}
 use Rattle.doc_bits.specs.Number.{number_bytes, u16_at, u32_at}
 use Rattle.sprm_table.specs.Sprm.{spelling}
-use Rattle.prop_map.specs.Settings.{Settings}
+use Rattle.prop_map.specs.Settings.{Properties}
 use Rattle.prop_map.specs.Entries.{Entries}
 
 -- the bytes of an entry
@@ -54,7 +54,7 @@ pub record IsSortedBlock (block : List ℕ) : Type 0 where
   pub sorted : IsTrue (is_sorted nat_cmp (entries_in block))
 
 -- the map of the entries of a block
-abbrev pub map_of : List ℕ → Settings
+abbrev pub map_of : List ℕ → Properties
 map_of block = from_sorted (entries_in block)
 
 -- the codes ascend, each below this one

@@ -5,9 +5,9 @@ use Rattle.std.specs.List.{All}
 use Rattle.std.specs.FinMap.{insert}
 use Rattle.sprm_table.specs.Sprm.{Prl}
 use Rattle.prop_map.specs.declared.modifiers.Modifier.{Modifier}
-use Rattle.prop_map.specs.Settings.{Settings}
+use Rattle.prop_map.specs.Settings.{Properties}
 use Rattle.prop_map.specs.Formed.{IsMapEntry, IsPropertyMap}
-use Rattle.prop_map.specs.Acting.{sets_code, clears_code, value_after, style_of, ArePropertiesAfter}
+use Rattle.prop_map.specs.Acting.{sets_code, clears_code, value_after, style_named, ArePropertiesAfter}
 use Rattle.prop_map.specs.Modifiers.{IsModifierOf, IsOver, IsComposed}
 use Rattle.prop_map.specs.Overlay.{overlay, cleared_where, composed}
 
@@ -35,27 +35,27 @@ SaidCodeByCode = (groups code : ℕ) (before : Option (List ℕ)) → IsSaidCode
 pub record IsActedInTurn (first next : List Prl) (groups : ℕ) : Type 0 where
   pub values : (code : ℕ) (before : Option (List ℕ)) → value_after (first ++ next) groups code before ≡ value_after
       next groups code (value_after first groups code before)
-  pub style : style_of (first ++ next) groups ≡ option_or (style_of next groups) (style_of first groups)
+  pub style : style_named (first ++ next) groups ≡ option_or (style_named next groups) (style_named first groups)
 
 abbrev pub ListsActInTurn : Type 0
 ListsActInTurn = (first next : List Prl) (groups : ℕ) → IsActedInTurn first next groups
 
 -- no two maps are the map after a list
 abbrev pub ActingIsOne : Type 0
-ActingIsOne = (list : List Prl) (groups : ℕ) (old one other : Settings) → ArePropertiesAfter list groups old one →
+ActingIsOne = (list : List Prl) (groups : ℕ) (old one other : Properties) → ArePropertiesAfter list groups old one →
     ArePropertiesAfter list groups old other → one ≡ other
 
 -- no two modifiers are that of a list
 abbrev pub ModifierIsOne : Type 0
 ModifierIsOne = (list : List Prl) (one other : Modifier) → IsModifierOf list one → IsModifierOf list other → one ≡ other
 
-abbrev pub SettingsStayFormed : Type 0
-SettingsStayFormed = (groups : ℕ) (map : Settings) (prl : Prl) → IsPropertyMap groups map → IsMapEntry groups prl →
+abbrev pub PropertiesStayFormed : Type 0
+PropertiesStayFormed = (groups : ℕ) (map : Properties) (prl : Prl) → IsPropertyMap groups map → IsMapEntry groups prl →
     IsPropertyMap groups (insert map prl.0 prl.1)
 
 -- one map put over another is their overlay
 abbrev pub OverIsOverlay : Type 0
-OverIsOverlay = (clear : Bool) (top base made : Settings) → IsOver clear top base made ↔ made ≡ overlay top
+OverIsOverlay = (clear : Bool) (top base made : Properties) → IsOver clear top base made ↔ made ≡ overlay top
     (cleared_where clear base)
 
 -- one modifier and then another are one modifier
@@ -64,5 +64,5 @@ ComposedIsOne = (first next made : Modifier) → IsComposed first next made ↔ 
 
 -- a map is there after each list
 abbrev pub ListsMakeMaps : Type 0
-ListsMakeMaps = (list : List Prl) (groups : ℕ) (old : Settings) → (new : Settings) × ArePropertiesAfter list groups
+ListsMakeMaps = (list : List Prl) (groups : ℕ) (old : Properties) → (new : Properties) × ArePropertiesAfter list groups
     old new

@@ -8,9 +8,9 @@ use Rattle.doc_bits.specs.Number.{number_bytes}
 use Rattle.sprm_table.specs.Codes.{is_held, class_of, is_clear}
 use Rattle.sprm_table.specs.Sprm.{Prl, spelling, SpellsSprmList}
 use Rattle.prop_map.specs.declared.modifiers.Modifier.{Modifier}
-use Rattle.prop_map.specs.Settings.{Settings}
+use Rattle.prop_map.specs.Settings.{Properties}
 use Rattle.prop_map.specs.Formed.{character_groups, paragraph_groups, IsPropertyMap}
-use Rattle.prop_map.specs.Acting.{is_kept, value_after, style_of, ArePropertiesAfter}
+use Rattle.prop_map.specs.Acting.{is_kept, value_after, style_named, ArePropertiesAfter}
 
 -- the modifier that does nothing
 abbrev pub no_modifier : Modifier
@@ -21,11 +21,11 @@ abbrev pub value_over : Bool → ℕ → Option (List ℕ) → Option (List ℕ)
 value_over clear code over before = option_or over (if clear && not (is_kept code) then None else before)
 
 -- the map where one was put over another, which may be cleared first
-abbrev pub IsOver : Bool → Settings → Settings → Settings → Type 0
+abbrev pub IsOver : Bool → Properties → Properties → Properties → Type 0
 IsOver clear over base new = (code : ℕ) → get new code ≡ value_over clear code (get over code) (get base code)
 
 -- the map with nothing put over it
-abbrev pub IsClearedWhere : Bool → Settings → Settings → Type 0
+abbrev pub IsClearedWhere : Bool → Properties → Properties → Type 0
 IsClearedWhere clear base new = (code : ℕ) → get new code ≡ value_over clear code None (get base code)
 
 -- what the modifier leaves at a code of a character
@@ -47,7 +47,7 @@ clears_characters prls = list_any (λ prl. is_held character_groups prl.0 && is_
 -- the modifier is that of the list: the style and the properties of marks, whether characters are cleared, and their
 -- properties
 pub record IsModifierOf (prls : List Prl) (modifier : Modifier) : Type 0 where
-  pub style : modifier.istd ≡ style_of prls paragraph_groups
+  pub style : modifier.istd ≡ style_named prls paragraph_groups
   pub marks : ArePropertiesAfter prls paragraph_groups empty modifier.pap
   pub clear : modifier.clear ≡ clears_characters prls
   pub characters : ArePropertiesAfter prls character_groups empty modifier.chp
@@ -58,7 +58,7 @@ pub record DoesAsListed (prls : List Prl) (modifier : Modifier) : Type 0 where
       character_groups code before
   pub marks : (code : ℕ) (before : Option (List ℕ)) → mark_value modifier code before ≡ value_after prls
       paragraph_groups code before
-  pub style : (istd : ℕ) → mark_style modifier istd ≡ unwrap_or (style_of prls paragraph_groups) istd
+  pub style : (istd : ℕ) → mark_style modifier istd ≡ unwrap_or (style_named prls paragraph_groups) istd
 
 -- the same of the list that the bytes spell
 abbrev pub IsSpeltModifier : List ℕ → Modifier → Type 0
@@ -68,11 +68,11 @@ abbrev pub DoesAsSpelt : List ℕ → Modifier → Type 0
 DoesAsSpelt bytes modifier = (prls : List Prl) → SpellsSprmList bytes prls → DoesAsListed prls modifier
 
 -- the map of a character after the modifier
-abbrev pub IsCharacterAfter : Modifier → Settings → Settings → Type 0
+abbrev pub IsCharacterAfter : Modifier → Properties → Properties → Type 0
 IsCharacterAfter modifier old new = (code : ℕ) → get new code ≡ character_value modifier code (get old code)
 
 -- the map of a mark after the modifier
-abbrev pub IsMarkAfter : Modifier → Settings → Settings → Type 0
+abbrev pub IsMarkAfter : Modifier → Properties → Properties → Type 0
 IsMarkAfter modifier old new = (code : ℕ) → get new code ≡ mark_value modifier code (get old code)
 
 -- the parts of the composed modifier

@@ -1,4 +1,4 @@
--- The settings of a run, a paragraph mark, a section or a style, as contracts see them.
+-- The properties of a run, a paragraph mark, a section or a style, as contracts see them.
 use Rattle.std.specs.Prelude.{ℕ, List, Option, Some, None}
 use Rattle.std.specs.Ordering.{nat_cmp}
 use Rattle.std.specs.Coded.{Coded, coded_ℕ, coded_list}
@@ -6,14 +6,14 @@ use Rattle.std.specs.FinMap.{FinMap, code, empty}
 use Rattle.std.specs.declared.rc.Rc.{Rc}
 
 -- from the code of a sprm to the bytes of its operand's value
-abbrev pub Settings : Type 0
-Settings = FinMap nat_cmp (List ℕ)
+abbrev pub Properties : Type 0
+Properties = FinMap nat_cmp (List ℕ)
 
 -- the code of such maps, which the `impl Model` of a list of them names
-abbrev pub settings_code : Coded Settings
-settings_code = code coded_ℕ (coded_list coded_ℕ)
+abbrev pub properties_code : Coded Properties
+properties_code = code coded_ℕ (coded_list coded_ℕ)
 
 -- what is shared, and the empty map where nothing is
-abbrev pub behind : {A : Type 0} → Option (Rc Settings A) → Settings
+abbrev pub behind : {A : Type 0} → Option (Rc Properties A) → Properties
 behind None = empty
 behind (Some shared) = shared.value

@@ -3,7 +3,7 @@ use Rattle.std.specs.Prelude.{ℕ, ◌<◌, ◌≤◌, List, length, map, slice_
 use Rattle.std.specs.Ordering.{nat_cmp}
 use Rattle.std.specs.FinMap.{is_sorted, from_sorted}
 use Rattle.prop_map.specs.declared.values.SetValue.{SetValue}
-use Rattle.prop_map.specs.Settings.{Settings}
+use Rattle.prop_map.specs.Settings.{Properties}
 use Rattle.prop_map.specs.Entries.{Entries}
 
 -- the code and the bytes of a value
@@ -18,7 +18,7 @@ abbrev pub AreInOrder : List SetValue → Type 0
 AreInOrder values = IsTrue (is_sorted nat_cmp (entries_of values))
 
 -- the map of values in order
-abbrev pub set_map : List SetValue → Settings
+abbrev pub set_map : List SetValue → Properties
 set_map values = from_sorted (entries_of values)
 
 -- so many of the values have lesser codes, and the others have not

@@ -4,7 +4,7 @@ ghost use Rattle.std.specs.Option.{option_or};
 ghost use Rattle.std.specs.FinMap.{empty};
 ghost use Rattle.sprm_table.specs.Sprm.{IsPrl, IsAcceptedList};
 ghost use Rattle.prop_map.specs.Formed.{StaysFormed};
-ghost use Rattle.prop_map.specs.Acting.{ArePropertiesAfter, IsActedBy, style_of};
+ghost use Rattle.prop_map.specs.Acting.{ArePropertiesAfter, IsActedBy, style_named};
 ghost use Rattle.prop_map.specs.Block.{HasCodesBelow, map_of};
 ghost use Rattle.prop_map.specs.Values.{entry_of, set_map, AreInOrder};
 
@@ -129,7 +129,7 @@ fn act_in_order(alloc: Global, list: &[u8], groups: u8) -> Result<Option<Acted>,
     let mut prls = SprmIter::new(list);
     while let Some((code, from, to)) = prls.next() {
         let value = &list[from..to];
-        match push_setting(&mut bytes, least, groups, code, value)? {
+        match push_property(&mut bytes, least, groups, code, value)? {
             None => return Ok(None),
             Some(next) => least = next,
         }
@@ -146,7 +146,7 @@ fn room_for(list: &[u8]) -> usize {
 
 /// Appends to the entries of a map what a sprm sets, where its code is not below the least: the least code for the
 /// next sprm. Nothing where the code is below, or where the sprm clears.
-fn push_setting(
+fn push_property(
     bytes: &mut Bytes,
     least: u32,
     groups: u8,
@@ -198,7 +198,7 @@ fn act_on_draft(alloc: Global, list: &[u8], groups: u8, map: &PropMap) -> Result
 /// The style that a sprm names, or the one that was named before.
 fn style(groups: u8, code: Code, value: &[u8], before: Option<u16>) -> Option<u16>
     requires { IsPrl (code.0, value.now) }
-    ensures { result ≡ option_or (style_of ((code.0, value.now) ∷ []) groups) before }
+    ensures { result ≡ option_or (style_named ((code.0, value.now) ∷ []) groups) before }
 {
     if held(groups, code) && class(code) == Class::Style {
         Some(get16(value, 0))

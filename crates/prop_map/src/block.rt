@@ -28,12 +28,12 @@ pub(crate) struct Block {
 
 impl Model for Block {
     ghost use Rattle.std.specs.FinMap as map;
-    ghost use Rattle.prop_map.specs.Settings.{Settings, settings_code};
+    ghost use Rattle.prop_map.specs.Settings.{Properties, properties_code};
     ghost use Rattle.prop_map.specs.Block.{entries_in, IsCountedBlock};
 
-    ghost Value = { Settings };
+    ghost Value = { Properties };
 
-    ghost coded = { settings_code };
+    ghost coded = { properties_code };
 
     ghost view = { λ b. map.from_sorted (entries_in b.bytes) };
 
@@ -65,7 +65,7 @@ impl<'a> Entries<'a> {
         Entries { left: &[] }
     }
 
-    /// The same entries.
+    /// The entries once more.
     fn same(&self) -> Entries<'a>
         ensures { result ≡ self.now }
     {
@@ -152,11 +152,7 @@ impl Block {
     }
 
     /// All entries of `top`, and those of `base` at other codes: both are gone through once.
-    pub(crate) fn merged(
-        alloc: Global,
-        base: Entries<'_>,
-        top: Entries<'_>,
-    ) -> Result<Block, Memory>
+    pub(crate) fn merge(alloc: Global, base: Entries<'_>, top: Entries<'_>) -> Result<Block, Memory>
         requires base { IsTrue (map.is_sorted nat_cmp base) }
         requires top { IsTrue (map.is_sorted nat_cmp top) }
         ensures { IfOk result (λ made. (code : ℕ) → map.get made code ≡ option_or

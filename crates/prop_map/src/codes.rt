@@ -1,15 +1,9 @@
 // Codes by their names in the standard, the groups that places hold, and what a map may hold.
 ghost use Rattle.std.specs.Prelude.{◌↔◌, IsTrue};
-ghost use Rattle.sprm_table.specs.Sprm.{IsPrl, IsSetting};
+ghost use Rattle.sprm_table.specs.Sprm.{IsPrl, IsProperty};
 ghost use Rattle.prop_map.specs.Formed.{IsMapEntry};
 
 use sprm_table::{Class, Code, OperandSize, class, held, operand_size};
-
-/// Clears the properties of a character.
-pub(crate) const SPRM_C_PLAIN: Code = Code(0x2A33);
-
-/// Names the style of a paragraph.
-pub(crate) const SPRM_P_ISTD: Code = Code(0x4600);
 
 /// The groups that a place for character properties holds. Bit sgc is set for each.
 pub const CHARACTER_GROUPS: u8 = 0x04;
@@ -27,12 +21,12 @@ pub const PRC_GROUPS: u8 = 0x26;
 pub fn may_hold(groups: u8, code: Code, value: &[u8]) -> bool
     ensures { IsTrue result ↔ IsMapEntry groups (code.0, value.now) }
 {
-    is_setting_of(groups, code, value)
+    is_property_of(groups, code, value)
 }
 
 /// Whether an entry with the code and the value sets the code, at a place with these groups.
-fn is_setting_of(groups: u8, code: Code, value: &[u8]) -> bool
-    ensures { IsTrue result ↔ IsSetting groups (code.0, value.now) }
+fn is_property_of(groups: u8, code: Code, value: &[u8]) -> bool
+    ensures { IsTrue result ↔ IsProperty groups (code.0, value.now) }
 {
     if !held(groups, code) || !is_prl(code, value) {
         return false;

@@ -24,11 +24,11 @@ impl Model for Draft {
     ghost use Rattle.std.specs.Prelude.{IsTrue};
     ghost use Rattle.std.specs.Ordering.{nat_cmp};
     ghost use Rattle.std.specs.FinMap as map;
-    ghost use Rattle.prop_map.specs.Settings.{Settings, settings_code};
+    ghost use Rattle.prop_map.specs.Settings.{Properties, properties_code};
 
-    ghost Value = { Settings };
+    ghost Value = { Properties };
 
-    ghost coded = { settings_code };
+    ghost coded = { properties_code };
 
     ghost view = { λ d. map.from_sorted d.tree.entries };
 

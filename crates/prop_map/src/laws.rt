@@ -1,5 +1,5 @@
 // Laws over the definitions alone.
-ghost use Rattle.prop_map.specs.Laws.{SaidCodeByCode, ListsActInTurn, ActingIsOne, ModifierIsOne, SettingsStayFormed};
+ghost use Rattle.prop_map.specs.Laws.{SaidCodeByCode, ListsActInTurn, ActingIsOne, ModifierIsOne, PropertiesStayFormed};
 ghost use Rattle.prop_map.specs.Laws.{OverIsOverlay, ComposedIsOne, ListsMakeMaps};
 
 /// What a list leaves at a code, by its last entry that sets or removes it.
@@ -22,9 +22,9 @@ pub fn modifier_is_one()
     ensures { ModifierIsOne }
 {}
 
-/// A map that may stand at a place stays one when a setting of the place is put into it.
-pub fn settings_stay_formed()
-    ensures { SettingsStayFormed }
+/// A map that may stand at a place stays one when a property of the place is put into it.
+pub fn properties_stay_formed()
+    ensures { PropertiesStayFormed }
 {}
 
 /// One map put over another is their overlay.

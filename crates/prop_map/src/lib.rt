@@ -1,4 +1,4 @@
-//! Settings: finite maps from sprm codes to values, what a list of sprms makes of them, and the
+//! Properties: finite maps from sprm codes to values, what a list of sprms makes of them, and the
 //! modifiers of pieces.
 #![tactic(auto)]
 
@@ -6,14 +6,14 @@ mod acting;
 mod block;
 mod codes;
 mod draft;
+mod grpprl_index;
 mod laws;
-mod list_finder;
 mod map;
-mod met_lists;
 mod modifiers;
 mod overlay;
 mod places;
 mod printing;
+mod seen_grpprls;
 mod values;
 
 pub use acting::{Acted, act};
@@ -22,9 +22,9 @@ pub use codes::{CHARACTER_GROUPS, PARAGRAPH_GROUPS, PRC_GROUPS, SECTION_GROUPS, 
 pub use draft::Draft;
 pub use laws::{
     acting_is_one, composed_is_one, lists_act_in_turn, lists_make_maps, modifier_is_one,
-    over_is_overlay, said_code_by_code, settings_stay_formed,
+    over_is_overlay, properties_stay_formed, said_code_by_code,
 };
 pub use map::PropMap;
-pub use met_lists::MetLists;
 pub use modifiers::Modifier;
 pub use places::ListPlaces;
+pub use seen_grpprls::SeenGrpprls;

@@ -23,11 +23,11 @@ pub struct PropMap {
 }
 
 impl Model for PropMap {
-    ghost use Rattle.prop_map.specs.Settings.{Settings, settings_code, behind};
+    ghost use Rattle.prop_map.specs.Settings.{Properties, properties_code, behind};
 
-    ghost Value = { Settings };
+    ghost Value = { Properties };
 
-    ghost coded = { settings_code };
+    ghost coded = { properties_code };
 
     ghost view = { λ p. behind p.shared };
 }
@@ -80,7 +80,7 @@ impl PropMap {
         Ok(())
     }
 
-    /// The same map. No entry is copied.
+    /// A copy of the map, which shares its entries.
     pub fn copy(&self, alloc: Global) -> Result<PropMap, Memory>
         ensures { IfOk result (λ copy. copy ≡ self.now) }
     {

@@ -10,12 +10,11 @@ ghost use Rattle.prop_map.specs.Modifiers.{no_modifier, mark_style, clears_chara
 ghost use Rattle.prop_map.specs.Modifiers.{IsCharacterAfter, IsMarkAfter, IsComposed, ActsInTurn, IsFormedModifier};
 ghost use Rattle.prop_map.specs.Modifiers.{StaysFormedModifier, style_prls, clear_prls, printed_modifier};
 
-use crate::codes::{SPRM_C_PLAIN, SPRM_P_ISTD};
 use crate::overlay::over;
 use crate::printing::push_prl;
 use crate::{Acted, CHARACTER_GROUPS, PARAGRAPH_GROUPS, PropMap, act};
 use doc_bits::{Bytes, Memory};
-use sprm_table::{Class, Code, SprmIter, class, held};
+use sprm_table::{Class, Code, SPRM_C_PLAIN, SPRM_P_ISTD, SprmIter, class, held};
 use std::alloc::Global;
 
 /// What the list of a piece does: the style and the properties that it gives to marks, whether it
@@ -58,7 +57,7 @@ impl Modifier {
             && self.pap.equal(&other.pap)
     }
 
-    /// The same modifier. No entry is copied.
+    /// A copy of the modifier, which shares its entries.
     pub fn copy(&self, alloc: Global) -> Result<Modifier, Memory>
         ensures { IfOk result (λ copy. copy ≡ self.now) }
     {

@@ -27,7 +27,7 @@ pub(crate) fn over(
         let both = over_all(alloc, base, top)?;
         return Ok(both);
     }
-    let mut draft = cleared(alloc, base)?;
+    let mut draft = clear_settings(alloc, base)?;
     draft.put_all(alloc, top)?;
     let made = draft.into_map(alloc)?;
     Ok(made)
@@ -41,13 +41,13 @@ fn over_all(alloc: Global, base: &PropMap, top: &PropMap) -> Result<PropMap, Mem
         let copy = base.copy(alloc)?;
         return Ok(copy);
     }
-    let block = Block::merged(alloc, base.entries(), top.entries())?;
+    let block = Block::merge(alloc, base.entries(), top.entries())?;
     let made = PropMap::from_block(alloc, block)?;
     Ok(made)
 }
 
 /// What sprmCPlain leaves of a map, to be changed.
-fn cleared(alloc: Global, base: &PropMap) -> Result<Draft, Memory>
+fn clear_settings(alloc: Global, base: &PropMap) -> Result<Draft, Memory>
     ensures { IfOk result (IsClearedWhere true base.now) }
 {
     let mut draft = Draft::new(alloc);

@@ -10,7 +10,7 @@ use std::marker::Model;
 const PART_LEN: usize = 512;
 
 /// So many places of a part are looked at: two that begin with each byte.
-const MOST_TURNS: usize = 2 * PART_LEN;
+const MAX_TURNS: usize = 2 * PART_LEN;
 
 /// Where a list begins and ends, and one more than the number of the place before it in its part, or 0.
 #[derive(Clone, Copy)]
@@ -55,7 +55,7 @@ impl ListPlaces {
         ensures { IfSome result (λ number. slice_get self.now number ≡ Some (from, to)) }
     {
         let mut left = self.head(from / PART_LEN);
-        for _turn in 0..MOST_TURNS {
+        for _turn in 0..MAX_TURNS {
             if left == 0 || self.items.len() < left {
                 return None;
             }

@@ -10,7 +10,7 @@ use sprm_table::Code;
 use std::alloc::Global;
 
 /// So many codes are kept so: one that is put before all others moves them.
-const MOST_VALUES: usize = 1024;
+const MAX_VALUES: usize = 1024;
 
 /// A code and the value that a list sets there.
 #[derive(Clone, Copy)]
@@ -36,7 +36,7 @@ pub(crate) fn put_value<'a>(
         values[at] = set;
         return Ok(Some(at + 1));
     }
-    if MOST_VALUES <= values.len() {
+    if MAX_VALUES <= values.len() {
         return Ok(None);
     }
     values.insert(at, set)?;

@@ -9,7 +9,7 @@ use doc_bits::{Bytes, Memory, get32};
 use std::alloc::Global;
 
 /// [MS-OLEPS] The id of a dictionary.
-const DICTIONARY: u32 = 0;
+pub const DICTIONARY: u32 = 0;
 
 /// [MS-OLEPS] DictionaryEntry: where Length and Name stand.
 const LENGTH: usize = 4;

@@ -7,7 +7,7 @@ mod property;
 mod set;
 mod values;
 
-pub use dictionary::{PropertyName, property_names};
+pub use dictionary::{DICTIONARY, PropertyName, property_names};
 pub use laws::values_are_bounded;
 pub use property::{Property, TypedValue, properties};
-pub use set::{PropertyPair, property_set};
+pub use set::{PropertyPair, SET_COUNT, property_set};

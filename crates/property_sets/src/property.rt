@@ -61,13 +61,13 @@ fn value_of(
         return Ok(None);
     }
     match value_at(set, pair.offset) {
-        Some(found) => limited(alloc, room, found),
+        Some(found) => limit_to(alloc, room, found),
         None => Ok(None),
     }
 }
 
 /// A value, where it is not longer than the room.
-fn limited(alloc: Global, room: usize, found: TypedData<'_>) -> Result<Option<TypedValue>, Memory>
+fn limit_to(alloc: Global, room: usize, found: TypedData<'_>) -> Result<Option<TypedValue>, Memory>
     ensures is { IfOk result (λ value.
         value ≡ limited room (Some (record { kind = found.entry.kind; bytes = found.entry.bytes.now }))) }
     ensures short { IfOk result (λ value. value_len value ≤ room) }

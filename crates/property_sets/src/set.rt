@@ -7,7 +7,7 @@ use doc_bits::{get16, get32};
 /// [MS-OLEPS] PropertySetStream: where ByteOrder, NumPropertySets and the first Offset stand.
 const BYTE_ORDER: usize = 0;
 
-const SET_COUNT: usize = 24;
+pub const SET_COUNT: usize = 24;
 
 const OFFSET0: usize = 44;
 

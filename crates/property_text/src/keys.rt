@@ -54,7 +54,7 @@ fn document_key(id: u32) -> Option<&'static str> {
     }
 }
 
-/// The same: properties of links and programs.
+/// The name of a property of links and programs.
 fn later_document_key(id: u32) -> Option<&'static str> {
     match id {
         14 => Some("manager"),

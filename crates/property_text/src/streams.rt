@@ -9,7 +9,10 @@ use crate::page::{PropertyForm, PropertyPage};
 use crate::sections::Section;
 use crate::values::{Reading, number, push_value};
 use doc_bits::{Bytes, Memory, Text, get32};
-use property_sets::{Property, PropertyName, TypedValue, properties, property_names, property_set};
+use property_sets::{
+    DICTIONARY, Property, PropertyName, SET_COUNT, TypedValue, properties, property_names,
+    property_set,
+};
 use std::alloc::Global;
 use std::collections::BTreeMap;
 
@@ -21,14 +24,8 @@ const VT_I2: u16 = 0x02;
 /// The code page of a set that has none.
 const WINDOWS_LATIN: u16 = 1252;
 
-/// [MS-OLEPS] DICTIONARY_PROPERTY_IDENTIFIER
-const DICTIONARY: u32 = 0;
-
 /// [MS-OLEPS] PIDSI_EDITTIME
 const EDIT_TIME: u32 = 10;
-
-/// [MS-OLEPS] PropertySetStream: where NumPropertySets stands.
-const SET_COUNT: usize = 24;
 
 /// The bytes of the two streams of a file that have its properties.
 #[derive(Clone, Copy)]

@@ -10,42 +10,42 @@ use Rattle.doc_bits.proofs.ListLemmas.{range_mid, All_at}
 use Rattle.doc_bits.proofs.TogetherLemmas.{together_joined}
 use Rattle.doc_bits.specs.Together.{AreTogether}
 use Rattle.run_lists.specs.declared.runs.Run.{Run}
-use Rattle.run_lists.specs.Spread.{spread, extent}
+use Rattle.run_lists.specs.Spread.{expanded, total_len}
 use Rattle.run_lists.proofs.SpreadLemmas.{length-spread}
 use Rattle.run_lists.proofs.CutLemmas.{run_parts}
 
 -- the values of a part of a run
 pub part_range : {T : Type 0} (runs : List (Run T)) (k skipped count : ℕ) (run : Run T) → slice_get runs k ≡ Some run →
     skipped + count ≤ run.count
-    → slice_range (spread runs) (extent (take k runs) + skipped) (extent (take k runs) + skipped + count)
+    → slice_range (expanded runs) (total_len (take k runs) + skipped) (total_len (take k runs) + skipped + count)
     ≡ replicate count run.value
 part_range {T = T} runs k skipped count run is within =
-    let front = spread (take k runs) in
+    let front = expanded (take k runs) in
     let skip = replicate skipped run.value in
     let some = replicate count run.value in
     let rest = replicate (run.count - (skipped + count)) run.value in
-    let back = spread (drop (k + 1) runs) in
+    let back = expanded (drop (k + 1) runs) in
     let sum : skipped + (count + (run.count - (skipped + count))) ≡ run.count = omega arith in
     let run_is : replicate run.count run.value ≡ skip ++ (some ++ rest) =
     ap (λ (n : ℕ). replicate n run.value) (sym sum)
     ∙ sym (replicate-append-replicate skipped (count + (run.count - (skipped + count))) run.value)
     ∙ ap (λ (t : List T). skip ++ t)
     (sym (replicate-append-replicate count (run.count - (skipped + count)) run.value)) in
-    let whole : spread runs ≡ (front ++ skip) ++ (some ++ (rest ++ back)) =
+    let whole : expanded runs ≡ (front ++ skip) ++ (some ++ (rest ++ back)) =
     run_parts runs k run is
     ∙ ap (λ (t : List T). front ++ (t ++ back)) run_is
     ∙ ap (λ (t : List T). front ++ t) (append_assoc skip (some ++ rest) back
     ∙ ap (λ (t : List T). skip ++ t) (append_assoc some rest back))
     ∙ sym (append_assoc front skip (some ++ (rest ++ back))) in
-    let long : extent (take k runs) + skipped ≡ length (front ++ skip) =
+    let long : total_len (take k runs) + skipped ≡ length (front ++ skip) =
     omega (
       arith,
       length-append front skip,
       length-spread (take k runs),
       length-replicate skipped run.value,
     ) in
-    range_mid (spread runs) (front ++ skip) some (rest ++ back) (extent (take k runs) + skipped)
-    (extent (take k runs) + skipped + count) whole long (omega (arith, long, length-replicate count run.value))
+    range_mid (expanded runs) (front ++ skip) some (rest ++ back) (total_len (take k runs) + skipped)
+    (total_len (take k runs) + skipped + count) whole long (omega (arith, long, length-replicate count run.value))
 
 -- a range goes on
 pub range_more : {A : Type 0} (xs : List A) (from at count : ℕ) → from ≤ at →
@@ -108,25 +108,26 @@ none_changed {T = T} becomes xs fresh from end at none =
 -- a part of a run more
 pub changed_more : {T : Type 0} (becomes : T → T → Type 0) (runs : List (Run T)) (from to left number skipped count : ℕ)
     (run : Run T) (made : T) (fresh new : List T) →
-    AreTogether becomes (slice_range (spread runs) from (to - left)) fresh → new ≡ fresh ++ replicate count made
+    AreTogether becomes (slice_range (expanded runs) from (to - left)) fresh → new ≡ fresh ++ replicate count made
     → slice_get runs number ≡ Some run → becomes run.value made
-    → extent (take number runs) + (skipped + left) ≡ to → count ≤ left → skipped + count ≤ run.count
-    → from + left ≤ to → AreTogether becomes (slice_range (spread runs) from (to - (left - count))) new
+    → total_len (take number runs) + (skipped + left) ≡ to → count ≤ left → skipped + count ≤ run.count
+    → from + left ≤ to → AreTogether becomes (slice_range (expanded runs) from (to - (left - count))) new
 changed_more {T = T} becomes runs from to left number skipped count run made fresh new so_far put is changes place few
     within before =
-    let at = extent (take number runs) + skipped in
+    let at = total_len (take number runs) + skipped in
     let here : to - left ≡ at = omega arith in
     let next : to - (left - count) ≡ at + count = omega arith in
     let long : from ≤ at = omega arith in
     let joined =
-    together_joined becomes (slice_range (spread runs) from at) fresh (replicate count run.value) (replicate count made)
-    (subst (λ (n : ℕ). AreTogether becomes (slice_range (spread runs) from n) fresh) here so_far)
+    together_joined becomes (slice_range (expanded runs) from at) fresh (replicate count run.value) (replicate count
+    made)
+    (subst (λ (n : ℕ). AreTogether becomes (slice_range (expanded runs) from n) fresh) here so_far)
     (together_copies becomes count run.value made changes) in
-    let range : slice_range (spread runs) from (to - (left - count))
-    ≡ slice_range (spread runs) from at ++ replicate count run.value =
-    ap (slice_range (spread runs) from) next
-    ∙ range_more (spread runs) from at count long
-    ∙ ap (λ (t : List T). slice_range (spread runs) from at ++ t)
+    let range : slice_range (expanded runs) from (to - (left - count))
+    ≡ slice_range (expanded runs) from at ++ replicate count run.value =
+    ap (slice_range (expanded runs) from) next
+    ∙ range_more (expanded runs) from at count long
+    ∙ ap (λ (t : List T). slice_range (expanded runs) from at ++ t)
     (part_range runs number skipped count run is within) in
     subst (λ (t : List T). AreTogether becomes t new) (sym range)
-    (subst (AreTogether becomes (slice_range (spread runs) from at ++ replicate count run.value)) (sym put) joined)
+    (subst (AreTogether becomes (slice_range (expanded runs) from at ++ replicate count run.value)) (sym put) joined)

@@ -13,7 +13,7 @@ use Rattle.std.proofs.lemmas.List.Elements.{All-nil, All-append, All-replicate}
 use Rattle.std.proofs.lemmas.Option.{slice_get_within, slice_get-get_or, get_or_from_slice_get, same_Some}
 use Rattle.doc_bits.proofs.ListLemmas.{range_mid, All_at}
 use Rattle.run_lists.specs.declared.runs.Run.{Run}
-use Rattle.run_lists.specs.Spread.{spread, extent}
+use Rattle.run_lists.specs.Spread.{expanded, total_len}
 use Rattle.run_lists.specs.declared.cursor.Cursor.{Cursor}
 use Rattle.run_lists.specs.Places.{IsAt, IsCut}
 use Rattle.run_lists.proofs.SpreadLemmas.{spread-nil, spread-append, spread-cons, spread_push, length-spread}
@@ -22,20 +22,20 @@ use Rattle.run_lists.proofs.SpreadLemmas.{extent-nil, extent_push, extent_more, 
 -- ---- a front and the rest
 
 -- the values of a front
-pub spread-take : {T : Type 0} (runs : List (Run T)) (k n : ℕ) → extent (take k runs) ≡ n →
-    spread (take k runs) ≡ take n (spread runs)
+pub spread-take : {T : Type 0} (runs : List (Run T)) (k n : ℕ) → total_len (take k runs) ≡ n →
+    expanded (take k runs) ≡ take n (expanded runs)
 spread-take runs k n long =
-    sym (ap (take n) (sym (ap spread (take-append-drop k runs)) ∙ spread-append (take k runs) (drop k runs))
-    ∙ take_at (spread (take k runs)) (spread (drop k runs)) n (length-spread (take k runs) ∙ long))
+    sym (ap (take n) (sym (ap expanded (take-append-drop k runs)) ∙ spread-append (take k runs) (drop k runs))
+    ∙ take_at (expanded (take k runs)) (expanded (drop k runs)) n (length-spread (take k runs) ∙ long))
 
 -- the values behind it
-pub spread-drop : {T : Type 0} (runs : List (Run T)) (k n : ℕ) → extent (take k runs) ≡ n →
-    spread (drop k runs) ≡ drop n (spread runs)
+pub spread-drop : {T : Type 0} (runs : List (Run T)) (k n : ℕ) → total_len (take k runs) ≡ n →
+    expanded (drop k runs) ≡ drop n (expanded runs)
 spread-drop runs k n long =
-    let parts = sym (ap spread (take-append-drop k runs)) ∙ spread-append (take k runs) (drop k runs) in
-    let seam = drop-append_seam (spread (take k runs)) (spread (drop k runs)) in
+    let parts = sym (ap expanded (take-append-drop k runs)) ∙ spread-append (take k runs) (drop k runs) in
+    let seam = drop-append_seam (expanded (take k runs)) (expanded (drop k runs)) in
     sym (ap (drop n) parts
-    ∙ subst (λ (m : ℕ). drop m (spread (take k runs) ++ spread (drop k runs)) ≡ spread (drop k runs))
+    ∙ subst (λ (m : ℕ). drop m (expanded (take k runs) ++ expanded (drop k runs)) ≡ expanded (drop k runs))
     (length-spread (take k runs) ∙ long) seam)
 
 -- a front of a front
@@ -59,7 +59,8 @@ run_and_rest {A = A} xs k x is =
 
 -- two runs of one value are one run
 two_runs : {T : Type 0} (front back run : Run T) (rest : List (Run T)) → front.value ≡ run.value →
-    back.value ≡ run.value → front.count + back.count ≡ run.count → spread (front ∷ back ∷ rest) ≡ spread (run ∷ rest)
+    back.value ≡ run.value → front.count + back.count ≡ run.count → expanded (front ∷ back ∷ rest) ≡ expanded (run ∷
+    rest)
 two_runs front back run rest front_is back_is counts =
     rw (
       spread-cons front (back ∷ rest),
@@ -67,7 +68,7 @@ two_runs front back run rest front_is back_is counts =
       spread-cons run rest,
       front_is,
       back_is,
-      ← append_assoc (replicate front.count run.value) (replicate back.count run.value) (spread rest),
+      ← append_assoc (replicate front.count run.value) (replicate back.count run.value) (expanded rest),
       replicate-append-replicate front.count back.count run.value,
       counts,
     ) refl
@@ -88,21 +89,21 @@ parts_in_two {A = A} xs k front back within =
 -- the list is the same
 pub same_in_two : {T : Type 0} (runs : List (Run T)) (k : ℕ) (run front back : Run T) → slice_get runs k ≡ Some run →
     front.value ≡ run.value → back.value ≡ run.value → front.count + back.count ≡ run.count
-    → spread (set (insert runs (k + 1) back) k front) ≡ spread runs
+    → expanded (set (insert runs (k + 1) back) k front) ≡ expanded runs
 same_in_two {T = T} runs k run front back is front_is back_is counts =
     let within = slice_get_within runs k run is in
     let rest = drop (k + 1) runs in
     let old : runs ≡ take k runs ++ (run ∷ rest) =
     sym (take-append-drop k runs) ∙ ap (λ (t : List (Run T)). take k runs ++ t) (run_and_rest runs k run is) in
-    ap spread (parts_in_two runs k front back within)
+    ap expanded (parts_in_two runs k front back within)
     ∙ spread-append (take k runs) (front ∷ back ∷ rest)
-    ∙ ap (λ (t : List T). spread (take k runs) ++ t) (two_runs front back run rest front_is back_is counts)
+    ∙ ap (λ (t : List T). expanded (take k runs) ++ t) (two_runs front back run rest front_is back_is counts)
     ∙ sym (spread-append (take k runs) (run ∷ rest))
-    ∙ sym (ap spread old)
+    ∙ sym (ap expanded old)
 
 -- the second of the two begins behind the first
 pub cut_in_two : {T : Type 0} (runs : List (Run T)) (begin place k : ℕ) (front back : Run T) → begin ≤ k →
-    k < length runs → extent (take k runs) + front.count ≡ extent (take begin runs) + place
+    k < length runs → total_len (take k runs) + front.count ≡ total_len (take begin runs) + place
     → IsCut runs (set (insert runs (k + 1) back) k front) begin place (k + 1)
 cut_in_two {T = T} runs begin place k front back le within here =
     let rest = drop (k + 1) runs in
@@ -117,7 +118,7 @@ cut_in_two {T = T} runs begin place k front back le within here =
       begun = omega arith;
       there =
           omega (arith, length-set (insert runs (k + 1) back) k front, length-insert runs (k + 1) back (omega arith));
-      here = ap extent first ∙ extent_push (take k runs) front ∙ here;
+      here = ap total_len first ∙ extent_push (take k runs) front ∙ here;
       before = ap (take begin) parts ∙ same_front runs (front ∷ back ∷ rest) k begin le short;
     }
 
@@ -130,70 +131,72 @@ All-copies P (suc count) value holds = All-replicate P (suc count) value (holds 
 
 -- the value at a place of a run
 pub value_in_run : {T : Type 0} (runs : List (Run T)) (k left : ℕ) (run : Run T) → slice_get runs k ≡ Some run →
-    left < run.count → slice_get (spread runs) (extent (take k runs) + left) ≡ Some run.value
-unfolding spread
+    left < run.count → slice_get (expanded runs) (total_len (take k runs) + left) ≡ Some run.value
+unfolding expanded
 value_in_run {T = T} runs k left run is inside =
     let within = slice_get_within runs k run is in
     let here : get_or runs k run ≡ run = get_or_from_slice_get runs k run run is in
     let more = extent_more runs k run within in
-    let place : length (spread (take k runs)) ≡ extent (take k runs) = length-spread (take k runs) in
+    let place : length (expanded (take k runs)) ≡ total_len (take k runs) = length-spread (take k runs) in
     let count : (get_or runs k run).count ≡ run.count = ap (λ (r : Run T). r.count) here in
-    let short : extent (take k runs) + left < length (spread runs) =
+    let short : total_len (take k runs) + left < length (expanded runs) =
     omega (arith, length-spread runs, extent-take runs (k + 1), more, count) in
     let long : left < length (replicate (get_or runs k run).count (get_or runs k run).value) =
     omega (arith, length-replicate (get_or runs k run).count (get_or runs k run).value, count) in
     let read = get_or-flat_map (λ (r : Run T). replicate r.count r.value) runs k left run run.value within long in
-    slice_get-get_or (spread runs) (extent (take k runs) + left) run.value short
-    ∙ ap Some (subst (λ (n : ℕ). get_or (spread runs) (n + left) run.value ≡ run.value) place
+    slice_get-get_or (expanded runs) (total_len (take k runs) + left) run.value short
+    ∙ ap Some (subst (λ (n : ℕ). get_or (expanded runs) (n + left) run.value ≡ run.value) place
     (read ∙ subst (λ (r : Run T). get_or (replicate r.count r.value) left run.value ≡ run.value) (sym here)
     (get_or-replicate run.count left run.value run.value inside)))
 
 -- the values of the cursor's run from a place on
 pub values_at : {T : Type 0} (runs : List (Run T)) (cursor : Cursor) (place k : ℕ) (run : Run T) (value : T) →
     IsAt runs cursor → cursor.begin ≤ place → slice_get runs cursor.run ≡ Some run →
-    place < cursor.begin + run.count → slice_get (spread runs) place ≡ Some value → place ≤ k →
-    k < cursor.begin + run.count → slice_get (spread runs) k ≡ Some value
+    place < cursor.begin + run.count → slice_get (expanded runs) place ≡ Some value → place ≤ k →
+    k < cursor.begin + run.count → slice_get (expanded runs) k ≡ Some value
 values_at {T = T} runs cursor place k run value at ahead there inside is le until =
-    let begin = extent (take cursor.run runs) in
-    let own : (n : ℕ) → cursor.begin ≤ n → n < cursor.begin + run.count → slice_get (spread runs) n ≡ Some run.value =
-    λ n low high. subst (λ m. slice_get (spread runs) m ≡ Some run.value) (omega (arith, at.begins, low))
+    let begin = total_len (take cursor.run runs) in
+    let own : (n : ℕ) → cursor.begin ≤ n → n < cursor.begin + run.count → slice_get (expanded runs) n ≡ Some run.value =
+    λ n low high. subst (λ m. slice_get (expanded runs) m ≡ Some run.value) (omega (arith, at.begins, low))
     (value_in_run runs cursor.run (n - cursor.begin) run there (omega (arith, low, high))) in
     let same : run.value ≡ value = same_Some run.value value (sym (own place ahead inside) ∙ is) in
     own k (omega (arith, ahead, le)) until ∙ ap (λ (x : T). Some x) same
 
 -- the list around one run
 pub run_parts : {T : Type 0} (runs : List (Run T)) (k : ℕ) (run : Run T) → slice_get runs k ≡ Some run →
-    spread runs ≡ spread (take k runs) ++ (replicate run.count run.value ++ spread (drop (k + 1) runs))
+    expanded runs ≡ expanded (take k runs) ++ (replicate run.count run.value ++ expanded (drop (k + 1) runs))
 run_parts {T = T} runs k run is =
     let rest = drop (k + 1) runs in
-    ap spread (sym (take-append-drop k runs) ∙ ap (λ (t : List (Run T)). take k runs ++ t) (run_and_rest runs k run is))
+    ap expanded (sym (take-append-drop k runs) ∙ ap (λ (t : List (Run T)). take k runs ++ t) (run_and_rest runs k run
+    is))
     ∙ spread-append (take k runs) (run ∷ rest)
-    ∙ ap (λ (t : List T). spread (take k runs) ++ t) (spread-cons run rest)
+    ∙ ap (λ (t : List T). expanded (take k runs) ++ t) (spread-cons run rest)
 
 -- the values of one run
 pub run_range : {T : Type 0} (runs : List (Run T)) (k : ℕ) (run : Run T) → slice_get runs k ≡ Some run →
-    slice_range (spread runs) (extent (take k runs)) (extent (take k runs) + run.count) ≡ replicate run.count run.value
+    slice_range (expanded runs) (total_len (take k runs)) (total_len (take k runs) + run.count) ≡ replicate run.count
+    run.value
 run_range runs k run is =
-    let front : extent (take k runs) ≡ length (spread (take k runs)) = sym (length-spread (take k runs)) in
-    range_mid (spread runs) (spread (take k runs)) (replicate run.count run.value) (spread (drop (k + 1) runs))
-    (extent (take k runs)) (extent (take k runs) + run.count) (run_parts runs k run is) front
+    let front : total_len (take k runs) ≡ length (expanded (take k runs)) = sym (length-spread (take k runs)) in
+    range_mid (expanded runs) (expanded (take k runs)) (replicate run.count run.value) (expanded (drop (k + 1) runs))
+    (total_len (take k runs)) (total_len (take k runs) + run.count) (run_parts runs k run is) front
     (omega (arith, front, length-replicate run.count run.value))
 
 -- ---- what holds of each value
 
 -- it holds of the value of each run that has some
-pub All-runs : {T : Type 0} (P : T → Type 0) (runs : List (Run T)) → All P (spread runs) → (k : ℕ) (run : Run T) →
+pub All-runs : {T : Type 0} (P : T → Type 0) (runs : List (Run T)) → All P (expanded runs) → (k : ℕ) (run : Run T) →
     slice_get runs k ≡ Some run → 0 < run.count → P run.value
 All-runs P runs every k run is some =
-    All_at P (spread runs) (extent (take k runs) + 0) run.value every (value_in_run runs k 0 run is some)
+    All_at P (expanded runs) (total_len (take k runs) + 0) run.value every (value_in_run runs k 0 run is some)
 
 -- and back
 pub All-spread : {T : Type 0} (P : T → Type 0) (runs : List (Run T)) →
-    ((k : ℕ) (run : Run T) → slice_get runs k ≡ Some run → 0 < run.count → P run.value) → All P (spread runs)
+    ((k : ℕ) (run : Run T) → slice_get runs k ≡ Some run → 0 < run.count → P run.value) → All P (expanded runs)
 All-spread {T = T} P [] each = subst (All P) (sym (spread-nil T)) (All-nil P)
 All-spread P (run ∷ runs) each =
     subst (All P) (sym (spread-cons run runs))
-    (All-append P (replicate run.count run.value) (spread runs)
+    (All-append P (replicate run.count run.value) (expanded runs)
     (All-copies P run.count run.value (each zero run refl))
     (All-spread P runs (λ k one is. each (suc k) one is)))
 
@@ -201,12 +204,12 @@ All-spread P (run ∷ runs) each =
 
 -- whole runs in place of those between two cuts
 pub spliced : {T : Type 0} (old mid new fresh : List (Run T)) (from to i j : ℕ) → from ≤ to →
-    spread mid ≡ spread old → spread new ≡ spread mid → IsCut old mid 0 from i → IsCut mid new i (to - from) j
-    → spread (splice new i j fresh) ≡ splice (spread old) from to (spread fresh)
+    expanded mid ≡ expanded old → expanded new ≡ expanded mid → IsCut old mid 0 from i → IsCut mid new i (to - from) j
+    → expanded (splice new i j fresh) ≡ splice (expanded old) from to (expanded fresh)
 spliced {T = T} old mid new fresh from to i j ordered same same_again first second =
-    let nothing : extent (take 0 old) ≡ 0 = extent-nil T in
-    let front : extent (take i new) ≡ from = omega (arith, ap extent second.before, first.here, nothing) in
-    let back : extent (take j new) ≡ to = omega (arith, second.here, first.here, nothing) in
+    let nothing : total_len (take 0 old) ≡ 0 = extent-nil T in
+    let front : total_len (take i new) ≡ from = omega (arith, ap total_len second.before, first.here, nothing) in
+    let back : total_len (take j new) ≡ to = omega (arith, second.here, first.here, nothing) in
     let all = same_again ∙ same in
     spread-append (take i new) (fresh ++ drop j new)
     ∙ rw (
@@ -221,7 +224,7 @@ spliced {T = T} old mid new fresh from to i j ordered same same_again first seco
 -- the last run is longer
 pub last_grows : {T : Type 0} (runs : List (Run T)) (k more : ℕ) (last new : Run T) → k + 1 ≡ length runs →
     slice_get runs k ≡ Some last → new.count ≡ last.count + more → new.value ≡ last.value
-    → spread (set runs k new) ≡ spread runs ++ replicate more last.value
+    → expanded (set runs k new) ≡ expanded runs ++ replicate more last.value
 last_grows {T = T} runs k more last new end is count value =
     let within = slice_get_within runs k last is in
     let front = take k runs in
@@ -233,13 +236,13 @@ last_grows {T = T} runs k more last new end is count value =
     set_split runs k new within ∙ ap (λ (n : ℕ). front ++ new ∷ drop n runs) (sym (add-one k))
     ∙ ap (λ (t : List (Run T)). front ++ new ∷ t) none in
     let joined :
-    spread front ++ replicate new.count new.value
-    ≡ (spread front ++ replicate last.count last.value) ++ replicate more last.value =
+    expanded front ++ replicate new.count new.value
+    ≡ (expanded front ++ replicate last.count last.value) ++ replicate more last.value =
     rw (
       value,
       count,
       ← replicate-append-replicate last.count more last.value,
-      append_assoc (spread front) (replicate last.count last.value) (replicate more last.value),
+      append_assoc (expanded front) (replicate last.count last.value) (replicate more last.value),
     ) refl in
-    ap spread changed ∙ spread_push front new ∙ joined
-    ∙ ap (λ (t : List T). t ++ replicate more last.value) (sym (ap spread old ∙ spread_push front last))
+    ap expanded changed ∙ spread_push front new ∙ joined
+    ∙ ap (λ (t : List T). t ++ replicate more last.value) (sym (ap expanded old ∙ spread_push front last))

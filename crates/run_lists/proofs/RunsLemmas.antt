@@ -9,7 +9,7 @@ use Rattle.std.proofs.lemmas.List.Edits.{get_or-insert_below}
 use Rattle.std.proofs.lemmas.Option.{slice_get-get_or, slice_get_within}
 use Rattle.run_lists.specs.declared.runs.Run.{Run}
 use Rattle.run_lists.specs.declared.cut.Spot.{Spot}
-use Rattle.run_lists.specs.Spread.{spread, extent}
+use Rattle.run_lists.specs.Spread.{expanded, total_len}
 use Rattle.run_lists.specs.Places.{IsFound, IsCut}
 use Rattle.run_lists.proofs.SpreadLemmas.{length-spread, extent_all, count_within, spread_push}
 use Rattle.run_lists.proofs.CutLemmas.{same_in_two, cut_in_two, value_in_run, last_grows, spliced}
@@ -17,12 +17,13 @@ use Rattle.run_lists.proofs.CutLemmas.{same_in_two, cut_in_two, value_in_run, la
 -- ---- a place
 
 -- the length of the value
-pub extent_of : {T : Type 0} (runs : List (Run T)) (value : List T) → spread runs ≡ value → extent runs ≡ length value
+pub extent_of : {T : Type 0} (runs : List (Run T)) (value : List T) → expanded runs ≡ value → total_len runs ≡ length
+    value
 extent_of runs value is = sym (length-spread runs) ∙ ap length is
 
 -- a place before the end is in a run
 pub spot_inside : {T : Type 0} (runs : List (Run T)) (begin place : ℕ) (spot : Spot) → IsFound runs begin place spot →
-    extent (take begin runs) + place < extent runs → spot.run < length runs
+    total_len (take begin runs) + place < total_len runs → spot.run < length runs
 spot_inside runs begin place spot found before = elim (cases_lt spot.run (length runs)) [
   | inl inside ↦ inside
   | inr past ↦
@@ -61,7 +62,7 @@ left_of {T = T} runs begin place spot run found is =
 
 -- a walk over runs that has something left is in one of them
 pub number_inside : {T : Type 0} (runs : List (Run T)) (number skipped left to : ℕ) → 0 < left →
-    extent (take number runs) + (skipped + left) ≡ to → to ≤ extent runs → number < length runs
+    total_len (take number runs) + (skipped + left) ≡ to → to ≤ total_len runs → number < length runs
 number_inside runs number skipped left to some place within = elim (cases_lt number (length runs)) [
   | inl inside ↦ inside
   | inr past ↦ absurd (omega (arith, extent_all runs number past))
@@ -69,11 +70,11 @@ number_inside runs number skipped left to some place within = elim (cases_lt num
 
 -- the value there
 pub found_value : {T : Type 0} (runs : List (Run T)) (begin place : ℕ) (spot : Spot) (d : Run T) →
-    IsFound runs begin place spot → extent (take begin runs) + place < extent runs
-    → slice_get (spread runs) (extent (take begin runs) + place) ≡ Some (get_or runs spot.run d).value
+    IsFound runs begin place spot → total_len (take begin runs) + place < total_len runs
+    → slice_get (expanded runs) (total_len (take begin runs) + place) ≡ Some (get_or runs spot.run d).value
 found_value {T = T} runs begin place spot d found before =
     let inside = spot_inside runs begin place spot found before in
-    subst (λ (n : ℕ). slice_get (spread runs) n ≡ Some (get_or runs spot.run d).value) found.here
+    subst (λ (n : ℕ). slice_get (expanded runs) n ≡ Some (get_or runs spot.run d).value) found.here
     (value_in_run runs spot.run spot.left (get_or runs spot.run d) (slice_get-get_or runs spot.run d inside)
     (left_inside runs begin place spot d found inside))
 
@@ -107,13 +108,13 @@ again_is runs inserted k left one again rest front cuts =
 
 pub cut_same : {T : Type 0} (runs inserted : List (Run T)) (k left : ℕ) (one again rest front new : Run T) →
     CutsRun runs inserted k left one again rest front → new.count ≡ left → new.value ≡ front.value
-    → spread (set inserted k new) ≡ spread runs
+    → expanded (set inserted k new) ≡ expanded runs
 cut_same {T = T} runs inserted k left one again rest front new cuts count value =
     let run = get_or runs k one in
     let here : again ≡ run = again_is runs inserted k left one again rest front cuts in
     let counts : again.count ≡ run.count = ap (λ (r : Run T). r.count) here in
     let sum : new.count + rest.count ≡ run.count = omega (arith, cuts.count, cuts.short, counts, count) in
-    ap (λ (t : List (Run T)). spread (set t k new)) cuts.put
+    ap (λ (t : List (Run T)). expanded (set t k new)) cuts.put
     ∙ same_in_two runs k run new rest (slice_get-get_or runs k one cuts.within)
     (value ∙ ap (λ (r : Run T). r.value) (front_is runs inserted k left one again rest front cuts))
     (cuts.value ∙ ap (λ (r : Run T). r.value) cuts.first) sum
@@ -130,7 +131,7 @@ cut_is {T = T} runs inserted begin place spot one again rest front new cuts foun
 
 -- the last run has no place for more than the list
 pub last_fits : {T : Type 0} (runs : List (Run T)) (value : List T) (k more : ℕ) (one : Run T) → k < length runs →
-    one ≡ get_or runs k one → spread runs ≡ value → length value + more < 2 ^ 32 → one.count + more < 2 ^ 32
+    one ≡ get_or runs k one → expanded runs ≡ value → length value + more < 2 ^ 32 → one.count + more < 2 ^ 32
 last_fits {T = T} runs value k more one within here is few =
     let count : one.count ≡ (get_or runs k one).count = ap (λ (r : Run T). r.count) here in
     omega (arith, count, count_within runs k one within, extent_of runs value is)
@@ -138,8 +139,8 @@ last_fits {T = T} runs value k more one within here is few =
 -- the last run has more
 pub grown : {T : Type 0} (runs : List (Run T)) (value : List T) (k more : ℕ) (one other new : Run T) (x : T) →
     k + 1 ≡ length runs → one ≡ get_or runs k one → other ≡ get_or runs k other → other.value ≡ x
-    → new.count ≡ one.count + more → new.value ≡ one.value → spread runs ≡ value
-    → spread (set runs k new) ≡ value ++ replicate more x
+    → new.count ≡ one.count + more → new.value ≡ one.value → expanded runs ≡ value
+    → expanded (set runs k new) ≡ value ++ replicate more x
 grown {T = T} runs value k more one other new x end here there same count new_value is =
     let within : k < length runs = omega (arith, end) in
     let run = get_or runs k one in
@@ -154,9 +155,9 @@ grown {T = T} runs value k more one other new x end here there same count new_va
 
 -- one run more
 pub pushed : {T : Type 0} (runs new : List (Run T)) (value : List T) (run : Run T) → new ≡ runs ++ run ∷ [] →
-    spread runs ≡ value → spread new ≡ value ++ replicate run.count run.value
+    expanded runs ≡ value → expanded new ≡ value ++ replicate run.count run.value
 pushed {T = T} runs new value run put is =
-    ap spread put ∙ spread_push runs run ∙ ap (λ (t : List T). t ++ replicate run.count run.value) is
+    ap expanded put ∙ spread_push runs run ∙ ap (λ (t : List T). t ++ replicate run.count run.value) is
 
 -- so many more
 pub length_more : {T : Type 0} (all value : List T) (more : ℕ) (x : T) → all ≡ value ++ replicate more x →
@@ -167,14 +168,15 @@ length_more all value more x is few =
 -- ---- a splice
 
 pub spliced_is : {T : Type 0} (old mid last new fresh_runs : List (Run T)) (value fresh : List T) (from to i j : ℕ) →
-    from ≤ to → spread old ≡ value → spread fresh_runs ≡ fresh → spread mid ≡ spread old → spread last ≡ spread mid
+    from ≤ to → expanded old ≡ value → expanded fresh_runs ≡ fresh → expanded mid ≡ expanded old → expanded last ≡
+    expanded mid
     → IsCut old mid 0 from i → IsCut mid last i (to - from) j → new ≡ splice last i j fresh_runs
-    → spread new ≡ splice value from to fresh
+    → expanded new ≡ splice value from to fresh
 spliced_is {T = T} old mid last new fresh_runs value fresh from to i j ordered old_is fresh_is same again first second
     is =
-    ap spread is
+    ap expanded is
     ∙ spliced old mid last fresh_runs from to i j ordered same again first second
-    ∙ ap (λ (t : List T). splice t from to (spread fresh_runs)) old_is
+    ∙ ap (λ (t : List T). splice t from to (expanded fresh_runs)) old_is
     ∙ ap (λ (t : List T). splice value from to t) fresh_is
 
 pub spliced_short : {T : Type 0} (all value fresh : List T) (from to : ℕ) → all ≡ splice value from to fresh →

@@ -3,13 +3,13 @@ use Rattle.std.specs.Prelude.{◌≡◌, ℕ, ◌+◌, ◌<◌, ◌≤◌, List,
 use Rattle.run_lists.specs.declared.runs.Run.{Run}
 use Rattle.run_lists.specs.declared.cut.Spot.{Spot}
 use Rattle.run_lists.specs.declared.cursor.Cursor.{Cursor}
-use Rattle.run_lists.specs.Spread.{extent}
+use Rattle.run_lists.specs.Spread.{total_len}
 
 -- the place, counted from where the run `begin` begins, is in the run of the spot, or behind the last run
 pub record IsFound {T : Type 0} (runs : List (Run T)) (begin place : ℕ) (spot : Spot) : Type 0 where
   pub begun : begin ≤ spot.run
   pub there : spot.run ≤ length runs
-  pub here : extent (take spot.run runs) + spot.left ≡ extent (take begin runs) + place
+  pub here : total_len (take spot.run runs) + spot.left ≡ total_len (take begin runs) + place
   pub inside : spot.run < length runs → (run : Run T) × (slice_get runs spot.run ≡ Some run) × (spot.left < run.count)
   pub ended : spot.run ≡ length runs → spot.left ≡ 0
 
@@ -17,13 +17,13 @@ pub record IsFound {T : Type 0} (runs : List (Run T)) (begin place : ℕ) (spot 
 pub record IsCut {T : Type 0} (old new : List (Run T)) (begin place k : ℕ) : Type 0 where
   pub begun : begin ≤ k
   pub there : k ≤ length new
-  pub here : extent (take k new) ≡ extent (take begin old) + place
+  pub here : total_len (take k new) ≡ total_len (take begin old) + place
   pub before : take begin new ≡ take begin old
 
 -- the cursor is where a run begins, or at the end
 pub record IsAt {T : Type 0} (runs : List (Run T)) (cursor : Cursor) : Type 0 where
   pub there : cursor.run ≤ length runs
-  pub begins : extent (take cursor.run runs) ≡ cursor.begin
+  pub begins : total_len (take cursor.run runs) ≡ cursor.begin
 
 -- the run of the cursor has the place
 pub record IsIn {T : Type 0} (runs : List (Run T)) (cursor : Cursor) (place : ℕ) : Type 0 where

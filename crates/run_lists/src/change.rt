@@ -1,7 +1,7 @@
 // Values of a range that become others, and values that are copied.
 ghost use Rattle.std.specs.Prelude.{◌≡◌, ◌≤◌, ◌<◌, ◌^◌, length, slice_range, IfOk, OnOk, OnErr};
 ghost use Rattle.doc_bits.specs.Together.{AreTogether};
-ghost use Rattle.run_lists.specs.Spread.{spread, extent};
+ghost use Rattle.run_lists.specs.Spread.{expanded, total_len};
 ghost use Rattle.run_lists.specs.Places.{IsAt, IsFound, IsIn};
 ghost use Rattle.run_lists.specs.Changed.{IsChanged};
 
@@ -48,7 +48,7 @@ impl<T: Shared> Runs<T> {
         ensures err { OnErr result (self.new ≡ self.old) }
     {
         let spot = find(&self.runs, 0, from);
-        let fresh = changed(alloc, &self.runs, spot, from, to, by)?;
+        let fresh = change_range(alloc, &self.runs, spot, from, to, by)?;
         self.splice(alloc, from, to, fresh)?;
         Ok(())
     }
@@ -60,7 +60,7 @@ impl<T: Shared> Runs<T> {
         ensures { IfOk result (λ copy. copy ≡ slice_range self.now from to) }
     {
         let spot = find(&self.runs, 0, from);
-        let copy = changed(alloc, &self.runs, spot, from, to, &Same)?;
+        let copy = change_range(alloc, &self.runs, spot, from, to, &Same)?;
         Ok(copy)
     }
 }
@@ -76,20 +76,20 @@ pub fn copy_runs<T: Shared>(
     requires at { IsAt runs.now cursor.old }
     requires ahead { cursor.old.begin ≤ from }
     requires ordered { from ≤ to }
-    requires within { to ≤ extent runs.now }
-    requires few { extent runs.now < 2 ^ 32 }
+    requires within { to ≤ total_len runs.now }
+    requires few { total_len runs.now < 2 ^ 32 }
     ensures at { IsAt runs.now cursor.new }
     ensures ahead { cursor.new.begin ≤ from }
-    ensures stops { from < extent runs.now → IsIn runs.now cursor.new from }
-    ensures copy { IfOk result (λ copy. copy ≡ slice_range (spread runs.now) from to) }
+    ensures stops { from < total_len runs.now → IsIn runs.now cursor.new from }
+    ensures copy { IfOk result (λ copy. copy ≡ slice_range (expanded runs.now) from to) }
 {
     let spot = reach(runs, cursor, from);
-    let copy = changed(alloc, runs, spot, from, to, &Same)?;
+    let copy = change_range(alloc, runs, spot, from, to, &Same)?;
     Ok(copy)
 }
 
 /// What the values from `from`, whose run and place in it are the spot, to before `to` become.
-fn changed<T: Shared, C: Change<T>>(
+fn change_range<T: Shared, C: Change<T>>(
     alloc: Global,
     runs: &[Run<T>],
     spot: Spot,
@@ -99,9 +99,9 @@ fn changed<T: Shared, C: Change<T>>(
 ) -> Result<Runs<T>, Memory>
     requires found { IsFound runs.now 0 from spot }
     requires ordered { from ≤ to }
-    requires within { to ≤ extent runs.now }
-    requires few { extent runs.now < 2 ^ 32 }
-    ensures { IfOk result (AreTogether (C.becomes by.now) (slice_range (spread runs.now) from to)) }
+    requires within { to ≤ total_len runs.now }
+    requires few { total_len runs.now < 2 ^ 32 }
+    ensures { IfOk result (AreTogether (C.becomes by.now) (slice_range (expanded runs.now) from to)) }
 {
     let mut fresh = Runs::with_room(alloc, run_count(runs, spot, from, to))?;
     let mut number = spot.run;
@@ -123,8 +123,8 @@ fn changed<T: Shared, C: Change<T>>(
 fn run_count<T>(runs: &[Run<T>], spot: Spot, from: usize, to: usize) -> usize
     requires found { IsFound runs.now 0 from spot }
     requires ordered { from ≤ to }
-    requires within { to ≤ extent runs.now }
-    requires few { extent runs.now < 2 ^ 32 }
+    requires within { to ≤ total_len runs.now }
+    requires few { total_len runs.now < 2 ^ 32 }
     ensures { result ≤ length runs.now }
 {
     let end = find(runs, spot.run, spot.left + (to - from));

@@ -1,6 +1,6 @@
 // A walk over a list of runs.
 ghost use Rattle.std.specs.Prelude.{◌≡◌, ◌<◌, ◌≤◌, ◌^◌, ℕ, slice_get, Some};
-ghost use Rattle.run_lists.specs.Spread.{spread, extent};
+ghost use Rattle.run_lists.specs.Spread.{expanded, total_len};
 ghost use Rattle.run_lists.specs.Places.{IsAt, IsFound, IsIn};
 
 use crate::{Run, Spot, find};
@@ -25,11 +25,11 @@ impl Cursor {
 pub fn seek<'a, T>(runs: &'a [Run<T>], cursor: &mut Cursor, place: usize) -> &'a T
     requires at { IsAt runs.now cursor.old }
     requires ahead { cursor.old.begin ≤ place }
-    requires within { place < extent runs.now }
+    requires within { place < total_len runs.now }
     ensures at { IsAt runs.now cursor.new }
     ensures ahead { cursor.new.begin ≤ place }
     ensures stops { IsIn runs.now cursor.new place }
-    ensures value { slice_get (spread runs.now) place ≡ Some result.now }
+    ensures value { slice_get (expanded runs.now) place ≡ Some result.now }
 {
     let spot = reach(runs, cursor, place);
     &runs[spot.run].value
@@ -39,14 +39,14 @@ pub fn seek<'a, T>(runs: &'a [Run<T>], cursor: &mut Cursor, place: usize) -> &'a
 pub fn value_until<'a, T>(runs: &'a [Run<T>], cursor: &mut Cursor, place: usize) -> (&'a T, usize)
     requires at { IsAt runs.now cursor.old }
     requires ahead { cursor.old.begin ≤ place }
-    requires within { place < extent runs.now }
-    requires few { extent runs.now < 2 ^ 32 }
+    requires within { place < total_len runs.now }
+    requires few { total_len runs.now < 2 ^ 32 }
     ensures at { IsAt runs.now cursor.new }
     ensures ahead { cursor.new.begin ≤ place }
     ensures some { place < result.1 }
-    ensures within { result.1 ≤ extent runs.now }
+    ensures within { result.1 ≤ total_len runs.now }
     ensures values { (k : ℕ) → place ≤ k → k < result.1
-        → slice_get (spread runs.now) k ≡ Some result.0.now }
+        → slice_get (expanded runs.now) k ≡ Some result.0.now }
 {
     let value = seek(runs, cursor, place);
     (value, cursor.begin + runs[cursor.run].count as usize)
@@ -56,10 +56,10 @@ pub fn value_until<'a, T>(runs: &'a [Run<T>], cursor: &mut Cursor, place: usize)
 pub(crate) fn reach<T>(runs: &[Run<T>], cursor: &mut Cursor, place: usize) -> Spot
     requires at { IsAt runs.now cursor.old }
     requires ahead { cursor.old.begin ≤ place }
-    requires within { place ≤ extent runs.now }
+    requires within { place ≤ total_len runs.now }
     ensures at { IsAt runs.now cursor.new }
     ensures ahead { cursor.new.begin ≤ place }
-    ensures stops { place < extent runs.now → IsIn runs.now cursor.new place }
+    ensures stops { place < total_len runs.now → IsIn runs.now cursor.new place }
     ensures found { IsFound runs.now 0 place result }
 {
     let spot = find(runs, cursor.run, place - cursor.begin);

@@ -1,6 +1,6 @@
 // Places of a list in its runs, and runs cut in two.
 ghost use Rattle.std.specs.Prelude.{◌≡◌, ◌+◌, ◌^◌, ◌<◌, ◌≤◌, length, take, IfOk};
-ghost use Rattle.run_lists.specs.Spread.{spread, extent};
+ghost use Rattle.run_lists.specs.Spread.{expanded, total_len};
 ghost use Rattle.run_lists.specs.Places.{IsFound, IsCut};
 
 use crate::{Run, Shared};
@@ -18,7 +18,7 @@ pub struct Spot {
 /// the number of runs.
 pub fn find<T>(runs: &[Run<T>], begin: usize, place: usize) -> Spot
     requires begun { begin ≤ length runs.now }
-    requires within { extent (take begin runs.now) + place ≤ extent runs.now }
+    requires within { total_len (take begin runs.now) + place ≤ total_len runs.now }
     ensures { IsFound runs.now begin place result }
 {
     let mut left = place;
@@ -44,9 +44,9 @@ pub(crate) fn cut<T: Shared>(
     place: usize,
 ) -> Result<usize, Memory>
     requires begun { begin ≤ length runs.old.items }
-    requires within { extent (take begin runs.old.items) + place ≤ extent runs.old.items }
-    requires few { length (spread runs.old.items) < 2 ^ 32 }
-    ensures same { spread runs.new.items ≡ spread runs.old.items }
+    requires within { total_len (take begin runs.old.items) + place ≤ total_len runs.old.items }
+    requires few { length (expanded runs.old.items) < 2 ^ 32 }
+    ensures same { expanded runs.new.items ≡ expanded runs.old.items }
     ensures cut { IfOk result (IsCut runs.old.items runs.new.items begin place) }
 {
     let spot = find(runs, begin, place);

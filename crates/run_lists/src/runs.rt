@@ -3,7 +3,7 @@ ghost use Rattle.std.specs.Prelude.{◌≡◌, ◌+◌, ◌-◌, ◌^◌, ◌<�
 ghost use Rattle.std.specs.Prelude.{[], ◌++◌, length, replicate, slice_get};
 ghost use Rattle.std.specs.Prelude.{Some, IfOk, OnOk, OnErr};
 ghost use Rattle.std.specs.List.{splice};
-ghost use Rattle.run_lists.specs.Spread.{spread};
+ghost use Rattle.run_lists.specs.Spread.{expanded};
 
 use crate::Shared;
 use crate::cut::{cut, find};
@@ -27,15 +27,15 @@ pub struct Runs<T> {
 impl<T> Model for Runs<T> {
     ghost use Rattle.std.specs.Prelude.{List, ◌<◌, ◌^◌, length};
     ghost use Rattle.std.specs.Coded.{coded_list};
-    ghost use Rattle.run_lists.specs.Spread.{spread};
+    ghost use Rattle.run_lists.specs.Spread.{expanded};
 
     ghost Value = { List T };
 
     ghost coded = { coded_list T.code };
 
-    ghost view = { λ r. spread r.runs.items };
+    ghost view = { λ r. expanded r.runs.items };
 
-    ghost invariant = { λ r. length (spread r.runs.items) < 2 ^ 32 };
+    ghost invariant = { λ r. length (expanded r.runs.items) < 2 ^ 32 };
 }
 
 impl<T: Shared> Runs<T> {
@@ -77,14 +77,14 @@ impl<T: Shared> Runs<T> {
 
     /// The runs themselves. None is moved.
     pub fn into_runs(self) -> Vec<Run<T>>
-        ensures { spread result.items ≡ self }
+        ensures { expanded result.items ≡ self }
     {
         self.runs
     }
 
     /// The runs. A run has one value at least, and neighbours may have the same one.
     pub fn as_runs(&self) -> &[Run<T>]
-        ensures runs { spread result.now ≡ self.now }
+        ensures runs { expanded result.now ≡ self.now }
         ensures few { length self.now < 2 ^ 32 }
     {
         &self.runs

@@ -7,7 +7,7 @@ use std::alloc::Global;
 
 /// A value that can be copied and compared.
 pub trait Shared: Drop {
-    /// The same value.
+    /// A copy of the value.
     fn copy(&self, alloc: Global) -> Result<Self, Memory>
         ensures { IfOk result (λ copy. copy ≡ self.now) };
 

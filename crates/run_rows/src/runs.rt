@@ -2,15 +2,15 @@
 // was worked out by counting the items that are put; the generator's numbers by a program apart from this one.
 ghost use Rattle.std.specs.Prelude.{◌≤◌, length, IfOk};
 ghost use Rattle.edit_script.specs.Scripts.{EndsWithSave, most_commands};
-ghost use Rattle.doc_edit.specs.Ends.{IsUnchanged};
+ghost use Rattle.script_run.specs.Ends.{IsUnchanged};
 
 use crate::blank_file::blank_file;
-use doc_edit::{RunFault, Stop, run_script};
 use edit_generator::{generated_command, generated_count};
 use edit_guards::{Guard, UnitQuota};
 use edit_script::{Command, Script, read_script};
 use fast_save::Session;
 use full_save::SaveFault;
+use script_run::{RunFault, Stop, run_script};
 use std::alloc::Global;
 use std::test::Fail;
 

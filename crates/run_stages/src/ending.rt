@@ -63,7 +63,7 @@ impl Ending {
         }
     }
 
-    /// The same ending with why it is so, a line without its end.
+    /// The ending with why it is so, a line without its end.
     pub fn because(self, reason: Text) -> Ending
         ensures { result ≡ self }
     {

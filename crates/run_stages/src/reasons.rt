@@ -18,14 +18,18 @@ pub fn why_rule(rule: u8) -> &'static str {
             "comments, endnotes, text boxes or drawings: docfit leaves them out, and names them"
         }
         23 => "no text, or more than 500,000 characters",
-        31 | 43 => "tracked changes, or settings that have no meaning here: accept the changes",
-        36 | 48 | 51 =>
-            "tab stops or tables in a later form: tools/early-form --drop takes them out",
-        39 => "a character without settings: put a paragraph behind the end and save it anew",
+        31 | 43 =>
+            "tracked changes, or codes that have no meaning here: docfit, or accept the changes first",
+        36 => "a section with a code that has no meaning here",
+        48 | 51 =>
+            "tab stops or tables in a later form: docfit leaves these codes out, and names them",
+        39 => "a character without properties: docfit, or put a paragraph behind the end",
         50 | 64 => "a style that is broken or not there: save it anew in LibreOffice",
+        63 => "a table row with more or fewer cells than it says: docfit makes paragraphs of it",
         54 | 67 => "another number of header texts than 6 and 6 for each section",
         57 | 69 => "bookmarks that do not fit one another: remove them",
-        65 => "a style that is based on one of another kind, or on itself",
+        65 =>
+            "a style that is based on one of another kind, or on itself: docfit takes its base away",
         68 => "more than 499,998 characters",
         2..=9 | 11..=14 | 16 => "no Word file, or damaged",
         _ => "damaged, or in a form that is not read",

@@ -39,7 +39,7 @@ pub fn take_whole<S: Shelf>(
         Ok(bytes) => Ok(Stage::Go(bytes)),
         Err(ReadFail::TooLong) => Ok(Stage::Stop(overlong)),
         Err(ReadFail::Missing) => missing(alloc, name),
-        Err(ReadFail::Failed) => failed(alloc),
+        Err(ReadFail::Failed) => shelf_failure(alloc),
         Err(ReadFail::Memory) => Err(Memory),
     }
 }
@@ -54,7 +54,7 @@ fn missing(alloc: Global, name: &str) -> Result<Stage<Bytes>, Memory>
 }
 
 /// The end of a run by a shelf that failed, which says why by itself.
-fn failed(alloc: Global) -> Result<Stage<Bytes>, Memory>
+fn shelf_failure(alloc: Global) -> Result<Stage<Bytes>, Memory>
     ensures { IfOk result (λ t. t ≡ Stop (says 4 shelf_fault_of)) }
 {
     let text = shelf_fault_line(alloc)?;

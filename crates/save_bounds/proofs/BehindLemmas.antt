@@ -2,7 +2,7 @@
 use Rattle.std.proofs.Common.{ℕ, ◌+◌, ◌*◌, ◌≤◌, List, arith}
 use Rattle.cfb_sectors.specs.Header.{sector_count, fat_sector_count, valid_below}
 use Rattle.cfb_layout.specs.Sectors.{units_for}
-use Rattle.cfb_append.specs.Change.{added_for, grown_more, sectors_after}
+use Rattle.cfb_in_place.specs.Change.{added_for, grown_more, sectors_after}
 use Rattle.save_bounds.specs.SectorCounts.{TwoLengths}
 use Rattle.save_bounds.specs.FastSizes.{SaveCounts, WrittenLengths, AreCounted, AreAppended, reckoned_bytes}
 use Rattle.save_bounds.specs.FilesBehind.{AreBehind, SavesBehindAreFew}

@@ -7,14 +7,14 @@ use Rattle.std.proofs.Common.{cond, List, [], ◌∷◌, ◌++◌, length, map, 
 use Rattle.std.proofs.lemmas.Bool.{cond-true, cond-false}
 use Rattle.std.proofs.lemmas.List.Elements.{filter_map-append}
 use Rattle.std.proofs.lemmas.List.Sums.{sum_by-cons}
-use Rattle.prop_map.specs.Settings.{Settings}
+use Rattle.prop_map.specs.Settings.{Properties}
 use Rattle.fkp_pages.specs.declared.kind.PageKind.TheVariants.{Papx}
 use Rattle.fkp_pages.specs.declared.lists.Run.{Run}
 use Rattle.plain_doc.specs.declared.item.Mark.{Mark}
 use Rattle.plain_doc.specs.declared.item.Item.{Item}
 use Rattle.plain_doc.specs.Settings.{is_inside}
 use Rattle.plain_doc.specs.Stretches.{stretch_from, stretches}
-use Rattle.full_save.specs.Runs.{mark_settings, item_settings, runs_from, text_runs}
+use Rattle.full_save.specs.Runs.{mark_properties, item_properties, runs_from, text_runs}
 use Rattle.edit_ops.specs.Runs.{paragraph_count}
 use Rattle.save_bounds.specs.SharedPages.{marks_of}
 use Rattle.plain_doc.proofs.StretchLemmas.{Leads, leads}
@@ -40,15 +40,15 @@ both_marks one other = filter_map-append (λ (item : Item). item.mark) one other
 
 -- ---- runs of paragraphs
 
--- the style and the settings of a run, and of the last item of a part
+-- the style and the properties of a run, and of the last item of a part
 abbrev pub mark_of_run : Run → Mark
 mark_of_run run = record { istd = run.istd; pap = run.map }
 
-abbrev pub mark_of_settings : ℕ × Settings → Mark
-mark_of_settings settings = record { istd = settings.0; pap = settings.1 }
+abbrev pub mark_of_properties : ℕ × Properties → Mark
+mark_of_properties properties = record { istd = properties.0; pap = properties.1 }
 
 abbrev pub last_mark : List Item → Mark
-last_mark part = mark_of_settings (item_settings Papx (slice_get part (length part - 1)))
+last_mark part = mark_of_properties (item_properties Papx (slice_get part (length part - 1)))
 
 run_marks : (at : ℕ) (parts : List (List Item)) → map mark_of_run (runs_from Papx at parts) ≡ map last_mark parts
 unfolding runs_from
@@ -66,22 +66,22 @@ pub record LastMarks (items : List Item) : Type 0 where
 last_kept : (x y : Item) (front : List Item) → last_mark (x ∷ (y ∷ front)) ≡ last_mark (y ∷ front)
 last_kept x y front =
     let place : length (x ∷ (y ∷ front)) - 1 ≡ suc (length (y ∷ front) - 1) = omega arith in
-    ap (λ (k : ℕ). mark_of_settings (item_settings Papx (slice_get (x ∷ (y ∷ front)) k))) place
+    ap (λ (k : ℕ). mark_of_properties (item_properties Papx (slice_get (x ∷ (y ∷ front)) k))) place
 
 only_item : (x : Item) (o : Option Mark) → x.mark ≡ o → LastMarks (x ∷ [])
 unfolding stretches
 only_item x None none = record {
-  tail = mark_of_settings (0, empty) ∷ [];
+  tail = mark_of_properties (0, empty) ∷ [];
   few = omega arith;
   is =
-      ap (λ (o : Option Mark). mark_of_settings (mark_settings o) ∷ []) none
-      ∙ ap (λ (o : Option Mark). cons_option o [] ++ mark_of_settings (0, empty) ∷ []) (sym none);
+      ap (λ (o : Option Mark). mark_of_properties (mark_properties o) ∷ []) none
+      ∙ ap (λ (o : Option Mark). cons_option o [] ++ mark_of_properties (0, empty) ∷ []) (sym none);
 }
 only_item x (Some mark) some = record {
   tail = [];
   few = omega arith;
   is =
-      ap (λ (o : Option Mark). mark_of_settings (mark_settings o) ∷ []) some
+      ap (λ (o : Option Mark). mark_of_properties (mark_properties o) ∷ []) some
       ∙ ap (λ (o : Option Mark). cons_option o [] ++ []) (sym some);
 }
 
@@ -116,7 +116,7 @@ item_before x y ys (Some mark) some rest =
     ∙ (cond-false (is_inside x y) ((x ∷ (y ∷ lead.front)) ∷ lead.more)
     ((x ∷ []) ∷ ((y ∷ lead.front) ∷ lead.more)) apart
     ∙ ap (λ (p : List (List Item)). (x ∷ []) ∷ p) (sym lead.is)) in
-    let first : last_mark (x ∷ []) ≡ mark = ap (λ (o : Option Mark). mark_of_settings (mark_settings o)) some in
+    let first : last_mark (x ∷ []) ≡ mark = ap (λ (o : Option Mark). mark_of_properties (mark_properties o)) some in
     let marks : marks_of (x ∷ (y ∷ ys)) ≡ mark ∷ marks_of (y ∷ ys) =
     ap (λ (o : Option Mark). cons_option o (marks_of (y ∷ ys))) some in
     record {

@@ -20,4 +20,4 @@ counts_bound_streams counts written before after counted appended =
     }
 
 pub sepx_is_short : SepxIsShort
-sepx_is_short settings short = length-sepx settings short
+sepx_is_short properties short = length-sepx properties short

@@ -1,6 +1,6 @@
 -- The bounds of a fast save, by numbers alone: what is counted of a session, and how long the two streams then are.
 use Rattle.std.specs.Prelude.{ℕ, ◌+◌, ◌*◌, ◌≤◌, length}
-use Rattle.prop_map.specs.Settings.{Settings}
+use Rattle.prop_map.specs.Settings.{Properties}
 use Rattle.prop_map.specs.Printing.{printed_list}
 use Rattle.cfb_layout.specs.Sectors.{units_for}
 use Rattle.full_save.specs.Sections.{sepx_bytes}
@@ -80,6 +80,6 @@ CountsBoundStreams =
     (counts : SaveCounts) (written : WrittenLengths) (before after : TwoLengths) → AreCounted counts written →
     AreAppended counts written before after → AreBounded counts written before after
 
--- the Sepx of settings that are printed in 500 bytes, with the zero behind it
+-- the Sepx of properties that are printed in 500 bytes, with the zero behind it
 abbrev pub SepxIsShort : Type 0
-SepxIsShort = (settings : Settings) → length (printed_list settings) ≤ 500 → length (sepx_bytes settings) ≤ 503
+SepxIsShort = (properties : Properties) → length (printed_list properties) ≤ 500 → length (sepx_bytes properties) ≤ 503

@@ -1,7 +1,7 @@
 -- The sectors of a fast save in the file's own sectors, by what is counted.
 use Rattle.std.specs.Prelude.{ℕ, ◌*◌, ◌≤◌, max, List}
 use Rattle.cfb_sectors.specs.Header.{sector_count}
-use Rattle.cfb_append.specs.Change.{added_for, sectors_after}
+use Rattle.cfb_in_place.specs.Change.{added_for, sectors_after}
 use Rattle.save_bounds.specs.SectorCounts.{TwoLengths}
 use Rattle.save_bounds.specs.FastSizes.{SaveCounts, WrittenLengths, AreCounted, AreAppended, reckoned_sectors}
 

@@ -100,7 +100,7 @@ pub fn fast_saves_fit()
     ensures { FastSavesFit }
 {}
 
-/// The Sepx of settings that are printed in 500 bytes has three bytes more at most.
+/// The Sepx of properties that are printed in 500 bytes has three bytes more at most.
 pub fn sepx_is_short()
     ensures { SepxIsShort }
 {}

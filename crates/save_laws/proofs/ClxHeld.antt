@@ -17,7 +17,7 @@ use Rattle.piece_table.specs.Clx.{IsClx}
 use Rattle.piece_table.specs.ClxRules.{StaysInStream, clx_rules, text_bounds}
 use Rattle.piece_table.specs.Printing.{IsReadBack}
 use Rattle.piece_table.proofs.PrintedClxLemmas.{read_back}
-use Rattle.doc_load.specs.FileRules.{clx_of}
+use Rattle.file_rules.specs.FileRules.{clx_of}
 use Rattle.doc_read.proofs.PlaceLemmas.{place_at, place_in_piece}
 use Rattle.save_laws.specs.Places.{StandsInside, fib_end}
 use Rattle.save_laws.specs.Slots.{story_counts}

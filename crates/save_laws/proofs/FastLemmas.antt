@@ -1,17 +1,17 @@
 -- What a session writes is a save of its document.
 use Rattle.std.specs.Prelude.{ℕ, List}
 use Rattle.std.proofs.Common.{◌⊎◌, sym, subst, inl, inr, Bool, arith}
-use Rattle.prop_map.specs.Settings.{Settings}
+use Rattle.prop_map.specs.Settings.{Properties}
 use Rattle.piece_table.specs.Piece.{UnitPlace}
 use Rattle.save_laws.specs.Plans.{Plan, StandsInPlan, IsWrittenPlan}
 use Rattle.save_laws.specs.FastSaves.{StandsInEither, IsGivenBy}
-use Rattle.save_laws.specs.Saves.{HasSettingsAt}
+use Rattle.save_laws.specs.Saves.{HasPropertiesAt}
 use Rattle.save_laws.specs.Places.{PagedStream, Given, StandsInside, GivesAt}
 use Rattle.save_laws.specs.KeptPages.{KeepsBytes, KeepsPages}
 use Rattle.save_laws.specs.Slots.{Slot, shown, loose, last, IsPlaced}
 use Rattle.save_laws.specs.Laws.{FastSavesAreSaves}
 use Rattle.save_laws.proofs.PlanLemmas.{plans_give}
-use Rattle.save_laws.proofs.KeptLemmas.{place_kept, kept_places_give, kept_settings_are_there}
+use Rattle.save_laws.proofs.KeptLemmas.{place_kept, kept_places_give, kept_properties_are_there}
 
 planned_stands : (plan : Plan) (written : PagedStream) (at : ℕ) (wide : Bool) → IsWrittenPlan plan written →
     StandsInPlan plan at wide → StandsInside written at wide
@@ -53,11 +53,11 @@ placed_written old written plan place loose keeps is placed = record {
 placed_written old written plan place last keeps is placed =
     stands_written old written plan place.at place.wide keeps is placed
 
--- settings that stand in the old stream or in the new one stand in the new one
-settings_either : (old new : List ℕ) (fc : ℕ) (settings : Settings) → KeepsBytes old new →
-    (HasSettingsAt old fc settings ⊎ HasSettingsAt new fc settings) → HasSettingsAt new fc settings
-settings_either old new fc settings keeps (inl has) = kept_settings_are_there old new fc settings keeps has
-settings_either old new fc settings keeps (inr has) = has
+-- properties that stand in the old stream or in the new one stand in the new one
+properties_either : (old new : List ℕ) (fc : ℕ) (properties : Properties) → KeepsBytes old new →
+    (HasPropertiesAt old fc properties ⊎ HasPropertiesAt new fc properties) → HasPropertiesAt new fc properties
+properties_either old new fc properties keeps (inl has) = kept_properties_are_there old new fc properties keeps has
+properties_either old new fc properties keeps (inr has) = has
 
 pub fast_saves_are_saves : FastSavesAreSaves
 fast_saves_are_saves document old plan saved table contents is = record {
@@ -73,11 +73,11 @@ fast_saves_are_saves document old plan saved table contents is = record {
   paragraphs = is.paragraphs;
   sections = record {
     starts = is.starts;
-    settings = record {
-      len = is.settings.len;
+    properties = record {
+      len = is.properties.len;
       each = λ k sed section here there.
-          settings_either old.wd saved.stream.wd sed.sepx section.1 is.keeps.bytes
-          (is.settings.each k sed section here there);
+          properties_either old.wd saved.stream.wd sed.sepx section.1 is.keeps.bytes
+          (is.properties.each k sed section here there);
     };
   };
   fib = is.fib;

@@ -10,27 +10,27 @@ use Rattle.doc_bits.specs.Rules.{Hold}
 use Rattle.doc_bits.proofs.RuleLemmas.{hold_in}
 use Rattle.doc_bits.proofs.ListLemmas.{there_is, All_at}
 use Rattle.doc_bits.proofs.TestLemmas.{both_true}
-use Rattle.prop_map.specs.Settings.{Settings}
+use Rattle.prop_map.specs.Settings.{Properties}
 use Rattle.fib_form.specs.declared.table_parts.TablePart.TheVariants.{PlcfBteChpx, PlcfBtePapx}
 use Rattle.fib_form.specs.declared.stories.StoryKind.TheVariants.{Main}
 use Rattle.fkp_pages.specs.declared.kind.PageKind.TheVariants.{Chpx, Papx}
-use Rattle.direct_props.specs.PageRules.{page_rules, IsRightPlace}
-use Rattle.direct_props.proofs.RightLemmas.{right_lists_are_right, right_places_hold}
+use Rattle.direct_props.specs.PageRules.{page_rules, IsValidPlace}
+use Rattle.direct_props.proofs.RightLemmas.{right_lists_are_valid, right_places_hold}
 use Rattle.piece_table.specs.Piece.{UnitPlace}
 use Rattle.text_codes.specs.Paragraph.{is_paragraph_end}
 use Rattle.plain_doc.specs.declared.item.Item.{Item}
 use Rattle.plain_doc.specs.Collected.{sections_of}
-use Rattle.doc_load.proofs.RowLemmas.{index_of_get}
-use Rattle.doc_load.specs.Source.{part_bytes, story_length}
-use Rattle.doc_load.specs.FormatRules.{text_count, judged_units, judged_places, section_ends, is_end, ends_section}
-use Rattle.doc_load.specs.FormatRules.{ends_paragraph, paragraph_places, rules_of_formats}
+use Rattle.file_rules.proofs.RowLemmas.{index_of_get}
+use Rattle.file_rules.specs.Source.{part_bytes, story_length}
+use Rattle.file_rules.specs.FormatRules.{text_count, judged_units, judged_places, section_ends, is_end, ends_section}
+use Rattle.file_rules.specs.FormatRules.{ends_paragraph, paragraph_places, rules_of_formats}
 use Rattle.doc_read.proofs.PlaceLemmas.{read_at_place}
 use Rattle.doc_read.proofs.RightLemmas.{paragraphs_right as ends_right, any_index, ends_more}
 use Rattle.doc_read.specs.Sections.{section_lasts}
 use Rattle.save_laws.specs.Places.{IsMarkedAfter, StandsInside, GivesAt}
 use Rattle.save_laws.specs.Slots.{Slot, shown, loose, last, IsPlaced}
 use Rattle.plain_doc.proofs.TextListLemmas.{collected_from}
-use Rattle.save_laws.proofs.SlotLemmas.{slot_unit, IsJudged, IsShownAs, all_shown, front_slot, main_slot}
+use Rattle.save_laws.proofs.SlotLemmas.{slot_unit, IsJudgedSlot, IsShownAs, all_shown, front_slot, main_slot}
 use Rattle.save_laws.proofs.PlaceLemmas.{mark_before, given_there}
 use Rattle.save_laws.proofs.SavedLemmas.{Save, the_source, the_whole, the_flat, main_len, note_len, head_len}
 use Rattle.save_laws.proofs.SavedLemmas.{placed_at, unit_here}
@@ -48,7 +48,7 @@ some_of (Some x) some = (x, refl)
 record IsJudgedAt (s : Save) (cp : ℕ) : Type 0 where
   slot : Slot
   here : slice_get (the_whole s) cp ≡ Some slot
-  judged : IsJudged slot
+  judged : IsJudgedSlot slot
   place : UnitPlace
   there : slice_get (the_flat s) cp ≡ Some place
   is : IsPlaced (StandsInside s.saved.stream) (GivesAt s.saved.stream) place slot
@@ -79,14 +79,14 @@ unit_is s cp j below =
 -- ---- characters
 
 character_right : (s : Save) (cp : ℕ) → cp < text_count (the_source s) →
-    IsRightPlace Chpx s.saved.stream.wd s.saved.stream.characters (slice_index (judged_places (the_source s)) cp)
+    IsValidPlace Chpx s.saved.stream.wd s.saved.stream.characters (slice_index (judged_places (the_source s)) cp)
 character_right s cp below =
     let stream = s.saved.stream in
     let j = judged_at s cp below in
     let given = given_there stream j.place j.slot j.judged j.is in
     let characters = given.gives.characters in
-    subst (IsRightPlace Chpx stream.wd stream.characters) (sym (place_is s cp j below))
-    (right_lists_are_right Chpx stream.wd stream.characters j.place.at characters.list s.is.characters.table
+    subst (IsValidPlace Chpx stream.wd stream.characters) (sym (place_is s cp j below))
+    (right_lists_are_valid Chpx stream.wd stream.characters j.place.at characters.list s.is.characters.table
     characters.has)
 
 length-judged_places : (s : Save) → length (judged_places (the_source s)) ≤ text_count (the_source s)
@@ -119,14 +119,14 @@ section_there s cp item here ends =
     let end : slice_index list k ≡ cp + 1 = eqb-true (slice_index list k) (cp + 1) any.1.1 in
     let one : slice_index (section_lasts s.saved.seds len) k ≡ slice_index list k - 1 =
     get_or-map (λ (end : ℕ). end - 1) list k 0 0 any.1.0 in
-    let cps : List ℕ = map (λ (x : ℕ × Settings). x.0) (sections_of main) in
+    let cps : List ℕ = map (λ (x : ℕ × Properties). x.0) (sections_of main) in
     let at : slice_index cps k ≡ cp = ap (λ l. slice_index l k) (sym (section_cps s)) ∙ (one ∙ omega (arith, end)) in
     let many : length cps ≡ length list =
     ap length (sym (section_cps s)) ∙ length-map list (λ (end : ℕ). end - 1) in
     let found = there_is (sections_of main) k
-    (omega (arith, any.1.0, many, length-map (sections_of main) (λ (x : ℕ × Settings). x.0))) in
+    (omega (arith, any.1.0, many, length-map (sections_of main) (λ (x : ℕ × Properties). x.0))) in
     let first : slice_index cps k ≡ found.0.0 =
-    index_of_get (λ (x : ℕ × Settings). x.0) (sections_of main) k found.0 found.1 in
+    index_of_get (λ (x : ℕ × Properties). x.0) (sections_of main) k found.0 found.1 in
     let from = collected_from (λ (x : Item). x.sect) 0 main k found.0 found.1 in
     let index : from.index ≡ cp = omega (arith, from.at, first, at) in
     let its : Some from.item ≡ Some own.0 = sym from.here ∙ (ap (slice_get main) index ∙ own.1) in
@@ -137,10 +137,10 @@ section_there s cp item here ends =
 
 -- a place whose slot ends a paragraph is right
 paragraph_right : (s : Save) (cp : ℕ) (place : UnitPlace) (slot : Slot) → slice_get (the_whole s) cp ≡ Some slot →
-    IsJudged slot → IsPlaced (StandsInside s.saved.stream) (GivesAt s.saved.stream) place slot →
+    IsJudgedSlot slot → IsPlaced (StandsInside s.saved.stream) (GivesAt s.saved.stream) place slot →
     is_paragraph_end (slot_unit slot) (ends_section s.saved.seds (story_length (the_source s) Main) cp) ≡ true →
     IsShownAs IsSavedItem slot →
-    IsRightPlace Papx s.saved.stream.wd s.saved.stream.paragraphs place.at
+    IsValidPlace Papx s.saved.stream.wd s.saved.stream.paragraphs place.at
 paragraph_right s cp place (shown item) here judged placed ends saved =
     let stream = s.saved.stream in
     let reads = ends_section s.saved.seds (story_length (the_source s) Main) cp in
@@ -150,17 +150,17 @@ paragraph_right s cp place (shown item) here judged placed ends saved =
     let after = subst (λ o. IsMarkedAfter place.modifier placed.before.mark o) mark.1 placed.after.mark in
     let before = mark_before place.modifier placed.before.mark mark.0 after in
     let given = placed.gives.mark before.before before.is in
-    right_lists_are_right Papx stream.wd stream.paragraphs place.at given.list s.is.paragraphs.table given.has
+    right_lists_are_valid Papx stream.wd stream.paragraphs place.at given.list s.is.paragraphs.table given.has
 paragraph_right s cp place loose here judged placed ends saved =
     let stream = s.saved.stream in
     let mark = some_of placed.given.mark placed.marked in
     let given = placed.gives.mark mark.0 mark.1 in
-    right_lists_are_right Papx stream.wd stream.paragraphs place.at given.list s.is.paragraphs.table given.has
+    right_lists_are_valid Papx stream.wd stream.paragraphs place.at given.list s.is.paragraphs.table given.has
 paragraph_right s cp place last here judged placed ends saved = absurd judged
 
 end_right : (s : Save) (cp : ℕ) → cp < text_count (the_source s) →
     ends_paragraph (the_source s) s.saved.seds cp ≡ true →
-    IsRightPlace Papx s.saved.stream.wd s.saved.stream.paragraphs (slice_index (judged_places (the_source s)) cp)
+    IsValidPlace Papx s.saved.stream.wd s.saved.stream.paragraphs (slice_index (judged_places (the_source s)) cp)
 end_right s cp below ends =
     let j = judged_at s cp below in
     let document = s.document in
@@ -168,7 +168,7 @@ end_right s cp below ends =
     (notes_saved document s.right) (heads_saved document s.right) in
     let unit = unit_is s cp j below in
     let reads = ends_section s.saved.seds (story_length (the_source s) Main) cp in
-    subst (IsRightPlace Papx s.saved.stream.wd s.saved.stream.paragraphs) (sym (place_is s cp j below))
+    subst (IsValidPlace Papx s.saved.stream.wd s.saved.stream.paragraphs) (sym (place_is s cp j below))
     (paragraph_right s cp j.place j.slot j.here j.judged j.is (subst (λ u. is_paragraph_end u reads ≡ true) unit ends)
     (All_at (IsShownAs IsSavedItem) (the_whole s) cp j.slot saved j.here))
 

@@ -24,12 +24,12 @@ use Rattle.text_codes.specs.Paragraph.{paragraph_mark}
 use Rattle.plain_doc.specs.declared.item.Item.{Item}
 use Rattle.plain_doc.specs.declared.document.Document.{Document}
 use Rattle.plain_doc.specs.Collected.{joined_texts, sections_of}
-use Rattle.plain_doc.specs.RightDocument.{IsRightDocument}
+use Rattle.plain_doc.specs.RightDocument.{IsValidDocument}
 use Rattle.plain_doc.specs.RulesOfTexts.{EndsRight, last_unit}
 use Rattle.plain_doc.specs.Settings.{is_inside}
 use Rattle.plain_doc.specs.Stretches.{stretches, joins_next, IsJoined, goes_over, AreStretches}
 use Rattle.plain_doc.proofs.CutLemmas.{are_stretches}
-use Rattle.plain_doc.proofs.RightLemmas.{sound_is_right}
+use Rattle.plain_doc.proofs.RightLemmas.{sound_is_valid}
 use Rattle.full_save.specs.Runs.{run_at, runs_from}
 use Rattle.full_save.specs.Text.{text_items}
 use Rattle.full_save.specs.Sections.{sepxes}
@@ -242,7 +242,7 @@ item_end last end is = absurd (none-some end is)
 
 -- ---- behind a unit without a mark others follow
 
-main_ends : (document : Document) → IsRightDocument document → (k : ℕ) (item : Item) →
+main_ends : (document : Document) → IsValidDocument document → (k : ℕ) (item : Item) →
     slice_get document.main k ≡ Some item → k + 1 ≡ length document.main → is_some item.mark ≡ true
 main_ends document right k item here all = ended (right.texts Main document.main refl).ends
   where
@@ -255,7 +255,7 @@ main_ends document right k item here all = ended (right.texts Main document.main
         ((right.texts Main document.main refl).placed k item here).mark.1 (inl same)
     ended (inr none) = absurd (cc (none.0.1))
 
-no_more : (document : Document) (ends : StoryEnds) (right : IsRightDocument document) (k : ℕ) (slot : Slot)
+no_more : (document : Document) (ends : StoryEnds) (right : IsValidDocument document) (k : ℕ) (slot : Slot)
     (others : List Slot) → others ≡ note_slots document ends ++ head_slots document ends →
     slice_get (map shown document.main ++ (others ++ last_slots others)) k ≡ Some slot →
     k + 1 ≡ length (map shown document.main ++ (others ++ last_slots others)) → ¬ (slot_end slot ≡ Some false)
@@ -280,7 +280,7 @@ no_more document ends right k slot (other ∷ others) is here all none =
     let same : last ≡ slot = same_Some last slot (sym at_end ∙ here) in
     absurd (none-some false (ap slot_end same ∙ none))
 
-follows : (document : Document) (ends : StoryEnds) → IsRightDocument document → (k : ℕ) (slot : Slot) →
+follows : (document : Document) (ends : StoryEnds) → IsValidDocument document → (k : ℕ) (slot : Slot) →
     slice_get (whole_text document ends) k ≡ Some slot → slot_end slot ≡ Some false →
     k + 1 < length (whole_text document ends)
 unfolding whole_text
@@ -330,7 +330,7 @@ bounded_by wd characters runs first row at k marked false more is unit others in
 
 pub full_saves_are_bounded : FullSavesAreBounded
 full_saves_are_bounded document formed sound short k place end here there =
-    let right = sound_is_right document sound in
+    let right = sound_is_valid document sound in
     let s : LaidOut = record { document = document; formed = formed; right = right; short = short } in
     let ends = full_ends document in
     let items = text_items document in

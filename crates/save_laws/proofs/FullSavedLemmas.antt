@@ -10,7 +10,7 @@ use Rattle.std.proofs.lemmas.List.Elements.{All-nil}
 use Rattle.std.proofs.lemmas.Option.{slice_get_within, same_Some, none-some, get_or_from_slice_get}
 use Rattle.doc_bits.specs.declared.places.Where.TheVariants.{Main}
 use Rattle.doc_bits.proofs.ListLemmas.{get-map, from_map, All_at}
-use Rattle.prop_map.specs.Settings.{Settings}
+use Rattle.prop_map.specs.Settings.{Properties}
 use Rattle.prop_map.specs.Modifiers.{no_modifier, IsCharacterAfter}
 use Rattle.cfb_streams.specs.Contents.{Contents, HasNamed}
 use Rattle.cfb_streams.specs.Names.{table_name, second_table_name}
@@ -30,7 +30,7 @@ use Rattle.plain_doc.specs.declared.item.Item.{Item}
 use Rattle.plain_doc.specs.declared.document.Document.{Document}
 use Rattle.plain_doc.specs.Collected.{joined_texts, sections_of}
 use Rattle.plain_doc.specs.Document.{IsFormedItem}
-use Rattle.plain_doc.proofs.RightLemmas.{sound_is_right}
+use Rattle.plain_doc.proofs.RightLemmas.{sound_is_valid}
 use Rattle.full_save.specs.Text.{extra_mark, with_mark, note_story, head_story, text_items, text_counts}
 use Rattle.fib_form.specs.TableEntries.{TableEntry, IsPartAt}
 use Rattle.full_save.specs.TableText.{table_entries}
@@ -42,7 +42,7 @@ use Rattle.save_laws.specs.Places.{PagedStream, Given, given_of, StandsInside, G
 use Rattle.save_laws.specs.Slots.{Slot, shown, loose, last, StoryEnds, loose_if, note_slots, head_slots}
 use Rattle.save_laws.specs.Slots.{last_slots, whole_text, story_counts, IsPlaced}
 use Rattle.save_laws.specs.Saves.{saved_entries, HasRanges, AreSavedSections, StandsForText, IsSavedAs}
-use Rattle.doc_load.specs.FileRules.{table_stream_name}
+use Rattle.file_rules.specs.FileRules.{table_stream_name}
 use Rattle.fkp_pages.specs.Bin.{IsBinPage}
 use Rattle.fkp_pages.specs.Rows.{IsRow, NamesRow}
 use Rattle.save_laws.specs.Plans.{Plan, IsPlanned, AreRunsOf, IsWrittenPlan}
@@ -164,14 +164,14 @@ written s =
     }
 
 -- what a modifier that does nothing leaves
-nothing_done : (settings : Settings) → IsCharacterAfter no_modifier settings settings
-nothing_done settings code = ap (λ o. option_or o (get settings code)) (sym (get-empty _ code))
+pub nothing_done : (properties : Properties) → IsCharacterAfter no_modifier properties properties
+nothing_done properties code = ap (λ o. option_or o (get properties code)) (sym (get-empty _ code))
 
-mark_stays : (mark : Option Mark) → IsMarkedAfter no_modifier mark mark
+pub mark_stays : (mark : Option Mark) → IsMarkedAfter no_modifier mark mark
 mark_stays None = tt
 mark_stays (Some mark) = (refl, λ code. ap (λ o. option_or o (get mark.pap code)) (sym (get-empty _ code)))
 
-given_after : (given : Given) → IsGivenAfter no_modifier given given
+pub given_after : (given : Given) → IsGivenAfter no_modifier given given
 given_after given = record { unit = refl; characters = nothing_done given.chp; mark = mark_stays given.mark }
 
 placed_by : (stream : PagedStream) (at : ℕ) (slot : Slot) → GivesAt stream at true (given_of (slot_item slot)) →
@@ -272,7 +272,7 @@ full_sections : (s : LaidOut) →
 full_sections s =
     let d = s.document in
     let stand = stand_sepxes s in
-    let fit : (k : ℕ) (section : ℕ × Settings) → slice_get (sections_of d.main) k ≡ Some section →
+    let fit : (k : ℕ) (section : ℕ × Properties) → slice_get (sections_of d.main) k ≡ Some section →
     FitsSepx section.1 = λ k section here.
     let from = collected_from (λ (item : Item). item.sect) 0 d.main k section here in
     let formed = All_at IsFormedItem d.main from.index from.item s.formed.main.each from.here in
@@ -342,5 +342,5 @@ saved_of s contents has =
 
 pub full_saves_are_saves : FullSavesAreSaves
 full_saves_are_saves document contents formed sound short has =
-    saved_of (record { document = document; formed = formed; right = sound_is_right document sound; short = short })
+    saved_of (record { document = document; formed = formed; right = sound_is_valid document sound; short = short })
     contents has

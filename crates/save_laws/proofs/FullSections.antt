@@ -1,4 +1,4 @@
--- The Sepxes of a full save: each section has its settings where its Sed says.
+-- The Sepxes of a full save: each section has its properties where its Sed says.
 use Rattle.std.specs.Prelude.{slice_get, ◌==◌, if◌then◌else◌}
 use Rattle.std.specs.FinMap.{empty, entries, same_entries_map}
 use Rattle.std.proofs.Common.{◌≡◌, ◌≢◌, inl, inr, ℕ, zero, suc, ◌+◌, ◌%◌, ◌^◌, ◌<◌, ◌≤◌, true, eqb-true}
@@ -12,23 +12,24 @@ use Rattle.doc_bits.specs.Number.{u16_at, number_bytes}
 use Rattle.doc_bits.proofs.ListLemmas.{range_mid}
 use Rattle.doc_bits.proofs.NumberLemmas.{number_at-read_back, length-number_bytes}
 use Rattle.sprm_table.specs.Sprm.{IsAcceptedList}
-use Rattle.prop_map.specs.Settings.{Settings}
+use Rattle.prop_map.specs.Settings.{Properties}
 use Rattle.prop_map.specs.Formed.{section_groups, IsPropertyMap}
 use Rattle.prop_map.specs.Printing.{printed_list}
 use Rattle.prop_map.proofs.EntriesLemmas.{entries-empty}
 use Rattle.prop_map.proofs.PrintLemmas.{print_is}
-use Rattle.direct_props.specs.Direct.{MakesSettings}
+use Rattle.direct_props.specs.Direct.{MakesProperties}
 use Rattle.style_sheet.specs.Counted.{written_counted}
 use Rattle.doc_parts.specs.declared.lists.Sed.{Sed}
-use Rattle.doc_load.specs.SectionRules.{sepx_list}
+use Rattle.file_rules.specs.SectionRules.{sepx_list}
 use Rattle.plain_doc.specs.TextLists.{starts_from}
 use Rattle.full_save.specs.Sections.{is_plain_section, sepx_bytes, sepxes, no_sepx, fc_sepx, seds_from}
-use Rattle.save_laws.specs.Saves.{HasSettingsAt, AreSavedSections}
+use Rattle.save_laws.specs.Saves.{HasPropertiesAt, AreSavedSections}
+use Rattle.full_save.proofs.StreamLengths.{length-seds}
 
--- settings for a section: they are formed and fit a Sepx
-pub record FitsSepx (settings : Settings) : Type 0 where
-  pub formed : IsPropertyMap section_groups settings
-  pub short : length (printed_list settings) ≤ 500
+-- properties for a section: they are formed and fit a Sepx
+pub record FitsSepx (properties : Properties) : Type 0 where
+  pub formed : IsPropertyMap section_groups properties
+  pub short : length (printed_list properties) ≤ 500
 
 -- the Sepx stands between other bytes, not in the first 1,024
 record StandsBetween (wd before bytes after : List ℕ) : Type 0 where
@@ -36,20 +37,22 @@ record StandsBetween (wd before bytes after : List ℕ) : Type 0 where
   low : 1024 ≤ length before
   small : length wd < 2 ^ 31
 
-plain_at : (wd : List ℕ) (settings : Settings) → is_plain_section settings ≡ true → HasSettingsAt wd no_sepx settings
-plain_at wd settings plain =
-    let none : entries settings ≡ [] =
-    nil_from_length (entries settings) (eqb-true (length (entries settings)) 0 plain) in
+plain_at : (wd : List ℕ) (properties : Properties) → is_plain_section properties ≡ true → HasPropertiesAt wd no_sepx
+    properties
+plain_at wd properties plain =
+    let none : entries properties ≡ [] =
+    nil_from_length (entries properties) (eqb-true (length (entries properties)) 0 plain) in
     record {
-      is = inl (refl, same_entries_map settings empty (none ∙ sym entries-empty));
+      is = inl (refl, same_entries_map properties empty (none ∙ sym entries-empty));
       there = λ some. absurd (some refl);
       accepted = λ some. absurd (some refl);
     }
 
-listed_at : (wd before after : List ℕ) (settings : Settings) → FitsSepx settings →
-    StandsBetween wd before (written_counted (printed_list settings)) after → HasSettingsAt wd (length before) settings
-listed_at wd before after settings fits stands =
-    let list = printed_list settings in
+listed_at : (wd before after : List ℕ) (properties : Properties) → FitsSepx properties →
+    StandsBetween wd before (written_counted (printed_list properties)) after → HasPropertiesAt wd (length before)
+    properties
+listed_at wd before after properties fits stands =
+    let list = printed_list properties in
     let pad : List ℕ = if length list % 2 == 0 then [] else 0 ∷ [] in
     let count = number_bytes 2 (length list) in
     let fc = length before in
@@ -72,52 +75,46 @@ listed_at wd before after settings fits stands =
     let same : sepx_list wd fc ≡ list =
     range_mid wd (before ++ count) list (pad ++ after) (fc + 2) (fc + 2 + u16_at wd fc) later
     (omega (arith, a2, width)) (omega (arith, a2, width, number)) in
-    let print = print_is settings (section_groups, fits.formed) in
-    let back = print.back section_groups (entries settings) fits.formed print.spelt in
+    let print = print_is properties (section_groups, fits.formed) in
+    let back = print.back section_groups (entries properties) fits.formed print.spelt in
     let there : fc ≢ 0xFFFFFFFF = λ same_fc. omega (arith, same_fc, a1, a2, all, small) in
-    let made : MakesSettings list section_groups settings None =
-    record { prls = entries settings; spelt = print.spelt; map = back.0; style_is = sym back.1 } in
+    let made : MakesProperties list section_groups properties None =
+    record { prls = entries properties; spelt = print.spelt; map = back.0; style_is = sym back.1 } in
     record {
       is = inr (record {
         there = there;
         style = None;
-        makes = subst (λ l. MakesSettings l section_groups settings None) (sym same) made;
+        makes = subst (λ l. MakesProperties l section_groups properties None) (sym same) made;
       });
       there = λ some. record { after_fib = low; within = omega (arith, a1, a2, a3, all, width, number) };
       accepted = λ some.
           subst (λ l. IsAcceptedList l section_groups) (sym same) (print.accepted section_groups);
     }
 
-settings_at : (wd before after : List ℕ) (settings : Settings) → FitsSepx settings →
-    StandsBetween wd before (sepx_bytes settings) after → HasSettingsAt wd (fc_sepx (length before) settings) settings
-settings_at wd before after settings fits stands = elim (cases_Bool (is_plain_section settings)) [
+properties_at : (wd before after : List ℕ) (properties : Properties) → FitsSepx properties →
+    StandsBetween wd before (sepx_bytes properties) after → HasPropertiesAt wd (fc_sepx (length before) properties)
+    properties
+properties_at wd before after properties fits stands = elim (cases_Bool (is_plain_section properties)) [
   | inl plain ↦
-      subst (λ fc. HasSettingsAt wd fc settings) (sym (ap (λ b. cond b no_sepx (length before)) plain))
-      (plain_at wd settings plain)
+      subst (λ fc. HasPropertiesAt wd fc properties) (sym (ap (λ b. cond b no_sepx (length before)) plain))
+      (plain_at wd properties plain)
   | inr listed ↦
-      let bytes : sepx_bytes settings ≡ written_counted (printed_list settings) =
-      ap (λ b. cond b [] (written_counted (printed_list settings))) listed in
-      subst (λ fc. HasSettingsAt wd fc settings) (sym (ap (λ b. cond b no_sepx (length before)) listed))
-      (listed_at wd before after settings fits (subst (λ b. StandsBetween wd before b after) bytes stands))
+      let bytes : sepx_bytes properties ≡ written_counted (printed_list properties) =
+      ap (λ b. cond b [] (written_counted (printed_list properties))) listed in
+      subst (λ fc. HasPropertiesAt wd fc properties) (sym (ap (λ b. cond b no_sepx (length before)) listed))
+      (listed_at wd before after properties fits (subst (λ b. StandsBetween wd before b after) bytes stands))
 ]
 
 -- ---- the list of sections
 
-starts_are : (start place : ℕ) (sections : List (ℕ × Settings)) →
+starts_are : (start place : ℕ) (sections : List (ℕ × Properties)) →
     map (λ (sed : Sed). sed.start) (seds_from start place sections) ≡ starts_from start sections
 unfolding seds_from starts_from
 starts_are start place [] = refl
 starts_are start place (section ∷ sections) =
     ap (λ rest. start ∷ rest) (starts_are (section.0 + 1) (place + length (sepx_bytes section.1)) sections)
 
-length-seds_from : (start place : ℕ) (sections : List (ℕ × Settings)) →
-    length (seds_from start place sections) ≡ length sections
-unfolding seds_from
-length-seds_from start place [] = refl
-length-seds_from start place (section ∷ sections) =
-    ap suc (length-seds_from (section.0 + 1) (place + length (sepx_bytes section.1)) sections)
-
-sed_there : (start place : ℕ) (sections : List (ℕ × Settings)) (k : ℕ) (sed : Sed) (section : ℕ × Settings) →
+sed_there : (start place : ℕ) (sections : List (ℕ × Properties)) (k : ℕ) (sed : Sed) (section : ℕ × Properties) →
     slice_get (seds_from start place sections) k ≡ Some sed → slice_get sections k ≡ Some section →
     sed.sepx ≡ fc_sepx (place + length (sepxes (take k sections))) section.1
 unfolding seds_from
@@ -134,26 +131,26 @@ sed_there start place (first ∷ sections) (suc k) sed section here there =
     sed_there (first.0 + 1) (place + length (sepx_bytes first.1)) sections k sed section here there
     ∙ ap (λ n. fc_sepx n section.1) e
 
-cut_at_section : (sections : List (ℕ × Settings)) (k : ℕ) (section : ℕ × Settings) →
+cut_at_section : (sections : List (ℕ × Properties)) (k : ℕ) (section : ℕ × Properties) →
     slice_get sections k ≡ Some section →
     sepxes sections ≡ sepxes (take k sections) ++ (sepx_bytes section.1 ++ sepxes (drop (suc k) sections))
 cut_at_section [] k section here = absurd (none-some section here)
 cut_at_section (first ∷ sections) zero section here =
-    ap (λ (s : ℕ × Settings). sepx_bytes s.1 ++ sepxes sections) (same_Some first section here)
+    ap (λ (s : ℕ × Properties). sepx_bytes s.1 ++ sepxes sections) (same_Some first section here)
 cut_at_section (first ∷ sections) (suc k) section here =
     ap (λ rest. sepx_bytes first.1 ++ rest) (cut_at_section sections k section here)
     ∙ sym (append_assoc (sepx_bytes first.1) (sepxes (take k sections))
     (sepx_bytes section.1 ++ sepxes (drop (suc k) sections)))
 
--- Sepxes that stand between other bytes give each section its settings
-pub sections_saved : (wd before after : List ℕ) (sections : List (ℕ × Settings)) →
-    ((k : ℕ) (section : ℕ × Settings) → slice_get sections k ≡ Some section → FitsSepx section.1) →
+-- Sepxes that stand between other bytes give each section its properties
+pub sections_saved : (wd before after : List ℕ) (sections : List (ℕ × Properties)) →
+    ((k : ℕ) (section : ℕ × Properties) → slice_get sections k ≡ Some section → FitsSepx section.1) →
     wd ≡ before ++ (sepxes sections ++ after) → 1024 ≤ length before → length wd < 2 ^ 31 →
     AreSavedSections sections wd (seds_from 0 (length before) sections)
 sections_saved wd before after sections fit there low small = record {
   starts = starts_are 0 (length before) sections;
-  settings = record {
-    len = length-seds_from 0 (length before) sections;
+  properties = record {
+    len = length-seds 0 (length before) sections;
     each = λ k sed section here mine.
         let front = sepxes (take k sections) in
         let own = sepx_bytes section.1 in
@@ -163,10 +160,10 @@ sections_saved wd before after sections fit there low small = record {
         ∙ simp (append_assoc) refl) in
         let len = length-append before front in
         let place : length (before ++ front) ≡ length before + length front = len in
-        let has = settings_at wd (before ++ front) (back ++ after) section.1 (fit k section mine)
+        let has = properties_at wd (before ++ front) (back ++ after) section.1 (fit k section mine)
         (record { there = cut; low = omega (arith, len, low); small = small }) in
         let fc : fc_sepx (length (before ++ front)) section.1 ≡ sed.sepx =
         ap (λ n. fc_sepx n section.1) place ∙ sym (sed_there 0 (length before) sections k sed section here mine) in
-        subst (λ n. HasSettingsAt wd n section.1) fc has;
+        subst (λ n. HasPropertiesAt wd n section.1) fc has;
   };
 }

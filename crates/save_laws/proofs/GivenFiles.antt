@@ -11,17 +11,17 @@ use Rattle.cfb_streams.proofs.UniqueLemmas.{contents_unique}
 use Rattle.fib_form.specs.declared.table_parts.TablePart.TheVariants.{Clx}
 use Rattle.piece_table.specs.Piece.{flat_pieces}
 use Rattle.plain_doc.specs.declared.document.Document.{Document}
-use Rattle.doc_load.specs.Units.{unit_at}
-use Rattle.doc_load.specs.SectionRules.{sed_rules}
-use Rattle.doc_load.specs.FormatRules.{text_count}
-use Rattle.doc_load.specs.PartRules.{part_rules}
-use Rattle.doc_load.specs.FileRules.{HasText, source_of, table_stream_name, loading_rules, file_rules}
-use Rattle.doc_load.proofs.TextLemmas.{text_one}
-use Rattle.doc_load.proofs.OneLemmas.{sections_one, parts_one}
+use Rattle.file_rules.specs.Units.{unit_at}
+use Rattle.file_rules.specs.SectionRules.{sed_rules}
+use Rattle.file_rules.specs.FormatRules.{text_count}
+use Rattle.file_rules.specs.PartRules.{part_rules}
+use Rattle.file_rules.specs.FileRules.{HasText, source_of, table_stream_name, loading_rules, file_rules}
+use Rattle.file_rules.proofs.TextLemmas.{text_one}
+use Rattle.file_rules.proofs.OneLemmas.{sections_one, parts_one}
 use Rattle.doc_read.proofs.EntryValues.{AreByteFields}
 use Rattle.doc_read.proofs.ExistItems.{parts_of, items_there}
 use Rattle.doc_read.specs.Items.{IsItemAt}
-use Rattle.doc_read.specs.Sections.{HaveSettings, AreSectionMaps}
+use Rattle.doc_read.specs.Sections.{HaveProperties, AreSectionMaps}
 use Rattle.doc_read.specs.Holds.{FileParts, HasFileParts, HoldsDocument}
 use Rattle.doc_read.proofs.ExistText.{named_bytes}
 use Rattle.doc_read.proofs.ExistFits.{text_held, text_fits}
@@ -56,7 +56,7 @@ held_rules file parts h has =
 record IsRead : Type 0 where
   read : ReadText
   bytes : AreBytes read.text.wd
-  have : HaveSettings read.text.wd read.lists.sections read.maps
+  have : HaveProperties read.text.wd read.lists.sections read.maps
 
 read_text : (file : List ℕ) (document : Document) → AreBytes file → HoldsDocument file document → IsRead
 read_text file document bytes held =

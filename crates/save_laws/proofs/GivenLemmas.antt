@@ -10,12 +10,12 @@ use Rattle.std.proofs.Math.Seq.{take-nil}
 use Rattle.doc_bits.proofs.ListLemmas.{there_is, slice_get_before}
 use Rattle.doc_bits.specs.Number.{u16_at}
 use Rattle.doc_bits.specs.Rules.{Hold, Nowhere}
-use Rattle.prop_map.specs.Settings.{Settings}
+use Rattle.prop_map.specs.Settings.{Properties}
 use Rattle.prop_map.specs.declared.modifiers.Modifier.{Modifier}
 use Rattle.fib_form.specs.FibFields.{fib_fields, text_length}
 use Rattle.fib_form.specs.declared.stories.StoryKind.TheVariants.{Main, Notes, Heads}
 use Rattle.fkp_pages.specs.declared.kind.PageKind.TheVariants.{Chpx, Papx}
-use Rattle.direct_props.specs.PageRules.{IsRightPlace}
+use Rattle.direct_props.specs.PageRules.{IsValidPlace}
 use Rattle.direct_props.proofs.RightLemmas.{right_places_have_lists}
 use Rattle.piece_table.specs.Piece.{UnitPlace, flat_pieces}
 use Rattle.piece_table.specs.Clx.{IsClx}
@@ -24,13 +24,13 @@ use Rattle.plain_doc.specs.declared.item.Item.{Item}
 use Rattle.plain_doc.specs.declared.item.Mark.{Mark}
 use Rattle.plain_doc.specs.declared.document.Document.{Document}
 use Rattle.plain_doc.specs.Collected.{joined_texts}
-use Rattle.doc_load.specs.Source.{story_begin, story_length, DocSource}
-use Rattle.doc_load.specs.Units.{unit_at}
-use Rattle.doc_load.specs.EndRules.{last_end, IsLooseUnit, HasLooseUnit}
-use Rattle.doc_load.specs.FormatRules.{text_count}
-use Rattle.doc_load.specs.PartRules.{PartLists, HasPartLists, part_rules}
-use Rattle.doc_load.specs.FileRules.{FileText, source_of, clx_of, table_rules}
-use Rattle.doc_load.proofs.StandLemmas.{place_stands}
+use Rattle.file_rules.specs.Source.{story_begin, story_length, DocSource}
+use Rattle.file_rules.specs.Units.{unit_at}
+use Rattle.file_rules.specs.EndRules.{last_end, IsLooseUnit, HasLooseUnit}
+use Rattle.file_rules.specs.FormatRules.{text_count}
+use Rattle.file_rules.specs.PartRules.{PartLists, HasPartLists, part_rules}
+use Rattle.file_rules.specs.FileRules.{FileText, source_of, clx_of, table_rules}
+use Rattle.file_rules.proofs.StandLemmas.{place_stands}
 use Rattle.doc_read.specs.Items.{TextParts, IsMarkAt, IsItemAt, HoldsItems, HoldsTexts}
 use Rattle.doc_read.specs.Texts.{AreCutsWithin}
 use Rattle.doc_read.proofs.ExistFits.{TextFits}
@@ -47,7 +47,7 @@ use Rattle.plain_doc.proofs.TextListLemmas.{length-joined, next_joined}
 pub record ReadText : Type 0 where
   pub text : FileText
   pub lists : PartLists
-  pub maps : List Settings
+  pub maps : List Properties
   pub document : Document
   pub table : Hold (table_rules text.wd text.table)
   pub parts_hold : Hold (part_rules (source_of text))
@@ -100,7 +100,7 @@ record IsMarkGiven (stream : PagedStream) (at : ℕ) (modifier : Modifier) (mark
 
 mark_given : (stream : PagedStream) (at : ℕ) (modifier : Modifier) (ends : Bool) (mark : Option Mark) →
     IsMarkAt ends stream.wd stream.paragraphs at modifier mark →
-    (ends ≡ true → IsRightPlace Papx stream.wd stream.paragraphs at) → IsMarkGiven stream at modifier mark
+    (ends ≡ true → IsValidPlace Papx stream.wd stream.paragraphs at) → IsMarkGiven stream at modifier mark
 mark_given stream at modifier true None is right = absurd is
 mark_given stream at modifier false (Some mark) is right = absurd is
 mark_given stream at modifier false None is right =

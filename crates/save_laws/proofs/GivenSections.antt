@@ -7,7 +7,7 @@ use Rattle.std.proofs.lemmas.Option.{slice_get_within, same_Some, none-some}
 use Rattle.std.proofs.lemmas.List.{length-map, length-append, get_or-map, get_or_append_left, length-drop}
 use Rattle.doc_bits.specs.Number.{u16_at, AreBytes}
 use Rattle.doc_bits.proofs.ByteListLemmas.{AreBytes-range}
-use Rattle.prop_map.specs.Settings.{Settings}
+use Rattle.prop_map.specs.Settings.{Properties}
 use Rattle.prop_map.specs.Formed.{section_groups}
 use Rattle.prop_map.proofs.AcceptedLemmas.{accepted_of}
 use Rattle.fib_form.specs.declared.stories.StoryKind.TheVariants.{Main}
@@ -17,16 +17,16 @@ use Rattle.plain_doc.specs.declared.item.Item.{Item}
 use Rattle.plain_doc.specs.Collected.{collected, sections_of, entry_before}
 use Rattle.plain_doc.specs.Entries.{entry_at}
 use Rattle.plain_doc.proofs.CollectedLemmas.{entry_here, entry_later}
-use Rattle.doc_load.proofs.RowLemmas.{index_of_get}
-use Rattle.doc_load.specs.Source.{story_length}
-use Rattle.doc_load.specs.FormatRules.{section_ends}
-use Rattle.doc_load.specs.SectionRules.{section_fc, sepx_list}
-use Rattle.doc_load.specs.FileRules.{source_of}
-use Rattle.doc_read.specs.Sections.{section_lasts, HaveSettings}
+use Rattle.file_rules.proofs.RowLemmas.{index_of_get}
+use Rattle.file_rules.specs.Source.{story_length}
+use Rattle.file_rules.specs.FormatRules.{section_ends}
+use Rattle.file_rules.specs.SectionRules.{section_fc, sepx_list}
+use Rattle.file_rules.specs.FileRules.{source_of}
+use Rattle.doc_read.specs.Sections.{section_lasts, HaveProperties}
 use Rattle.doc_read.proofs.MarkListLemmas.{some_section, ends_up, length-section_lasts}
 use Rattle.doc_read.proofs.UpLemmas.{IsUpWithin}
 use Rattle.doc_read.proofs.SettingsLemmas.{sepx-there, sepx-right}
-use Rattle.save_laws.specs.Saves.{HasSettingsAt, AreSavedSections}
+use Rattle.save_laws.specs.Saves.{HasPropertiesAt, AreSavedSections}
 use Rattle.plain_doc.specs.TextLists.{starts_from}
 use Rattle.doc_parts.proofs.CpLemmas.{Rise}
 use Rattle.save_laws.proofs.GivenLemmas.{ReadText}
@@ -143,7 +143,7 @@ length-zip (cp ∷ cps) [] same = absurd (omega (arith, same))
 length-zip (cp ∷ cps) (value ∷ values) same = ap suc (length-zip cps values (omega (arith, same)))
 
 -- sections that end before the starts of the later ones begin there
-starts_by : (start len : ℕ) (later : List ℕ) (maps : List Settings) → length maps ≡ length later + 1 →
+starts_by : (start len : ℕ) (later : List ℕ) (maps : List Properties) → length maps ≡ length later + 1 →
     ((k : ℕ) → k < length later → 1 ≤ slice_index later k) →
     starts_from start (zip (map (λ end. end - 1) (later ++ len ∷ [])) maps) ≡ start ∷ later
 unfolding starts_from
@@ -171,10 +171,10 @@ seds_up r =
     ends_up r.lists.sections (story_length source Main)
     (some_section source r.lists.sections r.parts_hold.0.0 r.has.has_sections) r.has.has_sections.leading.in_order
 
--- with settings that were read for each of them
+-- with properties that were read for each of them
 record AreRead (r : ReadText) : Type 0 where
   bytes : AreBytes r.text.wd
-  have : HaveSettings r.text.wd r.lists.sections r.maps
+  have : HaveProperties r.text.wd r.lists.sections r.maps
 
 sections_are : (r : ReadText) → AreRead r →
     sections_of r.document.main ≡ zip (section_lasts r.lists.sections (story_length (source_of r.text) Main)) r.maps
@@ -206,10 +206,10 @@ sepx_by wd fc wrong = record {
   ];
 }
 
--- the settings of a section are there, and their list has no fault
-settings_at : (r : ReadText) → AreRead r → (k : ℕ) (map : Settings) → slice_get r.maps k ≡ Some map →
-    HasSettingsAt r.text.wd (section_fc r.lists.sections k) map
-settings_at r are k map here =
+-- the properties of a section are there, and their list has no fault
+properties_at : (r : ReadText) → AreRead r → (k : ℕ) (map : Properties) → slice_get r.maps k ≡ Some map →
+    HasPropertiesAt r.text.wd (section_fc r.lists.sections k) map
+properties_at r are k map here =
     let source = source_of r.text in
     let wd = r.text.wd in
     let sections = r.lists.sections in
@@ -219,14 +219,14 @@ settings_at r are k map here =
     let right = sepx-right source sections k r.parts_hold.0.0 r.has.has_sections below in
     record {
       is = are.have.each k map here;
-      there = λ settings. sepx_by wd fc (λ missing. lacks (record { settings = settings; missing = missing }));
-      accepted = λ settings.
+      there = λ properties. sepx_by wd fc (λ missing. lacks (record { properties = properties; missing = missing }));
+      accepted = λ properties.
           accepted_of (sepx_list wd fc) section_groups (AreBytes-range wd (fc + 2) (fc + 2 + u16_at wd fc) are.bytes)
           (λ p fault. right (fc + 2 + p)
-          (record { settings = settings; fault = record { offset = p; here = refl; broken = fault } }));
+          (record { properties = properties; fault = record { offset = p; here = refl; broken = fault } }));
     }
 
-pub given_sections : (r : ReadText) → AreBytes r.text.wd → HaveSettings r.text.wd r.lists.sections r.maps →
+pub given_sections : (r : ReadText) → AreBytes r.text.wd → HaveProperties r.text.wd r.lists.sections r.maps →
     AreSavedSections (sections_of r.document.main) r.text.wd r.lists.sections
 given_sections r bytes have =
     let source = source_of r.text in
@@ -250,12 +250,12 @@ given_sections r bytes have =
     omega (arith, up, at)) in
     record {
       starts = sym (ap (starts_from 0) same ∙ (by ∙ first_of starts (omega (arith, starts_len, some)) first));
-      settings = record {
+      properties = record {
         len = omega (arith, ap length same, length-zip lasts r.maps many, lasts_len);
         each = λ k sed section here there.
             let entry : slice_get (zip lasts r.maps) k ≡ Some section = ap (λ l. slice_get l k) (sym same) ∙ there in
             let map_here = zip_at lasts r.maps k section entry in
             let fc : section_fc sections k ≡ sed.sepx = index_of_get (λ (x : Sed). x.sepx) sections k sed here in
-            subst (λ n. HasSettingsAt r.text.wd n section.1) fc (settings_at r are k section.1 map_here);
+            subst (λ n. HasPropertiesAt r.text.wd n section.1) fc (properties_at r are k section.1 map_here);
       };
     }

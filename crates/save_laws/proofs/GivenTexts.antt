@@ -17,13 +17,13 @@ use Rattle.piece_table.specs.Piece.{flat_pieces}
 use Rattle.doc_parts.specs.Stories.{AreCuts}
 use Rattle.plain_doc.specs.declared.item.Item.{Item}
 use Rattle.plain_doc.specs.Collected.{joined_texts}
-use Rattle.doc_load.specs.Source.{story_begin, part_bytes, part_place, story_length, story_units, story_places}
-use Rattle.doc_load.specs.Units.{unit_at}
-use Rattle.doc_load.specs.EndRules.{last_end, HasLooseUnit, BreaksEnds}
-use Rattle.doc_load.specs.HeadRules.{IsHeadTable}
-use Rattle.doc_load.specs.FormatRules.{text_count}
-use Rattle.doc_load.specs.FileRules.{source_of}
-use Rattle.doc_load.proofs.OneLemmas.{sections_one, notes_one, heads_one}
+use Rattle.file_rules.specs.Source.{story_begin, part_bytes, part_place, story_length, story_units, story_places}
+use Rattle.file_rules.specs.Units.{unit_at}
+use Rattle.file_rules.specs.EndRules.{last_end, HasLooseUnit, BreaksEnds}
+use Rattle.file_rules.specs.HeadRules.{IsHeadTable}
+use Rattle.file_rules.specs.FormatRules.{text_count}
+use Rattle.file_rules.specs.FileRules.{source_of}
+use Rattle.file_rules.proofs.OneLemmas.{sections_one, notes_one, heads_one}
 use Rattle.doc_read.specs.Texts.{AreCutsWithin}
 use Rattle.doc_read.specs.Items.{HoldsTexts}
 use Rattle.doc_read.specs.Holds.{head_texts}

@@ -6,7 +6,7 @@ use Rattle.doc_bits.specs.declared.places.Where.TheVariants.{File, Wd, Table}
 use Rattle.doc_bits.specs.Rules.{Hold, rule}
 use Rattle.doc_bits.proofs.RuleLemmas.{hold_in}
 use Rattle.doc_bits.proofs.ListLemmas.{from_map, there_is}
-use Rattle.prop_map.specs.Settings.{Settings}
+use Rattle.prop_map.specs.Settings.{Properties}
 use Rattle.cfb_streams.specs.Container.{container_rules}
 use Rattle.cfb_streams.specs.Names.{wd_name}
 use Rattle.fib_form.specs.Fib.{fib_pair}
@@ -20,18 +20,18 @@ use Rattle.piece_table.specs.ClxRules.{clx_rules}
 use Rattle.doc_parts.specs.declared.lists.Sed.{Sed}
 use Rattle.style_sheet.specs.Stsh.{stsh_rules}
 use Rattle.plain_doc.specs.Collected.{sections_of}
-use Rattle.plain_doc.proofs.RightLemmas.{sound_is_right}
-use Rattle.doc_load.specs.Source.{story_begin, part_bytes, part_place}
-use Rattle.doc_load.specs.FileRules.{file_rules, HasText, loading_rules, table_stream_name, clx_of, contents_rules}
-use Rattle.doc_load.specs.ListRules.{rules_of_lists}
-use Rattle.doc_load.specs.SheetRules.{rules_of_sheet}
-use Rattle.doc_load.specs.PairRules.{BreaksPairs}
-use Rattle.doc_load.specs.PartRules.{HasPartLists, part_rules}
-use Rattle.doc_load.proofs.RowLemmas.{index_of_get}
-use Rattle.doc_load.proofs.RefusalLemmas.{stream-there}
-use Rattle.doc_load.specs.SectionRules.{section_fc}
+use Rattle.plain_doc.proofs.RightLemmas.{sound_is_valid}
+use Rattle.file_rules.specs.Source.{story_begin, part_bytes, part_place}
+use Rattle.file_rules.specs.FileRules.{file_rules, HasText, loading_rules, table_stream_name, clx_of, contents_rules}
+use Rattle.file_rules.specs.ListRules.{rules_of_lists}
+use Rattle.file_rules.specs.SheetRules.{rules_of_sheet}
+use Rattle.file_rules.specs.PairRules.{BreaksPairs}
+use Rattle.file_rules.specs.PartRules.{HasPartLists, part_rules}
+use Rattle.file_rules.proofs.RowLemmas.{index_of_get}
+use Rattle.file_rules.proofs.RefusalLemmas.{stream-there}
+use Rattle.file_rules.specs.SectionRules.{section_fc}
 use Rattle.doc_read.specs.Holds.{HoldsDocument, IsDocumentFrom}
-use Rattle.doc_read.specs.Sections.{IsSectionSettings, HaveSettings}
+use Rattle.doc_read.specs.Sections.{IsSectionProperties, HaveProperties}
 use Rattle.doc_read.specs.Items.{HoldsTexts}
 use Rattle.doc_read.specs.CarriedParts.{HoldsCarried}
 use Rattle.fib_form.specs.TableEntries.{TableEntry}
@@ -124,22 +124,22 @@ lists_held s = record {
   has_bookmarks = (bookmarks_held s).has;
 }
 
-settings_held : (s : Save) → HaveSettings s.saved.stream.wd s.saved.seds (the_maps s)
-settings_held s =
+properties_held : (s : Save) → HaveProperties s.saved.stream.wd s.saved.seds (the_maps s)
+properties_held s =
     let sections = sections_of s.document.main in
     let wd = s.saved.stream.wd in
     let seds = s.saved.seds in
-    let many = s.is.sections.settings.len in
-    let second : ℕ × Settings → Settings = λ section. section.1 in
+    let many = s.is.sections.properties.len in
+    let second : ℕ × Properties → Properties = λ section. section.1 in
     record {
       len = length-map sections second ∙ sym many;
       each = λ k map here.
           let found = from_map second sections k map here in
           let sed = there_is seds k (omega (arith, slice_get_within sections k found.0 found.1.0, many)) in
-          let has = s.is.sections.settings.each k sed.0 found.0 sed.1 found.1.0 in
+          let has = s.is.sections.properties.each k sed.0 found.0 sed.1 found.1.0 in
           let fc : section_fc seds k ≡ sed.0.sepx = index_of_get (λ (x : Sed). x.sepx) seds k sed.0 sed.1 in
-          subst (λ n. IsSectionSettings wd n map) (sym fc)
-          (subst (λ m. IsSectionSettings wd sed.0.sepx m) found.1.1 has.is);
+          subst (λ n. IsSectionProperties wd n map) (sym fc)
+          (subst (λ m. IsSectionProperties wd sed.0.sepx m) found.1.1 has.is);
     }
 
 carried_held : (s : Save) → HoldsCarried s.contents (the_source s) s.document.carried.levels s.document.carried
@@ -163,7 +163,7 @@ carried_held s =
 document_is : (s : Save) → IsDocumentFrom s.contents (file_text s.saved s.table) (the_lists s) s.document
 document_is s = record {
   sections = the_maps s;
-  has_sections = settings_held s;
+  has_sections = properties_held s;
   document_is = record {
     main = main_held s;
     notes =
@@ -186,7 +186,7 @@ saved_held document saved table contents formed sound is =
       table = table;
       contents = contents;
       formed = formed;
-      right = sound_is_right document sound;
+      right = sound_is_valid document sound;
       is = is;
     } in
     record {

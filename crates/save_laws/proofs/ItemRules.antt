@@ -14,7 +14,7 @@ use Rattle.plain_doc.specs.RulesOfTexts.{last_unit}
 use Rattle.plain_doc.specs.declared.item.Item.{Item}
 use Rattle.plain_doc.specs.declared.document.Document.{Document}
 use Rattle.plain_doc.specs.Collected.{joined_texts}
-use Rattle.plain_doc.specs.RightDocument.{IsRightText, IsRightDocument}
+use Rattle.plain_doc.specs.RightDocument.{IsValidText, IsValidDocument}
 use Rattle.plain_doc.proofs.MarkedLemmas.{marked_at_ends}
 use Rattle.plain_doc.proofs.TextListLemmas.{joined_all, empty_joined}
 
@@ -31,7 +31,7 @@ pub record IsLaterItem (item : Item) : Type 0 where
 field_unit : (unit : ℕ) → 0x13 ≤ unit → unit ≤ 0x15 → IsTrue (is_field_unit unit)
 field_unit unit low high = rw (le-leb 0x13 unit low, le-leb unit 0x15 high) refl
 
-text_saved : (document : Document) (part : Where) (text : List Item) → IsRightText document.sheet part text →
+text_saved : (document : Document) (part : Where) (text : List Item) → IsValidText document.sheet part text →
     All IsSavedItem text
 text_saved document part text right =
     All-from_slice_get IsSavedItem text (λ i item here. record {
@@ -39,15 +39,15 @@ text_saved document part text right =
       field = λ some. let within = (right.placed i item here).field some in field_unit item.unit within.0 within.1;
     })
 
-pub main_saved : (document : Document) → IsRightDocument document → All IsSavedItem document.main
+pub main_saved : (document : Document) → IsValidDocument document → All IsSavedItem document.main
 main_saved document right = text_saved document Main document.main (right.texts Main document.main refl)
 
-pub notes_saved : (document : Document) → IsRightDocument document → All IsSavedItem (joined_texts document.notes)
+pub notes_saved : (document : Document) → IsValidDocument document → All IsSavedItem (joined_texts document.notes)
 notes_saved document right =
     joined_all IsSavedItem document.notes
     (λ k text there. text_saved document (Note k) text (right.texts (Note k) text there))
 
-pub heads_saved : (document : Document) → IsRightDocument document → All IsSavedItem (joined_texts document.heads)
+pub heads_saved : (document : Document) → IsValidDocument document → All IsSavedItem (joined_texts document.heads)
 heads_saved document right =
     joined_all IsSavedItem document.heads
     (λ k text there. text_saved document (Head k) text (right.texts (Head k) text there))
@@ -56,7 +56,7 @@ nothing : {A : Type 0} (o : Option A) → ¬ (IsSome o) → o ≡ None
 nothing None no_value = refl
 nothing (Some value) no_value = absurd (no_value refl)
 
-text_later : (document : Document) (part : Where) (text : List Item) → IsRightText document.sheet part text →
+text_later : (document : Document) (part : Where) (text : List Item) → IsValidText document.sheet part text →
     ¬ (part ≡ Main) → All IsLaterItem text
 text_later document part text right other =
     All-from_slice_get IsLaterItem text (λ i item here. record {
@@ -64,18 +64,18 @@ text_later document part text right other =
       note = nothing item.note (λ some. other ((right.placed i item here).note some));
     })
 
-pub notes_later : (document : Document) → IsRightDocument document → All IsLaterItem (joined_texts document.notes)
+pub notes_later : (document : Document) → IsValidDocument document → All IsLaterItem (joined_texts document.notes)
 notes_later document right =
     joined_all IsLaterItem document.notes (λ k text there.
     text_later document (Note k) text (right.texts (Note k) text there) (λ same. absurd (omega (arith, ap rank same))))
 
-pub heads_later : (document : Document) → IsRightDocument document → All IsLaterItem (joined_texts document.heads)
+pub heads_later : (document : Document) → IsValidDocument document → All IsLaterItem (joined_texts document.heads)
 heads_later document right =
     joined_all IsLaterItem document.heads (λ k text there.
     text_later document (Head k) text (right.texts (Head k) text there) (λ same. absurd (omega (arith, ap rank same))))
 
 -- where there is a note there are items of notes
-note_some : (document : Document) → IsRightDocument document → (text : List Item) (texts : List (List Item)) →
+note_some : (document : Document) → IsValidDocument document → (text : List Item) (texts : List (List Item)) →
     document.notes ≡ text ∷ texts → ¬ (length (joined_texts document.notes) ≡ 0)
 note_some document right text texts are none =
     let there : slice_get document.notes 0 ≡ Some text = ap (λ l. slice_get l 0) are in
@@ -87,11 +87,11 @@ note_some document right text texts are none =
       | inr head ↦ omega (arith, ap rank head.0.1)
     ]
 
-notes_by : (document : Document) → IsRightDocument document → (texts : List (List Item)) → document.notes ≡ texts →
+notes_by : (document : Document) → IsValidDocument document → (texts : List (List Item)) → document.notes ≡ texts →
     length (joined_texts document.notes) ≡ 0 → length document.notes ≡ 0
 notes_by document right [] are none = ap length are
 notes_by document right (text ∷ texts) are none = absurd (note_some document right text texts are none)
 
-pub no_notes : (document : Document) → IsRightDocument document → length (joined_texts document.notes) ≡ 0 →
+pub no_notes : (document : Document) → IsValidDocument document → length (joined_texts document.notes) ≡ 0 →
     length document.notes ≡ 0
 no_notes document right none = notes_by document right document.notes refl none

@@ -4,7 +4,7 @@ use Rattle.std.proofs.Common.{◌++◌, ◌≡◌, ◌∙◌, refl, sym, ap, sub
 use Rattle.std.proofs.Common.{length, map, take, Option, Some, None, arith}
 use Rattle.std.proofs.lemmas.Option.{slice_get_within}
 use Rattle.doc_bits.proofs.ListLemmas.{All_at}
-use Rattle.prop_map.specs.Settings.{Settings}
+use Rattle.prop_map.specs.Settings.{Properties}
 use Rattle.prop_map.specs.declared.modifiers.Modifier.{Modifier}
 use Rattle.fib_form.specs.declared.stories.StoryKind.TheVariants.{Main, Notes, Heads}
 use Rattle.direct_props.specs.Direct.{IsDirectCharacter, IsDirectMark}
@@ -15,8 +15,8 @@ use Rattle.plain_doc.specs.Entries.{entry_at}
 use Rattle.plain_doc.specs.Collected.{joined_texts, collected, fields_of, refs_of, sections_of, cuts_from}
 use Rattle.plain_doc.proofs.CollectedLemmas.{entry_of_item, found_before, length-cuts_from}
 use Rattle.plain_doc.proofs.MainLemmas.{main_ends, ends_main}
-use Rattle.doc_load.specs.Source.{story_length, story_begin}
-use Rattle.doc_load.specs.PartRules.{PartLists}
+use Rattle.file_rules.specs.Source.{story_length, story_begin}
+use Rattle.file_rules.specs.PartRules.{PartLists}
 use Rattle.doc_read.specs.Sections.{section_lasts, section_marks}
 use Rattle.doc_read.specs.Marked.{story_bytes, field_bytes}
 use Rattle.doc_read.specs.Items.{TextParts, IsMarkAt, IsItemAt, HoldsItems, HoldsTexts}
@@ -49,8 +49,8 @@ the_lists s = record {
   bookmarks = s.document.bookmarks;
 }
 
--- the settings of the sections
-abbrev pub the_maps : Save → List Settings
+-- the properties of the sections
+abbrev pub the_maps : Save → List Properties
 the_maps s = map (λ section. section.1) (sections_of s.document.main)
 
 abbrev pub the_parts : Save → TextParts

@@ -8,7 +8,7 @@ use Rattle.doc_bits.proofs.ListLemmas.{length-range}
 use Rattle.doc_bits.proofs.NumberLemmas.{number_at-same}
 use Rattle.doc_bits.specs.Number.{number_at, u16_at}
 use Rattle.sprm_table.specs.Sprm.{IsAcceptedList}
-use Rattle.prop_map.specs.Settings.{Settings}
+use Rattle.prop_map.specs.Settings.{Properties}
 use Rattle.prop_map.specs.Formed.{section_groups}
 use Rattle.prop_map.specs.Modifiers.{no_modifier}
 use Rattle.fib_form.specs.Fib.{form_size, fib_form}
@@ -19,19 +19,19 @@ use Rattle.fkp_pages.specs.Fkp.{HasRunAnswer}
 use Rattle.fkp_pages.specs.Bin.{IsBinPage, page_at}
 use Rattle.fkp_pages.specs.Rows.{KeepsRanges}
 use Rattle.fkp_pages.specs.Properties.{IsListAnswered}
-use Rattle.direct_props.specs.Direct.{MakesSettings}
-use Rattle.direct_props.specs.Stretches.{HasRightList}
-use Rattle.direct_props.specs.RightLists.{HasRightListAt}
+use Rattle.direct_props.specs.Direct.{MakesProperties}
+use Rattle.direct_props.specs.Stretches.{HasValidList}
+use Rattle.direct_props.specs.RightLists.{HasValidListAt}
 use Rattle.piece_table.specs.Piece.{unit_bytes}
 use Rattle.doc_parts.specs.Sections.{HasSepx}
 use Rattle.text_codes.specs.Compressed.{unit_of}
-use Rattle.doc_load.specs.Units.{unit_at}
-use Rattle.doc_load.specs.SectionRules.{sepx_list}
-use Rattle.doc_read.specs.Sections.{IsSectionSettings}
+use Rattle.file_rules.specs.Units.{unit_at}
+use Rattle.file_rules.specs.SectionRules.{sepx_list}
+use Rattle.doc_read.specs.Sections.{IsSectionProperties}
 use Rattle.doc_read.proofs.PlaceLemmas.{range_at}
 use Rattle.save_laws.specs.Places.{PagedStream, fib_end, StandsInside}
 use Rattle.save_laws.specs.KeptPages.{KeepsBytes, KeepsPages}
-use Rattle.save_laws.specs.Laws.{KeptSettingsAreThere, KeptPlacesGive}
+use Rattle.save_laws.specs.Laws.{KeptPropertiesAreThere, KeptPlacesGive}
 
 -- the FIB ends where that of the older stream does
 same_end : (old new : List ℕ) → KeepsBytes old new → fib_end new ≡ fib_end old
@@ -90,8 +90,8 @@ named_kept old new before fc number keeps below page =
     }
 
 list_kept : (kind : PageKind) (old new old_bin new_bin : List ℕ) (before fc : ℕ) (list : List ℕ) →
-    KeepsBytes old new → KeepsRanges old_bin new_bin before → fc < before → HasRightListAt kind old old_bin fc list →
-    HasRightListAt kind new new_bin fc list
+    KeepsBytes old new → KeepsRanges old_bin new_bin before → fc < before → HasValidListAt kind old old_bin fc list →
+    HasValidListAt kind new new_bin fc list
 list_kept kind old new old_bin new_bin before fc list bytes ranges below has =
     let page : page_at old has.number ≡ page_at new has.number =
     sym (page_kept old new has.number bytes has.low has.within) in
@@ -104,7 +104,7 @@ list_kept kind old new old_bin new_bin before fc list bytes ranges below has =
       within = omega (arith, within, longer);
       answer = has.answer;
       answers = subst (λ p. HasRunAnswer kind p fc has.answer) page has.answers;
-      right = subst (λ p. HasRightList kind p has.answer) page has.right;
+      right = subst (λ p. HasValidList kind p has.answer) page has.right;
       answered = subst (λ p. IsListAnswered kind p has.answer list) page has.answered;
     }
 
@@ -171,7 +171,7 @@ kept_places_give old new before at wide given keeps gives =
           };
     }
 
--- ---- settings of sections
+-- ---- properties of sections
 
 -- a Sepx that stands in the older stream
 record IsKeptSepx (old new : List ℕ) (fc : ℕ) : Type 0 where
@@ -193,20 +193,20 @@ sepx_kept old new fc keeps there =
       list = ap (λ n. slice_range new (fc + 2) (fc + 2 + n)) count ∙ same;
     }
 
-settings_kept : (old new : List ℕ) (fc : ℕ) (settings : Settings) → KeepsBytes old new →
-    (fc ≢ 0xFFFFFFFF → HasSepx old fc) → IsSectionSettings old fc settings → IsSectionSettings new fc settings
-settings_kept old new fc settings keeps there (inl none) = inl none
-settings_kept old new fc settings keeps there (inr made) =
+properties_kept : (old new : List ℕ) (fc : ℕ) (properties : Properties) → KeepsBytes old new →
+    (fc ≢ 0xFFFFFFFF → HasSepx old fc) → IsSectionProperties old fc properties → IsSectionProperties new fc properties
+properties_kept old new fc properties keeps there (inl none) = inl none
+properties_kept old new fc properties keeps there (inr made) =
     let kept = sepx_kept old new fc keeps (there made.there) in
     inr (record {
       there = made.there;
       style = made.style;
-      makes = subst (λ list. MakesSettings list section_groups settings made.style) (sym kept.list) made.makes;
+      makes = subst (λ list. MakesProperties list section_groups properties made.style) (sym kept.list) made.makes;
     })
 
-pub kept_settings_are_there : KeptSettingsAreThere
-kept_settings_are_there old new fc settings keeps has = record {
-  is = settings_kept old new fc settings keeps has.there has.is;
+pub kept_properties_are_there : KeptPropertiesAreThere
+kept_properties_are_there old new fc properties keeps has = record {
+  is = properties_kept old new fc properties keeps has.there has.is;
   there = λ some. (sepx_kept old new fc keeps (has.there some)).there;
   accepted = λ some.
       subst (λ list. IsAcceptedList list section_groups) (sym (sepx_kept old new fc keeps (has.there some)).list)

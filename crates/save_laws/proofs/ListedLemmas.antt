@@ -6,7 +6,7 @@ use Rattle.std.proofs.lemmas.Option.{slice_get_within, same_Some, none-some}
 use Rattle.std.proofs.lemmas.Bool.{cases_eq}
 use Rattle.doc_bits.specs.Rules.{Hold}
 use Rattle.doc_bits.proofs.ListLemmas.{map-map, there_is, from_map, All_at, All-from_slice_get}
-use Rattle.prop_map.specs.Settings.{Settings}
+use Rattle.prop_map.specs.Settings.{Properties}
 use Rattle.doc_parts.specs.declared.lists.Sed.{Sed}
 use Rattle.doc_parts.specs.declared.lists.Fld.{Fld}
 use Rattle.doc_parts.specs.declared.lists.NoteRef.{NoteRef}
@@ -20,7 +20,7 @@ use Rattle.plain_doc.specs.declared.item.Item.{Item}
 use Rattle.plain_doc.specs.declared.item.NoteKind.{NoteKind}
 use Rattle.plain_doc.specs.Collected.{joined_texts, collected, field_of, fields_of, refs_of, sections_of, is_auto}
 use Rattle.plain_doc.specs.TextLists.{cuts_of, starts_from}
-use Rattle.save_laws.specs.Saves.{HasSettingsAt, AreSavedSections}
+use Rattle.save_laws.specs.Saves.{HasPropertiesAt, AreSavedSections}
 use Rattle.doc_parts.proofs.CpLemmas.{Rise, rise_in_order, rise_from_zero}
 use Rattle.plain_doc.proofs.TextListLemmas.{collected_rise, collected_from}
 use Rattle.plain_doc.proofs.TextListLemmas.{starts_rise, first_start, cuts_in_order}
@@ -152,9 +152,9 @@ cuts_held number joined texts len same within small =
 
 -- ---- sections
 
-small_sepx : (wd : List ℕ) (fc : ℕ) (settings : Settings) → length wd < 2 ^ 32 → HasSettingsAt wd fc settings →
+small_sepx : (wd : List ℕ) (fc : ℕ) (properties : Properties) → length wd < 2 ^ 32 → HasPropertiesAt wd fc properties →
     fc < 2 ^ 32
-small_sepx wd fc settings small has = elim (cases_eq fc 0xFFFFFFFF) [
+small_sepx wd fc properties small has = elim (cases_eq fc 0xFFFFFFFF) [
   | inl none ↦ omega (arith, none)
   | inr some ↦ let within = (has.there some).within in omega (arith, within, small)
 ]
@@ -164,19 +164,19 @@ sections_printable : (wd : List ℕ) (main : List Item) (seds : List Sed) → le
     ArePrintableSections seds (length main)
 sections_printable wd main seds small some saved =
     let sections = sections_of main in
-    let rise : Rise 0 (length main) (map (λ (s : ℕ × Settings). s.0) sections) =
+    let rise : Rise 0 (length main) (map (λ (s : ℕ × Properties). s.0) sections) =
     collected_rise (λ (item : Item). item.sect) 0 (length main) main (omega arith) in
     record {
-      some = omega (arith, some, saved.settings.len);
+      some = omega (arith, some, saved.properties.len);
       in_order =
           subst (AreCpsInOrder (sed_cps (length main))) (sym saved.starts)
           (rise_from_zero (length main) (starts_from 0 sections) (starts_rise 0 (length main) sections rise)
           (first_start sections));
       numbers =
           All-from_slice_get (λ (sed : Sed). sed.sepx < 2 ^ 32) seds (λ k sed here.
-          let below : k < length sections = omega (arith, slice_get_within seds k sed here, saved.settings.len) in
+          let below : k < length sections = omega (arith, slice_get_within seds k sed here, saved.properties.len) in
           let found = there_is sections k below in
-          small_sepx wd sed.sepx found.0.1 small (saved.settings.each k sed found.0 here found.1));
+          small_sepx wd sed.sepx found.0.1 small (saved.properties.each k sed found.0 here found.1));
     }
 
 pub sections_held : (wd : List ℕ) (main : List Item) (seds : List Sed) → length wd < 2 ^ 32 → length main < 2 ^ 32 →

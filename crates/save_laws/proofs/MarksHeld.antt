@@ -9,10 +9,10 @@ use Rattle.fib_form.specs.declared.table_parts.TablePart.TheVariants.{SttbfBkmk,
 use Rattle.doc_parts.specs.BookmarkParts.{BookmarkParts, parts_at, bookmarks_of, bookmark_rules}
 use Rattle.doc_parts.specs.PrintedBookmarks.{printed_names, printed_starts, printed_ends, printed_parts}
 use Rattle.doc_parts.proofs.BookmarkLawLemmas.{bookmarks_back}
-use Rattle.doc_load.specs.Source.{part_place}
-use Rattle.doc_load.specs.BookmarkRules.{bookmark_parts, IsLeavingPair, HasLeavingPair, rules_of_bookmarks}
-use Rattle.doc_load.specs.BookmarkRules.{HasBookmarks}
-use Rattle.doc_load.proofs.BookmarkLemmas.{bookmarks-hold}
+use Rattle.file_rules.specs.Source.{part_place}
+use Rattle.file_rules.specs.BookmarkRules.{bookmark_parts, IsLeavingPair, HasLeavingPair, rules_of_bookmarks}
+use Rattle.file_rules.specs.BookmarkRules.{HasBookmarks}
+use Rattle.file_rules.proofs.BookmarkLemmas.{bookmarks-hold}
 use Rattle.save_laws.specs.Saves.{saved_entries}
 use Rattle.save_laws.proofs.SavedLemmas.{Save, the_source, main_len, few_units, part_is}
 

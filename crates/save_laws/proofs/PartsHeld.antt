@@ -22,8 +22,8 @@ use Rattle.style_sheet.proofs.SheetBackLemmas.{sheet_back}
 use Rattle.plain_doc.specs.declared.item.Item.{Item}
 use Rattle.plain_doc.specs.Collected.{joined_texts, fields_of, refs_of, sections_of}
 use Rattle.plain_doc.proofs.MainLemmas.{main_ends, ends_main}
-use Rattle.doc_load.specs.Source.{part_bytes, part_place, story_length}
-use Rattle.doc_load.specs.ListRules.{rules_of_lists, HasLevels}
+use Rattle.file_rules.specs.Source.{part_bytes, part_place, story_length}
+use Rattle.file_rules.specs.ListRules.{rules_of_lists, HasLevels}
 use Rattle.plain_doc.specs.TextLists.{cuts_of}
 use Rattle.fib_form.specs.TableEntries.{TableEntry, IsPartAt}
 use Rattle.plain_doc.proofs.TextListLemmas.{some_collected}

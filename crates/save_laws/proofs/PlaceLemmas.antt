@@ -6,17 +6,17 @@ use Rattle.fkp_pages.specs.declared.kind.PageKind.TheVariants.{Chpx, Papx}
 use Rattle.fkp_pages.specs.declared.kind.PageKind.{PageKind}
 use Rattle.fkp_pages.specs.Properties.{HasListAt}
 use Rattle.direct_props.specs.Direct.{IsDirectCharacter, IsDirectMark}
-use Rattle.direct_props.specs.RightLists.{HasRightListAt}
+use Rattle.direct_props.specs.RightLists.{HasValidListAt}
 use Rattle.piece_table.specs.Piece.{UnitPlace}
 use Rattle.plain_doc.specs.declared.item.Mark.{Mark}
 use Rattle.plain_doc.specs.declared.item.Item.{Item}
-use Rattle.doc_load.specs.Units.{unit_at}
+use Rattle.file_rules.specs.Units.{unit_at}
 use Rattle.save_laws.specs.Places.{PagedStream, Given, given_of, StandsInside, GivesAt, IsMarkedAfter}
 use Rattle.save_laws.specs.Slots.{Slot, shown, loose, last, ReadsAfter, IsPlaced}
-use Rattle.save_laws.proofs.SlotLemmas.{slot_unit, IsJudged}
+use Rattle.save_laws.proofs.SlotLemmas.{slot_unit, IsJudgedSlot}
 
 -- a right list is a list
-list_at : (kind : PageKind) (wd bin : List ℕ) (fc : ℕ) (list : List ℕ) → HasRightListAt kind wd bin fc list →
+list_at : (kind : PageKind) (wd bin : List ℕ) (fc : ℕ) (list : List ℕ) → HasValidListAt kind wd bin fc list →
     HasListAt kind bin wd fc list
 list_at kind wd bin fc list has = record {
   number = has.number;
@@ -32,13 +32,13 @@ pub record IsMarkBefore (modifier : Modifier) (old : Option Mark) (mark : Mark) 
   pub before : Mark
   pub is : old ≡ Some before
   pub style : mark.istd ≡ mark_style modifier before.istd
-  pub settings : IsMarkAfter modifier before.pap mark.pap
+  pub properties : IsMarkAfter modifier before.pap mark.pap
 
 pub mark_before : (modifier : Modifier) (old : Option Mark) (mark : Mark) → IsMarkedAfter modifier old (Some mark) →
     IsMarkBefore modifier old mark
 mark_before modifier None mark after = absurd after
 mark_before modifier (Some before) mark after =
-    record { before = before; is = refl; style = after.0; settings = after.1 }
+    record { before = before; is = refl; style = after.0; properties = after.1 }
 
 -- an item is read at a place
 pub record IsReadAtPlace (stream : PagedStream) (place : UnitPlace) (item : Item) : Type 0 where
@@ -64,7 +64,7 @@ mark_read stream place item read mark here =
       style = given.style;
       makes = given.makes;
       style_is = found.style ∙ ap (mark_style place.modifier) given.style_is;
-      modified = found.settings;
+      modified = found.properties;
     }
 
 pub item_read : (stream : PagedStream) (place : UnitPlace) (item : Item) →
@@ -89,14 +89,14 @@ pub record IsGivenThere (stream : PagedStream) (place : UnitPlace) : Type 0 wher
   pub given : Given
   pub gives : GivesAt stream place.at place.wide given
 
-pub given_there : (stream : PagedStream) (place : UnitPlace) (slot : Slot) → IsJudged slot →
+pub given_there : (stream : PagedStream) (place : UnitPlace) (slot : Slot) → IsJudgedSlot slot →
     IsPlaced (StandsInside stream) (GivesAt stream) place slot → IsGivenThere stream place
 given_there stream place (shown item) judged placed = record { given = placed.before; gives = placed.gives }
 given_there stream place loose judged placed = record { given = placed.given; gives = placed.gives }
 given_there stream place last judged placed = absurd judged
 
 -- its unit is that of the slot
-pub unit_placed : (stream : PagedStream) (place : UnitPlace) (slot : Slot) → IsJudged slot →
+pub unit_placed : (stream : PagedStream) (place : UnitPlace) (slot : Slot) → IsJudgedSlot slot →
     IsPlaced (StandsInside stream) (GivesAt stream) place slot → unit_at stream.wd place ≡ slot_unit slot
 unit_placed stream place (shown item) judged placed = sym (placed.after.unit ∙ placed.gives.unit)
 unit_placed stream place loose judged placed = sym placed.gives.unit ∙ placed.unit

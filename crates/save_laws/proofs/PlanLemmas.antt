@@ -10,20 +10,20 @@ use Rattle.fkp_pages.specs.declared.kind.PageKind.TheVariants.{Chpx, Papx}
 use Rattle.fkp_pages.specs.declared.lists.Run.{Run}
 use Rattle.fkp_pages.specs.Runs.{run_groups, run_list, IsWritableRun}
 use Rattle.fkp_pages.specs.Found.{sprms_of}
-use Rattle.fkp_pages.proofs.FoundLemmas.{lists_have_settings}
+use Rattle.fkp_pages.proofs.FoundLemmas.{lists_have_properties}
 use Rattle.fkp_pages.proofs.RowTableLemmas.{row_run}
-use Rattle.direct_props.specs.Direct.{MakesSettings}
+use Rattle.direct_props.specs.Direct.{MakesProperties}
 use Rattle.plain_doc.specs.declared.item.Mark.{Mark}
 use Rattle.save_laws.specs.Places.{PagedStream, Given, GivesCharacters, GivesMark, GivesAt}
 use Rattle.save_laws.specs.Plans.{Plan, IsWrittenPlan}
 use Rattle.save_laws.specs.Laws.{PlansGive}
 use Rattle.save_laws.proofs.RowLemmas.{row_gives}
 
--- a run's list makes its settings
+-- a run's list makes its properties
 makes : (kind : PageKind) (run : Run) → IsWritableRun kind run → run.istd < 2 ^ 16 →
-    MakesSettings (sprms_of kind (run_list kind run)) (run_groups kind) run.map None
+    MakesProperties (sprms_of kind (run_list kind run)) (run_groups kind) run.map None
 makes kind run writable small =
-    let print = (lists_have_settings kind run writable small).settings in
+    let print = (lists_have_properties kind run writable small).properties in
     let back = print.back (run_groups kind) (entries run.map) writable.formed print.spelt in
     record { prls = entries run.map; spelt = print.spelt; map = back.0; style_is = sym back.1 }
 
@@ -44,7 +44,7 @@ gives_characters plan written k given is here =
       has = row_gives Chpx written.wd written.characters is.characters placed.0 fc run placed.1.0 placed.1.1 in_run;
       style = None;
       makes =
-          subst (λ map. MakesSettings (run_list Chpx run) character_groups map None) found.1.1
+          subst (λ map. MakesProperties (run_list Chpx run) character_groups map None) found.1.1
           (makes Chpx run right.0 right.1.istd);
     }
 
@@ -57,13 +57,13 @@ gives_mark plan written k given mark is here marked =
     let placed = is.paragraph_row (some_run is.paragraphs in_run.number run in_run.there) in
     let fc : ℕ = plan.base + 2 * k in
     let right = row_run Papx written.wd is.paragraphs placed.0 fc run placed.1.0 in_run in
-    let listed = (lists_have_settings Papx run right.0 right.1.istd).istd refl in
+    let listed = (lists_have_properties Papx run right.0 right.1.istd).istd refl in
     record {
       list = run_list Papx run;
       has = row_gives Papx written.wd written.paragraphs is.paragraphs placed.0 fc run placed.1.0 placed.1.1 in_run;
       style = None;
       makes =
-          subst (λ map. MakesSettings (drop 2 (run_list Papx run)) paragraph_groups map None) found.1.1.1
+          subst (λ map. MakesProperties (drop 2 (run_list Papx run)) paragraph_groups map None) found.1.1.1
           (makes Papx run right.0 right.1.istd);
       style_is = sym found.1.1.0 ∙ sym listed;
     }

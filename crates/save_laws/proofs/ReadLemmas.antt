@@ -6,7 +6,7 @@ use Rattle.std.proofs.Common.{◌≡◌, ◌∙◌, refl, sym, ap, subst, ℕ, z
 use Rattle.std.proofs.Common.{length, map, drop, Option, Some, None, arith, inl, inr}
 use Rattle.std.proofs.lemmas.Bool.{cases_eq}
 use Rattle.doc_bits.proofs.ListLemmas.{map-map}
-use Rattle.prop_map.specs.Settings.{Settings}
+use Rattle.prop_map.specs.Settings.{Properties}
 use Rattle.doc_parts.specs.declared.lists.Sed.{Sed}
 use Rattle.doc_parts.specs.declared.lists.Fld.{Fld}
 use Rattle.doc_parts.specs.declared.lists.NoteRef.{NoteRef}
@@ -133,12 +133,12 @@ kinds_from main =
 -- ---- sections
 
 -- the last of the sections ends with the last CP
-abbrev EndsAt : ℕ → List (ℕ × Settings) → Type 0
+abbrev EndsAt : ℕ → List (ℕ × Properties) → Type 0
 EndsAt len [] = ⊥
 EndsAt len (section ∷ []) = section.0 + 1 ≡ len
 EndsAt len (section ∷ (next ∷ sections)) = EndsAt len (next ∷ sections)
 
-lasts_of : (start len : ℕ) (sections : List (ℕ × Settings)) → EndsAt len sections →
+lasts_of : (start len : ℕ) (sections : List (ℕ × Properties)) → EndsAt len sections →
     map (λ end. end - 1) (drop 1 (starts_from start sections) ++ len ∷ []) ≡ map (λ section. section.0) sections
 unfolding starts_from
 lasts_of start len [] ends = absurd ends
@@ -150,15 +150,15 @@ lasts_of start len (section ∷ (next ∷ sections)) ends =
     ap (λ n. n ∷ map (λ end. end - 1) (drop 1 (starts_from (section.0 + 1) (next ∷ sections)) ++ len ∷ [])) e
     ∙ ap (λ l. section.0 ∷ l) later
 
-ends_before : (o : Option Settings) (cp len : ℕ) (rest : List (ℕ × Settings)) → EndsAt len rest →
+ends_before : (o : Option Properties) (cp len : ℕ) (rest : List (ℕ × Properties)) → EndsAt len rest →
     EndsAt len (entry_before o cp rest)
 ends_before None cp len rest ends = ends
-ends_before (Some settings) cp len [] ends = absurd ends
-ends_before (Some settings) cp len (next ∷ rest) ends = ends
+ends_before (Some properties) cp len [] ends = absurd ends
+ends_before (Some properties) cp len (next ∷ rest) ends = ends
 
-ends_one : (o : Option Settings) (cp len : ℕ) → len ≡ cp + 1 → IsSome o → EndsAt len (entry_before o cp [])
+ends_one : (o : Option Properties) (cp len : ℕ) → len ≡ cp + 1 → IsSome o → EndsAt len (entry_before o cp [])
 ends_one None cp len e some = absurd (cc (some))
-ends_one (Some settings) cp len e some = sym e
+ends_one (Some properties) cp len e some = sym e
 
 ends_collected : (from len : ℕ) (items : List Item) (k : ℕ) (item : Item) → len ≡ from + length items →
     k + 1 ≡ length items → slice_get items k ≡ Some item → IsSome item.sect →

@@ -15,13 +15,13 @@ use Rattle.fkp_pages.specs.Runs.{run_groups, run_list, IsWritableRun, HasFileNum
 use Rattle.fkp_pages.specs.Rows.{IsInRun, IsRow, NamesRow}
 use Rattle.fkp_pages.proofs.RowTableLemmas.{run_list_accepted, row_low, table_of_row, row_list}
 use Rattle.direct_props.proofs.StretchLemmas.{cut_rest}
-use Rattle.direct_props.specs.Stretches.{HasRightList}
-use Rattle.direct_props.specs.RightLists.{HasRightListAt}
+use Rattle.direct_props.specs.Stretches.{HasValidList}
+use Rattle.direct_props.specs.RightLists.{HasValidListAt}
 
 -- an answered list without a fault is a right one
 right_answer : (kind : PageKind) (page : List ℕ) (fc : ℕ) (answer : RunAnswer) (list : List ℕ) →
     HasRunAnswer kind page fc answer → IsListAnswered kind page answer list →
-    IsAcceptedList (drop (least_list kind) list) (run_groups kind) → HasRightList kind page answer
+    IsAcceptedList (drop (least_list kind) list) (run_groups kind) → HasValidList kind page answer
 right_answer kind page fc (Found from to) list answers answered accepted =
     let is = answers.1.answers in
     let room : from + least_list kind ≤ to = omega (arith, is.within.room, is.starts, is.ends) in
@@ -42,7 +42,7 @@ right_answer kind page fc (Leaves entry) list answers answered accepted = absurd
 -- the list of a run, through a table that names the pages of the row
 pub row_gives : (kind : PageKind) (wd table : List ℕ) (runs : List Run) (first fc : ℕ) (run : Run)
     (row : IsRow kind wd runs first) → NamesRow row table → IsInRun runs fc run →
-    HasRightListAt kind wd table fc (run_list kind run)
+    HasValidListAt kind wd table fc (run_list kind run)
 row_gives kind wd table runs first fc run row names in_run =
     let own = table_of_row kind wd runs first row in
     let has = row_list kind wd runs first fc run row in_run in

@@ -16,20 +16,20 @@ use Rattle.piece_table.proofs.PieceLemmas.{length-flat_pieces}
 use Rattle.plain_doc.specs.declared.item.Item.{Item}
 use Rattle.plain_doc.specs.declared.document.Document.{Document}
 use Rattle.plain_doc.specs.Formed.{IsFormed}
-use Rattle.plain_doc.specs.RightDocument.{IsRightDocument}
+use Rattle.plain_doc.specs.RightDocument.{IsValidDocument}
 use Rattle.plain_doc.proofs.MainLemmas.{main_ends}
-use Rattle.doc_load.specs.Units.{unit_at}
-use Rattle.doc_load.proofs.UnitLemmas.{length-text_units}
-use Rattle.doc_load.specs.Source.{DocSource, part_bytes, story_length, story_begin, story_units}
-use Rattle.doc_load.specs.FormatRules.{text_count}
-use Rattle.doc_load.specs.FileRules.{source_of}
+use Rattle.file_rules.specs.Units.{unit_at}
+use Rattle.file_rules.proofs.UnitLemmas.{length-text_units}
+use Rattle.file_rules.specs.Source.{DocSource, part_bytes, story_length, story_begin, story_units}
+use Rattle.file_rules.specs.FormatRules.{text_count}
+use Rattle.file_rules.specs.FileRules.{source_of}
 use Rattle.doc_read.proofs.PlaceLemmas.{range_at}
 use Rattle.fib_form.specs.TableEntries.{entry}
 use Rattle.save_laws.specs.Places.{StandsInside, GivesAt}
 use Rattle.save_laws.specs.Slots.{Slot, shown, note_slots, head_slots, IsPlaced, whole_text, story_counts}
 use Rattle.save_laws.specs.Saves.{SavedText, IsSavedAs, saved_entries, file_text}
 use Rattle.doc_bits.proofs.TogetherLemmas.{Beside, beside}
-use Rattle.save_laws.proofs.SlotLemmas.{slot_unit, IsJudged, length-whole, main_slot, note_slot, head_slot}
+use Rattle.save_laws.proofs.SlotLemmas.{slot_unit, IsJudgedSlot, length-whole, main_slot, note_slot, head_slot}
 use Rattle.save_laws.proofs.PlaceLemmas.{unit_placed}
 
 -- a well-formed right document and what is saved of it
@@ -39,7 +39,7 @@ pub record Save : Type 0 where
   pub table : List ℕ
   pub contents : Contents
   pub formed : IsFormed document
-  pub right : IsRightDocument document
+  pub right : IsValidDocument document
   pub is : IsSavedAs document saved table contents
 
 -- what is read of it
@@ -108,7 +108,7 @@ placed_at s cp slot here =
     (the_whole s) cp slot s.is.text here
 
 -- the unit of a judged slot
-pub unit_here : (s : Save) (cp : ℕ) (slot : Slot) → slice_get (the_whole s) cp ≡ Some slot → IsJudged slot →
+pub unit_here : (s : Save) (cp : ℕ) (slot : Slot) → slice_get (the_whole s) cp ≡ Some slot → IsJudgedSlot slot →
     slice_index (the_source s).text.units cp ≡ slot_unit slot
 unit_here s cp slot here judged =
     let wd = s.saved.stream.wd in
@@ -152,7 +152,7 @@ main_unit s i item here =
     ∙ (ap (slice_index (the_source s).text.units) at
     ∙ unit_here s i (shown item) (main_slot s.document s.saved.ends i item here) tt)
 
-pub note_unit : (s : Save) (i : ℕ) (slot : Slot) → slice_get (the_notes s) i ≡ Some slot → IsJudged slot →
+pub note_unit : (s : Save) (i : ℕ) (slot : Slot) → slice_get (the_notes s) i ≡ Some slot → IsJudgedSlot slot →
     slice_index (story_units (the_source s) Notes) i ≡ slot_unit slot
 note_unit s i slot here judged =
     let at : story_begin (the_source s) Notes + i ≡ length s.document.main + i = ap (λ n. n + i) (main_len s) in
@@ -160,7 +160,7 @@ note_unit s i slot here judged =
     ∙ (ap (slice_index (the_source s).text.units) at
     ∙ unit_here s (length s.document.main + i) slot (note_slot s.document s.saved.ends i slot here) judged)
 
-pub head_unit : (s : Save) (i : ℕ) (slot : Slot) → slice_get (the_heads s) i ≡ Some slot → IsJudged slot →
+pub head_unit : (s : Save) (i : ℕ) (slot : Slot) → slice_get (the_heads s) i ≡ Some slot → IsJudgedSlot slot →
     slice_index (story_units (the_source s) Heads) i ≡ slot_unit slot
 head_unit s i slot here judged =
     let main = main_len s in

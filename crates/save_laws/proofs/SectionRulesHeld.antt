@@ -8,7 +8,7 @@ use Rattle.doc_bits.specs.Rules.{Hold, Nowhere, rule}
 use Rattle.doc_bits.proofs.RuleLemmas.{hold_in}
 use Rattle.doc_bits.proofs.ListLemmas.{there_is}
 use Rattle.sprm_table.proofs.FaultLemmas.{accepted_no_fault}
-use Rattle.prop_map.specs.Settings.{Settings}
+use Rattle.prop_map.specs.Settings.{Properties}
 use Rattle.prop_map.specs.Formed.{section_groups}
 use Rattle.fib_form.specs.declared.table_parts.TablePart.TheVariants.{PlcfSed, PlcfBteChpx, PlcfBtePapx}
 use Rattle.fib_form.specs.declared.stories.StoryKind.TheVariants.{Main}
@@ -17,28 +17,28 @@ use Rattle.doc_parts.specs.Sections.{section_rules, place_of_fc_sepx}
 use Rattle.text_codes.specs.Paragraph.{section_mark}
 use Rattle.plain_doc.specs.declared.item.Item.{Item}
 use Rattle.plain_doc.specs.Collected.{sections_of}
-use Rattle.doc_load.specs.Source.{part_bytes, part_place, story_length, story_units}
-use Rattle.doc_load.specs.SectionRules.{section_begin, section_fc, sepx_list, BeginsElsewhere, LacksSepx}
-use Rattle.doc_load.specs.SectionRules.{HasSepxFault, BreaksSectionMarks, BreaksSepxs, BreaksSepxLists}
-use Rattle.doc_load.specs.SectionRules.{rules_of_sections}
-use Rattle.doc_load.specs.BinRules.{BreaksBinTable, rules_of_bins}
-use Rattle.doc_load.proofs.RowLemmas.{no_row, index_of_get}
-use Rattle.save_laws.specs.Saves.{HasSettingsAt, HasRanges}
+use Rattle.file_rules.specs.Source.{part_bytes, part_place, story_length, story_units}
+use Rattle.file_rules.specs.SectionRules.{section_begin, section_fc, sepx_list, BeginsElsewhere, LacksSepx}
+use Rattle.file_rules.specs.SectionRules.{HasSepxFault, BreaksSectionMarks, BreaksSepxs, BreaksSepxLists}
+use Rattle.file_rules.specs.SectionRules.{rules_of_sections}
+use Rattle.file_rules.specs.BinRules.{BreaksBinTable, rules_of_bins}
+use Rattle.file_rules.proofs.RowLemmas.{no_row, index_of_get}
+use Rattle.save_laws.specs.Saves.{HasPropertiesAt, HasRanges}
 use Rattle.doc_parts.proofs.CpLemmas.{Rise, rise_within, rise_step}
 use Rattle.plain_doc.proofs.TextListLemmas.{collected_rise, collected_from, next_start}
 use Rattle.save_laws.proofs.SavedLemmas.{Save, the_source, main_unit, part_is}
 use Rattle.save_laws.proofs.PartsHeld.{sections_part}
 
--- the settings of a section stand where its Sed says
+-- the properties of a section stand where its Sed says
 pub record HasSepxOf (s : Save) (k : ℕ) : Type 0 where
-  pub section : ℕ × Settings
+  pub section : ℕ × Properties
   pub here : slice_get (sections_of s.document.main) k ≡ Some section
-  pub has : HasSettingsAt s.saved.stream.wd (section_fc s.saved.seds k) section.1
+  pub has : HasPropertiesAt s.saved.stream.wd (section_fc s.saved.seds k) section.1
 
 pub sepx_of : (s : Save) (k : ℕ) → k < length s.saved.seds → HasSepxOf s k
 sepx_of s k below =
     let seds = s.saved.seds in
-    let len = s.is.sections.settings.len in
+    let len = s.is.sections.properties.len in
     let sed = there_is seds k below in
     let section = there_is (sections_of s.document.main) k (omega (arith, below, len)) in
     let fc : section_fc seds k ≡ sed.0.sepx = index_of_get (λ (x : Sed). x.sepx) seds k sed.0 sed.1 in
@@ -46,8 +46,8 @@ sepx_of s k below =
       section = section.0;
       here = section.1;
       has =
-          subst (λ n. HasSettingsAt s.saved.stream.wd n section.0.1) (sym fc)
-          (s.is.sections.settings.each k sed.0 section.0 sed.1 section.1);
+          subst (λ n. HasPropertiesAt s.saved.stream.wd n section.0.1) (sym fc)
+          (s.is.sections.properties.each k sed.0 section.0 sed.1 section.1);
     }
 
 -- before a later section stands a section mark
@@ -55,20 +55,20 @@ mark_before : (s : Save) (j : ℕ) → suc j < length s.saved.seds →
     slice_index (story_units (the_source s) Main) (section_begin s.saved.seds (suc j) - 1) ≡ section_mark
 mark_before s j below =
     let main = s.document.main in
-    let sect : Item → Option Settings = λ item. item.sect in
+    let sect : Item → Option Properties = λ item. item.sect in
     let sections = sections_of main in
-    let cps : List ℕ = map (λ (x : ℕ × Settings). x.0) sections in
-    let len : length s.saved.seds ≡ length sections = s.is.sections.settings.len in
+    let cps : List ℕ = map (λ (x : ℕ × Properties). x.0) sections in
+    let len : length s.saved.seds ≡ length sections = s.is.sections.properties.len in
     let one = there_is sections j (omega (arith, below, len)) in
     let begin : section_begin s.saved.seds (suc j) ≡ one.0.0 + 1 =
     ap (λ l. slice_index l (suc j)) s.is.sections.starts
     ∙ next_start 0 sections j one.0 one.1 (omega (arith, below, len)) in
     let from = collected_from sect 0 main j one.0 one.1 in
     let rise : Rise 0 (length main) cps = collected_rise sect 0 (length main) main (omega arith) in
-    let many : length cps ≡ length sections = length-map sections (λ (x : ℕ × Settings). x.0) in
+    let many : length cps ≡ length sections = length-map sections (λ (x : ℕ × Properties). x.0) in
     let step = rise_step 0 (length main) cps rise j (suc j) (omega arith) (omega (arith, below, len, many)) in
     let last = (rise_within 0 (length main) cps rise (suc j) (omega (arith, below, len, many))).1 in
-    let here : slice_index cps j ≡ one.0.0 = index_of_get (λ (x : ℕ × Settings). x.0) sections j one.0 one.1 in
+    let here : slice_index cps j ≡ one.0.0 = index_of_get (λ (x : ℕ × Properties). x.0) sections j one.0 one.1 in
     let placed = (s.right.texts MainText main refl).placed from.index from.item from.here in
     let some : IsSome from.item.sect = ap is_some from.has in
     let at : section_begin s.saved.seds (suc j) - 1 ≡ from.index = omega (arith, begin, from.at) in
@@ -85,14 +85,14 @@ none_elsewhere s (suc j) below begins = begins.other (mark_before s j below)
 
 none_lacks : (s : Save) (k : ℕ) → k < length s.saved.seds →
     ¬ (LacksSepx s.saved.stream.wd (section_fc s.saved.seds k))
-none_lacks s k below lacks = lacks.missing ((sepx_of s k below).has.there lacks.settings)
+none_lacks s k below lacks = lacks.missing ((sepx_of s k below).has.there lacks.properties)
 
 none_faulty : (s : Save) (k place : ℕ) → k < length s.saved.seds →
     ¬ (HasSepxFault s.saved.stream.wd (section_fc s.saved.seds k) place)
 none_faulty s k place below fault =
     let fc = section_fc s.saved.seds k in
     accepted_no_fault (sepx_list s.saved.stream.wd fc) section_groups fault.fault.offset
-    ((sepx_of s k below).has.accepted fault.settings) fault.fault.broken
+    ((sepx_of s k below).has.accepted fault.properties) fault.fault.broken
 
 pub sections_hold : (s : Save) → Hold (rules_of_sections (the_source s))
 sections_hold s =

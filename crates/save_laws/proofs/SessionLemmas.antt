@@ -127,7 +127,7 @@ zipped_together P by places made slots after step together one other = record {
 }
 
 -- a list is its three parts
-in_parts : {A : Type 0} (xs : List A) (from to : ℕ) → from ≤ to →
+pub in_parts : {A : Type 0} (xs : List A) (from to : ℕ) → from ≤ to →
     take from xs ++ (slice_range xs from to ++ drop to xs) ≡ xs
 in_parts xs from to order =
     let width : from + (to - from) ≡ to = omega arith in

@@ -23,10 +23,10 @@ slot_unit loose = paragraph_mark
 slot_unit last = 0
 
 -- the slot is judged: it is not the last CP
-abbrev pub IsJudged : Slot → Type 0
-IsJudged (shown item) = ⊤
-IsJudged loose = ⊤
-IsJudged last = ⊥
+abbrev pub IsJudgedSlot : Slot → Type 0
+IsJudgedSlot (shown item) = ⊤
+IsJudgedSlot loose = ⊤
+IsJudgedSlot last = ⊥
 
 -- the property holds of the item that the slot shows, if it shows one
 abbrev pub IsShownAs : (Item → Type 0) → Slot → Type 0
@@ -119,23 +119,23 @@ story_mark texts =
 
 -- ---- what holds of them
 
-judged_items : (items : List Item) → All IsJudged (map shown items)
-judged_items items = All-map IsJudged shown items (λ k d below. tt)
+judged_items : (items : List Item) → All IsJudgedSlot (map shown items)
+judged_items items = All-map IsJudgedSlot shown items (λ k d below. tt)
 
-judged_loose : (end : Bool) → All IsJudged (loose_if end)
-judged_loose true = All-cons IsJudged loose [] tt (All-nil IsJudged)
-judged_loose false = All-nil IsJudged
+judged_loose : (end : Bool) → All IsJudgedSlot (loose_if end)
+judged_loose true = All-cons IsJudgedSlot loose [] tt (All-nil IsJudgedSlot)
+judged_loose false = All-nil IsJudgedSlot
 
-judged_story : (texts : List (List Item)) (end : Bool) → All IsJudged (story_slots texts end)
+judged_story : (texts : List (List Item)) (end : Bool) → All IsJudgedSlot (story_slots texts end)
 judged_story texts end =
-    All-append IsJudged (map shown (joined_texts texts)) (loose_if end) (judged_items (joined_texts texts))
+    All-append IsJudgedSlot (map shown (joined_texts texts)) (loose_if end) (judged_items (joined_texts texts))
     (judged_loose end)
 
 -- a CP of the three stories has a slot, and it is judged
 pub record IsFrontSlot (document : Document) (ends : StoryEnds) (cp : ℕ) : Type 0 where
   pub slot : Slot
   pub here : slice_get (whole_text document ends) cp ≡ Some slot
-  pub judged : IsJudged slot
+  pub judged : IsJudgedSlot slot
 
 pub front_slot : (document : Document) (ends : StoryEnds) (cp : ℕ) →
     cp < length document.main + length (note_slots document ends) + length (head_slots document ends) →
@@ -157,7 +157,7 @@ front_slot document ends cp below =
               slot = found.0;
               here = subst (λ n. slice_get (whole_text document ends) n ≡ Some found.0) at
                   (note_slot document ends i found.0 found.1);
-              judged = All_at IsJudged notes i found.0 (judged_story document.notes ends.notes) found.1;
+              judged = All_at IsJudgedSlot notes i found.0 (judged_story document.notes ends.notes) found.1;
             }
         | inr behind ↦
             let i : ℕ = cp - (main + length notes) in
@@ -167,7 +167,7 @@ front_slot document ends cp below =
               slot = found.0;
               here = subst (λ n. slice_get (whole_text document ends) n ≡ Some found.0) at
                   (head_slot document ends i found.0 found.1);
-              judged = All_at IsJudged heads i found.0 (judged_story document.heads ends.heads) found.1;
+              judged = All_at IsJudgedSlot heads i found.0 (judged_story document.heads ends.heads) found.1;
             }
       ]
     ]

@@ -11,11 +11,11 @@ use Rattle.doc_bits.specs.Rules.{Hold, Nowhere, rule}
 use Rattle.doc_bits.specs.Plc.{PlcPart}
 use Rattle.doc_bits.proofs.RuleLemmas.{hold_in}
 use Rattle.doc_bits.proofs.ListLemmas.{there_is}
-use Rattle.prop_map.specs.Settings.{Settings}
+use Rattle.prop_map.specs.Settings.{Properties}
 use Rattle.fib_form.specs.declared.table_parts.TablePart.TheVariants.{PlcffndRef, PlcffndTxt, PlcfHdd, PlcfFldMom}
 use Rattle.fib_form.specs.declared.table_parts.TablePart.TheVariants.{PlcfFldHdr, PlcfFldFtn}
 use Rattle.fib_form.specs.declared.stories.StoryKind.TheVariants.{Main, Notes, Heads}
-use Rattle.doc_parts.specs.Table.{IsRightEntry, plc_part}
+use Rattle.doc_parts.specs.Table.{IsValidEntry, plc_part}
 use Rattle.doc_parts.specs.Stories.{printed_texts}
 use Rattle.doc_parts.specs.declared.lists.NoteRef.{NoteRef}
 use Rattle.doc_parts.specs.declared.lists.Fld.{Fld}
@@ -25,11 +25,11 @@ use Rattle.plain_doc.specs.RulesOfSheet.{section_count, heads_of_sections}
 use Rattle.plain_doc.specs.Collected.{is_auto, joined_texts, collected, fields_of, refs_of, cuts_from}
 use Rattle.plain_doc.specs.declared.item.Item.{Item}
 use Rattle.plain_doc.proofs.CollectedLemmas.{collected_count, length-cuts_from}
-use Rattle.doc_load.specs.Source.{part_bytes, part_place, story_length, story_units}
-use Rattle.doc_load.specs.FieldRules.{BreaksFields, BreaksAllFields, rules_of_fields}
-use Rattle.doc_load.specs.NoteRules.{ref_count, HasEntries, BreaksRefs, BreaksNoteCuts, HasNoteCuts, rules_of_notes}
-use Rattle.doc_load.specs.HeadRules.{IsHeadTable, BreaksHeads, rules_of_heads}
-use Rattle.doc_load.specs.EndRules.{last_end, IsLooseUnit, BreaksEnds, rules_of_ends}
+use Rattle.file_rules.specs.Source.{part_bytes, part_place, story_length, story_units}
+use Rattle.file_rules.specs.FieldRules.{BreaksFields, BreaksAllFields, rules_of_fields}
+use Rattle.file_rules.specs.NoteRules.{ref_count, HasEntries, BreaksRefs, BreaksNoteCuts, HasNoteCuts, rules_of_notes}
+use Rattle.file_rules.specs.HeadRules.{IsHeadTable, BreaksHeads, rules_of_heads}
+use Rattle.file_rules.specs.EndRules.{last_end, IsLooseUnit, BreaksEnds, rules_of_ends}
 use Rattle.plain_doc.specs.TextLists.{cuts_of}
 use Rattle.save_laws.specs.Slots.{shown, loose, story_slots}
 use Rattle.save_laws.proofs.SavedLemmas.{part_is, Save, the_source, the_heads, note_len, head_len, length-story_units}
@@ -70,7 +70,7 @@ fields_right story bytes at len items units long held place w =
             broken = record {
               here = row.broken.here;
               broken = λ right. row.broken.broken (record {
-                right = subst (λ n. IsRightEntry fld_form (fld_cps n) table k) (sym long) right;
+                right = subst (λ n. IsValidEntry fld_form (fld_cps n) table k) (sym long) right;
                 unit =
                     subst (λ (o : Option Fld). IfSome o (λ fld. slice_index story fld.cp ≡ fld.unit))
                     (held.has.leading.each k below) some;
@@ -213,9 +213,9 @@ notes_hold s =
 
 pub length-heads : (s : Save) → length s.document.heads ≡ heads_of_sections (length s.saved.seds)
 length-heads s =
-    let sect : Item → Option Settings = λ item. item.sect in
+    let sect : Item → Option Properties = λ item. item.sect in
     let count = collected_count sect 0 s.document.main in
-    let many = s.is.sections.settings.len in
+    let many = s.is.sections.properties.len in
     let same : section_count s.document.main ≡ length s.saved.seds = count ∙ sym many in
     s.right.heads ∙ ap heads_of_sections same
 

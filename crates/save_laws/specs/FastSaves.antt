@@ -10,14 +10,14 @@ use Rattle.piece_table.specs.Piece.{TextPiece, flat_pieces, ArePieces}
 use Rattle.piece_table.specs.Printing.{IsPrintable, IsPrintedClx}
 use Rattle.plain_doc.specs.declared.document.Document.{Document}
 use Rattle.plain_doc.specs.Collected.{sections_of}
-use Rattle.doc_load.specs.FileRules.{table_stream_name}
+use Rattle.file_rules.specs.FileRules.{table_stream_name}
 use Rattle.doc_read.specs.CarriedParts.{carried_streams}
 use Rattle.doc_bits.specs.Together.{AreTogether}
 use Rattle.plain_doc.specs.TextLists.{starts_from}
 use Rattle.fib_form.specs.TableEntries.{TableEntry, IsPartAt}
 use Rattle.save_laws.specs.Places.{PagedStream, Given, StandsInside, GivesAt}
 use Rattle.save_laws.specs.Slots.{StoryEnds, IsPlaced, whole_text, story_counts}
-use Rattle.save_laws.specs.Saves.{SavedText, saved_entries, HasSettingsAt, HasRanges, KeepsFields}
+use Rattle.save_laws.specs.Saves.{SavedText, saved_entries, HasPropertiesAt, HasRanges, KeepsFields}
 use Rattle.save_laws.specs.Plans.{Plan, StandsInPlan, IsPlanned, IsWrittenPlan}
 use Rattle.save_laws.specs.KeptPages.{KeepsPages}
 
@@ -46,9 +46,9 @@ pub record IsFastSaved
   pub characters : HasRanges saved.stream.characters
   pub paragraphs : HasRanges saved.stream.paragraphs
   pub starts : map (λ sed. sed.start) saved.seds ≡ starts_from 0 (sections_of document.main)
-  pub settings :
+  pub properties :
       AreTogether
-      (λ sed section. HasSettingsAt old.wd sed.sepx section.1 ⊎ HasSettingsAt saved.stream.wd sed.sepx section.1)
+      (λ sed section. HasPropertiesAt old.wd sed.sepx section.1 ⊎ HasPropertiesAt saved.stream.wd sed.sepx section.1)
       saved.seds (sections_of document.main)
   pub pieces : ArePieces saved.pieces
   pub printable : IsPrintable saved.pieces

@@ -3,8 +3,8 @@ use Rattle.std.specs.Prelude.{◌≡◌}
 use Rattle.fib_form.specs.FibFields.{fib_fields}
 use Rattle.fib_form.specs.declared.table_parts.TablePart.TheVariants.{PlcfBteChpx, PlcfBtePapx}
 use Rattle.plain_doc.specs.declared.document.Document.{Document}
-use Rattle.doc_load.specs.Source.{DocSource, part_bytes}
-use Rattle.doc_load.specs.FileRules.{FileText, source_of}
+use Rattle.file_rules.specs.Source.{DocSource, part_bytes}
+use Rattle.file_rules.specs.FileRules.{FileText, source_of}
 use Rattle.save_laws.specs.Places.{PagedStream}
 use Rattle.save_laws.specs.Slots.{StoryEnds, story_counts}
 use Rattle.save_laws.specs.Saves.{StandsForText}

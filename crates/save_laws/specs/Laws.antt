@@ -1,7 +1,7 @@
 -- The laws of saves.
 use Rattle.std.specs.Prelude.{◌≡◌, ℕ, List, Bool}
 use Rattle.doc_bits.specs.Number.{AreBytes}
-use Rattle.prop_map.specs.Settings.{Settings}
+use Rattle.prop_map.specs.Settings.{Properties}
 use Rattle.cfb_streams.specs.Contents.{Contents}
 use Rattle.plain_doc.specs.declared.document.Document.{Document}
 use Rattle.plain_doc.specs.Collected.{sections_of}
@@ -13,7 +13,7 @@ use Rattle.save_laws.specs.Plans.{Plan, IsPlanned, IsWrittenPlan}
 use Rattle.save_laws.specs.KeptPages.{KeepsBytes, KeepsPages}
 use Rattle.save_laws.specs.FastSaves.{IsFastSaved}
 use Rattle.save_laws.specs.GivenFiles.{StandsTogether}
-use Rattle.save_laws.specs.Saves.{SavedText, HasSettingsAt, AreSavedSections, IsSavedAs, IsHeldBy, IsFileOf}
+use Rattle.save_laws.specs.Saves.{SavedText, HasPropertiesAt, AreSavedSections, IsSavedAs, IsHeldBy, IsFileOf}
 use Rattle.save_laws.specs.Saves.{file_text}
 
 -- a well-formed sound document that is saved is held by the contents, which break none of the rules 15 to 57
@@ -49,11 +49,11 @@ FastSavesAreSaves =
     (contents : Contents) → IsFastSaved document old plan saved table contents →
     IsSavedAs document saved table contents
 
--- the settings of a section that stand in a stream stand in one that keeps its bytes
-abbrev pub KeptSettingsAreThere : Type 0
-KeptSettingsAreThere =
-    (old new : List ℕ) (fc : ℕ) (settings : Settings) → KeepsBytes old new → HasSettingsAt old fc settings →
-    HasSettingsAt new fc settings
+-- the properties of a section that stand in a stream stand in one that keeps its bytes
+abbrev pub KeptPropertiesAreThere : Type 0
+KeptPropertiesAreThere =
+    (old new : List ℕ) (fc : ℕ) (properties : Properties) → KeepsBytes old new → HasPropertiesAt old fc properties →
+    HasPropertiesAt new fc properties
 
 -- what a stream gives at a place one gives that keeps its pages
 abbrev pub KeptPlacesGive : Type 0

@@ -3,18 +3,18 @@
 use Rattle.std.specs.Prelude.{◌≡◌, ℕ, ◌+◌, ◌≤◌, List, length, drop, Bool, Option, Some, None, ⊤}
 use Rattle.std.specs.Option.{ForSome, unwrap_or}
 use Rattle.doc_bits.specs.Number.{u16_at}
-use Rattle.prop_map.specs.Settings.{Settings}
+use Rattle.prop_map.specs.Settings.{Properties}
 use Rattle.prop_map.specs.Formed.{character_groups, paragraph_groups}
 use Rattle.prop_map.specs.declared.modifiers.Modifier.{Modifier}
 use Rattle.prop_map.specs.Modifiers.{no_modifier, mark_style, IsCharacterAfter, IsMarkAfter}
 use Rattle.fib_form.specs.Fib.{fib_size}
 use Rattle.fkp_pages.specs.declared.kind.PageKind.TheVariants.{Chpx, Papx}
-use Rattle.direct_props.specs.Direct.{MakesSettings}
-use Rattle.direct_props.specs.RightLists.{HasRightListAt}
+use Rattle.direct_props.specs.Direct.{MakesProperties}
+use Rattle.direct_props.specs.RightLists.{HasValidListAt}
 use Rattle.piece_table.specs.Piece.{unit_bytes}
 use Rattle.plain_doc.specs.declared.item.Mark.{Mark}
 use Rattle.plain_doc.specs.declared.item.Item.{Item}
-use Rattle.doc_load.specs.Units.{unit_at}
+use Rattle.file_rules.specs.Units.{unit_at}
 
 -- WordDocument and its two bin tables
 pub record PagedStream : Type 0 where
@@ -26,29 +26,29 @@ pub record PagedStream : Type 0 where
 abbrev pub fib_end : List ℕ → ℕ
 fib_end wd = fib_size wd
 
--- what a place gives: the unit, its settings, and those of its mark, if it has one
+-- what a place gives: the unit, its properties, and those of its mark, if it has one
 pub record Given : Type 0 where
   pub unit : ℕ
-  pub chp : Settings
+  pub chp : Properties
   pub mark : Option Mark
 
 -- what an item needs a place to give it, where no modifier acts
 abbrev pub given_of : Item → Given
 given_of item = record { unit = item.unit; chp = item.chp; mark = item.mark }
 
--- the page of the place answers a right list of characters, which makes the settings
-pub record GivesCharacters (from : PagedStream) (at : ℕ) (chp : Settings) : Type 0 where
+-- the page of the place answers a right list of characters, which makes the properties
+pub record GivesCharacters (from : PagedStream) (at : ℕ) (chp : Properties) : Type 0 where
   pub list : List ℕ
-  pub has : HasRightListAt Chpx from.wd from.characters at list
+  pub has : HasValidListAt Chpx from.wd from.characters at list
   pub style : Option ℕ
-  pub makes : MakesSettings list character_groups chp style
+  pub makes : MakesProperties list character_groups chp style
 
--- the page of the place answers a right list of a paragraph, which makes the settings and names the style
+-- the page of the place answers a right list of a paragraph, which makes the properties and names the style
 pub record GivesMark (from : PagedStream) (at : ℕ) (mark : Mark) : Type 0 where
   pub list : List ℕ
-  pub has : HasRightListAt Papx from.wd from.paragraphs at list
+  pub has : HasValidListAt Papx from.wd from.paragraphs at list
   pub style : Option ℕ
-  pub makes : MakesSettings (drop 2 list) paragraph_groups mark.pap style
+  pub makes : MakesProperties (drop 2 list) paragraph_groups mark.pap style
   pub style_is : mark.istd ≡ unwrap_or style (u16_at list 0)
 
 -- a unit stands there, behind the FIB and within the stream
@@ -63,7 +63,7 @@ pub record GivesAt (from : PagedStream) (at : ℕ) (wide : Bool) (given : Given)
   pub characters : GivesCharacters from at given.chp
   pub mark : ForSome given.mark (GivesMark from at)
 
--- the style and the settings of a mark after a modifier; no mark comes and none goes
+-- the style and the properties of a mark after a modifier; no mark comes and none goes
 abbrev pub IsMarkedAfter : Modifier → Option Mark → Option Mark → Type 0
 IsMarkedAfter modifier None None = ⊤
 IsMarkedAfter modifier None (Some new) = ⊥

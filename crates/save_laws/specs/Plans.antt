@@ -28,8 +28,9 @@ pub record IsPlanned (plan : Plan) (at : ℕ) (wide : Bool) (given : Given) : Ty
   pub here : at ≡ plan.base + 2 * number
   pub two_bytes : wide ≡ true
 
--- each added unit is in a run of characters with its settings, and where it has a mark, in a run of paragraphs with the
--- mark's style and settings
+-- each added unit is in a run of characters with its properties, and where it has a mark, in a run of paragraphs with
+-- the
+-- mark's style and properties
 pub record AreRunsOf (plan : Plan) (characters paragraphs : List Run) : Type 0 where
   pub character :
       (k : ℕ) (given : Given) → slice_get plan.added k ≡ Some given →

@@ -2,7 +2,7 @@
 use Rattle.std.specs.Prelude.{◌≡◌, ◌≢◌, ℕ, ◌^◌, ◌<◌, ◌≤◌, List, length, map, Some, slice_get}
 use Rattle.doc_bits.specs.Rules.{Hold}
 use Rattle.sprm_table.specs.Sprm.{IsAcceptedList}
-use Rattle.prop_map.specs.Settings.{Settings}
+use Rattle.prop_map.specs.Settings.{Properties}
 use Rattle.prop_map.specs.Formed.{section_groups}
 use Rattle.cfb_streams.specs.Contents.{Contents, HasNamed}
 use Rattle.cfb_streams.specs.Container.{container_rules, HasContents}
@@ -17,10 +17,10 @@ use Rattle.doc_parts.specs.declared.lists.Sed.{Sed}
 use Rattle.doc_parts.specs.Sections.{HasSepx}
 use Rattle.plain_doc.specs.declared.document.Document.{Document}
 use Rattle.plain_doc.specs.Collected.{sections_of}
-use Rattle.doc_load.specs.SectionRules.{sepx_list}
-use Rattle.doc_load.specs.PartRules.{PartLists, HasPartLists}
-use Rattle.doc_load.specs.FileRules.{FileText, HasText, table_stream_name, source_of, contents_rules}
-use Rattle.doc_read.specs.Sections.{IsSectionSettings}
+use Rattle.file_rules.specs.SectionRules.{sepx_list}
+use Rattle.file_rules.specs.PartRules.{PartLists, HasPartLists}
+use Rattle.file_rules.specs.FileRules.{FileText, HasText, table_stream_name, source_of, contents_rules}
+use Rattle.doc_read.specs.Sections.{IsSectionProperties}
 use Rattle.doc_read.specs.CarriedParts.{carried_streams}
 use Rattle.doc_read.specs.Holds.{IsDocumentFrom}
 use Rattle.doc_bits.specs.Together.{AreTogether}
@@ -50,16 +50,16 @@ saved_entries document saved =
       clx = saved.clx;
     })
 
--- the settings of a section stand at this fcSepx, in a Sepx whose list has no fault
-pub record HasSettingsAt (wd : List ℕ) (fc : ℕ) (settings : Settings) : Type 0 where
-  pub is : IsSectionSettings wd fc settings
+-- the properties of a section stand at this fcSepx, in a Sepx whose list has no fault
+pub record HasPropertiesAt (wd : List ℕ) (fc : ℕ) (properties : Properties) : Type 0 where
+  pub is : IsSectionProperties wd fc properties
   pub there : fc ≢ 0xFFFFFFFF → HasSepx wd fc
   pub accepted : fc ≢ 0xFFFFFFFF → IsAcceptedList (sepx_list wd fc) section_groups
 
--- the sections begin where those of the document do, and have their settings
-pub record AreSavedSections (sections : List (ℕ × Settings)) (wd : List ℕ) (seds : List Sed) : Type 0 where
+-- the sections begin where those of the document do, and have their properties
+pub record AreSavedSections (sections : List (ℕ × Properties)) (wd : List ℕ) (seds : List Sed) : Type 0 where
   pub starts : map (λ sed. sed.start) seds ≡ starts_from 0 sections
-  pub settings : AreTogether (λ sed section. HasSettingsAt wd sed.sepx section.1) seds sections
+  pub properties : AreTogether (λ sed section. HasPropertiesAt wd sed.sepx section.1) seds sections
 
 -- the table has a range at least
 pub record HasRanges (bin : List ℕ) : Type 0 where

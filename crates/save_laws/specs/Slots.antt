@@ -55,7 +55,7 @@ pub record ReadsAfter (Gives : ℕ → Bool → Given → Type 0) (place : UnitP
   pub gives : Gives place.at place.wide before
   pub after : IsGivenAfter place.modifier before given
 
--- the place is given a paragraph mark, of any style and with any settings
+-- the place is given a paragraph mark, of any style and with any properties
 pub record ReadsMark (Gives : ℕ → Bool → Given → Type 0) (place : UnitPlace) : Type 0 where
   pub given : Given
   pub unit : given.unit ≡ paragraph_mark

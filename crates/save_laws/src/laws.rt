@@ -1,6 +1,6 @@
 // Laws over the definitions alone.
 ghost use Rattle.save_laws.specs.Laws.{SavedDocumentsAreHeld, SavedFilesHold, PlansGive, FastSavesAreSaves};
-ghost use Rattle.save_laws.specs.Laws.{KeptSettingsAreThere};
+ghost use Rattle.save_laws.specs.Laws.{KeptPropertiesAreThere};
 ghost use Rattle.save_laws.specs.Laws.{KeptPlacesGive, GivenFilesStand, GivenSectionsAreSaved};
 ghost use Rattle.save_laws.specs.ByRuns.{BoundedTextsHaveTheirParagraphs};
 ghost use Rattle.save_laws.specs.FullByRuns.{FullSavesAreBounded};
@@ -27,9 +27,9 @@ pub fn kept_places_give()
     ensures { KeptPlacesGive }
 {}
 
-/// The settings of a section that stand in a stream stand in one that keeps its bytes.
-pub fn kept_settings_are_there()
-    ensures { KeptSettingsAreThere }
+/// The properties of a section that stand in a stream stand in one that keeps its bytes.
+pub fn kept_properties_are_there()
+    ensures { KeptPropertiesAreThere }
 {}
 
 /// Contents with the layout of a full save are a save of its document.

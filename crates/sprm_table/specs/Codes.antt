@@ -34,12 +34,12 @@ class_of code =
     if is_among code refused_codes then Refused else Plain
 
 -- the sprm sets its code to its value
-abbrev pub is_setting : Class → Bool
-is_setting Plain = true
-is_setting Toggle = true
-is_setting Clear = false
-is_setting Style = false
-is_setting Refused = false
+abbrev pub is_property : Class → Bool
+is_property Plain = true
+is_property Toggle = true
+is_property Clear = false
+is_property Style = false
+is_property Refused = false
 
 -- it removes what was set
 abbrev pub is_clear : Class → Bool

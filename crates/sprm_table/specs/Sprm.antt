@@ -5,7 +5,7 @@ use Rattle.doc_bits.specs.Number.{u16_at, number_bytes}
 use Rattle.doc_bits.specs.Rules.{IsLeast}
 use Rattle.sprm_table.specs.declared.faults.SprmFault.{SprmFault}
 use Rattle.sprm_table.specs.declared.faults.SprmFault.TheVariants.{Short, Refused}
-use Rattle.sprm_table.specs.Codes.{is_held, class_of, is_setting, IsRefusedIn}
+use Rattle.sprm_table.specs.Codes.{is_held, class_of, is_property, IsRefusedIn}
 use Rattle.sprm_table.specs.Operands.{size_of, IsSizeOf, operand_bytes, HasNoOperand}
 
 -- a code, and the value of its operand: the bytes after the count, where there is one
@@ -21,10 +21,10 @@ pub record IsPrl (prl : Prl) : Type 0 where
   pub size : IsSizeOf (size_of prl.0) (length prl.1)
 
 -- an entry that sets its code, of a group that the place holds: what a map of properties may hold
-pub record IsSetting (groups : ℕ) (prl : Prl) : Type 0 where
+pub record IsProperty (groups : ℕ) (prl : Prl) : Type 0 where
   pub entry : IsPrl prl
   pub held : IsTrue (is_held groups prl.0)
-  pub sets : IsTrue (is_setting (class_of prl.0))
+  pub sets : IsTrue (is_property (class_of prl.0))
 
 -- the bytes of an entry
 abbrev pub spelling : Prl → List ℕ

@@ -23,7 +23,7 @@ pub fn class(code: Code) -> Class
     rare_class(code)
 }
 
-/// The same by the tables.
+/// The class of a code, by the tables.
 fn rare_class(code: Code) -> Class
     ensures { result ≡ class_of code.0 }
 {
@@ -53,7 +53,7 @@ pub fn held(groups: u8, code: Code) -> bool
 }
 
 /// Whether the code is one that is not read, of a group that the place holds.
-pub fn refused(groups: u8, code: Code) -> bool
+pub fn is_refused(groups: u8, code: Code) -> bool
     ensures { IsTrue result ↔ IsRefusedIn groups code.0 }
 {
     held(groups, code) && class(code) == Class::Refused

@@ -7,7 +7,7 @@ pub struct Code(pub u16);
 pub enum Class {
     /// Sets its code to its operand.
     Plain,
-    /// The same; over a style the value may turn the style's own round.
+    /// A value that over a style may turn the style's own round.
     Toggle,
     /// Removes what was set before it.
     Clear,

@@ -6,7 +6,7 @@ ghost use Rattle.sprm_table.specs.Sprm.{IsAcceptedList, IsFirstSprmFault};
 ghost use Rattle.sprm_table.specs.Cursor.{left, GivesNothing, Gives, Takes};
 ghost use Rattle.sprm_table.specs.Front.{IsStep};
 
-use crate::{Code, SprmFault, operand, refused};
+use crate::{Code, SprmFault, is_refused, operand};
 use doc_bits::get16;
 use std::marker::Model;
 
@@ -25,7 +25,7 @@ pub fn list_fault(list: &[u8], groups: u8) -> Option<SprmFault>
             Step::End => return None,
             Step::Short => return Some(SprmFault::Short { at }),
             Step::Prl(code, _, to) => {
-                if refused(groups, code) {
+                if is_refused(groups, code) {
                     return Some(SprmFault::Refused { at });
                 }
                 at += to;

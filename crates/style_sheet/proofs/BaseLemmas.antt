@@ -37,6 +37,6 @@ unbroken_bases sheet none = record {
   ];
   chains = λ istd h. elim (climb sheet istd 0 istd (length sheet.styles) (climbed_none sheet istd h) (omega arith)) [
     | inl found ↦ found
-    | inr without ↦ absurd (none istd (inr (record { settings = h; none = without })))
+    | inr without ↦ absurd (none istd (inr (record { properties = h; none = without })))
   ];
 }

@@ -19,14 +19,14 @@ ups sheet istd (suc n) = up sheet istd (suc n) ∷ ups sheet istd n
 
 -- so many bases follow each other, all of the style's kind
 pub record IsClimbed (sheet : Sheet) (istd n at : ℕ) : Type 0 where
-  pub settings : 0 < kind_at sheet istd
+  pub properties : 0 < kind_at sheet istd
   pub here : at ≡ up sheet istd n
   pub links : (k : ℕ) → k < n → base_at sheet (up sheet istd k) ≡ Some (up sheet istd (suc k))
   pub kind : (k : ℕ) → k ≤ n → kind_at sheet (up sheet istd k) ≡ kind_at sheet istd
 
 pub climbed_none : (sheet : Sheet) (istd : ℕ) → 0 < kind_at sheet istd → IsClimbed sheet istd 0 istd
 climbed_none sheet istd h = record {
-  settings = h;
+  properties = h;
   here = refl;
   links = λ k below. absurd (omega arith);
   kind = λ k below. let e : k ≡ 0 = omega arith in rw e refl;
@@ -42,7 +42,7 @@ pub climbed_more : (sheet : Sheet) (istd n at base : ℕ) → IsClimbed sheet is
 climbed_more sheet istd n at base c e same =
     let next = up_more sheet istd n at base c.here e in
     record {
-      settings = c.settings;
+      properties = c.properties;
       here = sym next;
       links = λ k below. elim (cases_lt k n) [
         | inl lo ↦ c.links k lo
@@ -111,7 +111,7 @@ climbed_chain sheet istd n at c root =
           ∙ (c.links (n - (i + 1)) (omega arith)
           ∙ ap Some (sym (ups_at sheet istd n i (omega arith) ∙ ap (up sheet istd) next)));
       kind = λ i h. record {
-        settings = c.settings;
+        properties = c.properties;
         same = ap (kind_at sheet) (ups_at sheet istd n i (omega arith)) ∙ c.kind (n - i) (omega arith);
       };
       once = λ i j less below e.

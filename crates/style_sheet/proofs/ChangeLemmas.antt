@@ -1,4 +1,4 @@
--- Settings that are put into a style: what a place may hold stays so.
+-- Properties that are put into a style: what a place may hold stays so.
 use Rattle.std.proofs.Common.{◌≡◌, ◌<◌, inl, inr, ℕ, false, List, Option, Some, None, MatchOption, IfSome, length}
 use Rattle.std.proofs.Common.{refl, sym, ◌∙◌, ap, subst}
 use Rattle.std.specs.Option.{option_or}
@@ -8,7 +8,7 @@ use Rattle.std.specs.Ordering.{nat_cmp}
 use Rattle.std.proofs.lemmas.Bool.{cases_lt}
 use Rattle.std.proofs.lemmas.List.{get_or_past}
 use Rattle.std.proofs.lemmas.List.Elements.{All-get_or}
-use Rattle.prop_map.specs.Settings.{Settings}
+use Rattle.prop_map.specs.Settings.{Properties}
 use Rattle.prop_map.specs.Formed.{IsPropertyMap, character_groups, paragraph_groups}
 use Rattle.prop_map.specs.Modifiers.{IsOver}
 use Rattle.style_sheet.specs.declared.styles.Style.{Style}
@@ -23,7 +23,7 @@ option_or_none None = refl
 option_or_none (Some x) = refl
 
 -- over nothing the map is itself
-pub over_empty : (set : Settings) → IsOver false set empty set
+pub over_empty : (set : Properties) → IsOver false set empty set
 over_empty set code = rw (get-empty nat_cmp code) (option_or_none (get set code))
 
 from_either : (groups code : ℕ) (value : List ℕ) (a b : Option (List ℕ)) (P : Type 0) → ((v : List ℕ) → a ≡ Some v →
@@ -32,7 +32,7 @@ from_either groups code value None b P first next e = next value e refl
 from_either groups code value (Some x) b P first next e = first x refl (cc)
 
 -- a map over another holds what both hold
-pub over_formed : (groups : ℕ) (set base new : Settings) → IsPropertyMap groups set → IsPropertyMap groups base →
+pub over_formed : (groups : ℕ) (set base new : Properties) → IsPropertyMap groups set → IsPropertyMap groups base →
     IsOver false set base new → IsPropertyMap groups new
 over_formed groups set base new s b over code value e =
     from_either groups code value (get set code) (get base code) _
@@ -40,7 +40,7 @@ over_formed groups set base new s b over code value e =
     (λ v g same. b code value (g ∙ ap Some same))
     (sym (over code) ∙ e)
 
-pub characters_formed : (set : Settings) (old new : Kind) → IsPropertyMap character_groups set → IsFormedKind old →
+pub characters_formed : (set : Properties) (old new : Kind) → IsPropertyMap character_groups set → IsFormedKind old →
     HasCharactersOver old set new → IsFormedKind new
 characters_formed set (Para pap chp) new s f h = subst IsFormedKind (sym h.kind) (
   f.0,
@@ -51,7 +51,7 @@ characters_formed set (Char chp) new s f h = subst IsFormedKind (sym h.kind) (ov
     h.map s f h.over)
 characters_formed set (Other stk upxes) new s f h = subst IsFormedKind (sym h.kind) f
 
-pub paragraphs_formed : (set : Settings) (old new : Kind) → IsPropertyMap paragraph_groups set → IsFormedKind old →
+pub paragraphs_formed : (set : Properties) (old new : Kind) → IsPropertyMap paragraph_groups set → IsFormedKind old →
     HasParagraphsOver old set new → IsFormedKind new
 paragraphs_formed set (Para pap chp) new s f h = subst IsFormedKind (sym h.kind) (
   over_formed paragraph_groups set pap
@@ -93,12 +93,12 @@ kind_formed style kind f k = record {
 }
 
 -- what the arms of the two changes make
-pub para_characters : (old : Kind) (pap chp set same made : Settings) → old ≡ Para pap chp → same ≡ pap →
+pub para_characters : (old : Kind) (pap chp set same made : Properties) → old ≡ Para pap chp → same ≡ pap →
     IsOver false set chp made → HasCharactersOver old set (Para same made)
 para_characters old pap chp set same made e s o = subst (λ k. HasCharactersOver k set (Para same made)) (sym e)
     (record { map = made; over = o; kind = ap (λ p. Para p made) s })
 
-pub char_characters : (old : Kind) (chp set made : Settings) → old ≡ Char chp → IsOver false set chp made →
+pub char_characters : (old : Kind) (chp set made : Properties) → old ≡ Char chp → IsOver false set chp made →
     HasCharactersOver old set (Char made)
 char_characters old chp set made e o = subst (λ k. HasCharactersOver k set (Char made)) (sym e) (record {
   map = made;
@@ -106,17 +106,17 @@ char_characters old chp set made e o = subst (λ k. HasCharactersOver k set (Cha
   kind = refl;
 })
 
-pub other_characters : (old : Kind) (stk : ℕ) (upxes copy : List (List ℕ)) (set : Settings) → old ≡ Other stk upxes →
+pub other_characters : (old : Kind) (stk : ℕ) (upxes copy : List (List ℕ)) (set : Properties) → old ≡ Other stk upxes →
     copy ≡ upxes → HasCharactersOver old set (Other stk copy)
 other_characters old stk upxes copy set e s = subst (λ k. HasCharactersOver k set (Other stk copy)) (sym e)
     (record { map = set; over = over_empty set; kind = ap (Other stk) s })
 
-pub para_paragraphs : (old : Kind) (pap chp set same made : Settings) → old ≡ Para pap chp → same ≡ chp →
+pub para_paragraphs : (old : Kind) (pap chp set same made : Properties) → old ≡ Para pap chp → same ≡ chp →
     IsOver false set pap made → HasParagraphsOver old set (Para made same)
 para_paragraphs old pap chp set same made e s o = subst (λ k. HasParagraphsOver k set (Para made same)) (sym e)
     (record { map = made; over = o; kind = ap (Para made) s })
 
-pub char_paragraphs : (old : Kind) (chp set same : Settings) → old ≡ Char chp → same ≡ chp → HasParagraphsOver old set
+pub char_paragraphs : (old : Kind) (chp set same : Properties) → old ≡ Char chp → same ≡ chp → HasParagraphsOver old set
     (Char same)
 char_paragraphs old chp set same e s = subst (λ k. HasParagraphsOver k set (Char same)) (sym e) (record {
   map = set;
@@ -124,7 +124,7 @@ char_paragraphs old chp set same e s = subst (λ k. HasParagraphsOver k set (Cha
   kind = ap Char s;
 })
 
-pub other_paragraphs : (old : Kind) (stk : ℕ) (upxes copy : List (List ℕ)) (set : Settings) → old ≡ Other stk upxes →
+pub other_paragraphs : (old : Kind) (stk : ℕ) (upxes copy : List (List ℕ)) (set : Properties) → old ≡ Other stk upxes →
     copy ≡ upxes → HasParagraphsOver old set (Other stk copy)
 other_paragraphs old stk upxes copy set e s = subst (λ k. HasParagraphsOver k set (Other stk copy)) (sym e)
     (record { map = set; over = over_empty set; kind = ap (Other stk) s })

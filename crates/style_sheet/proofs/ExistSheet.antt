@@ -21,12 +21,12 @@ use Rattle.style_sheet.proofs.ExistStyles.{at_place, word_small, style_there}
 
 -- ---- the slots and the sheet
 
-record IsRightSlot (part : List ℕ) (istd : ℕ) (slot : Option Style) : Type 0 where
+record IsValidSlot (part : List ℕ) (istd : ℕ) (slot : Option Style) : Type 0 where
   is : SpellsSlot part istd slot
   formed : IsFormedSlot slot
 
 slot_there : (part : List ℕ) (istd : ℕ) → AreBytes part → IsSlot part istd → ((offset : ℕ) →
-    ¬ (HasListFault (std_of part istd) (std_base part) offset)) → (slot : Option Style) × IsRightSlot part istd slot
+    ¬ (HasListFault (std_of part istd) (std_base part) offset)) → (slot : Option Style) × IsValidSlot part istd slot
 slot_there part istd are is none = elim (cases_lt 0 (u16_at part (slot_place part istd))) [
   | inl some ↦
       let has = style_there (std_of part istd) (std_base part)
@@ -72,7 +72,7 @@ sheet_there part at are hold =
       below = below;
       broken = record { offset = offset; here = refl; broken = fault };
     }) in
-    let slots = list_of (cstd part) (IsRightSlot part) (λ istd below. slot_there part istd are (slot_is istd below)
+    let slots = list_of (cstd part) (IsValidSlot part) (λ istd below. slot_there part istd are (slot_is istd below)
     (none istd below)) in
     let len = slots.len in
     let some = stshif.some in

@@ -9,7 +9,7 @@ use Rattle.doc_bits.specs.Number.{u16_at, AreBytes}
 use Rattle.doc_bits.specs.Rules.{Nowhere}
 use Rattle.doc_bits.proofs.NumberLemmas.{number_at-bound}
 use Rattle.sprm_table.specs.Sprm.{HasSprmFaultAt}
-use Rattle.prop_map.specs.Settings.{Settings}
+use Rattle.prop_map.specs.Settings.{Properties}
 use Rattle.prop_map.specs.Formed.{IsPropertyMap, character_groups, paragraph_groups}
 use Rattle.style_sheet.specs.declared.styles.Style.{Style}
 use Rattle.style_sheet.specs.declared.styles.Kind.{Kind}
@@ -29,7 +29,7 @@ use Rattle.style_sheet.proofs.MadeLists.{list_of}
 
 -- a list's map, and that it is right
 record HasMap (bytes : List ℕ) (groups : ℕ) : Type 0 where
-  map : Settings
+  map : Properties
   is : IsMapOf bytes groups map
   formed : IsPropertyMap groups map
 

@@ -3,7 +3,7 @@ use Rattle.std.proofs.Common.{◌≡◌, ℕ, zero, suc, ◌+◌, ◌*◌, ◌<�
 use Rattle.std.proofs.Common.{slice_index_or, refl, ◌∙◌, arith, length-append, append_assoc}
 use Rattle.std.specs.List.{All, flat_map}
 use Rattle.std.specs.Option.{unwrap_or}
-use Rattle.prop_map.specs.Settings.{Settings}
+use Rattle.prop_map.specs.Settings.{Properties}
 use Rattle.prop_map.specs.Printing.{printed_list}
 use Rattle.style_sheet.specs.declared.styles.Style.{Style}
 use Rattle.style_sheet.specs.declared.styles.Kind.TheVariants.{Para, Char}
@@ -15,7 +15,7 @@ pub base_word : (base : Option ℕ) → unwrap_or base 4095 ≡ written_base bas
 base_word None = refl
 base_word (Some base) = refl
 
-pub para_len : (istd : ℕ) (pap chp : Settings) → length (flat_map written_counted (written_upxes istd (Para pap chp)))
+pub para_len : (istd : ℕ) (pap chp : Properties) → length (flat_map written_counted (written_upxes istd (Para pap chp)))
     ≡ 2 + even_up (2 + length (printed_list pap)) + (2 + even_up (length (printed_list chp)))
 para_len istd pap chp =
     let first = word istd ++ printed_list pap in
@@ -28,7 +28,7 @@ para_len istd pap chp =
     let two = length-word istd in
     omega arith
 
-pub char_len : (istd : ℕ) (chp : Settings) → length (flat_map written_counted (written_upxes istd (Char chp))) ≡ 2 +
+pub char_len : (istd : ℕ) (chp : Properties) → length (flat_map written_counted (written_upxes istd (Char chp))) ≡ 2 +
     even_up (length (printed_list chp))
 char_len istd chp =
     let b = length-append {A = ℕ} (written_counted (printed_list chp)) [] in

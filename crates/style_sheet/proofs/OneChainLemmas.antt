@@ -74,7 +74,7 @@ next_kind sheet istd n at base chain climbed e c =
     ap (kind_at sheet) (sym (up_more sheet istd n at base climbed.here e)) ∙ chain_kind sheet istd chain (suc n) c
     (omega arith)
 
--- a style of a kind with settings is there
+-- a style of a kind with properties is there
 pub there : (sheet : Sheet) (istd : ℕ) → 0 < kind_at sheet istd → istd < length sheet.styles
 there sheet istd h = elim (cases_lt istd (length sheet.styles)) [
   | inl low ↦ low
@@ -90,7 +90,7 @@ chain_short sheet istd chain c =
     length_below chain (length sheet.styles)
     (λ i h.
     let each = c.kind i h in
-    let some = each.settings in
+    let some = each.properties in
     let same = each.same in
     there sheet (slice_index chain i) (omega arith))
     c.once
@@ -120,7 +120,7 @@ base_chains_agree sheet istd one other c d =
 pub sound_unbroken : (sheet : Sheet) (istd : ℕ) → HasSoundBase sheet istd → ¬ BreaksBases sheet istd
 sound_unbroken sheet istd h = λ b. elim b [
   | inl w ↦ w.1 (h.normal w.0)
-  | inr n ↦ let found = h.chain n.settings in n.none found.0 found.1
+  | inr n ↦ let found = h.chain n.properties in n.none found.0 found.1
 ]
 
 -- a sheet whose styles meet it up to the last slot
@@ -135,7 +135,7 @@ sound_all sheet some all = record {
 pub sound_nowhere : (sheet : Sheet) → HasSoundBases sheet → (istd : ℕ) → ¬ BreaksBases sheet istd
 sound_nowhere sheet h istd = λ b. elim b [
   | inl w ↦ w.1 h.normal
-  | inr n ↦ let found = h.chains istd n.settings in n.none found.0 found.1
+  | inr n ↦ let found = h.chains istd n.properties in n.none found.0 found.1
 ]
 
 -- a style that breaks it is in the sheet
@@ -143,5 +143,5 @@ pub broken_there : (sheet : Sheet) (istd : ℕ) → 0 < length sheet.styles → 
     istd < length sheet.styles
 broken_there sheet istd some b = elim b [
   | inl w ↦ let e = w.0 in omega arith
-  | inr n ↦ there sheet istd n.settings
+  | inr n ↦ there sheet istd n.properties
 ]

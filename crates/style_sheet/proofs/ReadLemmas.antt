@@ -11,7 +11,7 @@ use Rattle.doc_bits.proofs.NumberLemmas.{length-number_bytes}
 use Rattle.sprm_table.specs.Sprm.{HasSprmFaultAt, spelling}
 use Rattle.sprm_table.specs.Operands.{operand_bytes, size_of}
 use Rattle.style_sheet.specs.declared.styles.Style.{Style}
-use Rattle.style_sheet.specs.Counted.{even_up, counted_end, counted_place, counted_bytes, IsCounted}
+use Rattle.style_sheet.specs.Counted.{even_up, counted_end, counted_place, counted_bytes, IsCountedPart}
 use Rattle.style_sheet.specs.StyleDefinition.{upx_place, IsStd, HasAcceptedLists}
 use Rattle.style_sheet.specs.Stsh.{slot_place, HasListFault, IsWrongSlot, SpellsSlot}
 
@@ -37,7 +37,7 @@ wrong_rises part at j k a b less one other =
     omega arith
 
 -- the bytes of one that is within are as many as its count says
-pub length-counted_bytes : (bytes : List ℕ) (at : ℕ) → IsCounted bytes at → length (counted_bytes bytes at) ≡ u16_at
+pub length-counted_bytes : (bytes : List ℕ) (at : ℕ) → IsCountedPart bytes at → length (counted_bytes bytes at) ≡ u16_at
     bytes at
 length-counted_bytes bytes at h =
     let cut = length-take (counted_end bytes at - (at + 2)) (drop (at + 2) bytes) in
@@ -58,7 +58,7 @@ fault_within bytes groups at h =
           omega arith
     ]
 
--- a fault of a list of settings is within the STD
+-- a fault of a list of properties is within the STD
 pub list_fault_within : (std : List ℕ) (base offset : ℕ) → IsStd std base → HasListFault std base offset →
     offset + 2 ≤ length std
 list_fault_within std base offset h fault = elim fault [

@@ -7,7 +7,7 @@ use Rattle.std.proofs.Math.Seq.{drop-append_seam}
 use Rattle.doc_bits.specs.Number.{u16_at}
 use Rattle.sprm_table.specs.Sprm.{IsAcceptedList}
 use Rattle.sprm_table.proofs.FaultLemmas.{accepted_no_fault}
-use Rattle.prop_map.specs.Settings.{Settings}
+use Rattle.prop_map.specs.Settings.{Properties}
 use Rattle.prop_map.specs.Formed.{IsPropertyMap, character_groups, paragraph_groups}
 use Rattle.prop_map.specs.Printing.{printed_list}
 use Rattle.prop_map.proofs.PrintLemmas.{print_is}
@@ -30,18 +30,18 @@ abbrev pub AreItems : List ℕ → ℕ → Kind → Type 0
 AreItems std istd kind = (k : ℕ) (d : List ℕ) → k < length (written_upxes istd kind) → IsItemAt std (upx_place std 10
     k) (slice_index_or (written_upxes istd kind) k d)
 
-pub map_of : (groups : ℕ) (map : Settings) → IsPropertyMap groups map → IsMapOf (printed_list map) groups map
+pub map_of : (groups : ℕ) (map : Properties) → IsPropertyMap groups map → IsMapOf (printed_list map) groups map
 map_of groups map f =
     let p = print_is map (groups, f) in
     record { list = entries map; spelt = p.spelt; acted = (p.back groups (entries map) f p.spelt).0 }
 
-accepted_of : (groups : ℕ) (map : Settings) → IsPropertyMap groups map → IsAcceptedList (printed_list map) groups
+accepted_of : (groups : ℕ) (map : Properties) → IsPropertyMap groups map → IsAcceptedList (printed_list map) groups
 accepted_of groups map f = (print_is map (groups, f)).accepted groups
 
 after_word : (x : ℕ) (rest : List ℕ) → drop 2 (word x ++ rest) ≡ rest
 after_word x rest = ap (λ n. drop n (word x ++ rest)) (sym (length-word x)) ∙ drop-append_seam (word x) rest
 
-paragraphs_are : (std : List ℕ) (istd : ℕ) (pap chp : Settings) → AreItems std istd (Para pap chp) →
+paragraphs_are : (std : List ℕ) (istd : ℕ) (pap chp : Properties) → AreItems std istd (Para pap chp) →
     paragraph_list std 10 ≡ printed_list pap
 paragraphs_are std istd pap chp items = ap (drop 2) (items 0 [] (omega arith)).bytes_are ∙ after_word istd
     (printed_list pap)

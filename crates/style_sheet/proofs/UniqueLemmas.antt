@@ -3,7 +3,7 @@ use Rattle.std.proofs.Common.{◌≡◌, ℕ, List, [], Option, Some, None, refl
 use Rattle.std.specs.FinMap.{empty}
 use Rattle.std.proofs.lemmas.List.{ext_get_or}
 use Rattle.sprm_table.proofs.SprmLemmas.{spelt_unique}
-use Rattle.prop_map.specs.Settings.{Settings}
+use Rattle.prop_map.specs.Settings.{Properties}
 use Rattle.prop_map.specs.Acting.{ArePropertiesAfter}
 use Rattle.prop_map.proofs.LawLemmas.{acting_one}
 use Rattle.style_sheet.specs.declared.styles.Style.{Style}
@@ -15,7 +15,7 @@ use Rattle.style_sheet.specs.Counted.{counted_bytes}
 use Rattle.style_sheet.specs.Stsh.{std_base, slot_place, SpellsSlotAt}
 use Rattle.style_sheet.specs.Written.{SheetIsOne}
 
-map_one : (bytes : List ℕ) (groups : ℕ) (a b : Settings) → IsMapOf bytes groups a → IsMapOf bytes groups b → a ≡ b
+map_one : (bytes : List ℕ) (groups : ℕ) (a b : Properties) → IsMapOf bytes groups a → IsMapOf bytes groups b → a ≡ b
 map_one bytes groups a b one other =
     acting_one one.list groups empty a b one.acted
     (subst (λ list. ArePropertiesAfter list groups empty b) (sym (spelt_unique bytes one.list other.list one.spelt

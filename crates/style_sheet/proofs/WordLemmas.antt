@@ -6,7 +6,8 @@ use Rattle.std.specs.List.{All, flat_map}
 use Rattle.std.proofs.Math.Seq.{take-append_seam, drop-append_seam}
 use Rattle.doc_bits.specs.Number.{u16_at}
 use Rattle.doc_bits.proofs.NumberLemmas.{number_at-number_bytes, number_at-after, length-number_bytes}
-use Rattle.style_sheet.specs.Counted.{even_up, counted_end, counted_place, counted_bytes, IsCounted, written_counted}
+use Rattle.style_sheet.specs.Counted.{even_up, counted_end, counted_place, counted_bytes, IsCountedPart}
+use Rattle.style_sheet.specs.Counted.{written_counted}
 use Rattle.style_sheet.specs.Written.{word}
 
 pub length-word : (x : ℕ) → length (word x) ≡ 2
@@ -43,7 +44,7 @@ words_at (x ∷ xs) rest (suc i) small h =
 -- what stands at a count
 pub record IsItemAt (bytes : List ℕ) (at : ℕ) (item : List ℕ) : Type 0 where
   pub count : u16_at bytes at ≡ length item
-  pub within : IsCounted bytes at
+  pub within : IsCountedPart bytes at
   pub bytes_are : counted_bytes bytes at ≡ item
 
 abbrev pub pad_of : ℕ → List ℕ

@@ -5,15 +5,15 @@ use Rattle.style_sheet.specs.declared.styles.Kind.{Kind}
 use Rattle.style_sheet.specs.declared.styles.Kind.TheVariants.{Para, Char, Other}
 use Rattle.style_sheet.specs.Sheet.{Sheet, style_at}
 
--- [MS-DOC] stk of the kinds that have settings: 1 paragraph, 2 character; 0 for the others
-abbrev pub settings_kind : Kind → ℕ
-settings_kind (Para pap chp) = 1
-settings_kind (Char chp) = 2
-settings_kind (Other stk upxes) = 0
+-- [MS-DOC] stk of the kinds that have properties: 1 paragraph, 2 character; 0 for the others
+abbrev pub properties_kind : Kind → ℕ
+properties_kind (Para pap chp) = 1
+properties_kind (Char chp) = 2
+properties_kind (Other stk upxes) = 0
 
 abbrev pub kind_in : Option Style → ℕ
 kind_in None = 0
-kind_in (Some style) = settings_kind style.kind
+kind_in (Some style) = properties_kind style.kind
 
 -- the number of the kind of the style there: 1 paragraph, 2 character; 0 of another kind, and where no style is
 abbrev pub kind_at : Sheet → ℕ → ℕ
@@ -29,7 +29,7 @@ base_at sheet istd = base_in (style_at sheet istd)
 
 -- two styles are there, both of paragraphs or both of characters
 pub record AreOfOneKind (sheet : Sheet) (istd other : ℕ) : Type 0 where
-  pub settings : 0 < kind_at sheet istd
+  pub properties : 0 < kind_at sheet istd
   pub same : kind_at sheet other ≡ kind_at sheet istd
 
 -- the style numbers from the root to the style: the first has no base, each other's base is the one before it, all
@@ -50,7 +50,7 @@ pub record HasSoundBases (sheet : Sheet) : Type 0 where
 
 -- the style of kind Para or Char has no chain of bases
 pub record HasNoChain (sheet : Sheet) (istd : ℕ) : Type 0 where
-  pub settings : 0 < kind_at sheet istd
+  pub properties : 0 < kind_at sheet istd
   pub none : (chain : List ℕ) → ¬ IsBaseChain sheet istd chain
 
 -- the style breaks the rule of bases: it is style 0 and not of kind Para, or it has no chain

@@ -1,33 +1,33 @@
--- Settings that are put into a style.
+-- Properties that are put into a style.
 use Rattle.std.specs.Prelude.{◌≡◌, ℕ, false, Option, Some, None, slice_set}
 use Rattle.std.specs.FinMap.{empty}
-use Rattle.prop_map.specs.Settings.{Settings}
+use Rattle.prop_map.specs.Settings.{Properties}
 use Rattle.prop_map.specs.Modifiers.{IsOver}
 use Rattle.style_sheet.specs.declared.styles.Style.{Style}
 use Rattle.style_sheet.specs.declared.styles.Kind.{Kind}
 use Rattle.style_sheet.specs.declared.styles.Kind.TheVariants.{Para, Char, Other}
 use Rattle.style_sheet.specs.Sheet.{Sheet, style_at}
 
--- the character settings of a style, where its kind has them
-abbrev pub characters_of : Kind → Settings
+-- the character properties of a style, where its kind has them
+abbrev pub characters_of : Kind → Properties
 characters_of (Para pap chp) = chp
 characters_of (Char chp) = chp
 characters_of (Other stk upxes) = empty
 
--- the kind with other character settings, where it has them
-abbrev pub with_characters : Kind → Settings → Kind
+-- the kind with other character properties, where it has them
+abbrev pub with_characters : Kind → Properties → Kind
 with_characters (Para pap chp) map = Para pap map
 with_characters (Char chp) map = Char map
 with_characters (Other stk upxes) map = Other stk upxes
 
--- the paragraph settings of a style, where its kind has them
-abbrev pub paragraphs_of : Kind → Settings
+-- the paragraph properties of a style, where its kind has them
+abbrev pub paragraphs_of : Kind → Properties
 paragraphs_of (Para pap chp) = pap
 paragraphs_of (Char chp) = empty
 paragraphs_of (Other stk upxes) = empty
 
--- the kind with other paragraph settings, where it has them
-abbrev pub with_paragraphs : Kind → Settings → Kind
+-- the kind with other paragraph properties, where it has them
+abbrev pub with_paragraphs : Kind → Properties → Kind
 with_paragraphs (Para pap chp) map = Para map chp
 with_paragraphs (Char chp) map = Char chp
 with_paragraphs (Other stk upxes) map = Other stk upxes
@@ -39,19 +39,19 @@ with_kind style kind = record style { kind = kind }
 abbrev pub with_style : Sheet → ℕ → Style → Sheet
 with_style sheet istd style = record { head = sheet.head; styles = slice_set sheet.styles istd (Some style) }
 
--- each code of the map has replaced the value that the character settings had there, and all else stays
-pub record HasCharactersOver (old : Kind) (set : Settings) (new : Kind) : Type 0 where
-  pub map : Settings
+-- each code of the map has replaced the value that the character properties had there, and all else stays
+pub record HasCharactersOver (old : Kind) (set : Properties) (new : Kind) : Type 0 where
+  pub map : Properties
   pub over : IsOver false set (characters_of old) map
   pub kind : new ≡ with_characters old map
 
--- the same of the paragraph settings
-pub record HasParagraphsOver (old : Kind) (set : Settings) (new : Kind) : Type 0 where
-  pub map : Settings
+-- the same of the paragraph properties
+pub record HasParagraphsOver (old : Kind) (set : Properties) (new : Kind) : Type 0 where
+  pub map : Properties
   pub over : IsOver false set (paragraphs_of old) map
   pub kind : new ≡ with_paragraphs old map
 
--- the settings of the style in the slot have changed, and all else stays
+-- the properties of the style in the slot have changed, and all else stays
 pub record ChangesStyle (change : Kind → Kind → Type 0) (istd : ℕ) (old new : Sheet) : Type 0 where
   pub style : Style
   pub kind : Kind
@@ -59,10 +59,10 @@ pub record ChangesStyle (change : Kind → Kind → Type 0) (istd : ℕ) (old ne
   pub changed : change style.kind kind
   pub sheet : new ≡ with_style old istd (with_kind style kind)
 
-abbrev pub SetsCharacters : ℕ → Settings → Sheet → Sheet → Type 0
+abbrev pub SetsCharacters : ℕ → Properties → Sheet → Sheet → Type 0
 SetsCharacters istd set old new = ChangesStyle (λ kind made. HasCharactersOver kind set made) istd old new
 
-abbrev pub SetsParagraphs : ℕ → Settings → Sheet → Sheet → Type 0
+abbrev pub SetsParagraphs : ℕ → Properties → Sheet → Sheet → Type 0
 SetsParagraphs istd set old new = ChangesStyle (λ kind made. HasParagraphsOver kind set made) istd old new
 
 -- the style without its base

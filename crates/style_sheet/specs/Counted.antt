@@ -22,8 +22,8 @@ abbrev pub counted_bytes : List ℕ → ℕ → List ℕ
 counted_bytes bytes at = slice_range bytes (at + 2) (counted_end bytes at)
 
 -- it is within what it stands in
-abbrev pub IsCounted : List ℕ → ℕ → Type 0
-IsCounted bytes at = counted_end bytes at ≤ length bytes
+abbrev pub IsCountedPart : List ℕ → ℕ → Type 0
+IsCountedPart bytes at = counted_end bytes at ≤ length bytes
 
 -- Profile: written, each is padded with a zero to an even offset
 abbrev pub written_counted : List ℕ → List ℕ

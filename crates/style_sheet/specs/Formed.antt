@@ -8,7 +8,7 @@ use Rattle.style_sheet.specs.declared.styles.Kind.{Kind}
 use Rattle.style_sheet.specs.declared.styles.Kind.TheVariants.{Para, Char, Other}
 use Rattle.style_sheet.specs.Sheet.{Sheet}
 
--- settings of the kind's places, or stk 3 or 4 and at most 15 upxes of bytes
+-- properties of the kind's places, or stk 3 or 4 and at most 15 upxes of bytes
 abbrev pub IsFormedKind : Kind → Type 0
 IsFormedKind (Para pap chp) = IsPropertyMap paragraph_groups pap × IsPropertyMap character_groups chp
 IsFormedKind (Char chp) = IsPropertyMap character_groups chp

@@ -8,7 +8,7 @@ use Rattle.style_sheet.specs.declared.styles.Style.{Style}
 use Rattle.style_sheet.specs.declared.fault.StyleFault.{StyleFault}
 use Rattle.style_sheet.specs.declared.fault.StyleFault.TheVariants.{Rule, Memory}
 use Rattle.style_sheet.specs.Sheet.{Sheet, style_at}
-use Rattle.style_sheet.specs.Counted.{counted_place, counted_bytes, IsCounted}
+use Rattle.style_sheet.specs.Counted.{counted_place, counted_bytes, IsCountedPart}
 use Rattle.style_sheet.specs.StyleDefinition.{stk, upx_place, paragraph_list, IsStd, HasAcceptedLists, SpellsStyle}
 
 abbrev pub cb_stshi : List ℕ → ℕ
@@ -44,7 +44,7 @@ std_of part istd = counted_bytes part (slot_place part istd)
 
 -- the slot at the place is within the part, and it is empty or holds an STD
 pub record IsSlotAt (part : List ℕ) (base place : ℕ) : Type 0 where
-  pub within : IsCounted part place
+  pub within : IsCountedPart part place
   pub style : 0 < u16_at part place → IsStd (counted_bytes part place) base
 
 abbrev pub IsSlot : List ℕ → ℕ → Type 0
@@ -62,16 +62,16 @@ pub record IsWrongSlot (part : List ℕ) (at istd place : ℕ) : Type 0 where
   pub here : place ≡ table_offset at (slot_place part istd)
   pub wrong : ¬ IsSlot part istd
 
--- the list of paragraph settings has a fault at this offset of the STD: it stands after a count and a style number
+-- the list of paragraph properties has a fault at this offset of the STD: it stands after a count and a style number
 abbrev pub IsParagraphFault : List ℕ → ℕ → ℕ → Type 0
 IsParagraphFault std base offset = From (upx_place std base 0 + 4) (HasSprmFaultAt (paragraph_list std base)
     paragraph_groups) offset
 
--- the list of character settings whose count stands there has one
+-- the list of character properties whose count stands there has one
 abbrev pub IsCharacterFault : List ℕ → ℕ → ℕ → Type 0
 IsCharacterFault std at offset = From (at + 2) (HasSprmFaultAt (counted_bytes std at) character_groups) offset
 
--- a list of settings has a fault at this offset of the STD
+-- a list of properties has a fault at this offset of the STD
 abbrev pub HasListFault : List ℕ → ℕ → ℕ → Type 0
 HasListFault std base offset =
     ((stk std ≡ 1) × (IsParagraphFault std base offset ⊎ IsCharacterFault std (upx_place std base 1) offset)) ⊎
@@ -84,7 +84,7 @@ HasSlotFault part base place at offset = From (at + (place + 2)) (HasListFault (
 abbrev pub HasStyleFault : List ℕ → ℕ → ℕ → ℕ → Type 0
 HasStyleFault part at istd offset = HasSlotFault part (std_base part) (slot_place part istd) at offset
 
--- no list of settings has a fault
+-- no list of properties has a fault
 abbrev pub HasSoundLists : List ℕ → Type 0
 HasSoundLists part = (istd : ℕ) → istd < cstd part → HasAcceptedLists (std_of part istd) (std_base part)
 

@@ -6,13 +6,13 @@ use Rattle.std.specs.Prelude.{slice_index_or, drop, Option, Some, None}
 use Rattle.std.specs.FinMap.{empty}
 use Rattle.doc_bits.specs.Number.{u16_at}
 use Rattle.sprm_table.specs.Sprm.{Prl, SpellsSprmList, IsAcceptedList}
-use Rattle.prop_map.specs.Settings.{Settings}
+use Rattle.prop_map.specs.Settings.{Properties}
 use Rattle.prop_map.specs.Formed.{character_groups, paragraph_groups}
 use Rattle.prop_map.specs.Acting.{ArePropertiesAfter}
 use Rattle.style_sheet.specs.declared.styles.Style.{Style}
 use Rattle.style_sheet.specs.declared.styles.Kind.{Kind}
 use Rattle.style_sheet.specs.declared.styles.Kind.TheVariants.{Para, Char, Other}
-use Rattle.style_sheet.specs.Counted.{counted_place, counted_bytes, IsCounted}
+use Rattle.style_sheet.specs.Counted.{counted_place, counted_bytes, IsCountedPart}
 
 -- the kind in bits 0 to 3 of the second word
 abbrev pub stk : List ℕ → ℕ
@@ -51,7 +51,7 @@ pub record HasKind (std : List ℕ) : Type 0 where
 
 -- the upxes fill the STD. Profile: the pad of the last one may be missing
 pub record HasUpxes (std : List ℕ) (base : ℕ) : Type 0 where
-  pub within : (k : ℕ) → k < cupx std → IsCounted std (upx_place std base k)
+  pub within : (k : ℕ) → k < cupx std → IsCountedPart std (upx_place std base k)
   pub all : length std ≤ upx_place std base (cupx std)
 
 -- the STD is as the standard has it; the first upx of a style of paragraphs begins with a style number
@@ -61,17 +61,18 @@ pub record IsStd (std : List ℕ) (base : ℕ) : Type 0 where
   pub upxes : HasUpxes std base
   pub istd : stk std ≡ 1 → 2 ≤ u16_at std (upx_place std base 0)
 
--- the settings that a list makes of none
-pub record IsMapOf (bytes : List ℕ) (groups : ℕ) (map : Settings) : Type 0 where
+-- the properties that a list makes of none
+pub record IsMapOf (bytes : List ℕ) (groups : ℕ) (map : Properties) : Type 0 where
   pub list : List Prl
   pub spelt : SpellsSprmList bytes list
   pub acted : ArePropertiesAfter list groups empty map
 
--- the list of paragraph settings of a style of paragraphs, after the style number, and that of its character settings
+-- the list of paragraph properties of a style of paragraphs, after the style number, and that of its character
+-- properties
 abbrev pub paragraph_list : List ℕ → ℕ → List ℕ
 paragraph_list std base = drop 2 (upx std base 0)
 
--- no list of settings has a fault
+-- no list of properties has a fault
 pub record HasParagraphLists (std : List ℕ) (base : ℕ) : Type 0 where
   pub paragraphs : IsAcceptedList (paragraph_list std base) paragraph_groups
   pub characters : IsAcceptedList (upx std base 1) character_groups
@@ -90,7 +91,7 @@ pub record IsNameOf (std : List ℕ) (base : ℕ) (name : List ℕ) : Type 0 whe
   pub count : length name ≡ name_len std base
   pub each : (i : ℕ) → i < name_len std base → slice_index name i ≡ u16_at std (base + 2 + 2 * i)
 
--- the kind with its settings, or with its upxes as they are
+-- the kind with its properties, or with its upxes as they are
 abbrev pub SpellsKind : List ℕ → ℕ → Kind → Type 0
 SpellsKind std base (Para pap chp) =
     (stk std ≡ 1) × (IsMapOf (paragraph_list std base) paragraph_groups pap × IsMapOf (upx std base 1)

@@ -23,7 +23,7 @@ impl StyleSheet {
     }
 
     /// Whether a style of kind Para or Char is there.
-    pub fn has_settings(&self, istd: u16) -> bool
+    pub fn has_properties(&self, istd: u16) -> bool
         ensures { IsTrue result ↔ 0 < kind_at self.now istd }
     {
         self.kind_number(istd) != 0
@@ -98,7 +98,7 @@ impl StyleSheet {
     /// The style numbers from the root of a style's bases to the style.
     pub fn chain(&self, alloc: Global, istd: u16) -> Result<Chain, Memory>
         requires sound { HasSoundBases self.now }
-        requires settings { 0 < kind_at self.now istd }
+        requires properties { 0 < kind_at self.now istd }
         ensures { IfOk result (IsBaseChain self.now istd) }
     {
         let mut items = Vec::new(alloc);

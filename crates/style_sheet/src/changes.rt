@@ -1,4 +1,4 @@
-// Settings that are put into a style of a sheet.
+// Properties that are put into a style of a sheet.
 ghost use Rattle.std.specs.Prelude.{◌≡◌, ◌<◌, false, IfOk, OnOk, OnErr};
 ghost use Rattle.prop_map.specs.Formed.{IsPropertyMap, character_groups, paragraph_groups};
 ghost use Rattle.prop_map.specs.Modifiers.{IsOver};
@@ -13,9 +13,9 @@ use prop_map::{Modifier, PropMap};
 use std::alloc::Global;
 
 impl StyleSheet {
-    /// Puts character settings into a style: each code of `set` replaces the style's value.
+    /// Puts character properties into a style: each code of `set` replaces the style's value.
     pub fn set_char(&mut self, istd: u16, set: &PropMap) -> Result<(), Memory>
-        requires settings { 0 < kind_at self.old istd }
+        requires properties { 0 < kind_at self.old istd }
         requires formed { IsPropertyMap character_groups set.now }
         ensures ok { OnOk result (SetsCharacters istd set.now self.old self.new) }
         ensures err { OnErr result (self.new ≡ self.old) }
@@ -28,10 +28,10 @@ impl StyleSheet {
         self.put(istd, style)
     }
 
-    /// Puts paragraph settings into a style of paragraphs: each code of `set` replaces the style's
+    /// Puts paragraph properties into a style of paragraphs: each code of `set` replaces the style's
     /// value.
     pub fn set_para(&mut self, istd: u16, set: &PropMap) -> Result<(), Memory>
-        requires settings { kind_at self.old istd ≡ 1 }
+        requires properties { kind_at self.old istd ≡ 1 }
         requires formed { IsPropertyMap paragraph_groups set.now }
         ensures ok { OnOk result (SetsParagraphs istd set.now self.old self.new) }
         ensures err { OnErr result (self.new ≡ self.old) }
@@ -95,7 +95,7 @@ impl Style {
 }
 
 impl Kind {
-    /// The same kind. Its maps are shared.
+    /// A copy of the kind, which shares its maps.
     fn copy(&self, alloc: Global) -> Result<Kind, Memory>
         ensures { IfOk result (λ copy. copy ≡ self.now) }
     {
@@ -110,13 +110,13 @@ impl Kind {
                 Ok(Kind::Char { chp })
             }
             Kind::Other { stk, upxes } => {
-                let other = same_other(alloc, *stk, upxes)?;
+                let other = copy_other_kind(alloc, *stk, upxes)?;
                 Ok(other)
             }
         }
     }
 
-    /// The kind with character settings put over its own.
+    /// The kind with character properties put over its own.
     fn with_characters(&self, alloc: Global, set: &PropMap) -> Result<Kind, Memory>
         ensures { IfOk result (HasCharactersOver self.now set.now) }
     {
@@ -130,13 +130,13 @@ impl Kind {
                 Ok(Kind::Char { chp })
             }
             Kind::Other { stk, upxes } => {
-                let other = same_other(alloc, *stk, upxes)?;
+                let other = copy_other_kind(alloc, *stk, upxes)?;
                 Ok(other)
             }
         }
     }
 
-    /// The kind with paragraph settings put over its own.
+    /// The kind with paragraph properties put over its own.
     fn with_paragraphs(&self, alloc: Global, set: &PropMap) -> Result<Kind, Memory>
         ensures { IfOk result (HasParagraphsOver self.now set.now) }
     {
@@ -150,14 +150,14 @@ impl Kind {
                 Ok(Kind::Char { chp })
             }
             Kind::Other { stk, upxes } => {
-                let other = same_other(alloc, *stk, upxes)?;
+                let other = copy_other_kind(alloc, *stk, upxes)?;
                 Ok(other)
             }
         }
     }
 }
 
-/// The kind of a style of paragraphs with character settings put over its own.
+/// The kind of a style of paragraphs with character properties put over its own.
 fn characters_over(
     alloc: Global,
     pap: &PropMap,
@@ -171,7 +171,7 @@ fn characters_over(
     Ok(Kind::Para { pap, chp })
 }
 
-/// The same with paragraph settings.
+/// The kind of a style of paragraphs with paragraph properties put over its own.
 fn paragraphs_over(
     alloc: Global,
     pap: &PropMap,
@@ -185,8 +185,8 @@ fn paragraphs_over(
     Ok(Kind::Para { pap, chp })
 }
 
-/// The same kind of a style of tables or of numbering.
-fn same_other(alloc: Global, stk: u8, upxes: &UpxList) -> Result<Kind, Memory>
+/// A copy of the kind of a style of tables or of numbering.
+pub fn copy_other_kind(alloc: Global, stk: u8, upxes: &UpxList) -> Result<Kind, Memory>
     ensures { IfOk result (λ made. made ≡ Other stk upxes.now) }
 {
     let upxes = upxes.copy(alloc)?;
@@ -197,13 +197,13 @@ fn same_other(alloc: Global, stk: u8, upxes: &UpxList) -> Result<Kind, Memory>
 fn over(alloc: Global, base: &PropMap, set: &PropMap) -> Result<PropMap, Memory>
     ensures { IfOk result (IsOver false set.now base.now) }
 {
-    let change = setting(alloc, set)?;
+    let change = property(alloc, set)?;
     let made = change.on_char(alloc, base)?;
     Ok(made)
 }
 
 /// The modifier that sets these codes, and does nothing else.
-fn setting(alloc: Global, set: &PropMap) -> Result<Modifier, Memory>
+fn property(alloc: Global, set: &PropMap) -> Result<Modifier, Memory>
     ensures plain { IfOk result (λ change. change.clear ≡ false) }
     ensures set { IfOk result (λ change. change.chp ≡ set.now) }
 {

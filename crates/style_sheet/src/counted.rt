@@ -1,7 +1,7 @@
 // [MS-DOC] LPStd and LPUpx: a 16-bit count and that many bytes, each at an even offset.
 ghost use Rattle.std.specs.Prelude.{◌≡◌, ◌<◌, ◌≤◌, ◌+◌, ◌^◌, length, MatchOption};
 ghost use Rattle.doc_bits.specs.Number.{u16_at};
-ghost use Rattle.style_sheet.specs.Counted.{even_up, counted_end, counted_bytes, IsCounted};
+ghost use Rattle.style_sheet.specs.Counted.{even_up, counted_end, counted_bytes, IsCountedPart};
 
 use doc_bits::get16;
 
@@ -31,7 +31,7 @@ pub(crate) fn counted_end(bytes: &[u8], at: usize) -> Option<usize>
 
 /// The bytes whose count stands at a place.
 pub(crate) fn counted_bytes(bytes: &[u8], at: usize) -> &[u8]
-    requires { IsCounted bytes.now at }
+    requires { IsCountedPart bytes.now at }
     ensures bytes { result.now ≡ counted_bytes bytes.now at }
     ensures len { length result.now ≡ u16_at bytes.now at }
     ensures short { length result.now < 65536 }
@@ -41,7 +41,7 @@ pub(crate) fn counted_bytes(bytes: &[u8], at: usize) -> &[u8]
 
 /// Where the next count stands.
 pub fn next_place(bytes: &[u8], at: usize) -> usize
-    requires { IsCounted bytes.now at }
+    requires { IsCountedPart bytes.now at }
     ensures next { result ≡ even_up (counted_end bytes.now at) }
     ensures bound { result ≤ length bytes.now + 1 }
 {

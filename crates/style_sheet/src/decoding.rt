@@ -58,7 +58,7 @@ fn read_name(alloc: Global, std: &[u8], base: usize) -> Result<Units, Memory>
     Ok(name)
 }
 
-/// The kind and its settings, by the number of the kind.
+/// The kind and its properties, by the number of the kind.
 fn read_kind(alloc: Global, std: &[u8], base: usize) -> Result<Kind, Memory>
     requires std { IsStd std.now base }
     requires base { (8 < base) × (base < 20) }
@@ -82,12 +82,12 @@ fn read_paragraphs(alloc: Global, std: &[u8], base: usize) -> Result<Kind, Memor
     ensures spelt { IfOk result (SpellsKind std.now base) }
     ensures formed { IfOk result IsFormedKind }
 {
-    let pap = settings(alloc, paragraph_list(std, base), PARAGRAPH_GROUPS)?;
-    let chp = settings(alloc, second_list(std, base), CHARACTER_GROUPS)?;
+    let pap = properties(alloc, paragraph_list(std, base), PARAGRAPH_GROUPS)?;
+    let chp = properties(alloc, second_list(std, base), CHARACTER_GROUPS)?;
     Ok(Kind::Para { pap, chp })
 }
 
-/// The list of paragraph settings of a style of paragraphs, after the style number.
+/// The list of paragraph properties of a style of paragraphs, after the style number.
 fn paragraph_list(std: &[u8], base: usize) -> &[u8]
     requires std { IsStd std.now base }
     requires base { (8 < base) × (base < 20) }
@@ -97,7 +97,7 @@ fn paragraph_list(std: &[u8], base: usize) -> &[u8]
     &counted_bytes(std, first_upx(std, base))[2..]
 }
 
-/// The list of character settings of a style of paragraphs.
+/// The list of character properties of a style of paragraphs.
 fn second_list(std: &[u8], base: usize) -> &[u8]
     requires std { IsStd std.now base }
     requires base { (8 < base) × (base < 20) }
@@ -117,7 +117,7 @@ fn read_characters(alloc: Global, std: &[u8], base: usize) -> Result<Kind, Memor
     ensures formed { IfOk result IsFormedKind }
 {
     let at = first_upx(std, base);
-    let chp = settings(alloc, counted_bytes(std, at), CHARACTER_GROUPS)?;
+    let chp = properties(alloc, counted_bytes(std, at), CHARACTER_GROUPS)?;
     Ok(Kind::Char { chp })
 }
 
@@ -134,8 +134,8 @@ fn read_others(alloc: Global, std: &[u8], base: usize) -> Result<Kind, Memory>
     Ok(Kind::Other { stk, upxes })
 }
 
-/// The settings that a list makes of none.
-fn settings(alloc: Global, list: &[u8], groups: u8) -> Result<PropMap, Memory>
+/// The properties that a list makes of none.
+fn properties(alloc: Global, list: &[u8], groups: u8) -> Result<PropMap, Memory>
     requires { IsAcceptedList list.now groups }
     ensures map { IfOk result (IsMapOf list.now groups) }
     ensures formed { IfOk result (IsPropertyMap groups) }

@@ -97,7 +97,7 @@ pub fn first_upx(std: &[u8], base: usize) -> usize
     even_up(upxes_start(std, base))
 }
 
-/// The first fault in the lists of settings of an STD, as an offset in it.
+/// The first fault in the lists of properties of an STD, as an offset in it.
 pub(crate) fn std_fault(std: &[u8], base: usize) -> Option<u32>
     requires std { IsStd std.now base }
     requires base { (8 < base) × (base < 20) }

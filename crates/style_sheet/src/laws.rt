@@ -22,7 +22,7 @@ pub fn parts_hold_sheets()
     ensures { PartsHoldSheets }
 {}
 
-/// Where no style breaks the rule of bases, each style with settings has its chain.
+/// Where no style breaks the rule of bases, each style with properties has its chain.
 pub fn unbroken_bases_are_sound()
     ensures { UnbrokenBasesAreSound }
 {}

@@ -17,6 +17,7 @@ mod styles;
 mod upxes;
 
 pub use chains::Chain;
+pub use changes::copy_other_kind;
 pub use counted::next_place;
 pub use definition::{first_upx, kind_number};
 pub use fault::StyleFault;

@@ -183,7 +183,7 @@ impl Kind {
     }
 }
 
-/// Appends the upx of paragraph settings: the number of the slot, and their list.
+/// Appends the upx of paragraph properties: the number of the slot, and their list.
 fn push_paragraphs(alloc: Global, bytes: &mut Bytes, istd: u16, pap: &PropMap) -> Result<(), Memory>
     requires formed { IsFormedMap pap.now }
     requires short { length (number_bytes 2 istd ++ printed_list pap.now) < 65536 }
@@ -195,7 +195,7 @@ fn push_paragraphs(alloc: Global, bytes: &mut Bytes, istd: u16, pap: &PropMap) -
     Ok(())
 }
 
-/// Appends the upx of character settings.
+/// Appends the upx of character properties.
 fn push_characters(alloc: Global, bytes: &mut Bytes, chp: &PropMap) -> Result<(), Memory>
     requires formed { IsFormedMap chp.now }
     requires short { length (printed_list chp.now) < 65536 }
@@ -206,7 +206,7 @@ fn push_characters(alloc: Global, bytes: &mut Bytes, chp: &PropMap) -> Result<()
     Ok(())
 }
 
-/// The number of the slot, and the list of paragraph settings.
+/// The number of the slot, and the list of paragraph properties.
 fn paragraph_upx(alloc: Global, istd: u16, pap: &PropMap) -> Result<Bytes, Memory>
     requires { IsFormedMap pap.now }
     ensures { IfOk result (λ bytes. bytes ≡ number_bytes 2 istd ++ printed_list pap.now) }

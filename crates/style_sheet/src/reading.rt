@@ -110,7 +110,7 @@ fn is_slot(part: &[u8], place: usize, base: usize) -> bool
     }
 }
 
-/// The first fault in a list of settings.
+/// The first fault in a list of properties.
 fn wrong_list(part: &[u8], at: u32) -> Option<u32>
     requires stshif { HasStshif part.now }
     requires slots { AreSlots part.now }

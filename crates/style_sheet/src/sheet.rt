@@ -72,7 +72,7 @@ impl StyleSheet {
         self.shared.get(istd)
     }
 
-    /// The same sheet. No slot is copied.
+    /// A copy of the sheet, which shares its slots.
     pub fn copy(&self, alloc: Global) -> Result<StyleSheet, Memory>
         ensures { IfOk result (λ copy. copy ≡ self.now) }
     {

@@ -65,7 +65,7 @@ impl Slots {
         self.styles[istd as usize] = Some(style);
     }
 
-    /// The same slots. No style is copied.
+    /// A copy of the slots, which shares their styles.
     pub(crate) fn copy(&self, alloc: Global) -> Result<Slots, Memory>
         ensures { IfOk result (λ copy. sheet_of copy ≡ sheet_of self.now) }
     {
@@ -79,7 +79,7 @@ impl Slots {
         })
     }
 
-    /// The same slots with one more at the end.
+    /// A copy of the slots with one more at the end.
     pub(crate) fn with_added(&self, alloc: Global, slot: Option<Rc<Style>>) -> Result<Slots, Memory>
         ensures { IfOk result (λ made. sheet_of made
             ≡ record { head = self.now.head; styles = (sheet_of self.now).styles ++ slot_of slot ∷ [] }) }
@@ -89,7 +89,7 @@ impl Slots {
         Ok(slots)
     }
 
-    /// The same slots with a style in one that is there.
+    /// A copy of the slots with a style in one that is there.
     pub(crate) fn with_set(
         &self,
         alloc: Global,

@@ -22,7 +22,7 @@ pub struct Style {
     pub kind: Kind,
 }
 
-/// What a style is for, with its own settings.
+/// What a style is for, with its own properties.
 #[derive(Drop)]
 pub enum Kind {
     /// A style of paragraphs.
@@ -49,7 +49,7 @@ impl Style {
 }
 
 impl Kind {
-    /// Whether both are the same kind with the same settings.
+    /// Whether both are the same kind with the same properties.
     pub(crate) fn equal(&self, other: &Kind) -> bool
         ensures { IsTrue result ↔ self.now ≡ other.now }
     {

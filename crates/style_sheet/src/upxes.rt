@@ -50,7 +50,7 @@ impl UpxList {
         Ok(())
     }
 
-    /// The same lists.
+    /// A copy of the lists.
     pub fn copy(&self, alloc: Global) -> Result<UpxList, Memory>
         ensures { IfOk result (λ copy. copy ≡ self.now) }
     {

@@ -11,7 +11,7 @@ use Rattle.doc_bits.proofs.RuleLemmas.{first_among, none_among}
 use Rattle.doc_bits.proofs.TestLemmas.{stable_le, stable_eq}
 use Rattle.summary_set.specs.declared.fault.SetFault.TheVariants.{Form}
 use Rattle.summary_set.specs.PropertySet.{set_begin, set_size, pair_count, pair_place, pair_at}
-use Rattle.summary_set.specs.Form.{HasHead, Unless, BeginsWithin, IsSized, IsRightPair, head_rules, pair_rules}
+use Rattle.summary_set.specs.Form.{HasHead, Unless, BeginsWithin, IsSized, IsValidPair, head_rules, pair_rules}
 use Rattle.summary_set.specs.Form.{IsFaultOf}
 
 unless_hold : (place : ℕ) (holds : Type 0) → holds → Nowhere (Unless place holds)
@@ -110,27 +110,27 @@ other_size b long mark one begins none = (
 -- ---- pairs
 
 -- the first wrong pair is the place
-pub wrong_pair : (b : List ℕ) (i : ℕ) → i < pair_count b → ((j : ℕ) → j < i → IsRightPair b j) → ¬ IsRightPair b i →
+pub wrong_pair : (b : List ℕ) (i : ℕ) → i < pair_count b → ((j : ℕ) → j < i → IsValidPair b j) → ¬ IsValidPair b i →
     IsFaultOf (pair_rules b) (Form (pair_place b i))
 wrong_pair b i below before none = (
   6,
   (
     refl,
-    first_among (λ k. Unless (pair_place b k) (IsRightPair b k)) (pair_count b) i (pair_place b i)
+    first_among (λ k. Unless (pair_place b k) (IsValidPair b k)) (pair_count b) i (pair_place b i)
         (λ j k a c h x y. let p = x.0 in let q = y.0 in omega arith) below
-        (λ k h. unless_hold (pair_place b k) (IsRightPair b k) (before k h))
-        (unless_first (pair_place b i) (IsRightPair b i) none),
+        (λ k h. unless_hold (pair_place b k) (IsValidPair b k) (before k h))
+        (unless_first (pair_place b i) (IsValidPair b i) none),
   ),
 )
 
-pub right_pairs : (b : List ℕ) → ((j : ℕ) → j < pair_count b → IsRightPair b j) → Hold (pair_rules b)
-right_pairs b right = none_among (λ k. Unless (pair_place b k) (IsRightPair b k)) (pair_count b)
-    (λ k h. unless_hold (pair_place b k) (IsRightPair b k) (right k h))
+pub right_pairs : (b : List ℕ) → ((j : ℕ) → j < pair_count b → IsValidPair b j) → Hold (pair_rules b)
+right_pairs b right = none_among (λ k. Unless (pair_place b k) (IsValidPair b k)) (pair_count b)
+    (λ k h. unless_hold (pair_place b k) (IsValidPair b k) (right k h))
 
 -- each pair of a set is right
-pub pair_of_rules : (b : List ℕ) (i : ℕ) → Hold (pair_rules b) → i < pair_count b → IsRightPair b i
+pub pair_of_rules : (b : List ℕ) (i : ℕ) → Hold (pair_rules b) → i < pair_count b → IsValidPair b i
 pair_of_rules b i h below =
-    let twice : ¬ ¬ IsRightPair b i = λ none. h (pair_place b i) (record {
+    let twice : ¬ ¬ IsValidPair b i = λ none. h (pair_place b i) (record {
       entry = i;
       below = below;
       broken = (refl, none);
@@ -192,7 +192,7 @@ one_seen false false h = absurd (false≢true (sym h))
 -- a pair of which neither number was met is right
 pub new_pair : (b : List ℕ) (i : ℕ) (ids offsets : ℕ → Bool) → Knows ids (λ j. (pair_at b j).id) i →
     Knows offsets (λ j. (pair_at b j).offset) i → (not (ids (pair_at b i).id) && not (offsets (pair_at b i).offset)) ≡
-    true → 8 + 8 * pair_count b ≤ (pair_at b i).offset → (pair_at b i).offset + 4 ≤ set_size b → IsRightPair b i
+    true → 8 + 8 * pair_count b ≤ (pair_at b i).offset → (pair_at b i).offset + 4 ≤ set_size b → IsValidPair b i
 new_pair b i ids offsets known known_offsets h behind within =
     let new = both_new (ids (pair_at b i).id) (offsets (pair_at b i).offset) h in
     record {
@@ -205,7 +205,7 @@ new_pair b i ids offsets known known_offsets h behind within =
 -- any other is wrong
 pub seen_pair : (b : List ℕ) (i : ℕ) (ids offsets : ℕ → Bool) → Knows ids (λ j. (pair_at b j).id) i →
     Knows offsets (λ j. (pair_at b j).offset) i → (not (ids (pair_at b i).id) && not (offsets (pair_at b i).offset)) ≡
-    false → ¬ IsRightPair b i
+    false → ¬ IsValidPair b i
 seen_pair b i ids offsets known known_offsets h right =
     elim (one_seen (ids (pair_at b i).id) (offsets (pair_at b i).offset) h) [
       | inl x ↦ let w = known.some (pair_at b i).id x in right.new_id w.0 w.1.0 w.1.1

@@ -2,9 +2,9 @@
 use Rattle.std.proofs.Common.{◌≡◌, ◌≢◌, ◌∙◌, inl, inr, ℕ, zero, suc, ◌+◌, ◌-◌, ◌*◌, ◌^◌, ◌<◌, ◌≤◌, Bool, true, false}
 use Rattle.std.proofs.Common.{List, []}
 use Rattle.std.proofs.Common.{◌∷◌, ◌++◌, length, map, Some, refl, sym, ap, subst, arith}
-use Rattle.std.specs.Prelude.{◌⊎◌, ◌||◌, if◌then◌else◌, slice_get}
+use Rattle.std.specs.Prelude.{◌⊎◌, if◌then◌else◌, slice_get}
 use Rattle.std.specs.List.{list_any, range_with_len}
-use Rattle.std.proofs.lemmas.Bool.{cases_lt, false≢true, eqb-true, eqb-false}
+use Rattle.std.proofs.lemmas.Bool.{cases_lt, eqb-true, eqb-false}
 use Rattle.std.proofs.lemmas.List.{length-map}
 use Rattle.std.proofs.lemmas.List.FromFn.{length-map-range_with_len, get_or-map-range_with_len}
 use Rattle.std.proofs.lemmas.Option.{same_Some, slice_get_within, get_or_from_slice_get}
@@ -25,6 +25,7 @@ use Rattle.summary_set.proofs.EndLemmas.{value_end-le}
 use Rattle.summary_set.proofs.ValueLemmas.{value_end-more}
 use Rattle.summary_set.proofs.WriteLemmas.{length-title_value, retitled_fits}
 use Rattle.summary_set.proofs.ReadBackLemmas.{read_back}
+use Rattle.doc_bits.proofs.TestLemmas.{neither}
 
 -- ---- the properties of a set
 
@@ -133,10 +134,6 @@ comes_from b title i property formed here =
             );
           }
     ]
-
-neither : (a b : Bool) → (a || b) ≡ false → (a ≡ false) × (b ≡ false)
-neither true b h = absurd (false≢true (sym h))
-neither false b h = (refl, h)
 
 -- where none is the title, no pair has its id
 none_titled : (values : List Property) (i : ℕ) (property : Property) → list_any is_title values ≡ false →

@@ -17,6 +17,7 @@ use Rattle.summary_set.specs.Written.{written_head, written_set, retitled_stream
 use Rattle.summary_set.specs.Laws.{IsAsked}
 use Rattle.summary_set.proofs.WriteLemmas.{padded_len-is}
 use Rattle.summary_set.proofs.TitleLemmas.{in_place-id, kept_with_title}
+use Rattle.doc_bits.proofs.TestLemmas.{or_second}
 
 -- ---- padding
 
@@ -84,10 +85,6 @@ either_true : (a b d : Bool) → (a || b) ≡ true → (b ≡ true → d ≡ tru
 either_true true b d h more = refl
 either_true false b d h more = more h
 
-or_true : (a b : Bool) → b ≡ true → (a || b) ≡ true
-or_true true b h = refl
-or_true false b h = h
-
 any_first : (title : List ℕ) (values rest : List Property) → list_any is_title values ≡ true → list_any is_title
     (map padded_property (map (in_place title) values ++ rest)) ≡ true
 any_first title [] rest h = absurd (false≢true h)
@@ -100,7 +97,7 @@ any_last : (title : List ℕ) (values : List Property) →
     list_any is_title (map padded_property (values ++ title_property title
     ∷ [])) ≡ true
 any_last title [] = refl
-any_last title (x ∷ xs) = or_true (is_title (padded_property x)) (list_any is_title (map padded_property (xs ++
+any_last title (x ∷ xs) = or_second (is_title (padded_property x)) (list_any is_title (map padded_property (xs ++
     title_property title ∷ []))) (any_last title xs)
 
 any_titled : (title : List ℕ) (values : List Property) (there : Bool) → list_any is_title values ≡ there →

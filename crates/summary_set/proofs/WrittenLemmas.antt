@@ -10,7 +10,7 @@ use Rattle.doc_bits.proofs.NumberLemmas.{number_at-number_bytes, length-number_b
 use Rattle.doc_bits.proofs.ListLemmas.{there_is}
 use Rattle.summary_set.specs.declared.values.Property.{Property}
 use Rattle.summary_set.specs.PropertySet.{set_begin, set_size, pair_count, pair_place, pair_at}
-use Rattle.summary_set.specs.Form.{HasHead, IsRightPair}
+use Rattle.summary_set.specs.Form.{HasHead, IsValidPair}
 use Rattle.summary_set.specs.Written.{KeptBytes, padded, padded_len, pair_bytes}
 use Rattle.summary_set.specs.Written.{first_offset, written_size, written_head, written_set}
 use Rattle.summary_set.specs.Laws.{AreWritable}
@@ -168,7 +168,7 @@ stands_within kept values i x w here =
     omega arith
 
 pub written-right : (kept : KeptBytes) (values : List Property) (i : ℕ) → AreWritable kept values → i < length values →
-    IsRightPair (written_set kept values) i
+    IsValidPair (written_set kept values) i
 unfolding stands_at
 written-right kept values i w low =
     let size = written-size kept values w in

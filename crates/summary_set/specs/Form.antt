@@ -21,7 +21,7 @@ pub record IsSized (b : List ℕ) : Type 0 where
   pub within : set_begin b + set_size b ≤ length b
 
 -- a pair names four bytes of the set behind all pairs. Profile: no earlier pair has its id or its offset
-pub record IsRightPair (b : List ℕ) (i : ℕ) : Type 0 where
+pub record IsValidPair (b : List ℕ) (i : ℕ) : Type 0 where
   pub behind_pairs : 8 + 8 * pair_count b ≤ (pair_at b i).offset
   pub within : (pair_at b i).offset + 4 ≤ set_size b
   pub new_id : (j : ℕ) → j < i → (pair_at b j).id ≢ (pair_at b i).id
@@ -46,7 +46,7 @@ head_rules b =
 
 -- the condition on each pair
 abbrev pub pair_rules : List ℕ → Rules ℕ
-pair_rules b = rule 6 (Among (pair_count b) (λ i. Unless (pair_place b i) (IsRightPair b i)))
+pair_rules b = rule 6 (Among (pair_count b) (λ i. Unless (pair_place b i) (IsValidPair b i)))
 
 abbrev pub form_rules : List ℕ → Rules ℕ
 form_rules b = head_rules b then pair_rules b

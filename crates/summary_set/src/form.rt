@@ -24,9 +24,9 @@ const SET_COUNT: usize = 24;
 const OFFSET0: usize = 44;
 
 /// A stream of one set has at least so many bytes.
-const LEAST_LEN: usize = 56;
+const MIN_LEN: usize = 56;
 
-const LITTLE_ENDIAN: u16 = 0xFFFE;
+pub const LITTLE_ENDIAN: u16 = 0xFFFE;
 
 const HEAD_LEN: u32 = 48;
 
@@ -34,7 +34,7 @@ const HEAD_LEN: u32 = 48;
 const NUMBERS_LEN: u32 = 8;
 
 /// Decodes the set of a stream.
-pub(crate) fn judge(alloc: Global, stream: &[u8]) -> Result<PropertySet, SetFault>
+pub(crate) fn check(alloc: Global, stream: &[u8]) -> Result<PropertySet, SetFault>
     requires short { length stream.now ≤ 7143936 }
     ensures { MatchResult result
         (λ set. IsPropertySet stream.now × IsSetOf stream.now set)
@@ -64,7 +64,7 @@ fn read_head(stream: &[u8]) -> Result<SetHead, SetFault>
         (λ head. HasHead stream.now × (head ≡ head_of stream.now))
         (IsFaultOf (head_rules stream.now)) }
 {
-    if stream.len() < LEAST_LEN {
+    if stream.len() < MIN_LEN {
         return Err(wrong_at(stream.len() as u32));
     }
     if get16(stream, BYTE_ORDER) != LITTLE_ENDIAN {

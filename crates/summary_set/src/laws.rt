@@ -11,7 +11,7 @@ pub fn properties_are_kept()
     ensures { PropertiesAreKept }
 {}
 
-/// The same title once more gives the same bytes.
+/// A title that is set once more gives the same bytes.
 pub fn retitled_twice_is_once()
     ensures { RetitledTwiceIsOnce }
 {}

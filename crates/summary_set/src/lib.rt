@@ -13,6 +13,7 @@ mod values;
 mod written;
 
 pub use fault::SetFault;
+pub use form::LITTLE_ENDIAN;
 pub use laws::{properties_are_kept, retitled_twice_is_once, written_set_is_read_back};
 pub use reading::{code_page, fields};
 pub use retitle::{is_title, with_title};

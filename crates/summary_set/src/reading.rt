@@ -3,7 +3,7 @@ ghost use Rattle.summary_set.specs.Form.{IsPropertySet, IsSetFault};
 ghost use Rattle.summary_set.specs.Values.{IsSetOf};
 ghost use Rattle.summary_set.specs.Texts.{AreFieldsOf, text_property, page_property};
 
-use crate::form::judge;
+use crate::form::check;
 use crate::set::PropertySet;
 use crate::texts::{page, text};
 use crate::{Fields, SetFault};
@@ -27,7 +27,7 @@ pub fn fields(alloc: Global, stream: &[u8]) -> Result<Fields, SetFault>
         (λ fields. IsPropertySet stream.now × AreFieldsOf stream.now fields)
         (IsSetFault stream.now) }
 {
-    let set = judge(alloc, stream)?;
+    let set = check(alloc, stream)?;
     Ok(fields_of(alloc, stream, &set)?)
 }
 
@@ -38,7 +38,7 @@ pub fn code_page(alloc: Global, stream: &[u8]) -> Result<Option<u16>, SetFault>
         (λ found. IsPropertySet stream.now × (found ≡ page_property stream.now))
         (IsSetFault stream.now) }
 {
-    let set = judge(alloc, stream)?;
+    let set = check(alloc, stream)?;
     Ok(page_of(stream, &set))
 }
 

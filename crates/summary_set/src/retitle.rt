@@ -7,7 +7,7 @@ ghost use Rattle.summary_set.specs.Written.{title_property, in_place, retitled, 
 ghost use Rattle.summary_set.specs.Written.{IsTitle};
 
 use crate::SetFault;
-use crate::form::judge;
+use crate::form::check;
 use crate::reading::PIDSI_TITLE;
 use crate::set::{PropertyPair, PropertySet};
 use crate::texts::VT_LPSTR;
@@ -50,13 +50,13 @@ pub fn with_title(alloc: Global, stream: &[u8], title: &[u8]) -> Result<Bytes, S
         (λ made. IsPropertySet stream.now × (made ≡ retitled_stream stream.now title.now))
         (IsSetFault stream.now) }
 {
-    let set = judge(alloc, stream)?;
-    let values = retitled(alloc, stream, &set, title)?;
+    let set = check(alloc, stream)?;
+    let values = set_title(alloc, stream, &set, title)?;
     Ok(written_set(alloc, stream, &values)?)
 }
 
 /// The properties with this title, in the place of the old one or last.
-fn retitled(
+fn set_title(
     alloc: Global,
     stream: &[u8],
     set: &PropertySet,
@@ -69,7 +69,7 @@ fn retitled(
 {
     let mut values = Vec::new(alloc);
     for i in 0..set.pairs.len() {
-        values.push(renewed(alloc, stream, set, set.pairs[i], title)?)?;
+        values.push(renew_property(alloc, stream, set, set.pairs[i], title)?)?;
     }
     if set.pair_with(PIDSI_TITLE).is_some() {
         return Ok(values);
@@ -79,7 +79,7 @@ fn retitled(
 }
 
 /// The property that a pair names, or the new title where that is the title.
-fn renewed(
+fn renew_property(
     alloc: Global,
     stream: &[u8],
     set: &PropertySet,

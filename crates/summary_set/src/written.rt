@@ -3,11 +3,10 @@ ghost use Rattle.std.specs.Prelude.{◌≡◌, ◌≤◌, ◌<◌, ◌+◌, ◌^
 ghost use Rattle.summary_set.specs.Written.{kept_bytes, written_set, written_size, written_head, pair_bytes};
 ghost use Rattle.summary_set.specs.Written.{first_offset, pad_len, padded};
 
+use crate::form::LITTLE_ENDIAN;
 use crate::values::Property;
 use doc_bits::{Bytes, Memory};
 use std::alloc::Global;
-
-const LITTLE_ENDIAN: u16 = 0xFFFE;
 
 /// The set begins behind the head of the stream.
 const HEAD_LEN: u32 = 48;

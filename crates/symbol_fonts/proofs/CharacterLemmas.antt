@@ -19,27 +19,27 @@ sign_none (Some font) unit off = λ i.
 -- ---- each of the tables has characters
 
 -- none, or a character
-abbrev is_right : ℕ → Bool
-is_right code =
+abbrev is_valid : ℕ → Bool
+is_valid code =
     code == 0 || (nat_le 0x20 code && (nat_lt code 0xD800 && not (nat_le 0x7F code && nat_le code 0x9F)))
 
-abbrev are_right : List ℕ → Bool
-are_right [] = true
-are_right (code ∷ codes) = is_right code && are_right codes
+abbrev are_valid : List ℕ → Bool
+are_valid [] = true
+are_valid (code ∷ codes) = is_valid code && are_valid codes
 
-tables_right : (font : SymbolFont) → are_right (characters_of font) ≡ true
+tables_right : (font : SymbolFont) → are_valid (characters_of font) ≡ true
 tables_right Symbol = refl
 tables_right Wingdings = refl
 
-right_at : (codes : List ℕ) (k : ℕ) → are_right codes ≡ true → is_right (slice_index codes k) ≡ true
+right_at : (codes : List ℕ) (k : ℕ) → are_valid codes ≡ true → is_valid (slice_index codes k) ≡ true
 right_at [] k e = refl
-right_at (code ∷ codes) zero e = (and_parts (is_right code) (are_right codes) e).0
-right_at (code ∷ codes) (suc k) e = right_at codes k (and_parts (is_right code) (are_right codes) e).1
+right_at (code ∷ codes) zero e = (and_parts (is_valid code) (are_valid codes) e).0
+right_at (code ∷ codes) (suc k) e = right_at codes k (and_parts (is_valid code) (are_valid codes) e).1
 
-character_right : (font : SymbolFont) (unit : ℕ) → is_right (character_of font unit) ≡ true
+character_right : (font : SymbolFont) (unit : ℕ) → is_valid (character_of font unit) ≡ true
 character_right font unit =
     elim (is_sign unit)
-    as (λ b. is_right (if b then slice_index (characters_of font) (unit - 0xF020) else 0) ≡ true) [
+    as (λ b. is_valid (if b then slice_index (characters_of font) (unit - 0xF020) else 0) ≡ true) [
       | true ↦ right_at (characters_of font) (unit - 0xF020) (tables_right font)
       | false ↦ refl
     ]
@@ -58,7 +58,7 @@ not_zero code some = grind (arith, nat_tests)
 not_below : (code : ℕ) → nat_le 0x20 code ≡ true → nat_lt code 0x20 ≡ false
 not_below code high = grind (arith, nat_tests)
 
-right_character : (code : ℕ) → 0 < code → is_right code ≡ true → IsCharacter code
+right_character : (code : ℕ) → 0 < code → is_valid code ≡ true → IsCharacter code
 right_character code some right =
     let windows = nat_le 0x7F code && nat_le code 0x9F in
     let all = or_second (code == 0) (nat_le 0x20 code && (nat_lt code 0xD800 && not windows)) (not_zero code some) right in
@@ -74,7 +74,7 @@ right_character code some right =
 pub characters_right : SignsAreCharacters
 characters_right font unit character shown =
     right_character character shown.some
-    (subst (λ code. is_right code ≡ true) (sym shown.is) (character_right font unit))
+    (subst (λ code. is_valid code ≡ true) (sym shown.is) (character_right font unit))
 
 some_character : (code : ℕ) → (code == 0) ≡ false → 0 < code
 some_character code off = grind (arith, nat_tests)

@@ -16,6 +16,7 @@ use Rattle.text_codes.specs.Gathered.{IsTextOf, HasTextBehind}
 use Rattle.text_codes.specs.Shown.{shown_alone, is_escaped, escape, IsPlain}
 use Rattle.text_codes.proofs.DigitLemmas.{hex_ascii}
 use Rattle.text_codes.proofs.ShownLemmas.{shown-first, six_are_utf8}
+use Rattle.doc_bits.proofs.TestLemmas.{second_false}
 
 -- a character of two bytes
 pub encode_utf8-two : (unit : ℕ) → 128 ≤ unit → unit < 2048 →
@@ -48,10 +49,6 @@ alone-from_itself unit e =
     (no_surrogate (nat_lt unit 0x20) (unit == 0x5C) (nat_le 0xD800 unit) (nat_lt unit 0xE000) e)
     (λ high. le-ltb unit 0xDC00 (omega (arith, ltb-false unit 0xE000 high)))
 
-high_half : (low high : Bool) → (low && high) ≡ false → low ≡ true → high ≡ false
-high_half true high e l = e
-high_half false high e l = absurd (cc (l))
-
 -- a unit that is shown as itself is a character
 pub scalar-from_itself : (unit : ℕ) → unit < 65536 → is_escaped unit ≡ false → IsScalar unit
 scalar-from_itself unit small e =
@@ -59,7 +56,7 @@ scalar-from_itself unit small e =
       | inl low ↦ rw (lt-ltb unit 0xD800 low) refl
       | inr high ↦
           let above : 0xE000 ≤ unit = ltb-false unit 0xE000
-          (high_half (nat_le 0xD800 unit) (nat_lt unit 0xE000)
+          (second_false (nat_le 0xD800 unit) (nat_lt unit 0xE000)
           (no_surrogate (nat_lt unit 0x20) (unit == 0x5C) (nat_le 0xD800 unit) (nat_lt unit 0xE000) e)
           (le-leb 0xD800 unit high)) in
           rw (le-ltb unit 0xD800 high, le-leb 0xE000 unit above, lt-ltb unit 0x110000 (omega (arith, small))) refl
@@ -150,10 +147,3 @@ text_grown lines units block new count more len end front behind =
     rw (take-add count more units, behind.grown)
     (text_joined lines (take count units) (take more rest) (take len block) behind.bytes front
     (subst (λ l. IsTextOf lines (take more l) behind.bytes) whole behind.text))
-
--- units of the rest are units of the list
-pub part_within : (units : List ℕ) (count more : ℕ) → count ≤ length units →
-    more ≤ length (take (length units - count) (drop count units)) → count + more ≤ length units
-part_within units count more within few =
-    let whole = take_all (length units - count) (drop count units) (omega (arith, length-drop count units)) in
-    omega (arith, within, few, ap length whole, length-drop count units)

@@ -42,7 +42,7 @@ pub completed-apart : (lines : Bool) (text more : List ℕ) (first second : ℕ)
     more ++ shown lines (second ∷ rest) ≡ text ++ shown lines (first ∷ second ∷ rest)
 completed-apart lines text more first second rest e m = rw (m, shown-apart lines first second rest e, append_assoc) refl
 
-apart_low : (low high more : Bool) → (low && high) ≡ false → (low && (high && more)) ≡ false
+pub apart_low : (low high more : Bool) → (low && high) ≡ false → (low && (high && more)) ≡ false
 apart_low false high more e = refl
 apart_low true false more e = refl
 apart_low true true more e = absurd (cc (e))

@@ -3,3 +3,4 @@ pub mod Digits
 pub mod Gathered
 pub mod Paragraph
 pub mod Shown
+pub mod Halves

@@ -88,7 +88,7 @@ fn put_plain(units: &[u16], block: &mut [u8], len: usize)
     }
 }
 
-/// The same for units of any kind, one by one, up to a surrogate.
+/// Puts the text of units of any kind behind the first bytes of a block, one by one, up to a surrogate.
 fn gather_units(units: &[u16], lines: bool, block: &mut [u8], len: usize) -> (usize, usize)
     requires { len ≤ length block.old }
     ensures long { length block.new ≡ length block.old }

@@ -1,13 +1,12 @@
 // The line of a feature.
 ghost use Rattle.std.specs.Prelude.{◌≡◌, ◌++◌, IfOk, OnOk};
-ghost use Rattle.loss_report.specs.Lines.{story_word as word_of_story};
 ghost use Rattle.std.specs.List.{flat_map};
 ghost use Rattle.text_losses.specs.Lines.{list_word as word_of_list, place_text, code_text, feature_line};
 ghost use Rattle.text_losses.specs.Lines.{reference_text as text_of_reference};
 
 use crate::features::{ListKind, Reference, TextFeature};
 use doc_bits::{Memory, Story, Text};
-use fib_versions::Further;
+use loss_report::story_word;
 use std::alloc::Global;
 use text_codes::{push_word, show_units};
 
@@ -106,17 +105,5 @@ fn list_word(kind: ListKind) -> &'static str
         ListKind::StylePapx => "style-par",
         ListKind::Prc => "modifier",
         ListKind::Sepx => "sect",
-    }
-}
-
-/// How a story is named.
-fn story_word(story: Further) -> &'static str
-    ensures { result.now ≡ word_of_story story }
-{
-    match story {
-        Further::Comments => "comments",
-        Further::Endnotes => "endnotes",
-        Further::TextBoxes => "textboxes",
-        Further::HeaderTextBoxes => "header-textboxes",
     }
 }

@@ -5,21 +5,21 @@ use Rattle.prop_map.specs.Modifiers.{IsFormedModifier}
 use Rattle.fkp_pages.specs.declared.kind.PageKind.TheVariants.{Papx}
 use Rattle.direct_props.specs.declared.marks.DirectMark.{DirectMark}
 use Rattle.direct_props.specs.Direct.{IsDirectMark}
-use Rattle.direct_props.specs.PageRules.{IsRightPlace}
-use Rattle.direct_props.specs.Kept.{PlaceSource}
+use Rattle.direct_props.specs.PageRules.{IsValidPlace}
+use Rattle.direct_props.specs.GrpprlCache.{PlaceSource}
 use Rattle.direct_props.proofs.marks.read_mark.Goals as goal
 
 -- what a reader answers at a place
 abbrev IsReadAt : PlaceSource → ℕ → Option DirectMark → Type 0
 IsReadAt source fc mark =
-    MatchOption mark (¬ (IsRightPlace Papx source.wd source.bin fc))
-    (λ (m : DirectMark). IsRightPlace Papx source.wd source.bin fc
+    MatchOption mark (¬ (IsValidPlace Papx source.wd source.bin fc))
+    (λ (m : DirectMark). IsValidPlace Papx source.wd source.bin fc
     × IsDirectMark source.wd source.bin fc source.modifier m.istd m.pap)
 
 pub unreachable-requires : goal.unreachable-requires
 unreachable-requires c =
     subst (IsReadAt c.in_ok-reader.reader c.args.fc) c.in-None.is c.in_ok-read_mark.ensures.mark
-    (subst (λ (s : PlaceSource). IsRightPlace Papx s.wd s.bin c.args.fc) (sym c.in_ok-reader.ensures) c.requires.right)
+    (subst (λ (s : PlaceSource). IsValidPlace Papx s.wd s.bin c.args.fc) (sym c.in_ok-reader.ensures) c.requires.right)
 
 pub returns-clause-mark : goal.returns-clause-mark
 returns-clause-mark c =

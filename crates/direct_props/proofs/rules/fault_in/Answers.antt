@@ -14,7 +14,7 @@ returns-in-None c = λ room.
     let start : c.min.result + c.style_len.result ≡ c.args.from + least_list kind = omega arith in
     let cut = same_cut c.in-Some.page.now (page_at c.args.wd.now c.args.number) (c.min.result + c.style_len.result)
     (c.args.from + least_list kind) c.args.to c.in-Some.ensures.0 start in
-    list_right _ (run_groups kind) _ _ cut (rw c.groups_of.ensures at c.in-None.ensures.first)
+    list_right _ (run_groups kind) _ _ cut (rw c.groups_of_runs.ensures at c.in-None.ensures.first)
 
 pub returns-in-Some-list_fault : goal.returns-in-Some-list_fault
 returns-in-Some-list_fault c = λ room.
@@ -26,5 +26,5 @@ returns-in-Some-list_fault c = λ room.
     let start : c.min.result + c.style_len.result ≡ c.args.from + least_list kind = omega arith in
     let cut = same_cut c.in-Some.page.now (page_at c.args.wd.now c.args.number) (c.min.result + c.style_len.result)
     (c.args.from + least_list kind) c.args.to c.in-Some.ensures.0 start in
-    list_wrong _ (run_groups kind) _ c.in-Some-list_fault.fault _ _ cut (omega arith) (rw c.groups_of.ensures at
+    list_wrong _ (run_groups kind) _ c.in-Some-list_fault.fault _ _ cut (omega arith) (rw c.groups_of_runs.ensures at
     c.in-Some-list_fault.ensures.first)

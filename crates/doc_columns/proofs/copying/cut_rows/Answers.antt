@@ -4,14 +4,14 @@ use Rattle.std.proofs.Common.{arith}
 use Rattle.std.specs.Prelude.{replicate}
 use Rattle.std.proofs.lemmas.List.{take_all, take_more}
 use Rattle.run_lists.specs.declared.runs.Run.{Run}
-use Rattle.run_lists.specs.Spread.{spread}
+use Rattle.run_lists.specs.Spread.{expanded}
 use Rattle.run_lists.proofs.SpreadLemmas.{extent-nil, length-spread, extent_more, count_within, spread_push}
 use Rattle.doc_columns.proofs.copying.cut_rows.Goals as goal
 
 pub loop-run-init : goal.loop-run-init
 loop-run-init g c = record {
   place = sym (extent-nil g.row.T.Denot);
-  rows = ap spread c.in_ok-rows.ensures.items;
+  rows = ap expanded c.in_ok-rows.ensures.items;
 }
 
 pub overflow_add-place : goal.overflow_add-place
@@ -61,13 +61,13 @@ loop-run-preserved g c =
       rows =
           c.in_ok-push_rows.ensures
           ∙ ap (λ (t : List g.row.T.Denot). t ++ replicate run.count run.value) c.loop-run.invariant.rows
-          ∙ ap (λ (r : Run g.row.T.Denot). spread (take k runs) ++ replicate r.count r.value) one
+          ∙ ap (λ (r : Run g.row.T.Denot). expanded (take k runs) ++ replicate r.count r.value) one
           ∙ sym (spread_push (take k runs) (get_or runs k run))
-          ∙ ap spread (sym (take_more runs k run within));
+          ∙ ap expanded (sym (take_more runs k run within));
     }
 
 pub returns : goal.returns
 returns g c =
     let runs = c.as_runs-all.result.now in
     let all : length runs ≤ c.loop-run.run-index = omega arith in
-    c.loop-run.invariant.rows ∙ ap spread (take_all c.loop-run.run-index runs all) ∙ c.as_runs-all.ensures.runs
+    c.loop-run.invariant.rows ∙ ap expanded (take_all c.loop-run.run-index runs all) ∙ c.as_runs-all.ensures.runs

@@ -1,6 +1,6 @@
 use Rattle.std.proofs.Common.{◌≡◌, ◌-◌, ◌≤◌, ◌++◌}
 use Rattle.std.specs.Prelude.{replicate}
-use Rattle.run_lists.specs.Spread.{spread}
+use Rattle.run_lists.specs.Spread.{expanded}
 use Rattle.doc_columns.proofs.copying.push_rows.Given as goal
 
 -- the values so far are put
@@ -8,7 +8,7 @@ abbrev pub invariant-loop-at : goal.invariant-loop-at
 invariant-loop-at g l = record {
   from : l.place ≤ l.at;
   to : l.at ≤ l.end;
-  rows : spread l.rows.items ≡ spread l.initial.rows.items ++ replicate (l.at - l.place) l.run.value;
+  rows : expanded l.rows.items ≡ expanded l.initial.rows.items ++ replicate (l.at - l.place) l.run.value;
 }
 
 abbrev pub decreases-loop-at : goal.decreases-loop-at

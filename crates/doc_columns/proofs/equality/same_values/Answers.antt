@@ -3,7 +3,7 @@ use Rattle.std.proofs.Common.{◌≡◌, ◌∙◌, ◌≤◌, refl, sym, ap, So
 use Rattle.std.specs.Prelude.{slice_get, IsTrue, false}
 use Rattle.std.proofs.lemmas.Bool.{cases_lt}
 use Rattle.std.proofs.lemmas.Option.{same_Some}
-use Rattle.run_lists.specs.Spread.{spread}
+use Rattle.run_lists.specs.Spread.{expanded}
 use Rattle.run_lists.proofs.SpreadLemmas.{length-spread}
 use Rattle.doc_columns.proofs.CollectLemmas.{start_at}
 use Rattle.doc_columns.proofs.EqualityLemmas.{begins_at_start, whole_same}
@@ -23,7 +23,7 @@ pub returns-then-not-equal : goal.returns-then-not-equal
 returns-then-not-equal g c =
     let place = c.loop-place.place in
     let one = c.value_until-end in
-    let other = c.value_until-beside_end in (
+    let other = c.value_until-attached_end in (
       λ (no : IsTrue false). absurd (cc),
       λ same. c.if-not-equal.ensures.1
           (same_Some one.result.0.now other.result.0.now
@@ -37,7 +37,7 @@ loop-place-preserved g c =
     let place = c.loop-place.place in
     let next = c.min-place.result in
     let one = c.value_until-end in
-    let other = c.value_until-beside_end in
+    let other = c.value_until-attached_end in
     let min = c.min-place.ensures in
     let first_on = one.ensures.some in
     let second_on = other.ensures.some in
@@ -60,8 +60,8 @@ loop-place-preserved g c =
 
 pub returns : goal.returns
 returns g c =
-    let one = spread c.args.one.now in
-    let other = spread c.args.other.now in
+    let one = expanded c.args.one.now in
+    let other = expanded c.args.other.now in
     let all : c.loop-place.place ≡ c.args.len = omega (arith, c.loop-place.invariant.within, c.loop-place-test.false) in
     let same = c.loop-place.invariant.same in (
       λ yes. whole_same one other c.args.len (length-spread c.args.one.now ∙ c.requires.one)

@@ -1,6 +1,6 @@
 use Rattle.std.proofs.Common.{◌≡◌, ◌-◌, ◌<◌, ◌≤◌, ℕ}
 use Rattle.std.specs.Prelude.{slice_get}
-use Rattle.run_lists.specs.Spread.{spread}
+use Rattle.run_lists.specs.Spread.{expanded}
 use Rattle.run_lists.specs.Places.{IsAt}
 use Rattle.doc_columns.proofs.equality.same_values.Given as goal
 
@@ -12,7 +12,7 @@ invariant-loop-place g l = record {
   second : IsAt l.other l.second;
   second_ahead : l.second.begin ≤ l.place;
   within : l.place ≤ l.len;
-  same : (k : ℕ) → k < l.place → slice_get (spread l.one) k ≡ slice_get (spread l.other) k;
+  same : (k : ℕ) → k < l.place → slice_get (expanded l.one) k ≡ slice_get (expanded l.other) k;
 }
 
 abbrev pub decreases-loop-place : goal.decreases-loop-place

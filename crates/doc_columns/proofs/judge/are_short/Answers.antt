@@ -2,7 +2,7 @@ use Rattle.std.proofs.Common.{◌≡◌, ◌<◌, ◌∙◌, length, get_or, Som
 use Rattle.std.specs.Prelude.{slice_get}
 use Rattle.std.proofs.lemmas.List.{get_or_default}
 use Rattle.std.proofs.lemmas.Option.{slice_get_within, slice_get_read, get_or_from_slice_get}
-use Rattle.prop_map.specs.Settings.{Settings}
+use Rattle.prop_map.specs.Settings.{Properties}
 use Rattle.prop_map.specs.Formed.{IsPropertyMap, character_groups}
 use Rattle.run_lists.specs.declared.runs.Run.{Run}
 use Rattle.run_lists.proofs.CutLemmas.{All-runs, All-spread}
@@ -22,7 +22,7 @@ loop-run-preserved c d =
     let chps = c.args.chps.now in
     below_more (λ k. 0 < (get_or chps k d).count → IsShortChp (get_or chps k d).value) c.loop-run.run-index
     (c.loop-run.invariant d)
-    (subst (λ (run : Run Settings). 0 < run.count → IsShortChp run.value)
+    (subst (λ (run : Run Properties). 0 < run.count → IsShortChp run.value)
     (c.run-item.is ∙ get_or_default chps c.loop-run.run-index c.run-item.result d (omega arith))
     (c.if-not-is_short_run.ensures refl))
 
@@ -32,6 +32,6 @@ returns c = λ _.
     All-spread IsShortChp chps (λ k run is some.
     let here : get_or chps k run ≡ run = get_or_from_slice_get chps k run run is in
     let within : k < length chps = slice_get_within chps k run is in
-    subst (λ (one : Run Settings). IsShortChp one.value) here
+    subst (λ (one : Run Properties). IsShortChp one.value) here
     (c.loop-run.invariant run k (omega (arith, within))
-    (subst (λ (one : Run Settings). 0 < one.count) (sym here) some)))
+    (subst (λ (one : Run Properties). 0 < one.count) (sym here) some)))

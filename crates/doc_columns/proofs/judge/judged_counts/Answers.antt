@@ -9,7 +9,7 @@ use Rattle.plain_doc.specs.declared.text_walk.TextWalk.{TextWalk}
 use Rattle.plain_doc.specs.declared.rules_counts.Counts.{Counts}
 use Rattle.plain_doc.specs.TextWalk.{EndsWalk, KeepsTextRules, HasCounts}
 use Rattle.plain_doc.proofs.TextWalkLemmas.{none_passed}
-use Rattle.doc_columns.specs.declared.beside.Beside.{Beside}
+use Rattle.doc_columns.specs.declared.attached.Attached.{Attached}
 use Rattle.doc_columns.specs.Judging.{IsPassedTo}
 use Rattle.doc_columns.proofs.CollectLemmas.{start_at, run_inside}
 use Rattle.doc_columns.proofs.JudgeLemmas.{run_at, all_passed_to}
@@ -20,7 +20,7 @@ pub loop-run-init : goal.loop-run-init
 loop-run-init c =
     let judged = c.args.judged.now in
     record {
-      place = sym (extent-nil Beside);
+      place = sym (extent-nil Attached);
       at = start_at judged.chps.now c.new-cursor.result c.new-cursor.ensures;
       ahead = omega (arith, ap (λ (cursor : Cursor). cursor.begin) c.new-cursor.ensures);
       passed =
@@ -31,30 +31,30 @@ loop-run-init c =
 pub overflow_add-place : goal.overflow_add-place
 overflow_add-place c =
     let text = c.args.judged.now.text.now in
-    let runs : List (Run Beside) = c.besides-run-items.result.now in
-    let run : Run Beside = c.run-item.result in
+    let runs : List (Run Attached) = c.attachments-run-items.result.now in
+    let run : Run Attached = c.run-item.result in
     let is : slice_get runs c.loop-run.run-index ≡ Some run =
     slice_get_read runs (length runs) c.loop-run.run-index run refl (omega arith) c.run-item.is in
-    let inside = run_inside text runs c.loop-run.run-index c.loop-run.place run c.besides-run-items.ensures is
+    let inside = run_inside text runs c.loop-run.run-index c.loop-run.place run c.attachments-run-items.ensures is
     c.loop-run.invariant.place in
     omega (arith, inside, c.requires.formed.few)
 
 pub pass_run-requires-clause-run : goal.pass_run-requires-clause-run
 pass_run-requires-clause-run c =
-    let runs : List (Run Beside) = c.besides-run-items.result.now in
-    let run : Run Beside = c.run-item.result in
+    let runs : List (Run Attached) = c.attachments-run-items.result.now in
+    let run : Run Attached = c.run-item.result in
     let is : slice_get runs c.loop-run.run-index ≡ Some run =
     slice_get_read runs (length runs) c.loop-run.run-index run refl (omega arith) c.run-item.is in
-    run_at c.args.judged.now.text.now runs c.loop-run.run-index c.loop-run.place run c.besides-run-items.ensures is
+    run_at c.args.judged.now.text.now runs c.loop-run.run-index c.loop-run.place run c.attachments-run-items.ensures is
     c.loop-run.invariant.place
 
 pub loop-run-preserved : goal.loop-run-preserved
 loop-run-preserved c =
-    let runs : List (Run Beside) = c.besides-run-items.result.now in
-    let run : Run Beside = c.run-item.result in
+    let runs : List (Run Attached) = c.attachments-run-items.result.now in
+    let run : Run Attached = c.run-item.result in
     let within : c.loop-run.run-index < length runs = omega arith in
     let count : run.count ≡ (get_or runs c.loop-run.run-index run).count =
-    ap (λ (r : Run Beside). r.count) c.run-item.is in
+    ap (λ (r : Run Attached). r.count) c.run-item.is in
     record {
       place = omega (arith, c.loop-run.invariant.place, extent_more runs c.loop-run.run-index run within, count);
       at = c.in_ok-pass_run.ensures.at;
@@ -67,8 +67,9 @@ returns c =
     let judged = c.args.judged.now in
     let sheet = judged.sheet.now in
     let text = judged.text.now in
-    let passed = all_passed_to judged c.besides-run-items.result.now c.loop-run.run-index c.loop-run.place
-    c.loop-run.walk c.besides-run-items.ensures (omega arith) c.loop-run.invariant.place c.loop-run.invariant.passed in
+    let passed = all_passed_to judged c.attachments-run-items.result.now c.loop-run.run-index c.loop-run.place
+    c.loop-run.walk c.attachments-run-items.ensures (omega arith) c.loop-run.invariant.place c.loop-run.invariant.passed
+    in
     some_more (EndsWalk c.loop-run.walk)
     (λ (counts : Counts). KeepsTextRules sheet judged.part text × HasCounts text counts) c.counts.result
     (λ counts ends. ends sheet judged.part text c.requires.ends c.requires.formed.few passed) c.counts.ensures

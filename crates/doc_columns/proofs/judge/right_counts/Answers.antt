@@ -1,11 +1,11 @@
 use Rattle.std.proofs.Common.{refl}
-use Rattle.run_lists.specs.Spread.{spread}
+use Rattle.run_lists.specs.Spread.{expanded}
 use Rattle.doc_columns.proofs.RightLemmas.{chps_formed, ends_of_units}
 use Rattle.doc_columns.proofs.judge.right_counts.Goals as goal
 
 pub are_short-requires : goal.are_short-requires
 are_short-requires c =
-    chps_formed c.args.text.now (spread c.chps.result.now) c.chps.ensures c.len-len.ensures.formed.each
+    chps_formed c.args.text.now (expanded c.chps.result.now) c.chps.ensures c.len-len.ensures.formed.each
 
 pub judged_counts-requires : goal.judged_counts-requires
 judged_counts-requires c = record {

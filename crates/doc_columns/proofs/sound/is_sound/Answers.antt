@@ -7,7 +7,7 @@ use Rattle.plain_doc.specs.RulesOfSheet.{heads_of_sections, item_count, most_ite
 use Rattle.plain_doc.specs.Sound.{IsSound}
 use Rattle.plain_doc.specs.TextWalk.{KeepsTextRules, HasCounts}
 use Rattle.plain_doc.proofs.JudgedLemmas.{all_texts, judged_sound}
-use Rattle.bare_items.specs.Marks.{AreRightBookmarks}
+use Rattle.bare_items.specs.Marks.{AreValidBookmarks}
 use Rattle.doc_columns.proofs.RightLemmas.{taken}
 use Rattle.doc_columns.proofs.SeenLemmas.{seen_document}
 use Rattle.doc_columns.proofs.sound.is_sound.Goals as goal
@@ -24,17 +24,17 @@ returns c = λ sound.
     let seen = seen_document own in
     let counts = c.in-Some.counts in
     let count : c.all_items.result ≡ item_count c.args.document.now = c.all_items.ensures in
-    let few : item_count c.args.document.now ≤ most_items = omega (arith, count, c.if-all_items-gt-MOST_ITEMS.false) in
-    let marks : AreRightBookmarks (length own.main) own.bookmarks =
-    subst (λ n. AreRightBookmarks n own.bookmarks) c.len.ensures.len (c.if-not-are_right.ensures refl) in
+    let few : item_count c.args.document.now ≤ most_items = omega (arith, count, c.if-all_items-gt-MAX_ITEMS.false) in
+    let marks : AreValidBookmarks (length own.main) own.bookmarks =
+    subst (λ n. AreValidBookmarks n own.bookmarks) c.len.ensures.len (c.if-not-are_valid.ensures refl) in
     let main =
     taken (λ (counts : Counts). KeepsTextRules own.sheet Main own.main × HasCounts own.main counts) _ counts
     c.in-Some.is c.in_ok-counts.ensures in
-    let notes = c.in_ok-are_right_texts.ensures c.if-not-branch.false in
-    let heads = c.in_ok-are_right_texts-2.ensures c.if-not-branch-2.false in
+    let notes = c.in_ok-are_valid_texts.ensures c.if-not-branch.false in
+    let heads = c.in_ok-are_valid_texts-2.ensures c.if-not-branch-2.false in
     let fit = c.if-not-fit_counts.ensures refl in
     subst IsSound c.document.view_is
-    (judged_sound seen counts (all_texts seen main.0 notes heads) (c.is_right_sheet.ensures sound) (record {
+    (judged_sound seen counts (all_texts seen main.0 notes heads) (c.is_valid_sheet.ensures sound) (record {
       counted = main.1;
       notes = subst (λ (d : Document). length d.notes ≡ counts.notes) (sym c.document.view_is) fit.0;
       heads = subst (λ (d : Document). length d.heads ≡ heads_of_sections counts.sections) (sym c.document.view_is)

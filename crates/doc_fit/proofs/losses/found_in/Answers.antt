@@ -3,8 +3,8 @@ use Rattle.doc_bits.specs.Rules.{Hold}
 use Rattle.cfb_streams.specs.Contents.{HasNamed}
 use Rattle.cfb_streams.specs.Names.{wd_name}
 use Rattle.fib_versions.specs.VersionRules.{version_rules}
-use Rattle.doc_load.specs.FileRules.{table_stream_name}
-use Rattle.doc_load.proofs.NameLemmas.{named_one}
+use Rattle.file_rules.specs.FileRules.{table_stream_name}
+use Rattle.file_rules.proofs.NameLemmas.{named_one}
 use Rattle.loss_report.specs.Losses.{losses}
 use Rattle.loss_report.specs.Lines.{feature_line}
 use Rattle.text_losses.specs.Lines.{feature_line as line_of_feature}

@@ -25,13 +25,13 @@ pub returns-then-rule-eq-RULE_ENCRYPTED : goal.returns-then-rule-eq-RULE_ENCRYPT
 returns-then-rule-eq-RULE_ENCRYPTED c =
     let file = c.args.file.now in
     let name = c.args.name.now in
-    IfOk-weaker c.encrypted.result (λ e. e ≡ says 16 (encrypted_line name)) (λ e. IsFitRefused file name e)
+    IfOk-weaker c.encrypted_ending.result (λ e. e ≡ says 16 (encrypted_line name)) (λ e. IsFitRefused file name e)
     (λ e is. record {
       rule = c.args.rule;
       place = c.args.place;
       first = c.requires;
       ends = inr (inl (c.if-rule-eq-RULE_ENCRYPTED.true, is));
-    }) c.encrypted.ensures
+    }) c.encrypted_ending.ensures
 
 pub returns : goal.returns
 returns c =

@@ -11,7 +11,7 @@ use Rattle.doc_html.proofs.heads.is_head_row.Given as goal
 abbrev pub invariant-loop-at : goal.invariant-loop-at
 invariant-loop-at l = record {
   within : l.at ≤ length l.parts.units.now;
-  marks : IsAt l.parts.besides.now l.marks;
+  marks : IsAt l.parts.attachments.now l.marks;
   ahead : l.marks.begin ≤ l.at;
   same : (formats : Formats) (manner : Manner) →
       is_head_row (paragraphs_left formats manner (items_in l.parts) l.at)

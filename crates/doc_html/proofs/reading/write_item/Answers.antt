@@ -19,14 +19,14 @@ pass-requires-clause-room g c =
     let manner = c.args.text.now.manner in
     let course = c.args.reading.now.course in
     let format = c.args.stretch.now.format in
-    let beside = c.args.stretch.now.beside.now in
+    let attached = c.args.stretch.now.attached.now in
     let ahead = c.requires.ahead in
     let within = c.requires.within in
     let unit = slice_index parts.units.now course.place in
     let one = item_there parts c.requires.parts course.place (omega (arith, ahead, within)) in
     let same =
-    seen_is manner format course.front one.0 unit beside c.see-seen.result one.1.1
-    (c.requires.beside course.place one.0 (omega arith) ahead one.1.0) c.see-seen.ensures in
+    seen_is manner format course.front one.0 unit attached c.see-seen.result one.1.1
+    (c.requires.attached course.place one.0 (omega arith) ahead one.1.0) c.see-seen.ensures in
     item_room manner (items_in parts) course format one.0 c.see-seen.result c.requires.reading.course one.1.0 same
 
 pub returns-clause-reading : goal.returns-clause-reading
@@ -35,13 +35,13 @@ returns-clause-reading g c =
     let manner = c.args.text.now.manner in
     let course = c.args.reading.now.course in
     let format = c.args.stretch.now.format in
-    let beside = c.args.stretch.now.beside.now in
+    let attached = c.args.stretch.now.attached.now in
     let ahead = c.requires.ahead in
     let within = c.requires.within in
     let unit = slice_index parts.units.now course.place in
     let one = item_there parts c.requires.parts course.place (omega (arith, ahead, within)) in
-    let beside_is = c.requires.beside course.place one.0 (omega arith) ahead one.1.0 in
-    let same = seen_is manner format course.front one.0 unit beside c.see-seen.result one.1.1 beside_is
+    let attached_is = c.requires.attached course.place one.0 (omega arith) ahead one.1.0 in
+    let same = seen_is manner format course.front one.0 unit attached c.see-seen.result one.1.1 attached_is
     c.see-seen.ensures
     in
     let place : c.pass.new.self.place ≡ course.place + 1 = ap (λ (x : Course). x.place) c.pass.ensures in
@@ -51,14 +51,14 @@ returns-clause-reading g c =
     record {
       course =
           subst (λ (x : Course). IsCourse manner (items_in parts) x) (sym c.pass.ensures)
-          (item_course manner (items_in parts) course format one.0 unit beside c.see-seen.result
+          (item_course manner (items_in parts) course format one.0 unit attached c.see-seen.result
           c.requires.reading.course
-          one.1.0 one.1.1 beside_is same);
+          one.1.0 one.1.1 attached_is same);
       few = omega (arith, place, few, counted, one_more);
       referred =
           c.referred_behind-reading.ensures
-          ∙ ap (λ (n : ℕ). if is_some beside.note then n else c.args.reading.now.referred) place
-          ∙ referred_on (items_in parts) course.place one.0 beside c.args.reading.now.referred one.1.0 beside_is
+          ∙ ap (λ (n : ℕ). if is_some attached.note then n else c.args.reading.now.referred) place
+          ∙ referred_on (items_in parts) course.place one.0 attached c.args.reading.now.referred one.1.0 attached_is
           c.requires.reading.referred
           ∙ ap (λ (n : ℕ). up_to_reference (take n (items_in parts))) (sym place);
     }
@@ -71,14 +71,14 @@ returns-clause-writes g c = λ formats istd has.
     let reading = c.args.reading.now in
     let course = reading.course in
     let format = c.args.stretch.now.format in
-    let beside = c.args.stretch.now.beside.now in
+    let attached = c.args.stretch.now.attached.now in
     let ahead = c.requires.ahead in
     let within = c.requires.within in
     let unit = slice_index parts.units.now course.place in
     let one = item_there parts c.requires.parts course.place (omega (arith, ahead, within)) in
     let same =
-    seen_is manner format course.front one.0 unit beside c.see-seen.result one.1.1
-    (c.requires.beside course.place one.0 (omega arith) ahead one.1.0) c.see-seen.ensures in
+    seen_is manner format course.front one.0 unit attached c.see-seen.result one.1.1
+    (c.requires.attached course.place one.0 (omega arith) ahead one.1.0) c.see-seen.ensures in
     let label = c.args.label.now in
     let link = c.link-link.result in
     let put : PutsPlaces g.K.Sink c.begin.new.out c.begin.new.self.page c.write.new.out c.write.new.self.page

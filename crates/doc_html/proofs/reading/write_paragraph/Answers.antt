@@ -30,10 +30,10 @@ write_stretch-requires-clause-reading g c =
     c.alike_from-alike.new.walk
     c.loop-reading.invariant.reading
 
-pub write_stretch-requires-clause-beside : goal.write_stretch-requires-clause-beside
-write_stretch-requires-clause-beside g c = λ k item low until here.
+pub write_stretch-requires-clause-attached : goal.write_stretch-requires-clause-attached
+write_stretch-requires-clause-attached g c = λ k item low until here.
     let least = c.min.ensures in
-    c.alike_from-alike.ensures.besides k item low (omega (arith, until, least)) here
+    c.alike_from-alike.ensures.attachments k item low (omega (arith, until, least)) here
 
 pub write_stretch-requires-clause-depth : goal.write_stretch-requires-clause-depth
 write_stretch-requires-clause-depth g c =

@@ -4,7 +4,7 @@ use Rattle.std.specs.Prelude.{slice_range}
 use Rattle.doc_columns.specs.Walks.{items_in}
 use Rattle.view_places.specs.declared.element.Element.{Element}
 use Rattle.glyph_units.specs.Glyphs.{unit_places}
-use Rattle.doc_view.specs.Course.{HasBeside}
+use Rattle.doc_view.specs.Course.{HasAttached}
 use Rattle.doc_view.proofs.UnitLemmas.{AreUnits, course_behind, range_characters, units_at}
 use Rattle.doc_places.specs.Places.{format_elements, label_places, link_elements}
 use Rattle.form_page.specs.Forms.{PutsPlaces}
@@ -51,19 +51,19 @@ returns-clause-reading g c =
     let some : 0 < count = omega (arith, c.if-count-eq0.false) in
     let inside = len.ensures.within in
     let within = c.requires.within in
-    let beside = c.args.stretch.now.beside.now in
+    let attached = c.args.stretch.now.attached.now in
     let format = c.args.stretch.now.format in
-    let are : AreUnits items parts.units.now beside course.place (course.place + count) =
-    units_at parts c.requires.parts beside course.place (course.place + count) (omega (arith, inside, within))
-    (λ k item low below here. c.requires.beside k item low (omega (arith, below, inside)) here) len.ensures.units in
+    let are : AreUnits items parts.units.now attached course.place (course.place + count) =
+    units_at parts c.requires.parts attached course.place (course.place + count) (omega (arith, inside, within))
+    (λ k item low below here. c.requires.attached k item low (omega (arith, below, inside)) here) len.ensures.units in
     record {
       course =
-          course_behind manner items parts.units.now course format beside count some c.requires.reading.course
+          course_behind manner items parts.units.now course format attached count some c.requires.reading.course
           (len.ensures.shows some) are;
       few = run_few reading.count course.place count c.requires.reading.few;
       referred =
           c.requires.reading.referred
-          ∙ sym (referred_along items parts.units.now beside course.place count (len.ensures.note some) are);
+          ∙ sym (referred_along items parts.units.now attached course.place count (len.ensures.note some) are);
     }
 
 pub returns-clause-writes : goal.returns-clause-writes
@@ -78,22 +78,22 @@ returns-clause-writes g c = λ formats istd has.
     let some : 0 < count = omega (arith, c.if-count-eq0.false) in
     let inside = len.ensures.within in
     let within = c.requires.within in
-    let beside = c.args.stretch.now.beside.now in
+    let attached = c.args.stretch.now.attached.now in
     let format = c.args.stretch.now.format in
     let block = c.args.writer.now.path in
     let label = c.args.label.now in
     let first = c.begin in
     let run = c.write_run in
     let link = c.link-link.result in
-    let are : AreUnits items parts.units.now beside course.place (course.place + count) =
-    units_at parts c.requires.parts beside course.place (course.place + count) (omega (arith, inside, within))
-    (λ k item low below here. c.requires.beside k item low (omega (arith, below, inside)) here) len.ensures.units in
+    let are : AreUnits items parts.units.now attached course.place (course.place + count) =
+    units_at parts c.requires.parts attached course.place (course.place + count) (omega (arith, inside, within))
+    (λ k item low below here. c.requires.attached k item low (omega (arith, below, inside)) here) len.ensures.units in
     let put : PutsPlaces g.K.Sink first.new.out first.new.self.page run.new.out run.new.self.page (unit_places (block ++
     (link_elements link ++ format_elements format)) (slice_range parts.units.now course.place (course.place + count))) =
     subst (λ (path : List Element). PutsPlaces g.K.Sink first.new.out first.new.self.page run.new.out run.new.self.page
     (unit_places (path ++ (link_elements link ++ format_elements format)) (slice_range parts.units.now course.place
     (course.place + count)))) first.ensures.path run.ensures.puts in
     run_written g.K.Sink c.args.out.now first.new.out run.new.out c.args.writer.now.page first.new.self.page
-    run.new.self.page reading link block label formats manner istd items parts.units.now format beside count some
+    run.new.self.page reading link block label formats manner istd items parts.units.now format attached count some
     c.requires.reading (len.ensures.shows some) (len.ensures.note some) are
     (λ k item low below here. has k item low (omega (arith, below, inside)) here) c.link-link.ensures first.ensures.puts put

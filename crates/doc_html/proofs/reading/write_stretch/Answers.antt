@@ -24,10 +24,10 @@ loop-reading-init g c = record {
 pub write_some-requires-clause-reading : goal.write_some-requires-clause-reading
 write_some-requires-clause-reading g c = c.loop-reading.invariant.reading
 
-pub write_some-requires-clause-beside : goal.write_some-requires-clause-beside
-write_some-requires-clause-beside g c = λ k item low until here.
+pub write_some-requires-clause-attached : goal.write_some-requires-clause-attached
+write_some-requires-clause-attached g c = λ k item low until here.
     let start = c.loop-reading.invariant.low in
-    c.requires.beside k item (omega (arith, start, low)) until here
+    c.requires.attached k item (omega (arith, start, low)) until here
 
 pub write_some-requires-clause-depth : goal.write_some-requires-clause-depth
 write_some-requires-clause-depth g c =

@@ -52,7 +52,7 @@ loop-reading-init g c =
       walk =
           subst (λ (n : ℕ). IsWalk parts reading.result.course.walk n) (sym place)
           (first_walk parts reading.result.course.walk reading.ensures.walk);
-      marks = start_at parts.besides.now c.new-marks.result c.new-marks.ensures;
+      marks = start_at parts.attachments.now c.new-marks.result c.new-marks.ensures;
       ahead =
           subst (λ (n : ℕ). c.new-marks.result.begin ≤ n) (sym place)
           (begins_at_start c.new-marks.result c.new-marks.ensures);

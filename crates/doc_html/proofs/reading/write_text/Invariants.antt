@@ -15,7 +15,7 @@ abbrev pub invariant-loop-reading : goal.invariant-loop-reading
 invariant-loop-reading g l = record {
   within : l.reading.course.place ≤ length l.text.parts.units.now;
   walk : IsWalk l.text.parts l.reading.course.walk l.reading.course.place;
-  marks : IsAt l.text.parts.besides.now l.marks;
+  marks : IsAt l.text.parts.attachments.now l.marks;
   ahead : l.marks.begin ≤ l.reading.course.place;
   reading : IsReading l.text.manner (items_in l.text.parts) l.reading;
   path : l.writer.path ≡ l.fn.writer.path;

@@ -24,8 +24,8 @@ pass-requires-clause-room c =
     let unit = slice_index parts.units.now course.place in
     let one = item_there parts c.requires.parts course.place within in
     let same =
-    seen_is manner c.format-format.result course.front one.0 unit alike.result.beside.now c.see-seen.result one.1.1
-    (alike.ensures.besides course.place one.0 (omega arith) some one.1.0) c.see-seen.ensures in
+    seen_is manner c.format-format.result course.front one.0 unit alike.result.attached.now c.see-seen.result one.1.1
+    (alike.ensures.attachments course.place one.0 (omega arith) some one.1.0) c.see-seen.ensures in
     item_room manner (items_in parts) course c.format-format.result one.0 c.see-seen.result c.requires.course one.1.0 same
 
 pub returns-clause-course : goal.returns-clause-course
@@ -39,14 +39,14 @@ returns-clause-course c =
     let within = c.requires.within in
     let unit = slice_index parts.units.now course.place in
     let one = item_there parts c.requires.parts course.place within in
-    let beside_is = alike.ensures.besides course.place one.0 (omega arith) some one.1.0 in
+    let attached_is = alike.ensures.attachments course.place one.0 (omega arith) some one.1.0 in
     let same =
-    seen_is manner c.format-format.result course.front one.0 unit alike.result.beside.now c.see-seen.result one.1.1
-    beside_is c.see-seen.ensures in
+    seen_is manner c.format-format.result course.front one.0 unit alike.result.attached.now c.see-seen.result one.1.1
+    attached_is c.see-seen.ensures in
     subst (λ (x : Course). IsCourse manner (items_in parts) x) (sym c.pass.ensures)
-    (item_course manner (items_in parts) walked c.format-format.result one.0 unit alike.result.beside.now
+    (item_course manner (items_in parts) walked c.format-format.result one.0 unit alike.result.attached.now
     c.see-seen.result (course_walk manner (items_in parts) course alike.new.walk c.requires.course) one.1.0 one.1.1
-    beside_is same)
+    attached_is same)
 
 pub returns-clause-walk : goal.returns-clause-walk
 returns-clause-walk c =
@@ -70,8 +70,8 @@ returns-clause-seen c = λ formats are.
     let unit = slice_index parts.units.now course.place in
     let one = item_there parts c.requires.parts course.place within in
     let same =
-    seen_is manner c.format-format.result course.front one.0 unit alike.result.beside.now c.see-seen.result one.1.1
-    (alike.ensures.besides course.place one.0 (omega arith) some one.1.0) c.see-seen.ensures in
+    seen_is manner c.format-format.result course.front one.0 unit alike.result.attached.now c.see-seen.result one.1.1
+    (alike.ensures.attachments course.place one.0 (omega arith) some one.1.0) c.see-seen.ensures in
     let formed : c.format-format.result ≡ formats istd one.0.chp =
     sym (ap (formats istd) (alike.ensures.chps course.place one.0 (omega arith) some one.1.0)
     ∙ format_one sheet istd chp (formats istd chp) c.format-format.result (are.right istd chp c.requires.style)

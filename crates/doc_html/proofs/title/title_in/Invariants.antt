@@ -13,7 +13,7 @@ abbrev pub invariant-loop-course : goal.invariant-loop-course
 invariant-loop-course l = record {
   within : l.course.place ≤ length l.text.parts.units.now;
   walk : IsWalk l.text.parts l.course.walk l.course.place;
-  marks : IsAt l.text.parts.besides.now l.marks;
+  marks : IsAt l.text.parts.attachments.now l.marks;
   ahead : l.marks.begin ≤ l.course.place;
   course : IsCourse l.text.manner (items_in l.text.parts) l.course;
   title : (formats : Formats) → AreFormats l.text.formats.now formats →

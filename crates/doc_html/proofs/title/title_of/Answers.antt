@@ -13,8 +13,8 @@ use Rattle.doc_view.specs.declared.reading.TextKind.TheVariants as text_kind
 use Rattle.doc_view.specs.Page.{AreFormats}
 use Rattle.doc_view.specs.Seen.{paragraphs_of}
 use Rattle.doc_html.specs.Head.{title_in}
-use Rattle.doc_html.proofs.TitleLemmas.{none_met}
 use Rattle.doc_html.proofs.title.title_of.Goals as goal
+use Rattle.doc_view.proofs.HeaderLemmas.{no_references}
 
 pub title_in-requires-clause-normal : goal.title_in-requires-clause-normal
 title_in-requires-clause-normal c =
@@ -30,7 +30,7 @@ title_in-requires-clause-styles c =
     (sound_styles document sheet Main document.main c.requires.sound c.requires.formats refl)
 
 pub title_in-requires-clause-room : goal.title_in-requires-clause-room
-title_in-requires-clause-room c = none_met c.args.options.hidden c.fonts_of.result (items_in c.parts.result)
+title_in-requires-clause-room c = no_references c.args.options.hidden c.fonts_of.result (items_in c.parts.result)
 
 pub returns : goal.returns
 returns c = λ all are.

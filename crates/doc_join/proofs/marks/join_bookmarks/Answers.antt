@@ -10,7 +10,7 @@ use Rattle.doc_parts.specs.Names.{is_named}
 use Rattle.doc_join.specs.Bookmarks.{bookmarks_from_second, has_name}
 use Rattle.doc_join.proofs.BookmarkLemmas.{length-second, second_more, second_same}
 use Rattle.doc_join.proofs.marks.join_bookmarks.Goals as goal
-use Rattle.doc_join.proofs.marks.join_bookmarks.Goals.{then-not-has_name+in_ok-moved+in_ok-add, else-not-has_name}
+use Rattle.doc_join.proofs.marks.join_bookmarks.Goals.{then-not-has_name+in_ok-move_by+in_ok-add, else-not-has_name}
 
 pub loop-i-init : goal.loop-i-init
 loop-i-init c =
@@ -38,16 +38,16 @@ loop-i-preserved c =
     let name = c.as_slice.result.now in
     let named = sym (c.has_name.ensures
     ∙ (ap (λ (list : List Bookmark). has_name list name) c.deref.ensures.value
-    ∙ (sym (list_any-IsPermutation (is_named name) first c.in_ok-names.names.items c.in_ok-names.ensures.moved)
+    ∙ (sym (list_any-IsPermutation (is_named name) first c.in_ok-names.names.items c.in_ok-names.ensures.move_by)
     ∙ ap (has_name first) c.as_slice.ensures))) in
     elim c.if-not-has_name.branch [
-      | then-not-has_name+in_ok-moved+in_ok-add w ↦
+      | then-not-has_name+in_ok-move_by+in_ok-add w ↦
           w.made-is
           ∙ (w.in_ok-add.ensures.ok
-          ∙ (ap (λ (list : List Bookmark). list ++ w.in_ok-moved.field-0 ∷ []) c.loop-i.invariant
+          ∙ (ap (λ (list : List Bookmark). list ++ w.in_ok-move_by.field-0 ∷ []) c.loop-i.invariant
           ∙ (ap (λ (b : Bookmark).
           (first ++ bookmarks_from_second c.args.before first (take c.loop-i.i second)) ++ b ∷ [])
-          w.in_ok-moved.ensures
+          w.in_ok-move_by.ensures
           ∙ second_more c.args.before first second c.loop-i.i bookmark (named ∙ w.if-not-has_name.true)
           c.get-bookmark.ensures
           (omega arith))))
@@ -60,16 +60,16 @@ loop-i-preserved c =
           (omega arith)))
     ]
 
-pub moved-requires-clause-from : goal.moved-requires-clause-from
-moved-requires-clause-from c =
+pub move_by-requires-clause-from : goal.move_by-requires-clause-from
+move_by-requires-clause-from c =
     let second = c.args.second.now in
     let bookmark = c.get-bookmark.result.now in
     let here = get_or_from_slice_get second c.loop-i.i bookmark bookmark c.get-bookmark.ensures in
     subst (λ (b : Bookmark). b.from + c.args.before < 2 ^ 32) here
     (c.requires.starts c.loop-i.i bookmark (slice_get_within second c.loop-i.i bookmark c.get-bookmark.ensures))
 
-pub moved-requires-clause-to : goal.moved-requires-clause-to
-moved-requires-clause-to c =
+pub move_by-requires-clause-to : goal.move_by-requires-clause-to
+move_by-requires-clause-to c =
     let second = c.args.second.now in
     let bookmark = c.get-bookmark.result.now in
     let here = get_or_from_slice_get second c.loop-i.i bookmark bookmark c.get-bookmark.ensures in

@@ -13,7 +13,7 @@ end_section-requires c =
       arith,
       some,
       ap length c.in_ok-front.ensures.made,
-      length-map c.args.first.now (renumbered_item c.args.ones.now.numbers),
+      length-map c.args.first.now (renumbered_item c.args.first_maps.now.numbers),
     )
 
 pub splice-requires-clause-few : goal.splice-requires-clause-few
@@ -27,17 +27,17 @@ splice-requires-clause-few c =
       length-ended front,
       ap length c.in_ok-front.ensures.made,
       ap length c.in_ok-back.ensures.made,
-      length-map c.args.first.now (renumbered_item c.args.ones.now.numbers),
-      length-map c.args.second.now (renumbered_item c.args.others.now.numbers),
+      length-map c.args.first.now (renumbered_item c.args.first_maps.now.numbers),
+      length-map c.args.second.now (renumbered_item c.args.second_maps.now.numbers),
     )
 
 pub returns-clause-made : goal.returns-clause-made
 returns-clause-made c =
-    let ones = c.args.ones.now.numbers in
-    let others = c.args.others.now.numbers in
+    let first_maps = c.args.first_maps.now.numbers in
+    let second_maps = c.args.second_maps.now.numbers in
     c.in_ok-made.ensures
     ∙ (splice_end c.in_ok-ended.ended c.in_ok-back.back c.len-len.result c.len-len.ensures.len
     ∙ (ap (λ (front : List Item). front ++ c.in_ok-back.back)
     (c.in_ok-ended.ensures ∙ ap section_ended c.in_ok-front.ensures.made)
-    ∙ ap (λ (back : List Item). section_ended (renumbered_text ones c.args.first.now) ++ back)
+    ∙ ap (λ (back : List Item). section_ended (renumbered_text first_maps c.args.first.now) ++ back)
     c.in_ok-back.ensures.made))

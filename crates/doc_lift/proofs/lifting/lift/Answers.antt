@@ -6,8 +6,8 @@ use Rattle.doc_bits.specs.Places.{rules_in}
 use Rattle.doc_bits.proofs.RuleLemmas.{hold_in}
 use Rattle.cfb_streams.specs.Contents.{Contents}
 use Rattle.cfb_streams.specs.Container.{outer_rules, HasContents}
-use Rattle.doc_load.specs.Faults.{IsReadFault, cfb_refusal}
-use Rattle.doc_load.proofs.RefusalLemmas.{refused-first, refused-next, refused-given, refused-container}
+use Rattle.file_rules.specs.Faults.{IsReadFault, cfb_refusal}
+use Rattle.file_rules.proofs.RefusalLemmas.{refused-first, refused-next, refused-given, refused-container}
 use Rattle.doc_read.specs.CarriedParts.{AreWithinBounds}
 use Rattle.doc_meaning.proofs.MeaningLemmas.{file_means}
 use Rattle.doc_lift.specs.LiftedRules.{lifted_contents_rules}
@@ -58,7 +58,7 @@ returns-in-Err-lift_contents c =
     let refused : IsReadFault (lifted_contents_rules contents) fault =
     subst (λ (k : Contents). IsReadFault (lifted_contents_rules k) fault) c.container.ensures
     c.in-Err-lift_contents.ensures in
-    rw c.let_go.ensures
+    rw c.drop_then.ensures
     (refused-next (rules_in File (outer_rules file)) (given (HasContents file) lifted_contents_rules) fault
     (hold_in File (outer_rules file) outer.0)
     (refused-given (HasContents file) lifted_contents_rules contents fault outer.1.0 refused))

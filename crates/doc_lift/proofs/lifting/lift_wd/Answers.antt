@@ -8,8 +8,8 @@ use Rattle.fib_form.specs.Fib.{fib_which_table}
 use Rattle.fib_versions.specs.VersionRules.{version_rules}
 use Rattle.cfb_streams.specs.Names.{table_name}
 use Rattle.cfb_streams.specs.Contents.{HasNamed, HasNoNamed}
-use Rattle.doc_load.specs.FileRules.{HasNoStream, table_stream_name}
-use Rattle.doc_load.proofs.RefusalLemmas.{refused-next, refused-given, stream-missing, stream-there}
+use Rattle.file_rules.specs.FileRules.{HasNoStream, table_stream_name}
+use Rattle.file_rules.proofs.RefusalLemmas.{refused-next, refused-given, stream-missing, stream-there}
 use Rattle.doc_lift.specs.LiftedRules.{lifted_table_rules, lifted_wd_rules}
 use Rattle.doc_lift.proofs.LiftLemmas.{lifted_under}
 use Rattle.doc_lift.proofs.lifting.lift_wd.Goals as goal

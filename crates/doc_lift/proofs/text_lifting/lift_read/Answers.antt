@@ -7,10 +7,10 @@ use Rattle.fib_form.specs.Fib.{form_size}
 use Rattle.fib_form.specs.FibFields.{FibFields, fib_fields}
 use Rattle.fib_versions.specs.Versions.{all_text_length}
 use Rattle.cfb_streams.specs.Names.{wd_name}
-use Rattle.doc_load.specs.Faults.{IsReadFault}
-use Rattle.doc_load.specs.PartRules.{part_rules}
-use Rattle.doc_load.specs.FileRules.{IsFrontOf, rules_of_pieces, source_of}
-use Rattle.doc_load.proofs.RefusalLemmas.{refused-first, refused-next, refused-given}
+use Rattle.file_rules.specs.Faults.{IsReadFault}
+use Rattle.file_rules.specs.PartRules.{part_rules}
+use Rattle.file_rules.specs.FileRules.{IsFrontOf, rules_of_pieces, source_of}
+use Rattle.file_rules.proofs.RefusalLemmas.{refused-first, refused-next, refused-given}
 use Rattle.doc_meaning.proofs.FrontLemmas.{whole_text, front_text, front_units}
 use Rattle.doc_lift.specs.LiftedRules.{IsLiftedSource, IsReadFor, lifted_wd}
 use Rattle.doc_lift.proofs.SkipLemmas.{chosen}

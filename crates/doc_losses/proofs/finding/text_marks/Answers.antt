@@ -4,12 +4,12 @@ use Rattle.std.proofs.lemmas.List.{length-map}
 use Rattle.std.proofs.lemmas.Option.{slice_get-get_or}
 use Rattle.fib_versions.specs.declared.further.Further.{Further}
 use Rattle.plain_doc.specs.declared.item.Item.{Item}
-use Rattle.run_lists.specs.Spread.{spread, extent}
+use Rattle.run_lists.specs.Spread.{expanded, total_len}
 use Rattle.run_lists.specs.Places.{IsAt}
 use Rattle.run_lists.specs.declared.cursor.Cursor.{Cursor}
 use Rattle.run_lists.proofs.SpreadLemmas.{extent-nil, length-spread}
-use Rattle.doc_columns.specs.declared.beside.Beside.{Beside}
-use Rattle.doc_columns.specs.Beside.{beside_of}
+use Rattle.doc_columns.specs.declared.attached.Attached.{Attached}
+use Rattle.doc_columns.specs.Attached.{attached_of}
 use Rattle.doc_parts.specs.Tabulated.{tabulate}
 use Rattle.doc_parts.proofs.BookmarkPartLemmas.{tabulate-next}
 use Rattle.doc_losses.specs.References.{mark_at}
@@ -21,19 +21,19 @@ pub loop-at-init : goal.loop-at-init
 unfolding tabulate
 loop-at-init c = record {
   list = c.in_ok-list.ensures.items;
-  cursor_at = subst (IsAt c.besides-besides.result.now) (sym c.new-cursor.ensures) (record {
+  cursor_at = subst (IsAt c.attachments-attachments.result.now) (sym c.new-cursor.ensures) (record {
     there = omega arith;
-    begins = extent-nil Beside;
+    begins = extent-nil Attached;
   });
   ahead = subst (λ (cursor : Cursor). cursor.begin ≤ 0) (sym c.new-cursor.ensures) (omega arith);
 }
 
-pub seek-beside-requires-clause-within : goal.seek-beside-requires-clause-within
-seek-beside-requires-clause-within c =
+pub seek-attached-requires-clause-within : goal.seek-attached-requires-clause-within
+seek-attached-requires-clause-within c =
     let text = c.args.text.now in
-    let all : extent c.besides-besides.result.now ≡ length text =
-    sym (length-spread c.besides-besides.result.now) ∙ (ap length c.besides-besides.ensures
-    ∙ length-map text beside_of) in
+    let all : total_len c.attachments-attachments.result.now ≡ length text =
+    sym (length-spread c.attachments-attachments.result.now) ∙ (ap length c.attachments-attachments.ensures
+    ∙ length-map text attached_of) in
     let units : length c.units-units.result.now ≡ length text =
     ap length c.units-units.ensures ∙ length-map text (λ (item : Item). item.unit) in
     omega (arith, all, units, c.loop-at-test.true)
@@ -47,17 +47,17 @@ loop-at-preserved c =
     let unit : slice_get (map (λ (item : Item). item.unit) text) at ≡ Some (slice_index units at) =
     subst (λ (us : List ℕ). slice_get us at ≡ Some (slice_index units at)) c.units-units.ensures
     (slice_get-get_or units at 0 c.loop-at-test.true) in
-    let beside : slice_get (map beside_of text) at ≡ Some c.seek-beside.result.now =
-    subst (λ (bs : List Beside). slice_get bs at ≡ Some c.seek-beside.result.now) c.besides-besides.ensures
-    c.seek-beside.ensures.value in
+    let attached : slice_get (map attached_of text) at ≡ Some c.seek-attached.result.now =
+    subst (λ (bs : List Attached). slice_get bs at ≡ Some c.seek-attached.result.now) c.attachments-attachments.ensures
+    c.seek-attached.ensures.value in
     let mark : c.mark_of.result ≡ f at =
     c.mark_of.ensures
     ∙ sym (mark_is (named_by c.args.marks.now) c.args.story c.args.begin at (slice_index units at) text
-    c.seek-beside.result.now unit beside) in
+    c.seek-attached.result.now unit attached) in
     record {
       list = c.in_ok-push.ensures.items
           ∙ (ap (λ (l : List (Option Further)). l ++ c.mark_of.result ∷ []) c.loop-at.invariant.list
           ∙ (ap (λ (m : Option Further). tabulate f at ++ m ∷ []) mark ∙ sym (tabulate-next f at)));
-      cursor_at = c.seek-beside.ensures.at;
-      ahead = omega (arith, c.seek-beside.ensures.ahead);
+      cursor_at = c.seek-attached.ensures.at;
+      ahead = omega (arith, c.seek-attached.ensures.ahead);
     }

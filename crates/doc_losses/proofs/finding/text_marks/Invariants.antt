@@ -9,6 +9,6 @@ use Rattle.doc_losses.proofs.finding.text_marks.Given as goal
 abbrev pub invariant-loop-at : goal.invariant-loop-at
 invariant-loop-at l = record {
   list : l.list.items ≡ tabulate (mark_at (named_by l.marks) l.story l.begin l.text) l.at;
-  cursor_at : IsAt l.besides l.cursor;
+  cursor_at : IsAt l.attachments l.cursor;
   ahead : l.cursor.begin ≤ l.at;
 }

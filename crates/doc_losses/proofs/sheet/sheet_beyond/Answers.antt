@@ -32,10 +32,10 @@ loop-istd-preserved c =
           ∙ (ap (λ (p : ℕ). even_up (p + 2 + u16_at part (slot_place part istd))) before.place
           ∙ sym (slot_next part istd)));
       low = omega (arith, c.even_up-place-in-loop-istd.ensures, c.word_at-len.type_inv, before.low);
-      styles = ap (λ (n : ℕ). n + c.filled-styles.result) before.styles
-          ∙ (ap (λ (n : ℕ). count_by (nat_lt 0) (tabulate f istd) + n) (c.filled-styles.ensures.count
+      styles = ap (λ (n : ℕ). n + c.count_if_filled-styles.result) before.styles
+          ∙ (ap (λ (n : ℕ). count_by (nat_lt 0) (tabulate f istd) + n) (c.count_if_filled-styles.ensures.count
           ∙ ap (λ (n : ℕ). count_by (nat_lt 0) (n ∷ [])) len)
           ∙ (sym (count_by-append (nat_lt 0) (tabulate f istd) (f istd ∷ []))
           ∙ ap (count_by (nat_lt 0)) (sym (tabulate-next f istd))));
-      few = omega (arith, before.few, c.filled-styles.ensures.few);
+      few = omega (arith, before.few, c.count_if_filled-styles.ensures.few);
     }

@@ -12,5 +12,5 @@ loop-istd-preserved c =
       are = rw c.in_ok-add_where.ensures (judged_one sheet istd c.loop-istd.istds.items is c.loop-istd.invariant.are
           c.is_endless.ensures);
       kinds = rw c.in_ok-add_where.ensures (kinds_one (λ istd. 0 < kind_at sheet istd) c.loop-istd.istds.items istd is
-          c.loop-istd.invariant.kinds (λ yes. (c.is_endless.ensures.0 yes).settings));
+          c.loop-istd.invariant.kinds (λ yes. (c.is_endless.ensures.0 yes).properties));
     }

@@ -6,7 +6,7 @@ use Rattle.std.proofs.lemmas.Option.{get_or_from_slice_get}
 use Rattle.doc_bits.specs.declared.places.Story.TheVariants.{Head}
 use Rattle.doc_bits.proofs.ListLemmas.{there_is}
 use Rattle.plain_doc.specs.declared.item.Item.{Item}
-use Rattle.edit_changes.specs.Changes.{changed_at}
+use Rattle.doc_patch.specs.Changes.{changed_at}
 use Rattle.doc_losses.specs.References.{Names, head_begin}
 use Rattle.doc_losses.specs.Marks.{named_by}
 use Rattle.doc_mends.specs.Cuts.{cut_text}

@@ -5,7 +5,7 @@ use Rattle.std.proofs.lemmas.List.{take_all}
 use Rattle.std.proofs.lemmas.List.Edits.{length-between}
 use Rattle.std.proofs.lemmas.List.Sums.{count_by-le-length}
 use Rattle.run_lists.specs.declared.runs.Run.{Run}
-use Rattle.run_lists.specs.Spread.{spread, extent}
+use Rattle.run_lists.specs.Spread.{expanded, total_len}
 use Rattle.run_lists.proofs.SpreadLemmas.{spread-nil, extent-nil, extent_more, count_within, length-spread}
 use Rattle.doc_mends.specs.Cuts.{unflagged}
 use Rattle.doc_mends.proofs.CutLemmas.{unflagged-nil, unflagged-short, run_unflagged}
@@ -47,7 +47,7 @@ add-requires g c =
     let inside : begin + run.count ≤ length flags =
     omega (arith, c.loop-k.invariant.begin, count, within, c.requires.len) in
     let made = ap length c.loop-k.invariant.made in
-    let short = unflagged-short (take begin flags) (spread (take k runs)) in
+    let short = unflagged-short (take begin flags) (expanded (take k runs)) in
     let long = length-spread (take k runs) in
     let part = length-between flags begin (begin + run.count) inside in
     let few = count_by-le-length not (slice_range flags begin (begin + run.count)) in
@@ -77,9 +77,9 @@ returns g c =
     let runs = c.args.runs.now in
     let flags : List Bool = c.args.flags.now in
     let whole : take c.loop-k.k runs ≡ runs = take_all c.loop-k.k runs (omega (arith, c.loop-k-test.false)) in
-    let all : c.loop-k.begin ≡ extent runs =
-    c.loop-k.invariant.begin ∙ ap (λ (l : List (Run g.row.T.Denot)). extent l) whole in
+    let all : c.loop-k.begin ≡ total_len runs =
+    c.loop-k.invariant.begin ∙ ap (λ (l : List (Run g.row.T.Denot)). total_len l) whole in
     c.loop-k.invariant.made
-    ∙ (ap (λ (l : List (Run g.row.T.Denot)). unflagged (take c.loop-k.begin flags) (spread l)) whole
-    ∙ ap (λ (l : List Bool). unflagged l (spread runs))
+    ∙ (ap (λ (l : List (Run g.row.T.Denot)). unflagged (take c.loop-k.begin flags) (expanded l)) whole
+    ∙ ap (λ (l : List Bool). unflagged l (expanded runs))
     (take_all c.loop-k.begin flags (omega (arith, all, c.requires.len))))

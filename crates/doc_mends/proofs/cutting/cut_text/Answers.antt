@@ -1,12 +1,12 @@
 use Rattle.std.proofs.Common.{◌∙◌, ap, sym, subst, arith, ℕ, Bool, List, length, map}
 use Rattle.std.specs.Prelude.{All}
 use Rattle.std.proofs.lemmas.List.{length-map}
-use Rattle.prop_map.specs.Settings.{Settings}
+use Rattle.prop_map.specs.Settings.{Properties}
 use Rattle.run_lists.proofs.SpreadLemmas.{length-spread}
 use Rattle.plain_doc.specs.declared.item.Item.{Item}
 use Rattle.plain_doc.specs.Document.{HasPropertyMaps}
-use Rattle.doc_columns.specs.declared.beside.Beside.{Beside}
-use Rattle.doc_columns.specs.Beside.{beside_of}
+use Rattle.doc_columns.specs.declared.attached.Attached.{Attached}
+use Rattle.doc_columns.specs.Attached.{attached_of}
 use Rattle.doc_mends.specs.Cuts.{unflagged}
 use Rattle.doc_mends.proofs.CutLemmas.{unflagged-short, column_left, cut_items, maps_left}
 use Rattle.doc_mends.proofs.cutting.cut_text.Goals as goal
@@ -41,9 +41,9 @@ cut_runs-requires-2-clause-len c =
     omega (
       arith,
       c.requires,
-      length-spread c.besides.result.now,
-      ap length c.besides.ensures,
-      length-map c.args.text.now beside_of,
+      length-spread c.attachments.result.now,
+      ap length c.attachments.ensures,
+      length-map c.args.text.now attached_of,
     )
 
 pub cut_runs-requires-2-clause-few : goal.cut_runs-requires-2-clause-few
@@ -52,9 +52,9 @@ cut_runs-requires-2-clause-few c =
     omega (
       arith,
       few,
-      length-spread c.besides.result.now,
-      ap length c.besides.ensures,
-      length-map c.args.text.now beside_of,
+      length-spread c.attachments.result.now,
+      ap length c.attachments.ensures,
+      length-map c.args.text.now attached_of,
     )
 
 pub from_parts-requires-clause-few : goal.from_parts-requires-clause-few
@@ -69,15 +69,15 @@ pub from_parts-requires-clause-chps : goal.from_parts-requires-clause-chps
 from_parts-requires-clause-chps c =
     let flags : List Bool = c.args.flags.now in
     column_left flags c.args.text.now (λ (item : Item). item.chp) c.in_ok-chps.chps
-    (c.in_ok-chps.ensures ∙ ap (λ (l : List Settings). unflagged flags l) c.chps.ensures)
+    (c.in_ok-chps.ensures ∙ ap (λ (l : List Properties). unflagged flags l) c.chps.ensures)
     ∙ sym (column_left flags c.args.text.now (λ (item : Item). item.unit) c.in_ok-units.units.items
     (c.in_ok-units.ensures ∙ ap (λ (l : List ℕ). unflagged flags l) c.units.ensures))
 
-pub from_parts-requires-clause-besides : goal.from_parts-requires-clause-besides
-from_parts-requires-clause-besides c =
+pub from_parts-requires-clause-attachments : goal.from_parts-requires-clause-attachments
+from_parts-requires-clause-attachments c =
     let flags : List Bool = c.args.flags.now in
-    column_left flags c.args.text.now beside_of c.in_ok-besides.besides
-    (c.in_ok-besides.ensures ∙ ap (λ (l : List Beside). unflagged flags l) c.besides.ensures)
+    column_left flags c.args.text.now attached_of c.in_ok-attachments.attachments
+    (c.in_ok-attachments.ensures ∙ ap (λ (l : List Attached). unflagged flags l) c.attachments.ensures)
     ∙ sym (column_left flags c.args.text.now (λ (item : Item). item.unit) c.in_ok-units.units.items
     (c.in_ok-units.ensures ∙ ap (λ (l : List ℕ). unflagged flags l) c.units.ensures))
 
@@ -85,17 +85,17 @@ pub from_parts-requires-clause-maps : goal.from_parts-requires-clause-maps
 from_parts-requires-clause-maps c =
     let flags : List Bool = c.args.flags.now in
     let text : List Item = c.args.text.now in
-    let is = cut_items flags text c.in_ok-units.units.items c.in_ok-chps.chps c.in_ok-besides.besides
+    let is = cut_items flags text c.in_ok-units.units.items c.in_ok-chps.chps c.in_ok-attachments.attachments
     (c.in_ok-units.ensures ∙ ap (λ (l : List ℕ). unflagged flags l) c.units.ensures)
-    (c.in_ok-chps.ensures ∙ ap (λ (l : List Settings). unflagged flags l) c.chps.ensures)
-    (c.in_ok-besides.ensures ∙ ap (λ (l : List Beside). unflagged flags l) c.besides.ensures) in
+    (c.in_ok-chps.ensures ∙ ap (λ (l : List Properties). unflagged flags l) c.chps.ensures)
+    (c.in_ok-attachments.ensures ∙ ap (λ (l : List Attached). unflagged flags l) c.attachments.ensures) in
     subst (All HasPropertyMaps) (sym is) (maps_left flags text c.len-len.ensures.formed)
 
 pub returns : goal.returns
 returns c =
     let flags : List Bool = c.args.flags.now in
     c.from_parts.ensures
-    ∙ cut_items flags c.args.text.now c.in_ok-units.units.items c.in_ok-chps.chps c.in_ok-besides.besides
+    ∙ cut_items flags c.args.text.now c.in_ok-units.units.items c.in_ok-chps.chps c.in_ok-attachments.attachments
     (c.in_ok-units.ensures ∙ ap (λ (l : List ℕ). unflagged flags l) c.units.ensures)
-    (c.in_ok-chps.ensures ∙ ap (λ (l : List Settings). unflagged flags l) c.chps.ensures)
-    (c.in_ok-besides.ensures ∙ ap (λ (l : List Beside). unflagged flags l) c.besides.ensures)
+    (c.in_ok-chps.ensures ∙ ap (λ (l : List Properties). unflagged flags l) c.chps.ensures)
+    (c.in_ok-attachments.ensures ∙ ap (λ (l : List Attached). unflagged flags l) c.attachments.ensures)

@@ -6,9 +6,9 @@ use Rattle.plain_doc.specs.declared.document.Document.{Document}
 use Rattle.doc_losses.specs.References.{Names}
 use Rattle.doc_losses.specs.Marks.{named_by}
 use Rattle.doc_mends.specs.Cuts.{cut_heads}
-use Rattle.doc_mends.proofs.TextLemmas.{no_entries}
 use Rattle.doc_mends.proofs.UncutLemmas.{uncut}
 use Rattle.doc_mends.proofs.cutting.cut_where_found.Goals as goal
+use Rattle.doc_bits.proofs.ListLemmas.{nil_from_length}
 
 pub returns-then-is_empty-clause-ok : goal.returns-then-is_empty-clause-ok
 returns-then-is_empty-clause-ok c =
@@ -16,7 +16,7 @@ returns-then-is_empty-clause-ok c =
     let none : length found ≡ 0 =
     eqb-true (length found) 0 (sym c.is_empty.ensures ∙ c.if-is_empty.true) in
     sym (uncut (named_by c.args.marks.now) c.args.document.now c.requires.formed
-    (sym c.requires.found ∙ no_entries found none))
+    (sym c.requires.found ∙ nil_from_length found none))
 
 pub returns-clause-ok : goal.returns-clause-ok
 returns-clause-ok c =

@@ -5,7 +5,7 @@ use Rattle.doc_parts.specs.Bookmarks.{bookmark_cmp}
 use Rattle.doc_bits.proofs.ListLemmas.{there_is}
 use Rattle.doc_mends.specs.Cuts.{bookmark_left}
 use Rattle.doc_mends.proofs.TextLemmas.{put_mapped, all_mapped, mapped_len}
-use Rattle.edit_changes.specs.Changes.{changed_at}
+use Rattle.doc_patch.specs.Changes.{changed_at}
 use Rattle.doc_mends.proofs.HeadLemmas.{changed_to}
 use Rattle.doc_mends.proofs.cutting.move_bookmarks.Goals as goal
 

@@ -1,7 +1,7 @@
 use Rattle.std.proofs.Common.{◌≡◌, ◌∙◌, ap, arith, length, List, Bool, map, take, drop, ◌++◌}
 use Rattle.doc_bits.proofs.ListLemmas.{there_is}
 use Rattle.plain_doc.specs.declared.item.Item.{Item}
-use Rattle.edit_changes.specs.Changes.{changed_at}
+use Rattle.doc_patch.specs.Changes.{changed_at}
 use Rattle.doc_mends.specs.Ends.{with_end, is_heads}
 use Rattle.doc_mends.proofs.TextLemmas.{put_mapped, all_mapped, mapped_len}
 use Rattle.doc_mends.proofs.ending.end_each.Goals as goal

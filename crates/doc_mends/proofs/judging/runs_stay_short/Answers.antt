@@ -1,8 +1,8 @@
 use Rattle.std.proofs.Common.{◌≤◌, length, sym, subst, arith}
 use Rattle.prop_map.specs.Formed.{IsPropertyMap, character_groups}
-use Rattle.run_lists.specs.Spread.{spread}
+use Rattle.run_lists.specs.Spread.{expanded}
 use Rattle.run_lists.proofs.SpreadLemmas.{extent-nil, length-spread}
-use Rattle.prop_map.specs.Settings.{Settings}
+use Rattle.prop_map.specs.Settings.{Properties}
 use Rattle.doc_bits.proofs.ListLemmas.{All_at}
 use Rattle.doc_mends.proofs.MendLemmas.{none_passed, more_pass, all_passed, one_long}
 use Rattle.doc_mends.proofs.judging.runs_stay_short.Invariants.{PassedTo}
@@ -11,22 +11,22 @@ use Rattle.doc_mends.proofs.judging.runs_stay_short.Goals as goal
 pub loop-at-init : goal.loop-at-init
 loop-at-init c =
     subst (λ cursor. PassedTo c.args.runs.now cursor c.args.from c.args.from) (sym c.new-cursor.ensures) (record {
-      cursor_at = record { there = omega arith; begins = extent-nil Settings };
+      cursor_at = record { there = omega arith; begins = extent-nil Properties };
       ahead = omega arith;
       within = omega (arith, c.requires.ordered, c.requires.within);
-      pass = none_passed (spread c.args.runs.now) c.args.from;
+      pass = none_passed (expanded c.args.runs.now) c.args.from;
     })
 
 pub stays_short-requires-clause-chp : goal.stays_short-requires-clause-chp
 stays_short-requires-clause-chp c =
-    All_at (IsPropertyMap character_groups) (spread c.args.runs.now) c.loop-at.at c.value_until-end.result.0.now
+    All_at (IsPropertyMap character_groups) (expanded c.args.runs.now) c.loop-at.at c.value_until-end.result.0.now
     c.requires.maps (c.value_until-end.ensures.values c.loop-at.at (omega arith) c.value_until-end.ensures.some)
 
 pub returns-then-not-branch : goal.returns-then-not-branch
 returns-then-not-branch c =
     let long = length-spread c.args.runs.now in
-    let within : c.args.to ≤ length (spread c.args.runs.now) = omega (arith, long, c.requires.within) in
-    sym (one_long (spread c.args.runs.now) c.args.from c.loop-at.at c.args.to c.value_until-end.result.0.now
+    let within : c.args.to ≤ length (expanded c.args.runs.now) = omega (arith, long, c.requires.within) in
+    sym (one_long (expanded c.args.runs.now) c.args.from c.loop-at.at c.args.to c.value_until-end.result.0.now
     c.in_ok-stays_short.field-0 c.loop-at.invariant.pass.from_there c.loop-at-test.true within
     (c.value_until-end.ensures.values c.loop-at.at (omega arith) c.value_until-end.ensures.some)
     c.in_ok-stays_short.ensures c.if-not-branch.true)
@@ -38,7 +38,7 @@ loop-at-preserved c =
       cursor_at = ends.at;
       ahead = omega (arith, ends.ahead, ends.some);
       within = ends.within;
-      pass = more_pass (spread c.args.runs.now) c.args.from c.loop-at.at c.value_until-end.result.1
+      pass = more_pass (expanded c.args.runs.now) c.args.from c.loop-at.at c.value_until-end.result.1
           c.value_until-end.result.0.now c.in_ok-stays_short.field-0 c.loop-at.invariant.pass ends.some ends.values
           c.in_ok-stays_short.ensures c.if-not-branch.false;
     }
@@ -46,6 +46,6 @@ loop-at-preserved c =
 pub returns : goal.returns
 returns c =
     let long = length-spread c.args.runs.now in
-    let within : c.args.to ≤ length (spread c.args.runs.now) = omega (arith, long, c.requires.within) in
-    sym (all_passed (spread c.args.runs.now) c.args.from c.loop-at.at c.args.to c.loop-at.invariant.pass
+    let within : c.args.to ≤ length (expanded c.args.runs.now) = omega (arith, long, c.requires.within) in
+    sym (all_passed (expanded c.args.runs.now) c.args.from c.loop-at.at c.args.to c.loop-at.invariant.pass
     c.loop-at-test.false within)

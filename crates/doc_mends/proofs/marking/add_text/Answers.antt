@@ -2,12 +2,12 @@ use Rattle.std.proofs.Common.{◌≡◌, ◌∙◌, ◌≤◌, ap, sym, subst, a
 use Rattle.std.proofs.Common.{append_assoc}
 use Rattle.std.specs.List.{filter_map}
 use Rattle.std.proofs.lemmas.List.{length-map, append-nil}
-use Rattle.run_lists.specs.Spread.{extent}
+use Rattle.run_lists.specs.Spread.{total_len}
 use Rattle.run_lists.specs.Places.{IsAt}
 use Rattle.run_lists.specs.declared.cursor.Cursor.{Cursor}
 use Rattle.run_lists.proofs.SpreadLemmas.{extent-nil, length-spread}
-use Rattle.doc_columns.specs.declared.beside.Beside.{Beside}
-use Rattle.doc_columns.specs.Beside.{beside_of}
+use Rattle.doc_columns.specs.declared.attached.Attached.{Attached}
+use Rattle.doc_columns.specs.Attached.{attached_of}
 use Rattle.doc_parts.specs.Tabulated.{tabulate}
 use Rattle.doc_losses.proofs.ListingLemmas.{listed_more}
 use Rattle.doc_mends.specs.declared.mends.WrongMark.{WrongMark}
@@ -19,19 +19,19 @@ pub loop-at-init : goal.loop-at-init
 unfolding tabulate
 loop-at-init c = record {
   list = sym (append-nil c.args.list.now.items);
-  cursor_at = subst (IsAt c.besides-besides.result.now) (sym c.new-cursor.ensures) (record {
+  cursor_at = subst (IsAt c.attachments-attachments.result.now) (sym c.new-cursor.ensures) (record {
     there = omega arith;
-    begins = extent-nil Beside;
+    begins = extent-nil Attached;
   });
   ahead = subst (λ (cursor : Cursor). cursor.begin ≤ 0) (sym c.new-cursor.ensures) (omega arith);
 }
 
-pub seek-beside-requires-clause-within : goal.seek-beside-requires-clause-within
-seek-beside-requires-clause-within c =
+pub seek-attached-requires-clause-within : goal.seek-attached-requires-clause-within
+seek-attached-requires-clause-within c =
     let text = c.args.text.now in
-    let all : extent c.besides-besides.result.now ≡ length text =
-    sym (length-spread c.besides-besides.result.now) ∙ (ap length c.besides-besides.ensures
-    ∙ length-map text beside_of) in
+    let all : total_len c.attachments-attachments.result.now ≡ length text =
+    sym (length-spread c.attachments-attachments.result.now) ∙ (ap length c.attachments-attachments.ensures
+    ∙ length-map text attached_of) in
     omega (arith, all, c.len-at-end.ensures.len, c.loop-at-test.true)
 
 pub loop-at-preserved : goal.loop-at-preserved
@@ -42,17 +42,17 @@ loop-at-preserved c =
     let front : List WrongMark = c.args.list.now.items in
     let f : ℕ → Option WrongMark = wrong_mark_at sheet c.args.story text in
     let pick : List (Option WrongMark) → List WrongMark = filter_map (λ (o : Option WrongMark). o) in
-    let beside : slice_get (map beside_of text) at ≡ Some c.seek-beside.result.now =
-    subst (λ (bs : List Beside). slice_get bs at ≡ Some c.seek-beside.result.now) c.besides-besides.ensures
-    c.seek-beside.ensures.value in
+    let attached : slice_get (map attached_of text) at ≡ Some c.seek-attached.result.now =
+    subst (λ (bs : List Attached). slice_get bs at ≡ Some c.seek-attached.result.now) c.attachments-attachments.ensures
+    c.seek-attached.ensures.value in
     let mark : c.wrong_in.result ≡ f at =
-    c.wrong_in.ensures ∙ sym (wrong_is sheet c.args.story text at c.seek-beside.result.now beside) in
+    c.wrong_in.ensures ∙ sym (wrong_is sheet c.args.story text at c.seek-attached.result.now attached) in
     record {
       list = c.in_ok-add_found.ensures
           ∙ (ap (λ (l : List WrongMark). l ++ pick (c.wrong_in.result ∷ [])) c.loop-at.invariant.list
           ∙ (append_assoc front (pick (tabulate f at)) (pick (c.wrong_in.result ∷ []))
           ∙ (ap (λ (o : Option WrongMark). front ++ (pick (tabulate f at) ++ pick (o ∷ []))) mark
           ∙ ap (λ (l : List WrongMark). front ++ l) (sym (listed_more f at)))));
-      cursor_at = c.seek-beside.ensures.at;
-      ahead = omega (arith, c.seek-beside.ensures.ahead);
+      cursor_at = c.seek-attached.ensures.at;
+      ahead = omega (arith, c.seek-attached.ensures.ahead);
     }

@@ -10,6 +10,6 @@ abbrev pub invariant-loop-at : goal.invariant-loop-at
 invariant-loop-at l = record {
   list :
       l.list.items ≡ l.fn.list.items ++ filter_map (λ mark. mark) (tabulate (wrong_mark_at l.sheet l.story l.text) l.at);
-  cursor_at : IsAt l.besides l.cursor;
+  cursor_at : IsAt l.attachments l.cursor;
   ahead : l.cursor.begin ≤ l.at;
 }

@@ -1,8 +1,8 @@
 use Rattle.doc_mends.proofs.NormalLemmas.{normal_kept, normal_made}
 use Rattle.doc_mends.proofs.marking.normal_text.Goals as goal
 
-pub change_besides-requires-clause-kept : goal.change_besides-requires-clause-kept
-change_besides-requires-clause-kept c = normal_kept c.args.sheet.now
+pub change_attachments-requires-clause-kept : goal.change_attachments-requires-clause-kept
+change_attachments-requires-clause-kept c = normal_kept c.args.sheet.now
 
 pub returns : goal.returns
 returns c =

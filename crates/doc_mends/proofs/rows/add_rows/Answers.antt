@@ -4,13 +4,13 @@ use Rattle.std.specs.Prelude.{slice_index}
 use Rattle.std.specs.List.{filter_map}
 use Rattle.std.proofs.lemmas.List.{length-map, append-nil}
 use Rattle.std.proofs.lemmas.Option.{slice_get-get_or}
-use Rattle.run_lists.specs.Spread.{extent}
+use Rattle.run_lists.specs.Spread.{total_len}
 use Rattle.run_lists.specs.Places.{IsAt}
 use Rattle.run_lists.specs.declared.cursor.Cursor.{Cursor}
 use Rattle.run_lists.proofs.SpreadLemmas.{extent-nil, length-spread}
 use Rattle.plain_doc.specs.declared.item.Item.{Item}
-use Rattle.doc_columns.specs.declared.beside.Beside.{Beside}
-use Rattle.doc_columns.specs.Beside.{beside_of}
+use Rattle.doc_columns.specs.declared.attached.Attached.{Attached}
+use Rattle.doc_columns.specs.Attached.{attached_of}
 use Rattle.doc_parts.specs.Tabulated.{tabulate}
 use Rattle.doc_losses.proofs.ListingLemmas.{listed_more}
 use Rattle.doc_mends.specs.declared.mends.BrokenRow.{BrokenRow}
@@ -24,19 +24,19 @@ unfolding tabulate
 loop-at-init c = record {
   list = sym (append-nil c.args.list.now.items);
   left = none_open c.args.text.now (record { len = 0; cells = 0 }) refl refl;
-  cursor_at = subst (IsAt c.besides-besides.result.now) (sym c.new-cursor.ensures) (record {
+  cursor_at = subst (IsAt c.attachments-attachments.result.now) (sym c.new-cursor.ensures) (record {
     there = omega arith;
-    begins = extent-nil Beside;
+    begins = extent-nil Attached;
   });
   ahead = subst (λ (cursor : Cursor). cursor.begin ≤ 0) (sym c.new-cursor.ensures) (omega arith);
 }
 
-pub seek-beside-requires-clause-within : goal.seek-beside-requires-clause-within
-seek-beside-requires-clause-within c =
+pub seek-attached-requires-clause-within : goal.seek-attached-requires-clause-within
+seek-attached-requires-clause-within c =
     let text = c.args.text.now in
-    let all : extent c.besides-besides.result.now ≡ length text =
-    sym (length-spread c.besides-besides.result.now) ∙ (ap length c.besides-besides.ensures
-    ∙ length-map text beside_of) in
+    let all : total_len c.attachments-attachments.result.now ≡ length text =
+    sym (length-spread c.attachments-attachments.result.now) ∙ (ap length c.attachments-attachments.ensures
+    ∙ length-map text attached_of) in
     let units : length c.units-units.result.now ≡ length text =
     ap length c.units-units.ensures ∙ length-map text (λ (item : Item). item.unit) in
     omega (arith, all, units, c.loop-at-test.true)
@@ -53,24 +53,25 @@ loop-at-preserved c =
     let unit : slice_get (map (λ (item : Item). item.unit) text) at ≡ Some (slice_index units at) =
     subst (λ (us : List ℕ). slice_get us at ≡ Some (slice_index units at)) c.units-units.ensures
     (slice_get-get_or units at 0 c.loop-at-test.true) in
-    let beside : slice_get (map beside_of text) at ≡ Some c.seek-beside.result.now =
-    subst (λ (bs : List Beside). slice_get bs at ≡ Some c.seek-beside.result.now) c.besides-besides.ensures
-    c.seek-beside.ensures.value in
-    let it = item_there text at (slice_index units at) c.seek-beside.result.now unit beside in
+    let attached : slice_get (map attached_of text) at ≡ Some c.seek-attached.result.now =
+    subst (λ (bs : List Attached). slice_get bs at ≡ Some c.seek-attached.result.now) c.attachments-attachments.ensures
+    c.seek-attached.ensures.value in
+    let it = item_there text at (slice_index units at) c.seek-attached.result.now unit attached in
     let left : IsOpenBefore text at c.loop-at.row = c.loop-at.invariant.left in
     let found : c.broken_at.result ≡ f at =
     c.broken_at.ensures
-    ∙ found_there story text at (slice_index units at) c.seek-beside.result.now.mark c.loop-at.row left it in
+    ∙ found_there story text at (slice_index units at) c.seek-attached.result.now.mark c.loop-at.row left it in
     record {
       list = c.in_ok-add_found.ensures
           ∙ (ap (λ (l : List BrokenRow). l ++ pick (c.broken_at.result ∷ [])) c.loop-at.invariant.list
           ∙ (append_assoc front (pick (tabulate f at)) (pick (c.broken_at.result ∷ []))
           ∙ (ap (λ (o : Option BrokenRow). front ++ (pick (tabulate f at) ++ pick (o ∷ []))) found
           ∙ ap (λ (l : List BrokenRow). front ++ l) (sym (listed_more f at)))));
-      left = one_passed text at (slice_index units at) c.seek-beside.result.now.mark c.loop-at.row c.after-row.result left it
+      left = one_passed text at (slice_index units at) c.seek-attached.result.now.mark c.loop-at.row c.after-row.result
+          left it
           c.after-row.ensures.len c.after-row.ensures.cells;
-      cursor_at = c.seek-beside.ensures.at;
-      ahead = omega (arith, c.seek-beside.ensures.ahead);
+      cursor_at = c.seek-attached.ensures.at;
+      ahead = omega (arith, c.seek-attached.ensures.ahead);
     }
 
 pub returns-clause-rows : goal.returns-clause-rows

@@ -12,6 +12,6 @@ invariant-loop-at l = record {
   list :
       l.list.items ≡ l.fn.list.items ++ filter_map (λ row. row) (tabulate (broken_row_at l.story l.text) l.at);
   left : IsOpenBefore l.text l.at l.row;
-  cursor_at : IsAt l.besides l.cursor;
+  cursor_at : IsAt l.attachments l.cursor;
   ahead : l.cursor.begin ≤ l.at;
 }

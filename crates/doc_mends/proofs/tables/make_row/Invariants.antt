@@ -1,5 +1,5 @@
 use Rattle.std.proofs.Common.{◌≡◌, ◌≤◌}
-use Rattle.edit_changes.specs.Changes.{map_range}
+use Rattle.doc_patch.specs.Changes.{map_range}
 use Rattle.doc_mends.specs.PlainRows.{plain_item}
 use Rattle.doc_mends.proofs.tables.make_row.Given as goal
 

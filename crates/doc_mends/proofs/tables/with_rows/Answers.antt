@@ -5,16 +5,16 @@ use Rattle.plain_doc.specs.declared.item.Item.{Item}
 use Rattle.doc_mends.specs.declared.mends.BrokenRow.{BrokenRow}
 use Rattle.doc_mends.specs.BrokenRows.{text_broken_rows}
 use Rattle.doc_mends.specs.PlainRows.{rows_plain}
-use Rattle.doc_mends.proofs.TextLemmas.{no_entries}
 use Rattle.doc_mends.proofs.RowLemmas.{rows_within}
 use Rattle.doc_mends.proofs.TableLemmas.{AreWithin, plain_stays}
 use Rattle.doc_mends.proofs.tables.with_rows.Goals as goal
+use Rattle.doc_bits.proofs.ListLemmas.{nil_from_length}
 
 pub returns-then-is_empty : goal.returns-then-is_empty
 returns-then-is_empty c =
     let rows : List BrokenRow = c.args.rows.now in
     let none : length rows ≡ 0 = eqb-true (length rows) 0 (sym c.is_empty.ensures ∙ c.if-is_empty.true) in
-    sym (plain_stays Main c.args.text (sym c.requires ∙ no_entries rows none))
+    sym (plain_stays Main c.args.text (sym c.requires ∙ nil_from_length rows none))
 
 pub make_rows-requires : goal.make_rows-requires
 make_rows-requires c =

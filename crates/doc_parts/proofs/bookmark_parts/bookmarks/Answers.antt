@@ -10,7 +10,7 @@ use Rattle.doc_parts.proofs.bookmark_parts.bookmarks.Goals as goal
 pub returns-in-Some : goal.returns-in-Some
 returns-in-Some c =
     let parts : BookmarkParts = parts_at c.args.names.now c.args.starts.now c.args.ends.now c.args.at in
-    let some : 6 < length c.args.names.now = omega (arith, c.if-names-le-NAMES_FRONT.false) in
+    let some : 6 < length c.args.names.now = omega (arith, c.if-names-le-STTBF_HEAD_LEN.false) in
     let judged = parts_judged parts c.get16-count.result c.names_fault.result c.starts_fault.result c.ends_fault.result
     some c.get16-count.ensures c.names_fault.ensures c.starts_fault.ensures c.ends_fault.ensures in
     let fault : c.lesser-fault.result
@@ -21,10 +21,10 @@ returns-in-Some c =
           judged,
     )
 
-pub kept-requires-clause-right : goal.kept-requires-clause-right
-kept-requires-clause-right c =
+pub keep_bookmarks-requires-clause-right : goal.keep_bookmarks-requires-clause-right
+keep_bookmarks-requires-clause-right c =
     let parts : BookmarkParts = parts_at c.args.names.now c.args.starts.now c.args.ends.now c.args.at in
-    let some : 6 < length c.args.names.now = omega (arith, c.if-names-le-NAMES_FRONT.false) in
+    let some : 6 < length c.args.names.now = omega (arith, c.if-names-le-STTBF_HEAD_LEN.false) in
     let judged = parts_judged parts c.get16-count.result c.names_fault.result c.starts_fault.result c.ends_fault.result
     some c.get16-count.ensures c.names_fault.ensures c.starts_fault.ensures c.ends_fault.ensures in
     let fault : c.lesser-fault.result
@@ -45,7 +45,7 @@ of-requires c =
 pub returns : goal.returns
 returns c =
     let parts : BookmarkParts = parts_at c.args.names.now c.args.starts.now c.args.ends.now c.args.at in
-    let some : 6 < length c.args.names.now = omega (arith, c.if-names-le-NAMES_FRONT.false) in
+    let some : 6 < length c.args.names.now = omega (arith, c.if-names-le-STTBF_HEAD_LEN.false) in
     let judged = parts_judged parts c.get16-count.result c.names_fault.result c.starts_fault.result c.ends_fault.result
     some c.get16-count.ensures c.names_fault.ensures c.starts_fault.ensures c.ends_fault.ensures in
     let fault : c.lesser-fault.result

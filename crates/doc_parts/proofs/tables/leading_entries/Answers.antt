@@ -1,5 +1,5 @@
 use Rattle.std.proofs.Common.{◌≡◌, ◌++◌, ◌<◌, ◌∙◌, Some, None, [], ◌∷◌, refl, subst, arith, below_more, length-append}
-use Rattle.doc_parts.specs.Table.{IsRightEntry, entry_at}
+use Rattle.doc_parts.specs.Table.{IsValidEntry, entry_at}
 use Rattle.doc_parts.proofs.TableLemmas.{length-plc_entry, each_more}
 use Rattle.doc_parts.proofs.tables.leading_entries.Goals as goal
 
@@ -18,7 +18,7 @@ loop-k-preserved g c =
       count = rw items (simp length-append (omega arith));
       each = each_more c.loop-k.list.items c.push.new.self.items c.in-Some.entry c.loop-k.k (entry_at form
           c.args.plc.now) items c.loop-k.invariant.count here c.loop-k.invariant.each;
-      right = below_more (IsRightEntry form c.args.cps c.args.plc.now) c.loop-k.k c.loop-k.invariant.right
+      right = below_more (IsValidEntry form c.args.cps c.args.plc.now) c.loop-k.k c.loop-k.invariant.right
           (record { in_order = c.if-not-is_kept.ensures.0 refl; spelled = rw here refl });
     }
 
@@ -33,7 +33,7 @@ returns-then-not-is_kept g c =
       each = λ k low. so_far.each k (omega arith);
       right = λ k low. so_far.right k (omega arith);
       stop = λ low right.
-          let here = subst (IsRightEntry form c.args.cps c.args.plc.now) count right in
+          let here = subst (IsValidEntry form c.args.cps c.args.plc.now) count right in
           absurd (cc (c.if-not-is_kept.ensures.1 here.in_order));
     }
 
@@ -48,7 +48,7 @@ returns-in-None g c =
       each = λ k low. so_far.each k (omega arith);
       right = λ k low. so_far.right k (omega arith);
       stop = λ low right.
-          let here = subst (IsRightEntry form c.args.cps c.args.plc.now) count right in
+          let here = subst (IsValidEntry form c.args.cps c.args.plc.now) count right in
           let some = rw none at here.spelled in
           absurd (cc (some));
     }

@@ -1,8 +1,8 @@
 -- What is carried is well formed.
 use Rattle.std.proofs.Common.{◌<◌, ◌^◌, ℕ, List, [], ◌∷◌, length, refl, sym, ap, ◌∙◌, subst, arith}
 use Rattle.plain_doc.specs.Carried.{AreCarriedStreams}
-use Rattle.doc_load.specs.PartRules.{PartLists}
-use Rattle.doc_load.specs.FileRules.{source_of}
+use Rattle.file_rules.specs.PartRules.{PartLists}
+use Rattle.file_rules.specs.FileRules.{source_of}
 use Rattle.doc_read.proofs.LevelLemmas.{lists-with_levels, levels-short}
 use Rattle.doc_read.proofs.PartLemmas.{short-cons}
 use Rattle.doc_read.proofs.StreamLemmas.{carried-fit}

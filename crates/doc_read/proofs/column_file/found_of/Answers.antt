@@ -1,19 +1,19 @@
 use Rattle.std.proofs.Common.{sym, subst, ℕ, List, length}
 use Rattle.fib_form.specs.FibFields.{FibFields, fib_fields}
-use Rattle.doc_load.specs.FormatRules.{judged_units}
-use Rattle.doc_load.specs.FileRules.{source_of}
+use Rattle.file_rules.specs.FormatRules.{judged_units}
+use Rattle.file_rules.specs.FileRules.{source_of}
 use Rattle.doc_read.specs.ReadParts.{FitUnits}
 use Rattle.doc_read.specs.ReadTexts.{AreCutsOf, IsDocumentWith}
 use Rattle.doc_read.proofs.column_file.found_of.Goals as goal
 
 pub document_with-requires-clause-units : goal.document_with-requires-clause-units
 document_with-requires-clause-units c =
-    subst (λ (us : List ℕ). FitUnits us c.args.parts.columns) (sym c.into_parts_with_units-fib.ensures.units)
+    subst (λ (us : List ℕ). FitUnits us c.args.parts.columns) (sym c.into_loaded-fib.ensures.units)
     c.requires.units
 
 pub document_with-requires-clause-cuts : goal.document_with-requires-clause-cuts
 document_with-requires-clause-cuts c =
-    let made = c.into_parts_with_units-fib in
+    let made = c.into_loaded-fib in
     let cuts = c.args.parts.cuts in
     subst (λ (fib : FibFields). AreCutsOf fib cuts (length made.result.2.items)) (sym made.ensures.fib)
     (subst (λ (us : List ℕ). AreCutsOf (fib_fields c.args.text.wd) cuts (length us)) (sym made.ensures.units)
@@ -21,7 +21,7 @@ document_with-requires-clause-cuts c =
 
 pub returns-clause-document : goal.returns-clause-document
 returns-clause-document c =
-    let made = c.into_parts_with_units-fib in
+    let made = c.into_loaded-fib in
     let parts = c.args.parts in
     let document = c.in_ok-document.document in
     let with_units = subst (λ (us : List ℕ). IsDocumentWith made.result.0 us parts document) made.ensures.units

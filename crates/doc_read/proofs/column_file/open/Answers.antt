@@ -3,8 +3,8 @@ use Rattle.std.proofs.lemmas.Result.{err_from_is_err_and}
 use Rattle.doc_read.specs.Opened.{IsOpened}
 use Rattle.doc_read.proofs.column_file.open.Goals as goal
 
-pub read_judged-requires-clause-of_file : goal.read_judged-requires-clause-of_file
-read_judged-requires-clause-of_file c = record {
+pub read_and_check-requires-clause-of_file : goal.read_and_check-requires-clause-of_file
+read_and_check-requires-clause-of_file c = record {
   file = c.args.file.now;
   holds = c.in_ok-container.ensures.0;
   has = c.in_ok-container.ensures.1;

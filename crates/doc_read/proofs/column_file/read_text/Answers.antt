@@ -2,12 +2,12 @@ use Rattle.std.proofs.Common.{sym, subst, Option, MatchOption}
 use Rattle.std.proofs.lemmas.Result.{err_from_is_err_and}
 use Rattle.doc_bits.specs.Rules.{Hold}
 use Rattle.cfb_streams.specs.Contents.{Contents}
-use Rattle.doc_load.specs.Faults.{IsReadFault}
-use Rattle.doc_load.specs.Source.{DocSource}
-use Rattle.doc_load.specs.FormatRules.{rules_of_formats}
-use Rattle.doc_load.specs.PartRules.{PartLists}
-use Rattle.doc_load.specs.FileRules.{FileText, source_of}
-use Rattle.doc_load.proofs.PageLemmas.{all_hold, formats_refused}
+use Rattle.file_rules.specs.Faults.{IsReadFault}
+use Rattle.file_rules.specs.Source.{DocSource}
+use Rattle.file_rules.specs.FormatRules.{rules_of_formats}
+use Rattle.file_rules.specs.PartRules.{PartLists}
+use Rattle.file_rules.specs.FileRules.{FileText, source_of}
+use Rattle.file_rules.proofs.PageLemmas.{all_hold, formats_refused}
 use Rattle.doc_read.specs.declared.document.DocumentParts.{DocumentParts}
 use Rattle.doc_read.specs.ReadParts.{AreDocumentParts}
 use Rattle.doc_read.proofs.column_file.read_text.Goals as goal

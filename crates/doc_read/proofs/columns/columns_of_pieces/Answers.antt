@@ -7,14 +7,14 @@ use Rattle.std.proofs.lemmas.Option.{slice_get_within}
 use Rattle.std.specs.Option.{option_map}
 use Rattle.piece_table.specs.declared.pieces.Piece.{Piece}
 use Rattle.piece_table.specs.Piece.{TextPiece, total_length}
-use Rattle.doc_load.proofs.UnitLemmas.{piece_read}
+use Rattle.file_rules.proofs.UnitLemmas.{piece_read}
 use Rattle.doc_columns.specs.Columns.{items_of}
 use Rattle.doc_read.specs.Passing.{AddsEach}
-use Rattle.doc_read.specs.Reading.{ArePassed, HaveRightPages, IsPieceReader, IsReadCharacter, TextRest, text_view}
+use Rattle.doc_read.specs.Reading.{ArePassed, HaveValidPages, IsPieceReader, IsReadCharacter, TextRest, text_view}
 use Rattle.doc_read.proofs.PlacedLemmas.{placed_more, length-more}
 use Rattle.doc_read.proofs.ReaderLemmas.{reader_at, reader_right, readers_same}
 use Rattle.doc_read.proofs.PageLemmas.{pages_join, pages_within}
-use Rattle.doc_read.specs.Beside.{IsBesideAt}
+use Rattle.doc_read.specs.Attached.{IsAttachedAt}
 use Rattle.doc_read.proofs.MeetLemmas.{length-read, adds_items, none_placed}
 use Rattle.doc_read.proofs.columns.columns_of_pieces.Goals as goal
 
@@ -22,8 +22,8 @@ pub loop-i-init : goal.loop-i-init
 loop-i-init c =
     let view = text_view c.args.text.now in
     let chps = c.new.result in
-    let besides = c.new-2.result in
-    let none = length-read view.units chps besides 0 (ap length c.new.ensures) (ap length c.new-2.ensures)
+    let attachments = c.new-2.result in
+    let none = length-read view.units chps attachments 0 (ap length c.new.ensures) (ap length c.new-2.ensures)
     (omega arith) in
     record {
       len = omega arith;
@@ -32,8 +32,8 @@ loop-i-init c =
         marks = λ at upper lower _. absurd (omega (arith, upper, lower));
       };
       chps = ap length c.new.ensures;
-      besides = ap length c.new-2.ensures;
-      placed = none_placed view c.args.pieces.now.pieces (items_of view.units chps besides) none;
+      attachments = ap length c.new-2.ensures;
+      placed = none_placed view c.args.pieces.now.pieces (items_of view.units chps attachments) none;
       rest = c.skip-rest.ensures;
       readers = search rules;
       passed = search rules;
@@ -94,10 +94,10 @@ loop-i-preserved c =
     ap (option_map (λ (p : TextPiece). p.modifier)) (sym here) ∙ c.modifier-modifier.ensures.value in
     let modifier_is : piece.modifier ≡ c.modifier-modifier.result.now = cc (modifier) in
     let within : cp + added ≤ count = omega (arith, c.min.ensures, c.loop-i.invariant.len) in
-    let old_items = items_of units old.chps old.besides in
-    let new_items = items_of units new.chps new.besides in
+    let old_items = items_of units old.chps old.attachments in
+    let new_items = items_of units new.chps new.attachments in
     let old_long : length old_items ≡ cp =
-    length-read units old.chps old.besides cp c.loop-i.invariant.chps c.loop-i.invariant.besides
+    length-read units old.chps old.attachments cp c.loop-i.invariant.chps c.loop-i.invariant.attachments
     (omega (arith, within)) in
     let front : length old_items ≡ min (total_length (take i pieces)) count = old_long ∙ c.loop-i.invariant.len in
     let added_is : added ≡ min piece.len (count - length old_items) =
@@ -116,22 +116,23 @@ loop-i-preserved c =
     (subst
     (λ (p : TextRest). AddsEach (IsReadCharacter p.view reader.characters.modifier) (cp + added - cp) old.chps new.chps)
     c.new-part.ensures (c.in_ok-right.ensures.chps went))) in
-    let besides = subst (λ m. AddsEach (IsBesideAt view m) added old.besides new.besides) same
-    (subst (λ n. AddsEach (IsBesideAt view reader.characters.modifier) n old.besides new.besides) long
+    let attachments = subst (λ m. AddsEach (IsAttachedAt view m) added old.attachments new.attachments) same
+    (subst (λ n. AddsEach (IsAttachedAt view reader.characters.modifier) n old.attachments new.attachments) long
     (subst
-    (λ (p : TextRest). AddsEach (IsBesideAt p.view reader.characters.modifier) (cp + added - cp) old.besides
-    new.besides)
-    c.new-part.ensures (c.in_ok-right.ensures.besides went))) in
-    let adds = adds_items view piece.modifier cp added old.chps new.chps old.besides new.besides c.loop-i.invariant.chps
-    c.loop-i.invariant.besides within chps besides in
+    (λ (p : TextRest). AddsEach (IsAttachedAt p.view reader.characters.modifier) (cp + added - cp) old.attachments
+    new.attachments)
+    c.new-part.ensures (c.in_ok-right.ensures.attachments went))) in
+    let adds = adds_items view piece.modifier cp added old.chps new.chps old.attachments new.attachments
+    c.loop-i.invariant.chps
+    c.loop-i.invariant.attachments within chps attachments in
     record {
       len = length-more pieces i added count piece (length old_items) (cp + added) here front added_is
           (ap (λ n. n + added) (sym old_long));
       right = pages_join view 0 cp (cp + added) c.loop-i.invariant.right
-          (subst (λ (p : TextRest). HaveRightPages p.view cp (cp + added)) c.new-part.ensures
+          (subst (λ (p : TextRest). HaveValidPages p.view cp (cp + added)) c.new-part.ensures
           (c.in_ok-right.ensures.right.0 went));
       chps = omega (arith, chps.len, c.loop-i.invariant.chps);
-      besides = omega (arith, besides.len, c.loop-i.invariant.besides);
+      attachments = omega (arith, attachments.len, c.loop-i.invariant.attachments);
       placed = placed_more view pieces i added count piece old_items new_items here front added_is
           c.loop-i.invariant.placed adds;
       rest = c.skip-rest-in-loop-i.ensures ∙ ap (drop (cp + added - cp)) c.loop-i.invariant.rest
@@ -149,7 +150,7 @@ returns-then-not-right c = λ all.
     let added = c.min.result in
     let within : cp + added ≤ length view.units = omega (arith, c.min.ensures, c.loop-i.invariant.len) in
     let some = pages_within view 0 (length view.units) cp (cp + added) (omega arith) within all in
-    let here = subst (λ (p : TextRest). HaveRightPages p.view cp (cp + added)) (sym c.new-part.ensures) some in
+    let here = subst (λ (p : TextRest). HaveValidPages p.view cp (cp + added)) (sym c.new-part.ensures) some in
     true≢false (sym (c.in_ok-right.ensures.right.1 here) ∙ c.if-not-right.true)
 
 pub returns : goal.returns
@@ -165,8 +166,8 @@ returns c =
     let all : cp ≡ count =
     omega (arith, c.loop-i.invariant.len, ap total_length whole, c.requires.enough) in
     record {
-      right = subst (HaveRightPages view 0) all c.loop-i.invariant.right;
+      right = subst (HaveValidPages view 0) all c.loop-i.invariant.right;
       chps = c.loop-i.invariant.chps ∙ all;
-      besides = c.loop-i.invariant.besides ∙ all;
+      attachments = c.loop-i.invariant.attachments ∙ all;
       each = c.loop-i.invariant.placed;
     }

@@ -1,16 +1,16 @@
--- The settings of the places of a piece, and what stands beside its units.
+-- The properties of the places of a piece, and what stands beside its units.
 use Rattle.std.proofs.Common.{◌≡◌, ◌∙◌, ℕ, List, sym, ap, subst, ◌+◌, ◌-◌, ◌≤◌, length, arith}
 use Rattle.std.proofs.lemmas.Bool.{true≢false}
 use Rattle.std.proofs.lemmas.Result.{IfOk-weaker}
 use Rattle.std.specs.Prelude.{slice_range}
 use Rattle.fkp_pages.specs.declared.kind.PageKind.TheVariants.{Chpx}
-use Rattle.direct_props.specs.PageRules.{AreRightPlaces}
+use Rattle.direct_props.specs.PageRules.{AreValidPlaces}
 use Rattle.direct_props.specs.Stretches.{AddsCharacters}
-use Rattle.direct_props.specs.Kept.{PlaceSource}
+use Rattle.direct_props.specs.GrpprlCache.{PlaceSource}
 use Rattle.doc_bits.proofs.ListLemmas.{length-range}
 use Rattle.doc_read.specs.Passing.{AddsEach}
 use Rattle.doc_read.specs.Reading.{IsPieceReader}
-use Rattle.doc_read.specs.Beside.{IsBesideAt}
+use Rattle.doc_read.specs.Attached.{IsAttachedAt}
 use Rattle.doc_read.proofs.MeetLemmas.{adds_characters}
 use Rattle.doc_read.proofs.PageLemmas.{pages_of_places, places_of_pages}
 use Rattle.doc_read.proofs.columns.push_piece.Goals as goal
@@ -27,8 +27,8 @@ push_character_runs-requires-clause-few c =
     ∙ length-range part.view.places part.from (part.from + count) front.within in
     omega (arith, long, c.requires.chps, c.requires.from, front.few)
 
-pub push_besides-requires-clause-reader : goal.push_besides-requires-clause-reader
-push_besides-requires-clause-reader c =
+pub push_attachments-requires-clause-reader : goal.push_attachments-requires-clause-reader
+push_attachments-requires-clause-reader c =
     let reader = c.args.reader.now in
     let same : record { characters = c.push_character_runs.new.self; marks = reader.marks } ≡ reader =
     λ i. record { characters = c.push_character_runs.ensures.same i; marks = reader.marks } in
@@ -55,9 +55,9 @@ returns-then-not-right-clause-right c =
           absurd
           (true≢false
           (sym (c.in_ok-right.ensures.right.1
-          (subst (λ (s : PlaceSource). AreRightPlaces Chpx s.wd s.bin c.front-places.result)
+          (subst (λ (s : PlaceSource). AreValidPlaces Chpx s.wd s.bin c.front-places.result)
           (sym c.requires.reader.characters)
-          (subst (AreRightPlaces Chpx view.wd view.characters) (sym are)
+          (subst (AreValidPlaces Chpx view.wd view.characters) (sym are)
           (places_of_pages view from to within all.characters)))) ∙ c.if-not-right.true)),
     )
 
@@ -71,14 +71,14 @@ returns-clause-right c =
     let are = places_are view.places c.front-places.result c.args.part.now.from from to (to - from)
     c.front-places.ensures.places c.requires.from (omega (arith, c.requires.ordered)) in
     let characters = pages_of_places view from to within
-    (subst (AreRightPlaces Chpx view.wd view.characters) are
-    (subst (λ (s : PlaceSource). AreRightPlaces Chpx s.wd s.bin c.front-places.result) c.requires.reader.characters
+    (subst (AreValidPlaces Chpx view.wd view.characters) are
+    (subst (λ (s : PlaceSource). AreValidPlaces Chpx s.wd s.bin c.front-places.result) c.requires.reader.characters
     (c.in_ok-right.ensures.right.0 c.if-not-right.false))) in
-    IfOk-weaker c.push_besides.result _ _
+    IfOk-weaker c.push_attachments.result _ _
     (λ right marks. (
       λ t. record { characters = characters; marks = marks.0 t },
       λ all. marks.1 all.marks,
-    )) c.push_besides.ensures.right
+    )) c.push_attachments.ensures.right
 
 pub returns-clause-chps : goal.returns-clause-chps
 returns-clause-chps c =
@@ -98,15 +98,15 @@ returns-clause-chps c =
     c.args.read.now.chps c.push_character_runs.new.runs) are read in
     let read_are = adds_characters view c.args.reader.now.characters.modifier from to c.args.read.now.chps
     c.push_character_runs.new.runs c.requires.chps c.requires.ordered within c.requires.reader.formed adds in
-    IfOk-weaker c.push_besides.result _ _ (λ right _ _. read_are) c.push_besides.ensures.right
+    IfOk-weaker c.push_attachments.result _ _ (λ right _ _. read_are) c.push_attachments.ensures.right
 
-pub returns-clause-besides : goal.returns-clause-besides
-returns-clause-besides c =
-    IfOk-weaker c.push_besides.result _ _
+pub returns-clause-attachments : goal.returns-clause-attachments
+returns-clause-attachments c =
+    IfOk-weaker c.push_attachments.result _ _
     (λ right adds t. subst
-    (λ (s : PlaceSource). AddsEach (IsBesideAt c.args.part.now.view s.modifier)
-    (c.args.piece.end - c.args.piece.cp) c.args.read.now.besides c.push_besides.new.besides)
-    c.push_character_runs.ensures.same (adds t)) c.push_besides.ensures.besides
+    (λ (s : PlaceSource). AddsEach (IsAttachedAt c.args.part.now.view s.modifier)
+    (c.args.piece.end - c.args.piece.cp) c.args.read.now.attachments c.push_attachments.new.attachments)
+    c.push_character_runs.ensures.same (adds t)) c.push_attachments.ensures.attachments
 
 pub front-places-requires : goal.front-places-requires
 front-places-requires c = omega (arith, c.requires.ordered, c.requires.from, c.requires.within)

@@ -4,12 +4,12 @@ use Rattle.std.proofs.Common.{Option, MatchOption}
 use Rattle.std.proofs.lemmas.List.{length-take-le}
 use Rattle.fib_form.specs.declared.table_parts.TablePart.TheVariants.{PlcfBteChpx, PlcfBtePapx}
 use Rattle.piece_table.specs.Piece.{TextPiece}
-use Rattle.doc_load.specs.Source.{DocSource, part_bytes}
-use Rattle.doc_load.specs.FileRules.{source_of}
-use Rattle.doc_load.specs.FormatRules.{text_count, judged_units, judged_places}
+use Rattle.file_rules.specs.Source.{DocSource, part_bytes}
+use Rattle.file_rules.specs.FileRules.{source_of}
+use Rattle.file_rules.specs.FormatRules.{text_count, judged_units, judged_places}
 use Rattle.doc_columns.specs.Columns.{items_of}
 use Rattle.doc_read.specs.declared.columns.ReadColumns.{ReadColumns}
-use Rattle.doc_read.specs.Reading.{AreMarksOf, ArePlacedItems, HaveRightPages, IsReadable, TextView, mark_lists}
+use Rattle.doc_read.specs.Reading.{AreMarksOf, ArePlacedItems, HaveValidPages, IsReadable, TextView, mark_lists}
 use Rattle.doc_read.proofs.ReadableLemmas.{pages_hold, pages_right, readable_of, view_of, view_same}
 use Rattle.doc_read.proofs.PlacedLemmas.{enough_units, held}
 use Rattle.doc_read.specs.ReadParts.{AreReadColumns}
@@ -48,7 +48,7 @@ columns_of_pieces-requires-clause-enough c =
 -- what is read of a text
 abbrev IsReadOf : TextView → List TextPiece → Option ReadColumns → Type 0
 IsReadOf view pieces read =
-    MatchOption read (¬ (HaveRightPages view 0 (length view.units))) (AreReadColumns view pieces)
+    MatchOption read (¬ (HaveValidPages view 0 (length view.units))) (AreReadColumns view pieces)
 
 pub returns-in_default : goal.returns-in_default
 returns-in_default c = λ holds.
@@ -92,12 +92,13 @@ returns c =
     let in_view = subst (λ (v : TextView). IsReadOf v c.pieces.result.now.pieces c.in_ok-read.field-0) view_is
     c.in_ok-read.ensures in
     let here = subst (IsReadOf view c.pieces.result.now.pieces) c.in-Some.is in_view in
-    let items = items_of view.units read.chps read.besides in
+    let items = items_of view.units read.chps read.attachments in
     let placed = subst (λ pieces. ArePlacedItems view pieces items) c.pieces.ensures here.each in
     let enough : text_count source ≤ length source.text.units = rw same at c.has_units.ensures in
     let all : length view.units ≡ count = length-take-le count source.text.units enough in
     let len : length items ≡ count =
-    length-read view.units read.chps read.besides (length view.units) here.chps here.besides (omega arith) ∙ all in
+    length-read view.units read.chps read.attachments (length view.units) here.chps here.attachments (omega arith) ∙ all
+    in
     let few = subst (λ (l : List ℕ). length l ≤ 500000) (c.judged_units.ensures.units ∙ ap judged_units same)
     c.judged_units.ensures.few in
     let same_count : length (judged_places source) ≡ length (judged_units source) =
@@ -110,7 +111,7 @@ returns c =
         fit = record {
           few = omega (arith, few);
           chps = here.chps;
-          besides = here.besides;
+          attachments = here.attachments;
           maps = placed_maps _ c.pieces.result.now.pieces items here.each;
         };
         holds = held text source lists marks maps items refl are len placed;

@@ -12,7 +12,7 @@ read_texts-texts-requires c =
     let read = c.args.columns in
     let long : length c.in_ok-whole.whole ≡ length units =
     ap length (c.in_ok-whole.ensures ∙ c.from_parts-all.ensures)
-    ∙ length-read units read.chps read.besides (length units) c.requires.units.chps c.requires.units.besides
+    ∙ length-read units read.chps read.attachments (length units) c.requires.units.chps c.requires.units.attachments
     (omega arith) in
     subst (AreCutsOf c.args.fib.now c.args.cuts.now) (sym long) c.requires.cuts
 

@@ -1,5 +1,5 @@
 use Rattle.std.proofs.Common.{◌≡◌, ◌∙◌, ap, ◌+◌, ◌*◌, length}
-use Rattle.doc_load.specs.PartRules.{PartLists}
+use Rattle.file_rules.specs.PartRules.{PartLists}
 use Rattle.doc_read.specs.Holds.{head_texts}
 use Rattle.doc_read.proofs.document.parts_of.Goals as goal
 

@@ -2,9 +2,9 @@
 use Rattle.std.proofs.Common.{refl, sym, subst, Option, MatchOption}
 use Rattle.doc_bits.specs.Rules.{Hold}
 use Rattle.cfb_streams.specs.Contents.{Contents}
-use Rattle.doc_load.specs.FormatRules.{rules_of_formats}
-use Rattle.doc_load.specs.FileRules.{FileText, source_of}
-use Rattle.doc_load.specs.PartRules.{PartLists}
+use Rattle.file_rules.specs.FormatRules.{rules_of_formats}
+use Rattle.file_rules.specs.FileRules.{FileText, source_of}
+use Rattle.file_rules.specs.PartRules.{PartLists}
 use Rattle.doc_read.specs.declared.document.ReadFromText.{ReadFromText}
 use Rattle.doc_read.specs.ReadParts.{AreDocumentParts, IsReadFromText}
 use Rattle.doc_read.proofs.document.read_document_parts.Goals as goal
@@ -16,11 +16,11 @@ IsReadOf contents text lists read =
     (λ (r : ReadFromText). Hold (rules_of_formats (source_of text)) × IsReadFromText contents text lists r)
 
 pub returns-in-Err : goal.returns-in-Err
-returns-in-Err c = rw c.let_go.ensures tt
+returns-in-Err c = rw c.drop_then.ensures tt
 
 pub returns-in_default : goal.returns-in_default
 returns-in_default c =
-    rw c.let_go-in_default.ensures
+    rw c.drop_then-in_default.ensures
     (subst (IsReadOf c.args.container.now c.args.text.now c.args.parts) c.in_default.is c.in-Ok.ensures)
 
 pub returns : goal.returns

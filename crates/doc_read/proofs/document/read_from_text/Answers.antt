@@ -1,10 +1,10 @@
 -- The columns are those of the text and the lists.
 use Rattle.std.proofs.Common.{◌≡◌, ap, subst, Option, MatchOption}
 use Rattle.doc_bits.specs.Rules.{Hold}
-use Rattle.doc_load.specs.Source.{DocSource}
-use Rattle.doc_load.specs.FormatRules.{rules_of_formats}
-use Rattle.doc_load.specs.FileRules.{source_of}
-use Rattle.doc_load.specs.PartRules.{PartLists}
+use Rattle.file_rules.specs.Source.{DocSource}
+use Rattle.file_rules.specs.FormatRules.{rules_of_formats}
+use Rattle.file_rules.specs.FileRules.{source_of}
+use Rattle.file_rules.specs.PartRules.{PartLists}
 use Rattle.doc_read.specs.declared.columns.ReadColumns.{ReadColumns}
 use Rattle.doc_read.specs.Items.{TextParts}
 use Rattle.doc_read.specs.ReadParts.{AreColumnsOf}

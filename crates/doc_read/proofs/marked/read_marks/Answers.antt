@@ -1,8 +1,8 @@
 use Rattle.std.proofs.Common.{◌∙◌, sym, ap, ◌++◌, map, slice_get, ℕ, arith}
 use Rattle.doc_parts.specs.declared.lists.NoteRef.{NoteRef}
 use Rattle.fib_form.specs.declared.stories.StoryKind.TheVariants.{Main, Notes, Heads}
-use Rattle.doc_load.specs.Source.{story_length}
-use Rattle.doc_load.specs.PartRules.{PartLists}
+use Rattle.file_rules.specs.Source.{story_length}
+use Rattle.file_rules.specs.PartRules.{PartLists}
 use Rattle.doc_read.specs.Sections.{section_lasts}
 use Rattle.doc_read.specs.Marked.{note_kind}
 use Rattle.doc_read.proofs.CollectLemmas.{fields_within, collected}

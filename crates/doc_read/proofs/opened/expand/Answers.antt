@@ -1,4 +1,4 @@
 use Rattle.doc_read.proofs.opened.expand.Goals as goal
 
 pub returns-in-Err : goal.returns-in-Err
-returns-in-Err c = rw c.let_go.ensures tt
+returns-in-Err c = rw c.drop_then.ensures tt

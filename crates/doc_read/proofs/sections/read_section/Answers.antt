@@ -1,14 +1,15 @@
 use Rattle.std.proofs.Common.{inr, refl}
 use Rattle.prop_map.specs.Formed.{section_groups}
-use Rattle.direct_props.proofs.CharacterLemmas.{empty-IsPropertyMap, stays_formed}
+use Rattle.direct_props.proofs.CharacterLemmas.{stays_formed}
 use Rattle.doc_read.proofs.SettingsLemmas.{is-made}
 use Rattle.doc_read.proofs.sections.read_section.Goals as goal
+use Rattle.prop_map.proofs.ActingLemmas.{IsPropertyMap-empty}
 
 pub returns-then-fc-eq-NO_SEPX-clause-formed : goal.returns-then-fc-eq-NO_SEPX-clause-formed
-returns-then-fc-eq-NO_SEPX-clause-formed c = rw c.new-none.ensures (empty-IsPropertyMap section_groups)
+returns-then-fc-eq-NO_SEPX-clause-formed c = rw c.new-none.ensures (IsPropertyMap-empty section_groups)
 
-pub returns-clause-settings : goal.returns-clause-settings
-returns-clause-settings c =
+pub returns-clause-properties : goal.returns-clause-properties
+returns-clause-properties c =
     inr (is-made c.args.wd.now c.section_list.result.now c.args.fc c.new-none.result c.in_ok-acted.acted
     c.if-fc-eq-NO_SEPX.false c.section_list.ensures.list c.section_list.ensures.accepted c.new-none.ensures
     c.in_ok-acted.ensures.acted)

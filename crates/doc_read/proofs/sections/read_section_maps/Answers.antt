@@ -1,10 +1,10 @@
 use Rattle.std.proofs.Common.{◌≡◌, ◌∙◌, ap, arith}
 use Rattle.doc_parts.specs.declared.lists.Sed.{Sed}
-use Rattle.doc_load.specs.Source.{DocSource}
-use Rattle.doc_load.specs.SectionRules.{section_fc}
-use Rattle.doc_load.specs.FileRules.{source_of}
-use Rattle.doc_load.proofs.RowLemmas.{index_of_get}
-use Rattle.doc_read.specs.Sections.{IsSectionSettings}
+use Rattle.file_rules.specs.Source.{DocSource}
+use Rattle.file_rules.specs.SectionRules.{section_fc}
+use Rattle.file_rules.specs.FileRules.{source_of}
+use Rattle.file_rules.proofs.RowLemmas.{index_of_get}
+use Rattle.doc_read.specs.Sections.{IsSectionProperties}
 use Rattle.doc_read.proofs.SettingsLemmas.{sepx-there, sepx-right, maps_none, maps_more}
 use Rattle.doc_read.proofs.sections.read_section_maps.Goals as goal
 
@@ -14,8 +14,8 @@ loop-k-init c = record {
   met = c.in_ok-met.ensures;
 }
 
-pub settings-requires-clause-there : goal.settings-requires-clause-there
-settings-requires-clause-there c =
+pub properties-requires-clause-there : goal.properties-requires-clause-there
+properties-requires-clause-there c =
     let source = source_of c.args.text.now in
     let wd : c.wd-wd.result.now ≡ source.wd = c.wd-wd.ensures.bytes ∙ ap (λ (s : DocSource). s.wd)
     c.source-source.ensures in
@@ -27,8 +27,8 @@ settings-requires-clause-there c =
       c.len-k-end.ensures,
     )))
 
-pub settings-requires-clause-right : goal.settings-requires-clause-right
-settings-requires-clause-right c =
+pub properties-requires-clause-right : goal.properties-requires-clause-right
+properties-requires-clause-right c =
     let source = source_of c.args.text.now in
     let wd : c.wd-wd.result.now ≡ source.wd = c.wd-wd.ensures.bytes ∙ ap (λ (s : DocSource). s.wd)
     c.source-source.ensures in
@@ -48,12 +48,12 @@ loop-k-preserved c =
     let list = c.args.sections.now in
     let fc : section_fc list c.loop-k.k ≡ c.get-fc.result.1 =
     index_of_get (λ (sed : Sed). sed.sepx) list c.loop-k.k _ c.get-fc.ensures in
-    let map = c.in_ok-settings.field-0 in
-    let settings : IsSectionSettings source.wd c.get-fc.result.1 map =
-    rw (← wd) c.in_ok-settings.ensures.settings in
+    let map = c.in_ok-properties.field-0 in
+    let properties : IsSectionProperties source.wd c.get-fc.result.1 map =
+    rw (← wd) c.in_ok-properties.ensures.properties in
     record {
       so_far = rw c.in_ok-push.ensures.items
           (maps_more source.wd list c.loop-k.k c.get-fc.result.1 c.loop-k.maps.items map c.loop-k.invariant.so_far fc
-          settings c.in_ok-settings.ensures.formed);
-      met = c.in_ok-settings.ensures.met;
+          properties c.in_ok-properties.ensures.formed);
+      met = c.in_ok-properties.ensures.met;
     }

@@ -12,4 +12,4 @@ returns-clause-accepted c =
     let to = c.in-Some.to in
     accepted_of (slice_range wd from to) section_groups (AreBytes-range wd from to (λ i. let byte = c.type_inv.wd i in
     omega arith))
-    (list-right wd c.args.fc from to c.requires.settings c.in-Some.ensures.1 c.in-Some.ensures.2 c.requires.right)
+    (list-right wd c.args.fc from to c.requires.properties c.in-Some.ensures.1 c.in-Some.ensures.2 c.requires.right)

@@ -1,7 +1,7 @@
 use Rattle.std.proofs.Common.{Some}
 use Rattle.std.proofs.lemmas.List.Elements.{All-pop}
 use Rattle.prop_map.specs.Formed.{section_groups}
-use Rattle.list_walks.specs.Keeping.{IsWalkedMap}
+use Rattle.overlapping_grpprls.specs.Keeping.{IsWalkedMap}
 use Rattle.doc_read.proofs.sections.walked_sections.Goals as goal
 
 pub loop-walked-init : goal.loop-walked-init

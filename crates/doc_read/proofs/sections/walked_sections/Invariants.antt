@@ -1,7 +1,7 @@
 use Rattle.std.proofs.Common.{length}
 use Rattle.std.specs.List.{All}
 use Rattle.prop_map.specs.Formed.{section_groups}
-use Rattle.list_walks.specs.Keeping.{IsWalkedMap}
+use Rattle.overlapping_grpprls.specs.Keeping.{IsWalkedMap}
 use Rattle.doc_read.specs.Sections.{AreMetSections}
 use Rattle.doc_read.proofs.sections.walked_sections.Given as goal
 

@@ -1,8 +1,8 @@
 use Rattle.std.proofs.Common.{◌≡◌, map}
 use Rattle.std.proofs.lemmas.Result.{IfOk-weaker}
-use Rattle.doc_edit.specs.declared.faults.RunFault.TheVariants.{Stopped}
-use Rattle.doc_edit.specs.States.{start_of}
-use Rattle.doc_tasks.specs.declared.reply.Reply.TheVariants.{Made, Refused}
+use Rattle.script_run.specs.declared.faults.RunFault.TheVariants.{Stopped}
+use Rattle.script_run.specs.States.{start_of}
+use Rattle.document_commands.specs.declared.reply.Reply.TheVariants.{Made, Refused}
 use Rattle.doc_run.specs.EditLines.{stop_line, edited_line}
 use Rattle.doc_run.specs.Edits.{refusal_of, Edits}
 use Rattle.doc_run.proofs.EditLemmas.{saved_made, stops_run}
@@ -14,9 +14,10 @@ returns-in-Ok g c =
     start_of c.args.session (map (λ b. (goal.Guard-dyn g (b.vtable, b.value)).policy b.value) c.args.guards.now) in
     let commands = c.args.script.now in
     let saved = c.in-Ok.saved in
-    IfOk-weaker c.edited.result
+    IfOk-weaker c.reply_of_edit.result
     (λ r. r ≡ Made (edited_line saved.commands saved.saves.fast saved.saves.full) saved.image)
-    (λ r. Edits start commands r) (λ r h. saved_made start commands saved r c.in-Ok.ensures.ends h) c.edited.ensures
+    (λ r. Edits start commands r) (λ r h. saved_made start commands saved r c.in-Ok.ensures.ends h)
+    c.reply_of_edit.ensures
 
 pub returns-in-Err-Stopped : goal.returns-in-Err-Stopped
 returns-in-Err-Stopped g c =
@@ -27,6 +28,6 @@ returns-in-Err-Stopped g c =
     let stop = c.in-Err-Stopped.stop in
     let fault = c.in-Err-Stopped.field-0 in
     let is : fault ≡ Stopped index stop = cc in
-    IfOk-weaker c.stopped.result (λ r. r ≡ Refused (refusal_of stop) (stop_line index stop))
+    IfOk-weaker c.reply_of_stop.result (λ r. r ≡ Refused (refusal_of stop) (stop_line index stop))
     (λ r. Edits start commands r)
-    (λ r h. stops_run start commands fault index stop r c.in-Err-Stopped.ensures.ends is h) c.stopped.ensures
+    (λ r h. stops_run start commands fault index stop r c.in-Err-Stopped.ensures.ends is h) c.reply_of_stop.ensures

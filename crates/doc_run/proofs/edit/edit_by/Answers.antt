@@ -2,9 +2,9 @@ use Rattle.std.proofs.Common.{◌≡◌, inl, inr, sym, subst, map}
 use Rattle.std.specs.Prelude.{IfOk}
 use Rattle.std.proofs.lemmas.Result.{IfOk-weaker}
 use Rattle.edit_script.specs.Laws.{IsCause}
-use Rattle.doc_edit.specs.States.{start_of}
-use Rattle.doc_tasks.specs.declared.reply.Reply.TheVariants.{Refused}
-use Rattle.doc_tasks.specs.declared.reply.Refusal.TheVariants.{Script}
+use Rattle.script_run.specs.States.{start_of}
+use Rattle.document_commands.specs.declared.reply.Reply.TheVariants.{Refused}
+use Rattle.document_commands.specs.declared.reply.Refusal.TheVariants.{Script}
 use Rattle.doc_run.specs.EditLines.{script_line}
 use Rattle.doc_run.specs.Edits.{Edits, EditsBy}
 use Rattle.doc_run.proofs.EditLemmas.{script_few}
@@ -23,7 +23,7 @@ returns-in-Err g c =
     IfOk-weaker c.no_script.result (λ r. IsCause fault × (r ≡ Refused Script (script_line fault)))
     (λ r. EditsBy start bytes r)
     (λ r h. inl (record { fault = fault; cause = h.0; is = c.in-Err.ensures; ends = h.1 })) c.no_script.ensures in
-    subst (λ result. IfOk result (λ r. EditsBy start bytes r)) (sym c.let_go.ensures) edits
+    subst (λ result. IfOk result (λ r. EditsBy start bytes r)) (sym c.drop_then.ensures) edits
 
 pub returns-in-Ok : goal.returns-in-Ok
 returns-in-Ok g c =

@@ -1,6 +1,6 @@
 use Rattle.std.proofs.Common.{◌≡◌, ◌∙◌, refl, Some, map, arith}
-use Rattle.doc_edit.specs.States.{start_of}
-use Rattle.doc_tasks.proofs.OutcomeLemmas.{ends_by}
+use Rattle.script_run.specs.States.{start_of}
+use Rattle.document_commands.proofs.OutcomeLemmas.{ends_by}
 use Rattle.doc_run.specs.Edits.{EditsBy}
 use Rattle.doc_run.proofs.edit.edit_under.Goals as goal
 
@@ -11,8 +11,8 @@ returns-clause-ends g c =
     EditsBy
     (start_of c.args.session (map (λ b. (goal.Guard-dyn g (b.vtable, b.value)).policy b.value) c.args.guards.now))
     c.args.script.now in
-    ends_by out out such c.in_ok-reply.reply c.explained.result c.in_ok-reply.ensures refl
-    (c.explained.ensures ∙ c.in_ok-ending.ensures)
+    ends_by out out such c.in_ok-reply.reply c.explain.result c.in_ok-reply.ensures refl
+    (c.explain.ensures ∙ c.in_ok-ending.ensures)
 
 pub returns-clause-bytes : goal.returns-clause-bytes
 returns-clause-bytes g c i = omega (arith, c.type_inv.script i)

@@ -1,10 +1,10 @@
 use Rattle.std.proofs.Common.{Some, map, sym, subst}
 use Rattle.std.specs.Prelude.{IfOk}
 use Rattle.fast_save.specs.Session.{SessionView}
-use Rattle.doc_edit.specs.States.{start_of}
-use Rattle.doc_edit.specs.Ends.{IsUnchanged}
-use Rattle.doc_tasks.specs.Replies.{EndsBy}
-use Rattle.doc_tasks.proofs.OutcomeLemmas.{ends_inside}
+use Rattle.script_run.specs.States.{start_of}
+use Rattle.script_run.specs.Ends.{IsUnchanged}
+use Rattle.document_commands.specs.Replies.{EndsBy}
+use Rattle.document_commands.proofs.OutcomeLemmas.{ends_inside}
 use Rattle.run_stages.specs.Reading.{Follows}
 use Rattle.doc_run.specs.Edits.{EditsBy, IsOverlongScript}
 use Rattle.run_stages.proofs.StageLemmas.{follows_reads, follows_caused}

@@ -1,6 +1,6 @@
 use Rattle.std.proofs.Common.{Some}
-use Rattle.doc_tasks.specs.Imports.{Imports}
-use Rattle.doc_tasks.specs.Replies.{EndsBy}
+use Rattle.document_commands.specs.Imports.{Imports}
+use Rattle.document_commands.specs.Replies.{EndsBy}
 use Rattle.run_stages.proofs.StageLemmas.{whole_follows}
 use Rattle.doc_run.proofs.serve.import_taken.Goals as goal
 

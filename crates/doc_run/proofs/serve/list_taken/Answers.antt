@@ -1,6 +1,6 @@
 use Rattle.run_stages.specs.Judged.{Judges}
-use Rattle.doc_tasks.specs.Judged.{stream_rules}
-use Rattle.doc_tasks.specs.Answers.{ListsStreams}
+use Rattle.document_commands.specs.Judged.{stream_rules}
+use Rattle.document_commands.specs.Answers.{ListsStreams}
 use Rattle.run_stages.proofs.StageLemmas.{whole_follows}
 use Rattle.doc_run.proofs.serve.list_taken.Goals as goal
 

@@ -1,7 +1,7 @@
 use Rattle.doc_read.specs.Holds.{all_rules}
-use Rattle.doc_tasks.specs.Tasks.{task_of}
-use Rattle.doc_tasks.specs.Answers.{AnswersFile}
-use Rattle.doc_tasks.proofs.AnswerLemmas.{file_inside}
+use Rattle.document_commands.specs.Tasks.{task_of}
+use Rattle.document_commands.specs.Answers.{AnswersFile}
+use Rattle.document_commands.proofs.AnswerLemmas.{file_inside}
 use Rattle.run_stages.proofs.StageLemmas.{file_reads, file_caused}
 use Rattle.doc_run.proofs.serve.serve_document.Goals as goal
 

@@ -1,7 +1,7 @@
 use Rattle.std.proofs.Common.{subst, map}
 use Rattle.std.specs.Prelude.{IfOk}
 use Rattle.std.proofs.lemmas.Result.{IfOk-weaker}
-use Rattle.doc_edit.specs.States.{start_of}
+use Rattle.script_run.specs.States.{start_of}
 use Rattle.doc_run.specs.Reading.{IsBegun}
 use Rattle.doc_run.specs.Edits.{ReadsScript, EditsFile}
 use Rattle.doc_run.proofs.SessionLemmas.{begun_unchanged}

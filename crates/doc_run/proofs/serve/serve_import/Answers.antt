@@ -1,7 +1,7 @@
 use Rattle.std.proofs.Common.{◌≡◌, ◌∙◌, Some}
-use Rattle.doc_tasks.specs.Imports.{Imports}
-use Rattle.doc_tasks.specs.Replies.{EndsBy}
-use Rattle.doc_tasks.proofs.OutcomeLemmas.{ends_inside}
+use Rattle.document_commands.specs.Imports.{Imports}
+use Rattle.document_commands.specs.Replies.{EndsBy}
+use Rattle.document_commands.proofs.OutcomeLemmas.{ends_inside}
 use Rattle.doc_run.specs.Imports.{IsOverlongJson}
 use Rattle.run_stages.proofs.StageLemmas.{taken_weaker, follows_reads, follows_caused}
 use Rattle.doc_run.proofs.serve.serve_import.Goals as goal

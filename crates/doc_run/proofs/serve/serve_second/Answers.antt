@@ -1,5 +1,5 @@
 use Rattle.doc_read.specs.Holds.{all_rules}
-use Rattle.doc_tasks.specs.Tasks.{pair_of}
+use Rattle.document_commands.specs.Tasks.{pair_of}
 use Rattle.doc_run.specs.Reading.{AnswersBeside}
 use Rattle.run_stages.proofs.StageLemmas.{file_reads, file_caused}
 use Rattle.doc_run.proofs.StageLemmas.{beside_inside}

@@ -1,6 +1,6 @@
-use Rattle.doc_tasks.specs.Judged.{stream_rules}
-use Rattle.doc_tasks.specs.Answers.{ListsStreams}
-use Rattle.doc_tasks.proofs.AnswerLemmas.{lists_inside}
+use Rattle.document_commands.specs.Judged.{stream_rules}
+use Rattle.document_commands.specs.Answers.{ListsStreams}
+use Rattle.document_commands.proofs.AnswerLemmas.{lists_inside}
 use Rattle.run_stages.proofs.StageLemmas.{file_reads, file_caused}
 use Rattle.doc_run.proofs.serve.serve_streams.Goals as goal
 

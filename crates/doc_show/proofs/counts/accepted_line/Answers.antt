@@ -5,5 +5,5 @@ use Rattle.doc_show.proofs.counts.accepted_line.Goals as goal
 
 pub returns : goal.returns
 returns c =
-    subst (λ (d : Document). IfOk c.columns_accepted_line-made.result (λ text. text ≡ accepted_line_of d))
-    c.in_ok-columns.ensures c.columns_accepted_line-made.ensures
+    subst (λ (d : Document). IfOk c.accepted_line_of_columns-made.result (λ text. text ≡ accepted_line_of d))
+    c.in_ok-columns.ensures c.accepted_line_of_columns-made.ensures

@@ -5,5 +5,6 @@ use Rattle.doc_show.proofs.plain_text.main_text.Goals as goal
 
 pub returns : goal.returns
 returns c =
-    subst (λ (d : Document). IfOk c.columns_main_text-made.result (λ text. text ≡ main_text_of d)) c.in_ok-columns.ensures
-    c.columns_main_text-made.ensures
+    subst (λ (d : Document). IfOk c.main_text_of_columns-made.result (λ text. text ≡ main_text_of d))
+    c.in_ok-columns.ensures
+    c.main_text_of_columns-made.ensures

@@ -17,7 +17,7 @@ loop-at-init c =
     let parts = c.args.parts.now in
     record {
       walk = first_walk parts c.new-walk.result c.new-walk.ensures;
-      marks = start_at parts.besides.now c.new-marks.result c.new-marks.ensures;
+      marks = start_at parts.attachments.now c.new-marks.result c.new-marks.ensures;
       ahead = begins_at_start c.new-marks.result c.new-marks.ensures;
       within = omega arith;
       lines = ap (λ items. c.args.text.now ++ story_lines items) (whole_range parts c.requires);

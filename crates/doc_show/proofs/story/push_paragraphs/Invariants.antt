@@ -9,7 +9,7 @@ use Rattle.doc_show.proofs.story.push_paragraphs.Given as goal
 abbrev pub invariant-loop-at : goal.invariant-loop-at
 invariant-loop-at l = record {
   walk : IsWalk l.fn.parts l.walk l.at;
-  marks : IsAt l.fn.parts.besides.now l.marks;
+  marks : IsAt l.fn.parts.attachments.now l.marks;
   ahead : l.marks.begin ≤ l.at;
   within : l.at ≤ length l.fn.parts.units.now;
   lines : l.text ++ story_lines (slice_range (items_in l.fn.parts) l.at (length l.fn.parts.units.now))

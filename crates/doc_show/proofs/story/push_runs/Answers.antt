@@ -21,8 +21,8 @@ loop-at-preserved c =
     let inside = c.requires.within in
     let long = items_long parts c.requires.parts in
     let line =
-    run_line-range parts c.requires.parts at until first.result.end first.result.chp.now first.result.beside.now
-    run.some (omega (arith, run.within, inside)) first.ensures.some first.ensures.chps first.ensures.besides in
+    run_line-range parts c.requires.parts at until first.result.end first.result.chp.now first.result.attached.now
+    run.some (omega (arith, run.within, inside)) first.ensures.some first.ensures.chps first.ensures.attachments in
     record {
       walk = run.walk;
       within = run.within;

@@ -1,4 +1,4 @@
--- The run goes on while items are plain and have the same settings.
+-- The run goes on while items are plain and have the same properties.
 use Rattle.std.proofs.Common.{sym, arith}
 use Rattle.doc_columns.specs.Walks.{items_in}
 use Rattle.doc_columns.proofs.WalkLemmas.{later_walk}
@@ -16,8 +16,8 @@ loop-until-init c =
       before = later_walk parts c.args.walk.now c.args.place c.args.end c.requires.walk (omega (arith, before));
       some = some;
       alike =
-          alike_by (items_in parts) c.args.place first.end first.chp.now first.beside.now
-          (sym c.if-not-is_plain.ensures) c.requires.chps c.requires.besides;
+          alike_by (items_in parts) c.args.place first.end first.chp.now first.attached.now
+          (sym c.if-not-is_plain.ensures) c.requires.chps c.requires.attachments;
     }
 
 pub alike_from-next-requires-clause-walk : goal.alike_from-next-requires-clause-walk
@@ -35,8 +35,8 @@ pub returns-then-not-goes_on-clause-ends : goal.returns-then-not-goes_on-clause-
 returns-then-not-goes_on-clause-ends c = λ low.
     let next = c.alike_from-next in
     alike_ends (items_in c.args.parts.now) c.args.place c.loop-until.until next.result.end
-    c.args.first.now.chp.now next.result.chp.now next.result.beside.now c.loop-until.invariant.some
-    next.ensures.some c.loop-until.invariant.alike c.if-not-goes_on.ensures next.ensures.chps next.ensures.besides
+    c.args.first.now.chp.now next.result.chp.now next.result.attached.now c.loop-until.invariant.some
+    next.ensures.some c.loop-until.invariant.alike c.if-not-goes_on.ensures next.ensures.chps next.ensures.attachments
 
 pub loop-until-preserved : goal.loop-until-preserved
 loop-until-preserved c =
@@ -52,8 +52,8 @@ loop-until-preserved c =
       some = omega (arith, some, more);
       alike =
           alike_on (items_in parts) c.args.place until next.result.end c.args.first.now.chp.now
-          next.result.chp.now next.result.beside.now c.loop-until.invariant.alike c.if-not-goes_on.ensures
-          next.ensures.chps next.ensures.besides;
+          next.result.chp.now next.result.attached.now c.loop-until.invariant.alike c.if-not-goes_on.ensures
+          next.ensures.chps next.ensures.attachments;
     }
 
 pub returns-clause-walk : goal.returns-clause-walk

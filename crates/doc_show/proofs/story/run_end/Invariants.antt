@@ -5,7 +5,7 @@ use Rattle.doc_show.specs.Story.{is_plain}
 use Rattle.doc_columns.specs.Walks.{items_in, IsWalk}
 use Rattle.doc_show.proofs.story.run_end.Given as goal
 
--- the items from the place to here are plain and have the same settings
+-- the items from the place to here are plain and have the same properties
 abbrev pub invariant-loop-until : goal.invariant-loop-until
 invariant-loop-until l = record {
   walk : IsWalk l.fn.parts l.walk l.until;

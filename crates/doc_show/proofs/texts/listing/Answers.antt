@@ -5,5 +5,6 @@ use Rattle.doc_show.proofs.texts.listing.Goals as goal
 
 pub returns : goal.returns
 returns c =
-    subst (λ (d : Document). IfOk c.columns_listing-made.result (λ text. text ≡ listing_of d)) c.in_ok-columns.ensures
-    c.columns_listing-made.ensures
+    subst (λ (d : Document). IfOk c.listing_of_columns-made.result (λ text. text ≡ listing_of d))
+    c.in_ok-columns.ensures
+    c.listing_of_columns-made.ensures

@@ -12,7 +12,7 @@ pub returns : goal.returns
 returns c = λ chp.
     let manner = c.args.manner in
     let format = c.args.format.now in
-    let item = item_of c.args.unit chp c.args.beside.now in
+    let item = item_of c.args.unit chp c.args.attached.now in
     let number = c.args.front.numbered + 1 in
     let kind : c.reference_kind-kind.result ≡ reference_kind manner item.note = c.reference_kind-kind.ensures in
     let section : c.is_some.result ≡ is_some item.sect = c.is_some.ensures in

@@ -14,7 +14,7 @@ returns-in-Ok-clause-judges c =
     let out = c.args.out.now in
     let file = c.args.file.now in
     let opened = c.in-Ok.opened in
-    rw c.let_go.ensures
+    rw c.drop_then.ensures
     (IfOk-weaker c.save-ending.result (λ e. IsSaved out opened.lifted.document opened.losses opened.mends.items e)
     (λ e. JudgesFit name out file e) (λ e is. opened_fits name out file opened e c.in-Ok.ensures is)
     c.save-ending.ensures)

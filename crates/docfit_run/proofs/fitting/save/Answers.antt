@@ -14,12 +14,12 @@ returns-in-Ok c =
     let bytes = c.in-Ok.bytes in
     let lines = opened.losses in
     let mends = opened.mends.items in
-    IfOk-weaker c.fitted.result (λ e. e ≡ puts (fit_report (length bytes) lines mends) out bytes)
+    IfOk-weaker c.put_ending.result (λ e. e ≡ puts (fit_report (length bytes) lines mends) out bytes)
     (λ e. IsSaved out opened.lifted.document lines mends e)
     (λ e is. inl (record {
       savable = record { formed = c.columns_are_formed.ensures; sound = c.requires; fits = c.in-Ok.ensures.1 };
       ends = is ∙ ap (λ (b : List ℕ). puts (fit_report (length b) lines mends) out b) c.in-Ok.ensures.0;
-    })) c.fitted.ensures
+    })) c.put_ending.ensures
 
 pub returns-in-Err-TooLarge : goal.returns-in-Err-TooLarge
 returns-in-Err-TooLarge c =

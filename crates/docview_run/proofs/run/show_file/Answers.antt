@@ -2,8 +2,10 @@ use Rattle.std.proofs.Common.{◌≡◌, sym, subst, arith}
 use Rattle.plain_doc.specs.declared.document.Document.{Document}
 use Rattle.plain_doc.specs.Sound.{IsSound}
 use Rattle.doc_read.specs.Holds.{HoldsDocument}
-use Rattle.docview_run.proofs.ViewLemmas.{held_ends, lifts_by, not_accepted, refused_ends, strict_by}
+use Rattle.docview_run.proofs.ViewLemmas.{held_ends, not_accepted, refused_ends}
 use Rattle.docview_run.proofs.run.show_file.Goals as goal
+use Rattle.doc_bits.proofs.TestLemmas.{not_true}
+use Rattle.doc_view.proofs.NoteLemmas.{shown_by}
 
 pub show_document-status-requires : goal.show_document-status-requires
 show_document-status-requires g c =
@@ -30,11 +32,11 @@ show_lifted-requires-clause-refused g c =
     not_accepted c.args.file.now refused.rule (refused.place, refused.offset) first
 
 pub show_lifted-requires-clause-lifts : goal.show_lifted-requires-clause-lifts
-show_lifted-requires-clause-lifts g c = lifts_by c.args.view.strict c.if-not-view.true
+show_lifted-requires-clause-lifts g c = not_true c.args.view.strict c.if-not-view.true
 
 pub returns-in-Ok-tell_refusal-clause-ends : goal.returns-in-Ok-tell_refusal-clause-ends
 returns-in-Ok-tell_refusal-clause-ends g c =
     let refused = c.in-Err-Refused in
     let first = rw refused.field-0-is at refused.ensures in
     refused_ends g.K.Sink c.args.out.now c.args.name.now c.args.file.now c.args.view refused.rule
-    (refused.place, refused.offset) (strict_by c.args.view.strict c.if-not-view.false) first
+    (refused.place, refused.offset) (shown_by c.args.view.strict c.if-not-view.false) first

@@ -6,12 +6,12 @@ use Rattle.edit_ops.specs.Causes.{IsAcceptedEdit, IsEditFault}
 use Rattle.edit_ops.specs.EditFacts.{edit_facts}
 use Rattle.edit_ops.proofs.applying.test.Goals as goal
 
-pub told-told-requires : goal.told-told-requires
-told-told-requires c = subst IsSound (sym c.in_ok-columns.ensures) c.requires
+pub facts_or_fault-told-requires : goal.facts_or_fault-told-requires
+facts_or_fault-told-requires c = subst IsSound (sym c.in_ok-columns.ensures) c.requires
 
 pub returns : goal.returns
 returns c =
-    rw c.let_go.ensures
-    (subst (λ (d : Document). MatchResult c.told-told.result
+    rw c.drop_then.ensures
+    (subst (λ (d : Document). MatchResult c.facts_or_fault-told.result
     (λ facts. IsAcceptedEdit d c.args.command.now × (facts ≡ edit_facts d c.args.command.now))
-    (IsEditFault d c.args.command.now)) c.in_ok-columns.ensures c.told-told.ensures)
+    (IsEditFault d c.args.command.now)) c.in_ok-columns.ensures c.facts_or_fault-told.ensures)

@@ -1,8 +1,8 @@
 use Rattle.std.proofs.Common.{◌≡◌, ◌∙◌, ◌+◌, ap, sym, cond, drop, Some, true, false}
 use Rattle.std.specs.List.{find}
 use Rattle.doc_parts.specs.Names.{is_named}
-use Rattle.edit_changes.proofs.MakingLemmas.{drop_step}
 use Rattle.edit_ops.proofs.bookmarks.find_bookmark.Goals as goal
+use Rattle.run_lists.proofs.CutLemmas.{run_and_rest}
 
 pub returns-then-is_named : goal.returns-then-is_named
 returns-then-is_named c =
@@ -11,7 +11,7 @@ returns-then-is_named c =
     let rest = drop (c.loop-i.i + 1) c.args.list.now in
     let has : is_named name here ≡ true = sym c.is_named.ensures ∙ c.if-is_named.true in
     c.loop-i.invariant
-    ∙ ap (find (is_named name)) (drop_step c.args.list.now c.loop-i.i here c.get-bookmark.ensures)
+    ∙ ap (find (is_named name)) (run_and_rest c.args.list.now c.loop-i.i here c.get-bookmark.ensures)
     ∙ ap (λ b. cond b (Some here) (find (is_named name) rest)) has
 
 pub loop-i-preserved : goal.loop-i-preserved
@@ -21,5 +21,5 @@ loop-i-preserved c =
     let rest = drop (c.loop-i.i + 1) c.args.list.now in
     let other : is_named name here ≡ false = sym c.is_named.ensures ∙ c.if-is_named.false in
     c.loop-i.invariant
-    ∙ ap (find (is_named name)) (drop_step c.args.list.now c.loop-i.i here c.get-bookmark.ensures)
+    ∙ ap (find (is_named name)) (run_and_rest c.args.list.now c.loop-i.i here c.get-bookmark.ensures)
     ∙ ap (λ b. cond b (Some here) (find (is_named name) rest)) other

@@ -1,19 +1,19 @@
 use Rattle.std.proofs.Common.{arith}
 use Rattle.doc_bits.proofs.ListLemmas.{All_at}
 use Rattle.edit_ops.specs.EditFacts.{items_removed}
-use Rattle.edit_changes.specs.Makes.{CanRemove}
+use Rattle.doc_patch.specs.Makes.{CanRemove}
 use Rattle.edit_ops.proofs.SumLemmas.{sum_more, sum_within}
 use Rattle.edit_ops.proofs.facts.all_removed.Goals as goal
 
-pub removed-count-requires-clause-few : goal.removed-count-requires-clause-few
-removed-count-requires-clause-few c =
+pub count_removed-count-requires-clause-few : goal.count_removed-count-requires-clause-few
+count_removed-count-requires-clause-few c =
     let within = sum_within (items_removed c.args.document.now) c.args.changes.now c.loop-i.i c.get.result.now
     c.get.ensures in
     let few = c.requires.few in
     omega arith
 
-pub removed-count-requires-clause-there : goal.removed-count-requires-clause-there
-removed-count-requires-clause-there c =
+pub count_removed-count-requires-clause-there : goal.count_removed-count-requires-clause-there
+count_removed-count-requires-clause-there c =
     All_at (CanRemove c.args.document.now) c.args.changes.now c.loop-i.i c.get.result.now c.requires.there c.get.ensures
 
 pub overflow_add-count : goal.overflow_add-count
@@ -22,7 +22,7 @@ overflow_add-count c =
     c.get.ensures in
     let few = c.requires.few in
     let before = c.loop-i.invariant in
-    let one = c.removed-count.ensures in
+    let one = c.count_removed-count.ensures in
     omega arith
 
 pub loop-i-preserved : goal.loop-i-preserved
@@ -30,5 +30,5 @@ loop-i-preserved c =
     let more = sum_more (items_removed c.args.document.now) c.args.changes.now c.loop-i.i c.get.result.now
     c.get.ensures in
     let before = c.loop-i.invariant in
-    let one = c.removed-count.ensures in
+    let one = c.count_removed-count.ensures in
     omega arith

@@ -1,6 +1,6 @@
 use Rattle.std.proofs.Common.{sym, subst}
 use Rattle.std.specs.List.{All}
-use Rattle.edit_changes.specs.Makes.{CanRemove}
+use Rattle.doc_patch.specs.Makes.{CanRemove}
 use Rattle.edit_ops.proofs.FactLemmas.{countable}
 use Rattle.edit_ops.proofs.facts.facts_of.Goals as goal
 

@@ -1,5 +1,5 @@
 use Rattle.std.proofs.Common.{refl, ap, length, Some, arith}
-use Rattle.prop_map.specs.Settings.{Settings}
+use Rattle.prop_map.specs.Settings.{Properties}
 use Rattle.edit_ops.specs.Fresh.{unit_item}
 use Rattle.edit_ops.proofs.FreshTextLemmas.{field_parts}
 use Rattle.edit_ops.proofs.fresh.field_over.Goals as goal
@@ -52,7 +52,7 @@ returns c =
     c.in_ok-coded.coded c.in_ok-parted.parted c.in_ok-both.both c.in_ok-made.made
     (record (unit_item special 0x13) { fld = Some c.args.kind }) (record (unit_item special 0x14) { fld = Some 0xFF })
     (record (unit_item special 0x15) { fld = Some 0x80 }) refl refl c.new.ensures
-    (ap (λ (chp : Settings). record (unit_item chp 0x13) { fld = Some c.args.kind }) is) c.in_ok-begun.ensures.items
-    c.in_ok-coded.ensures.items (ap (λ (chp : Settings). record (unit_item chp 0x14) { fld = Some 0xFF }) is)
+    (ap (λ (chp : Properties). record (unit_item chp 0x13) { fld = Some c.args.kind }) is) c.in_ok-begun.ensures.items
+    c.in_ok-coded.ensures.items (ap (λ (chp : Properties). record (unit_item chp 0x14) { fld = Some 0xFF }) is)
     c.in_ok-parted.ensures.items c.in_ok-both.ensures.items
-    (ap (λ (chp : Settings). record (unit_item chp 0x15) { fld = Some 0x80 }) is) c.in_ok-made.ensures.items
+    (ap (λ (chp : Properties). record (unit_item chp 0x15) { fld = Some 0x80 }) is) c.in_ok-made.ensures.items

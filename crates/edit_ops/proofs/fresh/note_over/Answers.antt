@@ -1,6 +1,6 @@
 use Rattle.std.proofs.Common.{◌∙◌, ◌∷◌, [], refl, sym, ap, subst, length, arith}
 use Rattle.std.specs.FinMap.{empty}
-use Rattle.prop_map.specs.Settings.{Settings}
+use Rattle.prop_map.specs.Settings.{Properties}
 use Rattle.prop_map.specs.Formed.{IsPropertyMap, character_groups}
 use Rattle.prop_map.proofs.ActingLemmas.{IsPropertyMap-empty}
 use Rattle.edit_ops.specs.Fresh.{special, unit_item}
@@ -32,5 +32,5 @@ pub returns : goal.returns
 returns c =
     note_parts c.args.units.now c.args.none.now [] c.in_ok-begun.begun c.in_ok-shown.shown c.in_ok-made.made
     (unit_item (special empty) 0x02) c.plain_end.result c.requires.none refl refl
-    (c.in_ok-begun.ensures ∙ ap (λ (s : Settings). unit_item (special s) 0x02 ∷ []) c.requires.none)
+    (c.in_ok-begun.ensures ∙ ap (λ (s : Properties). unit_item (special s) 0x02 ∷ []) c.requires.none)
     c.in_ok-shown.ensures.items c.plain_end.ensures.item c.in_ok-made.ensures

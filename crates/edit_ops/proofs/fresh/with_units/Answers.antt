@@ -1,5 +1,5 @@
 use Rattle.std.proofs.Common.{◌∙◌, ◌++◌, ap, sym, subst}
-use Rattle.prop_map.specs.Settings.{Settings}
+use Rattle.prop_map.specs.Settings.{Properties}
 use Rattle.prop_map.specs.Formed.{IsPropertyMap, character_groups}
 use Rattle.doc_columns.specs.Columns.{bare_items}
 use Rattle.edit_ops.proofs.FreshTextLemmas.{length-units}
@@ -12,7 +12,7 @@ add_units-requires-clause-map c =
 pub returns-clause-items : goal.returns-clause-items
 returns-clause-items c =
     c.in_ok-made.ensures
-    ∙ ap (λ (s : Settings). c.args.text ++ bare_items s c.args.units.now) c.in_ok-own.ensures
+    ∙ ap (λ (s : Properties). c.args.text ++ bare_items s c.args.units.now) c.in_ok-own.ensures
 
 pub returns-clause-len : goal.returns-clause-len
 returns-clause-len c =

@@ -1,6 +1,6 @@
 use Rattle.std.proofs.Common.{◌≡◌, ◌∙◌, ◌++◌, ◌∷◌, [], List, sym, ap, subst, append_assoc}
 use Rattle.std.specs.Prelude.{IfOk}
-use Rattle.prop_map.specs.Settings.{Settings}
+use Rattle.prop_map.specs.Settings.{Properties}
 use Rattle.prop_map.specs.Formed.{IsPropertyMap, character_groups}
 use Rattle.prop_map.proofs.ActingLemmas.{IsPropertyMap-empty}
 use Rattle.plain_doc.specs.declared.item.Item.{Item}
@@ -16,11 +16,11 @@ add_units-requires-clause-map c =
 pub returns : goal.returns
 returns c =
     let units = c.args.units.now in
-    let last = mark_item empty 0x07 (mark_with c.args.settings.now) in
+    let last = mark_item empty 0x07 (mark_with c.args.properties.now) in
     let all =
     ap (λ (shown : List Item). shown ++ last ∷ [])
-    (c.in_ok-shown.ensures ∙ ap (λ (n : Settings). c.args.items ++ bare_items n units) c.new-none.ensures)
+    (c.in_ok-shown.ensures ∙ ap (λ (n : Properties). c.args.items ++ bare_items n units) c.new-none.ensures)
     ∙ append_assoc c.args.items (bare_items empty units) (last ∷ [])
-    ∙ ap (λ (p : Settings). c.args.items ++ (bare_items empty units ++ mark_item empty 0x07 (mark_with p) ∷ []))
-    c.requires.settings in
-    subst (λ (t : List Item). IfOk c.ended.result (λ made. made ≡ t)) all c.ended.ensures
+    ∙ ap (λ (p : Properties). c.args.items ++ (bare_items empty units ++ mark_item empty 0x07 (mark_with p) ∷ []))
+    c.requires.properties in
+    subst (λ (t : List Item). IfOk c.with_cell_mark.result (λ made. made ≡ t)) all c.with_cell_mark.ensures

@@ -28,8 +28,8 @@ load-requires c =
     subst (λ (file : List ℕ). Hold (container_rules file)) (sym c.requires.file)
     (image_holds document c.requires.savable bytes)
 
-pub named-requires : goal.named-requires
-named-requires c =
+pub required_stream-requires : goal.required_stream-requires
+required_stream-requires c =
     let document = c.args.document.now in
     let bytes : AreBytes (full_save_image document) = subst AreBytes c.requires.file (λ i. omega (
       arith,
@@ -53,10 +53,11 @@ read_fib-fib-requires c =
     let contents = c.in_ok-container.container in
     let has : HasContents (full_save_image document) contents =
     subst (λ (file : List ℕ). HasContents file contents) c.requires.file c.in_ok-container.ensures in
-    let named : HasNamed contents.streams wd_name c.named.result.now =
-    subst (λ (n : List ℕ). HasNamed contents.streams n c.named.result.now) c.word_document.ensures c.named.ensures in
-    let wd : c.named.result.now ≡ wd_stream document =
-    image_wd_is document c.requires.savable bytes contents c.named.result.now has named in
+    let required_stream : HasNamed contents.streams wd_name c.required_stream.result.now =
+    subst (λ (n : List ℕ). HasNamed contents.streams n c.required_stream.result.now) c.word_document.ensures
+    c.required_stream.ensures in
+    let wd : c.required_stream.result.now ≡ wd_stream document =
+    image_wd_is document c.requires.savable bytes contents c.required_stream.result.now has required_stream in
     subst (λ (w : List ℕ). Hold (fib_rules w)) (sym wd) (image_fib document c.requires.savable bytes)
 
 pub of_file-requires : goal.of_file-requires
@@ -69,10 +70,11 @@ of_file-requires c =
     let contents = c.in_ok-container.container in
     let has : HasContents (full_save_image document) contents =
     subst (λ (file : List ℕ). HasContents file contents) c.requires.file c.in_ok-container.ensures in
-    let named : HasNamed contents.streams wd_name c.named.result.now =
-    subst (λ (n : List ℕ). HasNamed contents.streams n c.named.result.now) c.word_document.ensures c.named.ensures in
-    let wd : c.named.result.now ≡ wd_stream document =
-    image_wd_is document c.requires.savable bytes contents c.named.result.now has named in
+    let required_stream : HasNamed contents.streams wd_name c.required_stream.result.now =
+    subst (λ (n : List ℕ). HasNamed contents.streams n c.required_stream.result.now) c.word_document.ensures
+    c.required_stream.ensures in
+    let wd : c.required_stream.result.now ≡ wd_stream document =
+    image_wd_is document c.requires.savable bytes contents c.required_stream.result.now has required_stream in
     let fib : c.read_fib-fib.result ≡ fib_fields (wd_stream document) =
     c.read_fib-fib.ensures ∙ ap (λ (w : List ℕ). fib_fields w) wd in
     let len : c.text_len.result ≡ length (text_items document) =
@@ -93,10 +95,11 @@ returns-clause-session c =
     let contents = c.in_ok-container.container in
     let has : HasContents (full_save_image document) contents =
     subst (λ (file : List ℕ). HasContents file contents) c.requires.file c.in_ok-container.ensures in
-    let named : HasNamed contents.streams wd_name c.named.result.now =
-    subst (λ (n : List ℕ). HasNamed contents.streams n c.named.result.now) c.word_document.ensures c.named.ensures in
-    let wd : c.named.result.now ≡ wd_stream document =
-    image_wd_is document c.requires.savable bytes contents c.named.result.now has named in
+    let required_stream : HasNamed contents.streams wd_name c.required_stream.result.now =
+    subst (λ (n : List ℕ). HasNamed contents.streams n c.required_stream.result.now) c.word_document.ensures
+    c.required_stream.ensures in
+    let wd : c.required_stream.result.now ≡ wd_stream document =
+    image_wd_is document c.requires.savable bytes contents c.required_stream.result.now has required_stream in
     let fib : c.read_fib-fib.result ≡ fib_fields (wd_stream document) =
     c.read_fib-fib.ensures ∙ ap (λ (w : List ℕ). fib_fields w) wd in
     let len : c.text_len.result ≡ length (text_items document) =
@@ -129,10 +132,11 @@ returns-clause-pieces c =
     let contents = c.in_ok-container.container in
     let has : HasContents (full_save_image document) contents =
     subst (λ (file : List ℕ). HasContents file contents) c.requires.file c.in_ok-container.ensures in
-    let named : HasNamed contents.streams wd_name c.named.result.now =
-    subst (λ (n : List ℕ). HasNamed contents.streams n c.named.result.now) c.word_document.ensures c.named.ensures in
-    let wd : c.named.result.now ≡ wd_stream document =
-    image_wd_is document c.requires.savable bytes contents c.named.result.now has named in
+    let required_stream : HasNamed contents.streams wd_name c.required_stream.result.now =
+    subst (λ (n : List ℕ). HasNamed contents.streams n c.required_stream.result.now) c.word_document.ensures
+    c.required_stream.ensures in
+    let wd : c.required_stream.result.now ≡ wd_stream document =
+    image_wd_is document c.requires.savable bytes contents c.required_stream.result.now has required_stream in
     let fib : c.read_fib-fib.result ≡ fib_fields (wd_stream document) =
     c.read_fib-fib.ensures ∙ ap (λ (w : List ℕ). fib_fields w) wd in
     let len : c.text_len.result ≡ length (text_items document) =
@@ -154,10 +158,11 @@ returns-clause-fib c =
     let contents = c.in_ok-container.container in
     let has : HasContents (full_save_image document) contents =
     subst (λ (file : List ℕ). HasContents file contents) c.requires.file c.in_ok-container.ensures in
-    let named : HasNamed contents.streams wd_name c.named.result.now =
-    subst (λ (n : List ℕ). HasNamed contents.streams n c.named.result.now) c.word_document.ensures c.named.ensures in
-    let wd : c.named.result.now ≡ wd_stream document =
-    image_wd_is document c.requires.savable bytes contents c.named.result.now has named in
+    let required_stream : HasNamed contents.streams wd_name c.required_stream.result.now =
+    subst (λ (n : List ℕ). HasNamed contents.streams n c.required_stream.result.now) c.word_document.ensures
+    c.required_stream.ensures in
+    let wd : c.required_stream.result.now ≡ wd_stream document =
+    image_wd_is document c.requires.savable bytes contents c.required_stream.result.now has required_stream in
     let fib : c.read_fib-fib.result ≡ fib_fields (wd_stream document) =
     c.read_fib-fib.ensures ∙ ap (λ (w : List ℕ). fib_fields w) wd in
     ok_then c.of_file.result (λ parts. parts.fib ≡ c.read_fib-fib.result) (λ parts. parts.fib ≡ full_fib document)

@@ -2,7 +2,7 @@ use Rattle.std.proofs.Common.{◌≡◌, ◌∙◌, ap, subst, List, ℕ, arith}
 use Rattle.cfb_streams.specs.Names.{table_name}
 use Rattle.cfb_streams.specs.Contents.{HasNamed}
 use Rattle.fib_form.specs.FibFields.{FibFields, pair_at}
-use Rattle.doc_load.specs.FileRules.{table_stream_name}
+use Rattle.file_rules.specs.FileRules.{table_stream_name}
 use Rattle.fast_save.specs.Started.{IsReadFile, written_places}
 use Rattle.fast_save.proofs.OpenLemmas.{named_short, sections_are, sections_hold, no_part_fault}
 use Rattle.fast_save.proofs.ResultLemmas.{ok_then}
@@ -11,25 +11,27 @@ use Rattle.fast_save.proofs.parts.section_places.Goals as goal
 pub part_of-plc-requires : goal.part_of-plc-requires
 part_of-plc-requires c =
     let short =
-    named_short c.args.container.now c.args.fib.now c.requires c.table_name.result.now c.named-table.result.now
-    c.named-table.ensures in
+    named_short c.args.container.now c.args.fib.now c.requires c.table_name.result.now
+    c.required_stream-table.result.now
+    c.required_stream-table.ensures in
     omega (arith, short)
 
 pub returns-in-Ok : goal.returns-in-Ok
 returns-in-Ok c =
     let contents = c.args.container.now in
     let fib = c.args.fib.now in
-    let table = c.named-table.result.now in
+    let table = c.required_stream-table.result.now in
     ok_then c.places_of.result (λ places. places.items ≡ written_places c.in-Ok.seds)
     (λ places. (file : IsReadFile contents fib) → places.items ≡ written_places file.parts.lists.sections)
     (λ places is file.
     let name : c.table_name.result.now ≡ table_stream_name file.parts.text.wd =
     c.table_name.ensures ∙ ap table_name (c.which_table.ensures.value ∙ ap (λ (f : FibFields). f.which_table)
     file.fib_is) in
-    let named : HasNamed contents.streams (table_stream_name file.parts.text.wd) table =
-    subst (λ (n : List ℕ). HasNamed contents.streams n table) name c.named-table.ensures in
+    let required_stream : HasNamed contents.streams (table_stream_name file.parts.text.wd) table =
+    subst (λ (n : List ℕ). HasNamed contents.streams n table) name c.required_stream-table.ensures in
     let same : c.in-Ok.seds ≡ file.parts.lists.sections =
-    sections_are contents fib file table c.part_of-plc.result.now c.pair-pair.result c.ccp.result c.in-Ok.seds named
+    sections_are contents fib file table c.part_of-plc.result.now c.pair-pair.result c.ccp.result c.in-Ok.seds
+    required_stream
     (c.pair-pair.ensures ∙ ap (pair_at fib.pairs) c.pair.ensures.number) c.part_of-plc.ensures.bytes c.ccp.ensures.value
     c.in-Ok.ensures.1 in
     is ∙ ap written_places same)
@@ -39,14 +41,15 @@ pub unreachable-requires : goal.unreachable-requires
 unreachable-requires c =
     let fib = c.args.fib.now in
     let file = c.requires in
-    let table = c.named-table.result.now in
+    let table = c.required_stream-table.result.now in
     let name : c.table_name.result.now ≡ table_stream_name file.parts.text.wd =
     c.table_name.ensures ∙ ap table_name (c.which_table.ensures.value ∙ ap (λ (f : FibFields). f.which_table)
     file.fib_is) in
-    let named : HasNamed c.args.container.now.streams (table_stream_name file.parts.text.wd) table =
-    subst (λ (n : List ℕ). HasNamed c.args.container.now.streams n table) name c.named-table.ensures in
+    let required_stream : HasNamed c.args.container.now.streams (table_stream_name file.parts.text.wd) table =
+    subst (λ (n : List ℕ). HasNamed c.args.container.now.streams n table) name c.required_stream-table.ensures in
     let hold =
-    sections_hold c.args.container.now fib file table c.part_of-plc.result.now c.pair-pair.result c.ccp.result named
+    sections_hold c.args.container.now fib file table c.part_of-plc.result.now c.pair-pair.result c.ccp.result
+    required_stream
     (c.pair-pair.ensures ∙ ap (pair_at fib.pairs) c.pair.ensures.number) c.part_of-plc.ensures.bytes c.ccp.ensures.value
     in
     no_part_fault c.part_of-plc.result.now c.pair-pair.result.0 c.ccp.result c.in-Err-Rule.field-0

@@ -1,18 +1,18 @@
 use Rattle.std.proofs.Common.{ap, length, arith}
 use Rattle.plain_doc.specs.declared.document.Document.{Document}
 use Rattle.plain_doc.specs.Collected.{joined_texts}
-use Rattle.plain_doc.proofs.RightLemmas.{sound_is_right}
+use Rattle.plain_doc.proofs.RightLemmas.{sound_is_valid}
 use Rattle.full_save.proofs.TextLaidOut.{few_items}
 use Rattle.fast_save.proofs.stories.ends_behind.Goals as goal
 
 pub has_end-requires : goal.has_end-requires
 has_end-requires c =
-    let few = few_items c.args.document.now (sound_is_right c.args.document.now c.requires) in
+    let few = few_items c.args.document.now (sound_is_valid c.args.document.now c.requires) in
     let notes = few.notes in
     omega (arith, ap (λ (d : Document). length (joined_texts d.notes)) c.document.view_is)
 
 pub has_end-requires-2 : goal.has_end-requires-2
 has_end-requires-2 c =
-    let few = few_items c.args.document.now (sound_is_right c.args.document.now c.requires) in
+    let few = few_items c.args.document.now (sound_is_valid c.args.document.now c.requires) in
     let heads = few.heads in
     omega (arith, ap (λ (d : Document). length (joined_texts d.heads)) c.document.view_is)

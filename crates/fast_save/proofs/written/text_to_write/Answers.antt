@@ -1,8 +1,8 @@
 use Rattle.std.proofs.Common.{subst, Option}
 use Rattle.std.specs.Prelude.{MatchOption}
 use Rattle.std.proofs.lemmas.Result.{IfOk-weaker}
-use Rattle.edited_text.specs.declared.old_pieces.OldPieces.TheVariants.{Modified}
-use Rattle.edited_text.specs.declared.session_text.SessionText.{SessionText}
+use Rattle.session_text.specs.declared.old_pieces.OldPieces.TheVariants.{Modified}
+use Rattle.session_text.specs.declared.session_text.SessionText.{SessionText}
 use Rattle.fast_save.specs.Written.{IsFitting, IsTooMuch, IsTextToWrite, IsTextOfFewer}
 use Rattle.fast_save.proofs.WrittenLemmas.{fewer_text}
 use Rattle.fast_save.proofs.written.text_to_write.Goals as goal

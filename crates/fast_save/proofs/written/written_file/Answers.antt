@@ -1,11 +1,11 @@
 use Rattle.std.proofs.Common.{subst, Option, Some}
-use Rattle.edited_text.specs.declared.session_text.SessionText.{SessionText}
+use Rattle.session_text.specs.declared.session_text.SessionText.{SessionText}
 use Rattle.fast_save.specs.Written.{IsTextToWrite}
 use Rattle.fast_save.proofs.WrittenLemmas.{can_written}
 use Rattle.fast_save.proofs.written.written_file.Goals as goal
 
-pub appended-requires : goal.appended-requires
-appended-requires c =
+pub append_text-requires : goal.append_text-requires
+append_text-requires c =
     let document = c.args.document.now in
     let parts = c.args.parts.now in
     let counts = c.args.counts.now in

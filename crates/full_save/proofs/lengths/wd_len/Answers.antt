@@ -4,7 +4,7 @@ use Rattle.std.proofs.lemmas.List.Elements.{All-weaker}
 use Rattle.fkp_pages.specs.declared.kind.PageKind.TheVariants.{Chpx, Papx}
 use Rattle.plain_doc.specs.declared.item.Item.{Item}
 use Rattle.plain_doc.specs.declared.document.Document.{Document}
-use Rattle.doc_columns.specs.Beside.{beside_of}
+use Rattle.doc_columns.specs.Attached.{attached_of}
 use Rattle.full_save.specs.declared.lengths.PageCounts.{PageCounts}
 use Rattle.full_save.specs.declared.measures.Measure.TheVariants.{SepxBytes}
 use Rattle.full_save.specs.Sections.{HasSavableSection}
@@ -86,7 +86,7 @@ measure_of-requires c =
     let d = c.args.document.now in
     let all = subst (λ (x : Document). All HasSavableSection x.main) (sym c.document.view_is)
     (sections_savable d c.requires.formed c.requires.right) in
-    All-weaker HasSavableSection (λ (item : Item). IsMeasurable SepxBytes (beside_of item)) (λ item has is. has)
+    All-weaker HasSavableSection (λ (item : Item). IsMeasurable SepxBytes (attached_of item)) (λ item has is. has)
     c.document.inside.main all
 
 pub overflow_add-body : goal.overflow_add-body

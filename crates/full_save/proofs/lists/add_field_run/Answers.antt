@@ -5,8 +5,8 @@ use Rattle.std.proofs.lemmas.List.{get_or-map}
 use Rattle.std.proofs.lemmas.Option.{slice_get_within, get_or_from_slice_get}
 use Rattle.plain_doc.specs.declared.item.Item.{Item}
 use Rattle.plain_doc.specs.Collected.{field_of}
-use Rattle.doc_columns.specs.declared.beside.Beside.{Beside}
-use Rattle.doc_columns.specs.Beside.{beside_of}
+use Rattle.doc_columns.specs.declared.attached.Attached.{Attached}
+use Rattle.doc_columns.specs.Attached.{attached_of}
 use Rattle.full_save.specs.Alike.{HaveAlike}
 use Rattle.full_save.specs.Lists.{IsListedUpTo, field_entry}
 use Rattle.full_save.proofs.AlikeLemmas.{alike_of}
@@ -20,7 +20,7 @@ returns-in_default c = λ text start units are listed.
     listed_none field_of field_entry c.args.cp text c.args.place run.count start c.args.fields.now
     (no_field text c.args.place run.count
     (subst (λ (value : Option ℕ). HaveAlike fld value text c.args.place run.count) c.in_default.is
-    (alike_of beside_of (λ (b : Beside). b.fld) run.value text c.args.place run.count are))) listed
+    (alike_of attached_of (λ (b : Attached). b.fld) run.value text c.args.place run.count are))) listed
 
 pub loop-at-init : goal.loop-at-init
 loop-at-init c =
@@ -36,7 +36,7 @@ loop-at-preserved c =
     let unit : Item → ℕ = λ item. item.unit in
     one_listed field_of field_entry c.args.cp (λ text. units ≡ map unit text) run.value c.args.place run.count at
     c.args.fields.now c.loop-at.fields c.add.new.self (λ item. (item.unit, byte)) c.loop-at-test.true
-    (λ item is. ap (option_map (λ (b : ℕ). (item.unit, b))) (ap (λ (b : Beside). b.fld) is ∙ c.in-Some.is))
+    (λ item is. ap (option_map (λ (b : ℕ). (item.unit, b))) (ap (λ (b : Attached). b.fld) is ∙ c.in-Some.is))
     (λ text item such here.
     let below = slice_get_within text at item here in
     let is : get_or units at 0 ≡ item.unit =

@@ -2,8 +2,8 @@ use Rattle.std.proofs.Common.{◌≡◌, ◌+◌, ◌∙◌, ◌++◌, [], ◌�
 use Rattle.std.specs.Prelude.{⊤}
 use Rattle.plain_doc.specs.declared.item.Item.{Item}
 use Rattle.plain_doc.specs.declared.item.NoteKind.{NoteKind}
-use Rattle.doc_columns.specs.declared.beside.Beside.{Beside}
-use Rattle.doc_columns.specs.Beside.{beside_of}
+use Rattle.doc_columns.specs.declared.attached.Attached.{Attached}
+use Rattle.doc_columns.specs.Attached.{attached_of}
 use Rattle.full_save.specs.Alike.{HaveAlike}
 use Rattle.full_save.specs.Lists.{IsListedUpTo, ref_entry}
 use Rattle.full_save.proofs.AlikeLemmas.{alike_of}
@@ -16,7 +16,7 @@ returns-in_default c = λ text are listed.
     let note : Item → Option NoteKind = λ item. item.note in
     listed_none note ref_entry 0 text c.args.place run.count [] c.args.refs.now
     (subst (λ (value : Option NoteKind). HaveAlike note value text c.args.place run.count) c.in_default.is
-    (alike_of beside_of (λ (b : Beside). b.note) run.value text c.args.place run.count are)) listed
+    (alike_of attached_of (λ (b : Attached). b.note) run.value text c.args.place run.count are)) listed
 
 pub loop-cp-init : goal.loop-cp-init
 loop-cp-init c =
@@ -32,7 +32,7 @@ loop-cp-preserved c =
     one_listed (λ (item : Item). item.note) ref_entry 0 (λ text. ⊤) run.value c.args.place run.count c.loop-cp.cp
     c.args.refs.now
     c.loop-cp.refs c.add.new.self (λ item. kind) c.loop-cp-test.true
-    (λ item is. ap (λ (b : Beside). b.note) is ∙ c.in-Some.is)
+    (λ item is. ap (λ (b : Attached). b.note) is ∙ c.in-Some.is)
     (λ text item such here. c.in_ok-add.ensures.ok
     ∙ (ap (λ (b : Bool). c.loop-cp.refs ++ (record { cp = c.loop-cp.cp; auto = b }) ∷ []) c.is_auto.ensures
     ∙ ap (λ (n : ℕ). c.loop-cp.refs ++ ref_entry (n, kind) ∷ []) zero))

@@ -4,9 +4,9 @@ use Rattle.std.specs.Prelude.{sum_by}
 use Rattle.std.proofs.lemmas.List.{take_all}
 use Rattle.std.proofs.lemmas.Option.{slice_get-get_or}
 use Rattle.run_lists.specs.declared.runs.Run.{Run}
-use Rattle.run_lists.specs.Spread.{spread, extent}
+use Rattle.run_lists.specs.Spread.{expanded, total_len}
 use Rattle.run_lists.proofs.CutLemmas.{All-runs}
-use Rattle.doc_columns.specs.declared.beside.Beside.{Beside}
+use Rattle.doc_columns.specs.declared.attached.Attached.{Attached}
 use Rattle.full_save.specs.Lengths.{measured, IsMeasurable}
 use Rattle.full_save.proofs.ColumnRuns.{run_fits}
 use Rattle.full_save.proofs.MeasureLemmas.{none_measured, one_measured, all_measured}
@@ -52,7 +52,7 @@ pub returns-clause-is : goal.returns-clause-is
 returns-clause-is c =
     let all = all_measured c.args.measure c.args.runs.now c.loop-run.run-index c.loop-run.sum c.loop-run-test.false
     c.loop-run.invariant in
-    all.is ∙ ap (λ (rs : List (Run Beside)). sum_by (measured c.args.measure) (spread rs))
+    all.is ∙ ap (λ (rs : List (Run Attached)). sum_by (measured c.args.measure) (expanded rs))
     (take_all (length c.args.runs.now) c.args.runs.now (omega arith))
 
 pub returns-clause-bound : goal.returns-clause-bound
@@ -60,6 +60,6 @@ returns-clause-bound c =
     let all = all_measured c.args.measure c.args.runs.now c.loop-run.run-index c.loop-run.sum c.loop-run-test.false
     c.loop-run.invariant in
     let bound = all.bound in
-    let same = ap (λ (rs : List (Run Beside)). extent rs)
+    let same = ap (λ (rs : List (Run Attached)). total_len rs)
     (take_all (length c.args.runs.now) c.args.runs.now (omega arith)) in
     omega (arith, bound, same)

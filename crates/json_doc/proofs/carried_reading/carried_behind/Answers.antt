@@ -1,7 +1,7 @@
 use Rattle.std.proofs.Common.{◌≡◌, Some, None, subst, sym}
 use Rattle.std.specs.Prelude.{MatchResult}
 use Rattle.serde_json.specs.View.{view}
-use Rattle.edit_script.specs.declared.faults.Misfit.TheVariants.{Shape}
+use Rattle.edit_script.specs.declared.faults.ShapeError.TheVariants.{Shape}
 use Rattle.json_doc.proofs.carried_reading.carried_behind.Goals as goal
 
 pub returns-in-Ok : goal.returns-in-Ok

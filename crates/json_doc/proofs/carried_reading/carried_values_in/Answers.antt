@@ -1,7 +1,7 @@
 use Rattle.std.proofs.Common.{◌≡◌, Some, None, subst, sym}
 use Rattle.std.specs.Prelude.{MatchResult}
 use Rattle.serde_json.specs.View.{view}
-use Rattle.edit_script.specs.declared.faults.Misfit.TheVariants.{Shape}
+use Rattle.edit_script.specs.declared.faults.ShapeError.TheVariants.{Shape}
 use Rattle.std.proofs.lemmas.Result.{err_from_is_err_and}
 use Rattle.json_doc.specs.CarriedGroups.{carried_row}
 use Rattle.json_doc.proofs.RowLemmas.{then_goes}

@@ -12,12 +12,12 @@ returns-in_err-piece-clause-pieces c =
     rw (p.1, p.2) (misfit pieces_one IsFormedPiece piece_spelt (view c.args.value.now) c.in_err-piece.field-0.0
     c.in_err-piece.ensures)
 
-pub returns-then-not-is_right-clause-pieces : goal.returns-then-not-is_right-clause-pieces
-returns-then-not-is_right-clause-pieces c =
+pub returns-then-not-is_valid-clause-pieces : goal.returns-then-not-is_valid-clause-pieces
+returns-then-not-is_valid-clause-pieces c =
     refused pieces_one IsFormedPiece piece_spelt (view c.args.value.now) c.in_ok-piece.piece c.in_ok-piece.ensures
-    (λ formed. absurd (search (rules, c.is_right.ensures.1 formed.0)))
+    (λ formed. absurd (search (rules, c.is_valid.ensures.1 formed.0)))
 
 pub returns-clause-pieces : goal.returns-clause-pieces
 returns-clause-pieces c =
     accepted pieces_one IsFormedPiece piece_spelt (view c.args.value.now) c.in_ok-piece.piece c.in_ok-piece.ensures
-    (c.is_right.ensures.0 (search rules), c.has_numbers.ensures)
+    (c.is_valid.ensures.0 (search rules), c.has_numbers.ensures)

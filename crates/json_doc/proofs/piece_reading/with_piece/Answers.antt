@@ -1,6 +1,6 @@
 use Rattle.std.proofs.Common.{◌∙◌, ◌++◌, ◌∷◌, [], ℕ, List, get_or, sym, ap, subst}
 use Rattle.prop_map.specs.Formed.{IsPropertyMap, character_groups}
-use Rattle.prop_map.specs.Settings.{Settings}
+use Rattle.prop_map.specs.Settings.{Properties}
 use Rattle.plain_doc.specs.declared.item.Item.{Item}
 use Rattle.plain_doc.specs.Document.{HasPropertyMaps}
 use Rattle.doc_columns.specs.Columns.{bare_items}
@@ -30,6 +30,6 @@ returns c =
     let piece = c.args.piece.now in
     c.in_ok-made-2.ensures
     ∙ ap (λ (items : List Item). c.args.text ++ items)
-    (ap (λ (chp : Settings). bare_items chp c.as_slice-units.result.now) c.in_ok-copy.ensures
+    (ap (λ (chp : Properties). bare_items chp c.as_slice-units.result.now) c.in_ok-copy.ensures
     ∙ (ap (bare_items piece.chp) c.as_slice-units.ensures
     ∙ bare_piece piece piece.units (sym c.is_special.ensures ∙ c.if-is_special.false)))

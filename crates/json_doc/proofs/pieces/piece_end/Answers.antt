@@ -1,4 +1,4 @@
--- The piece goes on while items have nothing beside their settings, and the same of these.
+-- The piece goes on while items have nothing beside their properties, and the same of these.
 use Rattle.std.proofs.Common.{◌≡◌, ◌∙◌, ◌+◌, ◌-◌, ℕ, sym, subst, arith}
 use Rattle.std.specs.Prelude.{slice_get, Some}
 use Rattle.doc_columns.specs.Walks.{items_in}
@@ -14,9 +14,9 @@ pub returns-then-is_something-clause-ends : goal.returns-then-is_something-claus
 returns-then-is_something-clause-ends c = λ low item next here there.
     let some = c.requires.some in
     let back : c.args.place + 1 - 1 ≡ c.args.place = omega arith in
-    special_ends (items_in c.args.parts.now) c.args.place c.args.first.now.beside.now
+    special_ends (items_in c.args.parts.now) c.args.place c.args.first.now.attached.now
     (sym c.is_something.ensures ∙ c.if-is_something.true)
-    (λ one there. c.requires.besides c.args.place one (omega arith) some there) item next
+    (λ one there. c.requires.attachments c.args.place one (omega arith) some there) item next
     (subst (λ (k : ℕ). slice_get (items_in c.args.parts.now) k ≡ Some item) back here)
 
 pub loop-until-init : goal.loop-until-init
@@ -29,8 +29,8 @@ loop-until-init c =
       some = some;
       within = c.requires.within;
       alike =
-          alike_by (items_in parts) c.args.place first.end first.chp.now first.beside.now
-          (sym c.is_something.ensures ∙ c.if-is_something.false) c.requires.chps c.requires.besides;
+          alike_by (items_in parts) c.args.place first.end first.chp.now first.attached.now
+          (sym c.is_something.ensures ∙ c.if-is_something.false) c.requires.chps c.requires.attachments;
     }
 
 pub alike_from-next-requires-clause-walk : goal.alike_from-next-requires-clause-walk
@@ -45,8 +45,8 @@ pub returns-then-not-goes_on-clause-ends : goal.returns-then-not-goes_on-clause-
 returns-then-not-goes_on-clause-ends c = λ low.
     let next = c.alike_from-next in
     alike_ends (items_in c.args.parts.now) c.args.place c.loop-until.until next.result.end
-    c.args.first.now.chp.now next.result.chp.now next.result.beside.now c.loop-until.invariant.some
-    next.ensures.some c.loop-until.invariant.alike c.if-not-goes_on.ensures next.ensures.chps next.ensures.besides
+    c.args.first.now.chp.now next.result.chp.now next.result.attached.now c.loop-until.invariant.some
+    next.ensures.some c.loop-until.invariant.alike c.if-not-goes_on.ensures next.ensures.chps next.ensures.attachments
 
 pub loop-until-preserved : goal.loop-until-preserved
 loop-until-preserved c =
@@ -61,8 +61,8 @@ loop-until-preserved c =
       within = next.ensures.within;
       alike =
           alike_on (items_in parts) c.args.place until next.result.end c.args.first.now.chp.now
-          next.result.chp.now next.result.beside.now c.loop-until.invariant.alike c.if-not-goes_on.ensures
-          next.ensures.chps next.ensures.besides;
+          next.result.chp.now next.result.attached.now c.loop-until.invariant.alike c.if-not-goes_on.ensures
+          next.ensures.chps next.ensures.attachments;
     }
 
 pub returns-clause-joined : goal.returns-clause-joined

@@ -5,7 +5,7 @@ use Rattle.bare_items.specs.Specials.{is_special}
 use Rattle.doc_columns.specs.Walks.{items_in, IsWalk}
 use Rattle.json_doc.proofs.pieces.piece_end.Given as goal
 
--- the items from the place to here have nothing beside their settings, and the same of these
+-- the items from the place to here have nothing beside their properties, and the same of these
 abbrev pub invariant-loop-until : goal.invariant-loop-until
 invariant-loop-until l = record {
   walk : IsWalk l.fn.parts l.walk l.until;

@@ -25,8 +25,9 @@ loop-at-preserved c =
     let first = c.alike_from-first in
     let piece = c.piece_end-end.ensures in
     let json =
-    stretch_json-range parts c.requires at end first.result.end first.result.chp.now first.result.beside.now piece.some
-    piece.within first.ensures.some first.ensures.chps first.ensures.besides in
+    stretch_json-range parts c.requires at end first.result.end first.result.chp.now first.result.attached.now
+    piece.some
+    piece.within first.ensures.some first.ensures.chps first.ensures.attachments in
     record {
       walk = piece.walk;
       within = piece.within;

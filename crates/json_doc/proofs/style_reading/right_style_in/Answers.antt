@@ -12,12 +12,12 @@ returns-in_err-style c =
     rw (p.1, p.2) (misfit styles_one IsFormedStyle style_spelt (view c.args.value.now) c.in_err-style.field-0.0
     c.in_err-style.ensures)
 
-pub returns-then-not-is_right_style : goal.returns-then-not-is_right_style
-returns-then-not-is_right_style c =
+pub returns-then-not-is_valid_style : goal.returns-then-not-is_valid_style
+returns-then-not-is_valid_style c =
     refused styles_one IsFormedStyle style_spelt (view c.args.value.now) c.in_ok-style.style c.in_ok-style.ensures
-    (λ formed. absurd (search (rules, c.is_right_style.ensures.1 formed)))
+    (λ formed. absurd (search (rules, c.is_valid_style.ensures.1 formed)))
 
 pub returns : goal.returns
 returns c =
     accepted styles_one IsFormedStyle style_spelt (view c.args.value.now) c.in_ok-style.style c.in_ok-style.ensures
-    (c.is_right_style.ensures.0 (search rules))
+    (c.is_valid_style.ensures.0 (search rules))

@@ -19,8 +19,8 @@ returns-then-is_empty c = λ shape slots formed e.
     let none : length c.args.values.now ≡ 0 = search rules in
     absurd (omega (arith, some, len, length-map {B = Data} c.args.values.now, length-map {B = Data} slots, none))
 
-pub returns-then-values-gt-MOST_SLOTS : goal.returns-then-values-gt-MOST_SLOTS
-returns-then-values-gt-MOST_SLOTS c = λ shape slots formed e.
+pub returns-then-values-gt-MAX_SLOTS : goal.returns-then-values-gt-MAX_SLOTS
+returns-then-values-gt-MAX_SLOTS c = λ shape slots formed e.
     let len = ap length (same_items (map view c.args.values.now) (map slot_json slots) e) in
     let few = formed.few in
     absurd (omega (
@@ -29,7 +29,7 @@ returns-then-values-gt-MOST_SLOTS c = λ shape slots formed e.
       len,
       length-map {B = Data} c.args.values.now,
       length-map {B = Data} slots,
-      c.if-values-gt-MOST_SLOTS.true,
+      c.if-values-gt-MAX_SLOTS.true,
     ))
 
 pub returns-in_err-first : goal.returns-in_err-first
@@ -53,7 +53,7 @@ add-requires-clause-room c =
     let values = c.args.values.now in
     let len = read_length slot_json IsFormedSlot (map view (take c.loop-i.i values)) c.loop-i.sheet.styles
     c.loop-i.invariant.slots in
-    omega (arith, len, front_length values c.loop-i.i, c.loop-i-test.true, c.if-values-gt-MOST_SLOTS.false)
+    omega (arith, len, front_length values c.loop-i.i, c.loop-i-test.true, c.if-values-gt-MAX_SLOTS.false)
 
 pub returns-in_err-slot : goal.returns-in_err-slot
 returns-in_err-slot c =
@@ -88,7 +88,7 @@ returns c =
       (
         record {
           some = omega (arith, len, length-map {B = Data} values, some);
-          few = omega (arith, len, length-map {B = Data} values, c.if-values-gt-MOST_SLOTS.false);
+          few = omega (arith, len, length-map {B = Data} values, c.if-values-gt-MAX_SLOTS.false);
           each = read.0;
         },
         read.1,

@@ -6,7 +6,7 @@ use Rattle.std.proofs.lemmas.Option.{slice_get-get_or, slice_get_within}
 use Rattle.plain_doc.specs.declared.item.Item.{Item}
 use Rattle.plain_doc.specs.declared.document.Document.{Document}
 use Rattle.plain_doc.specs.Paragraphs.{IsParagraphEnd}
-use Rattle.doc_columns.specs.Beside.{beside_of}
+use Rattle.doc_columns.specs.Attached.{attached_of}
 use Rattle.doc_columns.proofs.CollectLemmas.{start_at}
 use Rattle.doc_columns.proofs.EqualityLemmas.{column_long, begins_at_start}
 use Rattle.list_numbers.specs.MarkValues.{no_values}
@@ -30,14 +30,14 @@ loop-i-init c =
     rw c.len.ensures at c.in_ok-counts.ensures in
     record {
       lines = rw c.new-text.ensures (no_lines doc c.in_ok-counts.counts.items counted);
-      cursor = start_at c.besides-besides.result.now c.new-marks.result c.new-marks.ensures;
+      cursor = start_at c.attachments-attachments.result.now c.new-marks.result c.new-marks.ensures;
       ahead = begins_at_start c.new-marks.result c.new-marks.ensures;
     }
 
 pub mark_of-end-requires-clause-long : goal.mark_of-end-requires-clause-long
 mark_of-end-requires-clause-long c =
-    column_long c.besides-besides.result.now c.document.inside.main beside_of c.len-len.result
-    c.besides-besides.ensures c.len-len.ensures.len
+    column_long c.attachments-attachments.result.now c.document.inside.main attached_of c.len-len.result
+    c.attachments-attachments.ensures c.len-len.ensures.len
 
 pub mark_of-end-requires-clause-within : goal.mark_of-end-requires-clause-within
 mark_of-end-requires-clause-within c =
@@ -82,7 +82,7 @@ loop-i-preserved c =
     (subst (λ n. i < n) c.requires.places c.loop-i-test.true) in
     let ends : IsParagraphEnd document.main at (end - 1) =
     end_there document c.document.inside.main at end found.result.0 c.requires.sound is left
-    (found.ensures.found c.document.inside.main c.besides-besides.ensures) in
+    (found.ensures.found c.document.inside.main c.attachments-attachments.ensures) in
     let next : end - 1 + 1 ≡ end = omega (arith, found.ensures.some) in
     let last : end - 1 < length document.main =
     slice_get_within document.main (end - 1) ends.ends.item ends.ends.here in

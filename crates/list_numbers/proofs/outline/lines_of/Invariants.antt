@@ -7,6 +7,6 @@ abbrev pub invariant-loop-i : goal.invariant-loop-i
 invariant-loop-i l = record {
   lines : HasLines (record { items = l.document.main; lists = l.lists; values = l.values; places = l.places }) l.text
       l.counts.items l.at l.i;
-  cursor : IsAt l.besides l.marks;
+  cursor : IsAt l.attachments l.marks;
   ahead : l.marks.begin ≤ l.at;
 }

@@ -1,7 +1,7 @@
 use Rattle.std.proofs.Common.{◌≡◌, ◌+◌, ◌<◌, ◌-◌, length, ap, subst, refl, arith}
 use Rattle.plain_doc.specs.declared.document.Document.{Document}
-use Rattle.plain_doc.proofs.RightLemmas.{sound_is_right}
-use Rattle.doc_columns.specs.Beside.{beside_of}
+use Rattle.plain_doc.proofs.RightLemmas.{sound_is_valid}
+use Rattle.doc_columns.specs.Attached.{attached_of}
 use Rattle.doc_columns.proofs.CollectLemmas.{start_at}
 use Rattle.doc_columns.proofs.EqualityLemmas.{column_long, begins_at_start}
 use Rattle.list_numbers.specs.MarkValues.{AreKnownValues, AreMarkValues}
@@ -18,14 +18,14 @@ loop-at-init c =
     record {
       values = rw c.new-values.ensures.items (no_values c.args.document.now);
       known = none;
-      cursor = start_at c.besides-besides.result.now c.new-marks.result c.new-marks.ensures;
+      cursor = start_at c.attachments-attachments.result.now c.new-marks.result c.new-marks.ensures;
       ahead = begins_at_start c.new-marks.result c.new-marks.ensures;
     }
 
 pub mark_of-end-requires-clause-long : goal.mark_of-end-requires-clause-long
 mark_of-end-requires-clause-long c =
-    column_long c.besides-besides.result.now c.document.inside.main beside_of c.len-len.result
-    c.besides-besides.ensures c.len-len.ensures.len
+    column_long c.attachments-attachments.result.now c.document.inside.main attached_of c.len-len.result
+    c.attachments-attachments.ensures c.len-len.ensures.len
 
 pub mark_of-end-requires-clause-cursor : goal.mark_of-end-requires-clause-cursor
 mark_of-end-requires-clause-cursor c = c.loop-at.invariant.cursor
@@ -39,17 +39,17 @@ unwrap-requires c =
     let low : c.loop-at.at < length main = omega (arith, c.loop-at-test.true, c.len-len.ensures.len) in
     mark_there _ c.document.inside.main c.loop-at.at c.mark_of-end.result.1 c.mark_of-end.result.0
     (sound_seen _ _ c.document.view_is c.requires) refl low
-    (c.mark_of-end.ensures.found c.document.inside.main c.besides-besides.ensures)
+    (c.mark_of-end.ensures.found c.document.inside.main c.attachments-attachments.ensures)
 
 pub values_of_mark-requires-clause-bases : goal.values_of_mark-requires-clause-bases
-values_of_mark-requires-clause-bases c = (sound_is_right _ (sound_seen _ _ c.document.view_is c.requires)).bases
+values_of_mark-requires-clause-bases c = (sound_is_valid _ (sound_seen _ _ c.document.view_is c.requires)).bases
 
 pub values_of_mark-requires-clause-style : goal.values_of_mark-requires-clause-style
 values_of_mark-requires-clause-style c =
     let end = c.mark_of-end.result.1 in
     let ended =
     mark_taken c.document.inside.main c.loop-at.at end c.mark_of-end.result.0 c.unwrap.result c.unwrap.ensures
-    (c.mark_of-end.ensures.found c.document.inside.main c.besides-besides.ensures) in
+    (c.mark_of-end.ensures.found c.document.inside.main c.attachments-attachments.ensures) in
     style_of_mark _ (end - 1) c.unwrap.result.now (sound_seen _ _ c.document.view_is c.requires) ended.marked
 
 pub values_of_mark-requires-clause-known : goal.values_of_mark-requires-clause-known
@@ -64,7 +64,7 @@ loop-at-preserved c =
     let mark = c.unwrap.result.now in
     let seen =
     mark_taken c.document.inside.main at end found.result.0 c.unwrap.result c.unwrap.ensures
-    (found.ensures.found c.document.inside.main c.besides-besides.ensures) in
+    (found.ensures.found c.document.inside.main c.attachments-attachments.ensures) in
     let ended : EndsBefore document.main at end mark =
     subst (λ (d : Document). EndsBefore d.main at end mark) c.document.view_is seen in
     let own = c.in_ok-own.own in

@@ -8,7 +8,7 @@ abbrev pub invariant-loop-at : goal.invariant-loop-at
 invariant-loop-at l = record {
   values : HaveValues l.document l.values.items l.at;
   known : AreKnownValues l.sheet l.known.items;
-  cursor : IsAt l.besides l.marks;
+  cursor : IsAt l.attachments l.marks;
   ahead : l.marks.begin ≤ l.at;
 }
 

@@ -1,6 +1,7 @@
 use Rattle.std.proofs.Common.{take, arith}
-use Rattle.page_out.proofs.EncodingLemmas.{encoded_front, rest_within}
+use Rattle.page_out.proofs.EncodingLemmas.{encoded_front}
 use Rattle.page_out.proofs.encoding.encode_front.Goals as goal
+use Rattle.doc_bits.proofs.ListLemmas.{part_within}
 
 pub loop-count-preserved : goal.loop-count-preserved
 loop-count-preserved c =
@@ -10,7 +11,7 @@ loop-count-preserved c =
     let some = part.ensures.some in
     record {
       long = omega (arith, part.ensures.long, old.invariant.long);
-      inside = rest_within units old.count part.result.0 old.invariant.inside part.ensures.inside;
+      inside = part_within units old.count part.result.0 old.invariant.inside part.ensures.inside;
       room = part.ensures.room;
       start = λ same. absurd (omega (arith, same, some));
       bytes =

@@ -1,6 +1,6 @@
 use Rattle.std.proofs.Common.{◌≡◌, ◌+◌, ◌∙◌, arith, length, slice_set, sym, ap, subst}
 use Rattle.std.proofs.lemmas.Option.{slice_get_within, get_or_from_slice_get}
-use Rattle.block_lists.specs.Blocks.{units_of}
+use Rattle.chunked_list.specs.Blocks.{units_of}
 use Rattle.piece_table.specs.declared.pieces.Entry.{Entry}
 use Rattle.piece_table.specs.Cuts.{IsCut, front_entry, back_entry}
 use Rattle.piece_table.proofs.BlockLemmas.{units-entries, spot_told, end_seam, units_behind}

@@ -5,9 +5,10 @@ use Rattle.doc_bits.proofs.RuleLemmas.{least_from}
 use Rattle.piece_table.specs.Clx.{IsWrongAt}
 use Rattle.piece_table.specs.Front.{IsPcdtFront}
 use Rattle.doc_bits.specs.Number.{AreBytes}
-use Rattle.piece_table.proofs.ClxLemmas.{rest_is, parts_found, parts_wrong}
+use Rattle.piece_table.proofs.ClxLemmas.{parts_found, parts_wrong}
 use Rattle.piece_table.proofs.ClxRuleLemmas.{nowhere_from}
 use Rattle.piece_table.proofs.parts.parts_of.Goals as goal
+use Rattle.doc_bits.proofs.ListLemmas.{rest_is}
 
 pub returns-in-Some : goal.returns-in-Some
 returns-in-Some c =

@@ -2,8 +2,9 @@
 use Rattle.std.proofs.Common.{ℕ, ◌+◌, drop, subst, sym, arith}
 use Rattle.piece_table.specs.Front.{ArePrcs, IsPrcFront}
 use Rattle.doc_bits.specs.Number.{AreBytes}
-use Rattle.piece_table.proofs.ClxLemmas.{prcs_more, rest_is}
+use Rattle.piece_table.proofs.ClxLemmas.{prcs_more}
 use Rattle.piece_table.proofs.parts.prcs_of.Goals as goal
+use Rattle.doc_bits.proofs.ListLemmas.{rest_is}
 
 pub loop-grpprl-preserved : goal.loop-grpprl-preserved
 loop-grpprl-preserved c =

@@ -1,16 +1,16 @@
-use Rattle.plain_doc.specs.RulesOfItems.{IsWrongItem, HasShortSettings}
-use Rattle.plain_doc.specs.declared.rules_sheet.StyleRule.TheVariants.{Settings}
+use Rattle.plain_doc.specs.RulesOfItems.{IsWrongItem, HasShortProperties}
+use Rattle.plain_doc.specs.declared.rules_sheet.StyleRule.TheVariants.{Properties}
 use Rattle.plain_doc.specs.StyleRules.{IsWrongStyle}
 use Rattle.plain_doc.proofs.SheetLemmas.{style_first, texts_after}
 use Rattle.plain_doc.proofs.judge.first_long.Goals as goal
 
 pub returns-in-Some : goal.returns-in-Some
 returns-in-Some c =
-    style_first c.args.document.now (λ part text. IsWrongItem (λ i item. HasShortSettings item) text)
-    (IsWrongStyle Settings c.args.document.now.sheet) c.in-Some.istd c.in-Some.ensures
+    style_first c.args.document.now (λ part text. IsWrongItem (λ i item. HasShortProperties item) text)
+    (IsWrongStyle Properties c.args.document.now.sheet) c.in-Some.istd c.in-Some.ensures
 
 pub returns : goal.returns
 returns c =
-    texts_after c.args.document.now (λ part text. IsWrongItem (λ i item. HasShortSettings item) text)
-    (IsWrongStyle Settings c.args.document.now.sheet) c.first_in_texts.result c.in_default.ensures
+    texts_after c.args.document.now (λ part text. IsWrongItem (λ i item. HasShortProperties item) text)
+    (IsWrongStyle Properties c.args.document.now.sheet) c.first_in_texts.result c.in_default.ensures
     c.first_in_texts.ensures

@@ -2,7 +2,7 @@ use Rattle.std.proofs.Common.{ℕ, List, refl, sym, subst, arith}
 use Rattle.doc_bits.specs.Number.{AreBytes}
 use Rattle.sprm_table.specs.Sprm.{IsAcceptedList}
 use Rattle.prop_map.specs.declared.acting.Acted.{Acted}
-use Rattle.prop_map.specs.Settings.{Settings}
+use Rattle.prop_map.specs.Settings.{Properties}
 use Rattle.prop_map.specs.Formed.{StaysFormed}
 use Rattle.prop_map.specs.Acting.{IsActedBy}
 use Rattle.prop_map.proofs.ActingLemmas.{IsPropertyMap-after}
@@ -10,7 +10,7 @@ use Rattle.prop_map.proofs.ByteLemmas.{list_bytes}
 use Rattle.prop_map.proofs.acting.act.Goals as goal
 
 -- what a list makes of a map stays formed
-stays_formed : (list : List ℕ) (groups : ℕ) (old : Settings) (acted : Acted) → IsAcceptedList list groups → AreBytes
+stays_formed : (list : List ℕ) (groups : ℕ) (old : Properties) (acted : Acted) → IsAcceptedList list groups → AreBytes
     list → IsActedBy list groups old acted → StaysFormed groups old acted.map
 stays_formed list groups old acted accepted bytes h =
     IsPropertyMap-after accepted.list groups old acted.map accepted.spelt.entries (list_bytes list accepted.list bytes

@@ -5,7 +5,7 @@ use Rattle.std.specs.Ordering.{nat_cmp}
 use Rattle.std.specs.Option.{option_or}
 use Rattle.std.specs.FinMap.{get, empty}
 use Rattle.sprm_table.specs.Sprm.{Prl}
-use Rattle.prop_map.specs.Acting.{value_after, style_of, ArePropertiesAfter}
+use Rattle.prop_map.specs.Acting.{value_after, style_named, ArePropertiesAfter}
 use Rattle.prop_map.specs.Values.{set_map, AreInOrder}
 use Rattle.prop_map.proofs.ActingLemmas.{value_after-append, style_of-append}
 use Rattle.prop_map.proofs.EntriesLemmas.{from_sorted-nil}
@@ -51,7 +51,7 @@ loop-code-preserved c =
             spelt = step.left;
             map = λ code. made code ∙ (ap (value_after (entry ∷ []) c.args.groups code) (before.map code) ∙ sym
                 (value_after-append before.done (entry ∷ []) c.args.groups code (get {R = nat_cmp} empty code)));
-            style = c.style-istd.ensures ∙ (ap (option_or (style_of (entry ∷ []) c.args.groups)) before.style ∙ sym
+            style = c.style-istd.ensures ∙ (ap (option_or (style_named (entry ∷ []) c.args.groups)) before.style ∙ sym
                 (style_of-append before.done (entry ∷ []) c.args.groups));
           };
     }
@@ -67,5 +67,5 @@ returns c = λ prls h.
           ap (λ m. get m code) (c.in_ok-map.ensures ∙ (c.in_ok-block_of.ensures ∙ ap set_map c.deref.ensures.value))
           ∙ subst (λ l. get (set_map c.loop-code.values.items) code ≡ value_after l c.args.groups code
           (get {R = nat_cmp} empty code)) all (before.map code);
-      style = subst (λ l. c.loop-code.istd ≡ style_of l c.args.groups) all before.style;
+      style = subst (λ l. c.loop-code.istd ≡ style_named l c.args.groups) all before.style;
     }

@@ -5,7 +5,7 @@ use Rattle.std.specs.Ordering.{nat_cmp}
 use Rattle.std.specs.Option.{option_or}
 use Rattle.std.specs.FinMap.{get, empty, from_sorted}
 use Rattle.sprm_table.specs.Sprm.{Prl}
-use Rattle.prop_map.specs.Acting.{value_after, style_of, ArePropertiesAfter}
+use Rattle.prop_map.specs.Acting.{value_after, style_named, ArePropertiesAfter}
 use Rattle.prop_map.specs.Block.{entries_in, map_of, HasCodesBelow}
 use Rattle.prop_map.proofs.ActingLemmas.{value_after-append, style_of-append}
 use Rattle.prop_map.proofs.EntriesLemmas.{from_sorted-nil}
@@ -30,16 +30,16 @@ loop-code-init c =
       };
     }
 
-pub push_setting-requires : goal.push_setting-requires
-push_setting-requires c = c.loop-code.invariant.below
+pub push_property-requires : goal.push_property-requires
+push_property-requires c = c.loop-code.invariant.below
 
 pub loop-code-preserved : goal.loop-code-preserved
 loop-code-preserved c =
     let bytes = c.loop-code.invariant.list_is in
     let entry : Prl = (c.in-Some.code.0, slice_range c.args.list.now c.in-Some.from c.in-Some.to) in
-    let made = subst (λ o. IfSome o (λ next. HasCodesBelow c.push_setting.new.bytes next × ArePropertiesAfter
-    (entry ∷ []) c.args.groups (map_of c.loop-code.bytes) (map_of c.push_setting.new.bytes))) c.in-Some-2.is
-    c.in_ok-push_setting.ensures in
+    let made = subst (λ o. IfSome o (λ next. HasCodesBelow c.push_property.new.bytes next × ArePropertiesAfter
+    (entry ∷ []) c.args.groups (map_of c.loop-code.bytes) (map_of c.push_property.new.bytes))) c.in-Some-2.is
+    c.in_ok-push_property.ensures in
     record {
       list_is = c.in-Some.ensures.given.bytes ∙ bytes;
       below = made.0;
@@ -56,7 +56,7 @@ loop-code-preserved c =
             spelt = step.left;
             map = λ code. made.1 code ∙ (ap (value_after (entry ∷ []) c.args.groups code) (before.map code) ∙ sym
                 (value_after-append before.done (entry ∷ []) c.args.groups code (get {R = nat_cmp} empty code)));
-            style = c.style-istd.ensures ∙ (ap (option_or (style_of (entry ∷ []) c.args.groups)) before.style ∙ sym
+            style = c.style-istd.ensures ∙ (ap (option_or (style_named (entry ∷ []) c.args.groups)) before.style ∙ sym
                 (style_of-append before.done (entry ∷ []) c.args.groups));
           };
     }
@@ -74,5 +74,5 @@ returns c = λ prls h.
       map = λ code. ap (λ m. get m code) (c.in_ok-map.ensures ∙ c.of_bytes.ensures) ∙ subst (λ l. get (map_of
           c.loop-code.bytes) code ≡ value_after l c.args.groups code (get {R = nat_cmp} empty code)) all
           (before.map code);
-      style = subst (λ l. c.loop-code.istd ≡ style_of l c.args.groups) all before.style;
+      style = subst (λ l. c.loop-code.istd ≡ style_named l c.args.groups) all before.style;
     }

@@ -5,7 +5,7 @@ use Rattle.std.specs.Ordering.{nat_cmp}
 use Rattle.std.specs.Option.{option_or}
 use Rattle.std.specs.FinMap.{get, get-empty}
 use Rattle.sprm_table.specs.Sprm.{Prl}
-use Rattle.prop_map.specs.Acting.{value_after, style_of}
+use Rattle.prop_map.specs.Acting.{value_after, style_named}
 use Rattle.prop_map.proofs.ActingLemmas.{value_after-append, style_of-append}
 use Rattle.prop_map.proofs.ChangeLemmas.{or_none}
 use Rattle.prop_map.proofs.acting.act_on_draft.Goals as goal
@@ -46,7 +46,7 @@ loop-code-preserved c =
             map = λ code. c.in_ok-act.ensures code ∙ (ap (value_after (entry ∷ []) c.args.groups code)
                 (before.map code) ∙ sym (value_after-append before.done (entry ∷ []) c.args.groups code
                 (get c.args.map.now code)));
-            style = c.style-istd.ensures ∙ (ap (option_or (style_of (entry ∷ []) c.args.groups)) before.style ∙ sym
+            style = c.style-istd.ensures ∙ (ap (option_or (style_named (entry ∷ []) c.args.groups)) before.style ∙ sym
                 (style_of-append before.done (entry ∷ []) c.args.groups));
           };
     }
@@ -60,5 +60,5 @@ returns c = λ prls h.
     record {
       map = λ code. ap (λ m. get m code) c.in_ok-into_map.ensures ∙ subst (λ l. get c.loop-code.draft code ≡
           value_after l c.args.groups code (get c.args.map.now code)) all (before.map code);
-      style = subst (λ l. c.loop-code.istd ≡ style_of l c.args.groups) all before.style;
+      style = subst (λ l. c.loop-code.istd ≡ style_named l c.args.groups) all before.style;
     }

@@ -3,7 +3,7 @@ use Rattle.std.specs.Ordering.{nat_cmp}
 use Rattle.std.specs.FinMap as map
 use Rattle.std.specs.Cmp.{nat_cmp_total}
 use Rattle.std.specs.FinMap.{get, get-insert, from_sorted}
-use Rattle.sprm_table.specs.Codes.{class_of, is_setting}
+use Rattle.sprm_table.specs.Codes.{class_of, is_property}
 use Rattle.prop_map.specs.Acting.{ArePropertiesAfter}
 use Rattle.prop_map.specs.Values.{entries_of, entry_of, set_map}
 use Rattle.prop_map.proofs.ActingLemmas.{sets_not_clears, value_after-set}
@@ -20,9 +20,9 @@ returns-in_ok-put-in-Plain-clause-kept c =
     let items = c.args.values.now.items in
     let set = c.args.set in
     let new = c.put_value.new.values.items in
-    let sets : is_setting (class_of set.code.0) ≡ true = elim c.in-Plain.is [
-      | inl k ↦ ap is_setting (sym c.class.ensures ∙ k)
-      | inr k ↦ ap is_setting (sym c.class.ensures ∙ k)
+    let sets : is_property (class_of set.code.0) ≡ true = elim c.in-Plain.is [
+      | inl k ↦ ap is_property (sym c.class.ensures ∙ k)
+      | inr k ↦ ap is_property (sym c.class.ensures ∙ k)
     ] in
     let clears = sets_not_clears (class_of set.code.0) sets in
     let key = set.code.0 in

@@ -3,6 +3,6 @@ use Rattle.prop_map.proofs.codes.may_hold.Goals as goal
 
 pub returns : goal.returns
 returns c = (
-  λ t. record { setting = c.is_setting_of.ensures.0 t; bytes = λ i. omega (arith, c.type_inv.value i) },
-  λ entry. c.is_setting_of.ensures.1 entry.setting,
+  λ t. record { property = c.is_property_of.ensures.0 t; bytes = λ i. omega (arith, c.type_inv.value i) },
+  λ entry. c.is_property_of.ensures.1 entry.property,
 )

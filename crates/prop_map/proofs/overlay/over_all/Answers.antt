@@ -6,12 +6,12 @@ use Rattle.prop_map.proofs.EntriesLemmas.{true_of}
 use Rattle.prop_map.proofs.OverlayLemmas.{nothing_over}
 use Rattle.prop_map.proofs.overlay.over_all.Goals as goal
 
-pub merged-requires-clause-base : goal.merged-requires-clause-base
-merged-requires-clause-base c = subst (λ es. IsTrue (is_sorted nat_cmp es)) (sym c.entries.ensures) (true_of _
+pub merge-requires-clause-base : goal.merge-requires-clause-base
+merge-requires-clause-base c = subst (λ es. IsTrue (is_sorted nat_cmp es)) (sym c.entries.ensures) (true_of _
     (entries_sorted c.args.base.now))
 
-pub merged-requires-clause-top : goal.merged-requires-clause-top
-merged-requires-clause-top c = subst (λ es. IsTrue (is_sorted nat_cmp es)) (sym c.entries-2.ensures) (true_of _
+pub merge-requires-clause-top : goal.merge-requires-clause-top
+merge-requires-clause-top c = subst (λ es. IsTrue (is_sorted nat_cmp es)) (sym c.entries-2.ensures) (true_of _
     (entries_sorted c.args.top.now))
 
 pub returns-then-is_empty : goal.returns-then-is_empty

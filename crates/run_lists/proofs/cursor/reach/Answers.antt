@@ -1,6 +1,6 @@
 -- A place is counted from the start, as the cursor is.
 use Rattle.std.proofs.Common.{◌≡◌, ◌-◌, [], take, arith}
-use Rattle.run_lists.specs.Spread.{extent}
+use Rattle.run_lists.specs.Spread.{total_len}
 use Rattle.run_lists.proofs.SpreadLemmas.{extent-nil}
 use Rattle.run_lists.proofs.RunsLemmas.{spot_inside}
 use Rattle.run_lists.proofs.cursor.reach.Goals as goal
@@ -10,8 +10,8 @@ returns-clause-found g c =
     let runs = c.args.runs.now in
     let spot = c.find-spot.result in
     let found = c.find-spot.ensures in
-    let nothing : extent {T = g.row.T.Denot} [] ≡ 0 = extent-nil g.row.T.Denot in
-    let start : extent (take 0 runs) ≡ 0 = nothing in
+    let nothing : total_len {T = g.row.T.Denot} [] ≡ 0 = extent-nil g.row.T.Denot in
+    let start : total_len (take 0 runs) ≡ 0 = nothing in
     record {
       begun = omega arith;
       there = found.there;

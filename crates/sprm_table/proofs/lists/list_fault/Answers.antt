@@ -28,21 +28,21 @@ returns-in-Short-clause-first c =
     short_first list (take (length list - at) (drop at list)) c.args.groups at (take_rest list at)
     c.loop-code.invariant.passed c.in-Short.ensures
 
-pub returns-then-refused-clause-accepted : goal.returns-then-refused-clause-accepted
-returns-then-refused-clause-accepted c =
+pub returns-then-is_refused-clause-accepted : goal.returns-then-is_refused-clause-accepted
+returns-then-is_refused-clause-accepted c =
     let list = c.args.list.now in
     let at = c.loop-code.at in
     let first = refused_first list (take (length list - at) (drop at list)) c.args.groups at c.in-Prl.code.0
     c.in-Prl.field-1 c.in-Prl.to (take_rest list at) c.loop-code.invariant.passed c.in-Prl.ensures
-    (c.if-refused.ensures.0 refl) in
+    (c.if-is_refused.ensures.0 refl) in
     (λ none. absurd (cc (none)), λ accepted. absurd (fault_not_accepted list c.args.groups (Refused at) first accepted))
 
-pub returns-then-refused-clause-first : goal.returns-then-refused-clause-first
-returns-then-refused-clause-first c =
+pub returns-then-is_refused-clause-first : goal.returns-then-is_refused-clause-first
+returns-then-is_refused-clause-first c =
     let list = c.args.list.now in
     let at = c.loop-code.at in
     refused_first list (take (length list - at) (drop at list)) c.args.groups at c.in-Prl.code.0 c.in-Prl.field-1
-    c.in-Prl.to (take_rest list at) c.loop-code.invariant.passed c.in-Prl.ensures (c.if-refused.ensures.0 refl)
+    c.in-Prl.to (take_rest list at) c.loop-code.invariant.passed c.in-Prl.ensures (c.if-is_refused.ensures.0 refl)
 
 pub loop-code-preserved : goal.loop-code-preserved
 loop-code-preserved c =
@@ -53,5 +53,5 @@ loop-code-preserved c =
       passed =
           passed_step list (take (length list - at) (drop at list)) c.args.groups at c.in-Prl.code.0 c.in-Prl.field-1
           c.in-Prl.to (take_rest list at) c.loop-code.invariant.passed c.in-Prl.ensures
-          (λ refused. let is = c.if-refused.ensures.1 refused in absurd (cc (is)));
+          (λ is_refused. let is = c.if-is_refused.ensures.1 is_refused in absurd (cc (is)));
     }

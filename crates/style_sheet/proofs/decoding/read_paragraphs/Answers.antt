@@ -4,12 +4,12 @@ use Rattle.prop_map.specs.Formed.{character_groups, paragraph_groups}
 use Rattle.style_sheet.specs.StyleDefinition.{IsMapOf}
 use Rattle.style_sheet.proofs.decoding.read_paragraphs.Goals as goal
 
-pub settings-requires : goal.settings-requires
-settings-requires c =
+pub properties-requires : goal.properties-requires
+properties-requires c =
     subst (λ list. IsAcceptedList list paragraph_groups) (sym c.paragraph_list.ensures) c.requires.lists.paragraphs
 
-pub settings-requires-2 : goal.settings-requires-2
-settings-requires-2 c =
+pub properties-requires-2 : goal.properties-requires-2
+properties-requires-2 c =
     subst (λ list. IsAcceptedList list character_groups) (sym c.second_list.ensures) c.requires.lists.characters
 
 pub returns : goal.returns

@@ -4,7 +4,7 @@ use Rattle.std.specs.List.{range_with_len}
 use Rattle.std.specs.Ordering.{nat_cmp}
 use Rattle.std.specs.BTreeSet.{contains}
 use Rattle.std.proofs.lemmas.List.FromFn.{map-range_with_len_more}
-use Rattle.summary_set.specs.Form.{IsRightPair}
+use Rattle.summary_set.specs.Form.{IsValidPair}
 use Rattle.std.proofs.lemmas.Bool.{false≢true}
 use Rattle.summary_set.specs.declared.set.PropertyPair.{PropertyPair}
 use Rattle.summary_set.specs.declared.set.SetHead.{SetHead}
@@ -68,7 +68,7 @@ loop-i-preserved c =
       read = pushed ∙ (ap (λ xs. xs ++ pair ∷ []) c.loop-i.invariant.read
           ∙ (ap (λ p. map (pair_at b) (range_with_len 0 i) ++ p ∷ []) same
           ∙ sym (map-range_with_len_more (pair_at b) 0 i i (omega arith))));
-      right = below_more (IsRightPair b) i c.loop-i.invariant.right right;
+      right = below_more (IsValidPair b) i c.loop-i.invariant.right right;
       ids = knows_more ids (contains nat_cmp c.add.new.self.ids) (λ j. (pair_at b j).id) i pair.id (sym id)
           c.loop-i.invariant.ids c.in_ok-add.ensures.ids.1 c.in_ok-add.ensures.ids.2;
       offsets = knows_more offsets (contains nat_cmp c.add.new.self.offsets) (λ j. (pair_at b j).offset) i pair.offset

@@ -10,29 +10,29 @@ use Rattle.cfb_streams.proofs.layout.Layout.contents.Goals as goal
 pub gather-requires : goal.gather-requires
 gather-requires c =
     subst (λ q. Nowhere (BreaksStream q.file q.parts.directory q.parts.mini_fat))
-    (sym c.in_ok-judge_streams.ensures.kept) c.in_ok-judge_streams.ensures.judged
+    (sym c.in_ok-check_streams.ensures.kept) c.in_ok-check_streams.ensures.judged
 
-pub returns-in_err-judge_streams-clause-judged : goal.returns-in_err-judge_streams-clause-judged
-returns-in_err-judge_streams-clause-judged c =
+pub returns-in_err-check_streams-clause-judged : goal.returns-in_err-check_streams-clause-judged
+returns-in_err-check_streams-clause-judged c =
     let old = c.args.self.now in
     let p = err_from_is_err_and c.from_residual.result
     c.from_residual.ensures.1 in
     rw (p.1, p.2)
     (chains_fault old.file old.parts.directory old.parts.mini_fat old.parts.mini_stream
-    c.in_err-judge_streams.field-0.0 c.in_err-judge_streams.ensures.judged)
+    c.in_err-check_streams.field-0.0 c.in_err-check_streams.ensures.judged)
 
 pub returns-in_err-container-clause-judged : goal.returns-in_err-container-clause-judged
 returns-in_err-container-clause-judged c =
     let old = c.args.self.now in
     let first = subst (λ q. IsCfbFault (rule 14 (BreaksSharing q.file q.parts)) c.in_err-container.field-0.0)
-    c.in_ok-judge_streams.ensures.kept c.in_err-container.ensures in
+    c.in_ok-check_streams.ensures.kept c.in_err-container.ensures in
     let p = err_from_is_err_and c.from_residual-in_err-container.result c.from_residual-in_err-container.ensures.1 in
     rw (p.1, p.2)
-    (sharing_fault old.file old.parts c.in_err-container.field-0.0 c.in_ok-judge_streams.ensures.judged first)
+    (sharing_fault old.file old.parts c.in_err-container.field-0.0 c.in_ok-check_streams.ensures.judged first)
 
 pub returns-clause-judged : goal.returns-clause-judged
 returns-clause-judged c =
-    let kept = c.in_ok-judge_streams.ensures.kept in
+    let kept = c.in_ok-check_streams.ensures.kept in
     let sharing = subst (λ q. Nowhere (BreaksSharing q.file q.parts)) kept c.in_ok-container.ensures.0 in
     let has = subst (λ q. HasContents q.file c.in_ok-container.container) kept c.in_ok-container.ensures.1 in
-    ((c.in_ok-judge_streams.ensures.judged, sharing), has)
+    ((c.in_ok-check_streams.ensures.judged, sharing), has)

@@ -2,25 +2,25 @@
 use Rattle.std.proofs.Common.{ℕ, Option, MatchOption, sym, subst}
 use Rattle.fkp_pages.specs.declared.kind.RunAnswer.{RunAnswer}
 use Rattle.fkp_pages.specs.Bin.{page_at}
-use Rattle.direct_props.specs.PageRules.{IsRightPlace}
-use Rattle.direct_props.specs.declared.kept.Made.{Made}
-use Rattle.direct_props.specs.declared.kept.MadeStretch.{MadeStretch}
-use Rattle.direct_props.specs.Stretches.{HasRightList}
-use Rattle.direct_props.specs.Kept.{PlaceSource, HasMadeAround, IsMadeByAnswer}
+use Rattle.direct_props.specs.PageRules.{IsValidPlace}
+use Rattle.direct_props.specs.declared.grpprl_cache.Decoded.{Decoded}
+use Rattle.direct_props.specs.declared.grpprl_cache.DecodedRun.{DecodedRun}
+use Rattle.direct_props.specs.Stretches.{HasValidList}
+use Rattle.direct_props.specs.GrpprlCache.{PlaceSource, HasMadeAround, IsMadeByAnswer}
 use Rattle.direct_props.proofs.StretchLemmas.{right_list, right_stretch}
 use Rattle.direct_props.proofs.KeptLemmas.{made_along}
 use Rattle.direct_props.proofs.reader.PlaceReader.made_around.Goals as goal
 
 -- what is known of what a page answers
-abbrev IsOfAnswer : PlaceSource → ℕ → RunAnswer → Option Made → Type 0
+abbrev IsOfAnswer : PlaceSource → ℕ → RunAnswer → Option Decoded → Type 0
 IsOfAnswer source number answer made =
-    MatchOption made (¬ (HasRightList source.kind (page_at source.wd number) answer))
-    (λ (m : Made). HasRightList source.kind (page_at source.wd number) answer
+    MatchOption made (¬ (HasValidList source.kind (page_at source.wd number) answer))
+    (λ (m : Decoded). HasValidList source.kind (page_at source.wd number) answer
     × IsMadeByAnswer source.kind source.modifier (page_at source.wd number) answer m)
 
 pub returns-in_default-clause-around : goal.returns-in_default-clause-around
 returns-in_default-clause-around c = λ right.
-    c.in_default.ensures (subst (λ (s : PlaceSource). IsRightPlace s.kind s.wd s.bin c.args.fc) (sym c.self.view_is)
+    c.in_default.ensures (subst (λ (s : PlaceSource). IsValidPlace s.kind s.wd s.bin c.args.fc) (sym c.self.view_is)
     right)
 
 pub returns-in_default-2-clause-around : goal.returns-in_default-2-clause-around
@@ -34,7 +34,7 @@ returns-in_default-2-clause-around c = λ right.
     } in
     let found = c.in-Some.stretch in
     let around = c.in-Some.ensures in
-    let here = subst (λ (s : PlaceSource). IsRightPlace s.kind s.wd s.bin c.args.fc) (sym c.self.view_is) right in
+    let here = subst (λ (s : PlaceSource). IsValidPlace s.kind s.wd s.bin c.args.fc) (sym c.self.view_is) right in
     subst (IsOfAnswer source found.number found.answer) c.in_default-2.is c.in_ok-made.ensures.made
     (right_list source.kind source.wd source.bin c.args.fc found.number found.answer
     (around.each c.args.fc around.from around.to) here)
@@ -50,7 +50,7 @@ returns-clause-around c =
     } in
     let found = c.in-Some.stretch in
     let made = c.in-Some-2.made in
-    let stretch : MadeStretch = record { first = found.first; last = found.last; made = made } in
+    let stretch : DecodedRun = record { first = found.first; last = found.last; made = made } in
     let by = subst (IsOfAnswer source found.number found.answer) c.in-Some-2.is c.in_ok-made.ensures.made in
     let right = right_stretch source.kind source.wd source.bin c.args.fc found c.self.invariant.table c.in-Some.ensures
     by.0 in

@@ -4,22 +4,22 @@ use Rattle.std.proofs.lemmas.Bool.{true≢false}
 use Rattle.std.proofs.lemmas.List.{append-nil, take_all}
 use Rattle.std.proofs.lemmas.List.Elements.{All-nil}
 use Rattle.std.proofs.lemmas.Option.{none-some}
-use Rattle.prop_map.specs.Settings.{Settings}
+use Rattle.prop_map.specs.Settings.{Properties}
 use Rattle.prop_map.specs.Formed.{IsPropertyMap, character_groups}
 use Rattle.fkp_pages.specs.declared.kind.PageKind.TheVariants.{Chpx}
 use Rattle.direct_props.specs.declared.reader.CharacterStretch.{CharacterStretch}
 use Rattle.direct_props.specs.Direct.{IsDirectCharacter}
-use Rattle.direct_props.specs.PageRules.{IsRightPlace}
-use Rattle.direct_props.specs.Stretches.{AddsCharacters, HasSettingsAround}
-use Rattle.direct_props.specs.Kept.{PlaceSource}
+use Rattle.direct_props.specs.PageRules.{IsValidPlace}
+use Rattle.direct_props.specs.Stretches.{AddsCharacters, HasPropertiesAround}
+use Rattle.direct_props.specs.GrpprlCache.{PlaceSource}
 use Rattle.direct_props.proofs.CharacterLemmas.{adds_run}
 use Rattle.direct_props.proofs.RowLemmas.{all_left, index_rest, more_passed, passed_so}
 use Rattle.direct_props.proofs.reader.PlaceReader.push_character_runs.Goals as goal
 
 -- what is known of the places around one
 abbrev IsAround : PlaceSource → ℕ → Option CharacterStretch → Type 0
-IsAround source fc stretch = MatchOption stretch (¬ (IsRightPlace Chpx source.wd source.bin fc))
-    (λ (s : CharacterStretch). HasSettingsAround source.wd source.bin source.modifier fc s.first s.last s.map)
+IsAround source fc stretch = MatchOption stretch (¬ (IsValidPlace Chpx source.wd source.bin fc))
+    (λ (s : CharacterStretch). HasPropertiesAround source.wd source.bin source.modifier fc s.first s.last s.map)
 
 pub loop-left-init : goal.loop-left-init
 loop-left-init c =
@@ -36,7 +36,7 @@ loop-left-init c =
           all,
           length-take (length c.args.places.now - length c.skip-left.result) c.args.places.now,
         );
-        each = λ k settings e. absurd (none-some settings e);
+        each = λ k properties e. absurd (none-some properties e);
         formed = λ by. All-nil (IsPropertyMap character_groups);
       };
     }
@@ -48,11 +48,11 @@ loop-left-preserved c =
     let left : List ℕ = c.loop-left.left in
     let passed : ℕ = length places - length left in
     let count : ℕ = c.count_up_to-count.result in
-    let new : List Settings = c.add.new.self in
+    let new : List Properties = c.add.new.self in
     let stretch = c.in-Some.stretch in
     let around = subst (IsAround c.loop-left.self c.first.result) c.in-Some.is c.in_ok-stretch.ensures.around in
     let s = subst
-    (λ (x : PlaceSource). HasSettingsAround x.wd x.bin x.modifier c.first.result stretch.first stretch.last
+    (λ (x : PlaceSource). HasPropertiesAround x.wd x.bin x.modifier c.first.result stretch.first stretch.last
     stretch.map)
     c.loop-left.invariant.same around in
     let rest = c.loop-left.invariant.rest in
@@ -64,7 +64,7 @@ loop-left-preserved c =
       rest = more.0;
       same = c.in_ok-stretch.ensures.same ∙ c.loop-left.invariant.same;
       right = λ k below.
-          passed_so (IsRightPlace Chpx source.wd source.bin) places left count rest c.loop-left.invariant.right
+          passed_so (IsValidPlace Chpx source.wd source.bin) places left count rest c.loop-left.invariant.right
           (λ j less. s.right (slice_index_or left j 0) (low j less) (c.count_up_to-count.ensures.below j less)) k
           (omega (arith, below, more.1));
       added = subst (λ (n : ℕ). AddsCharacters source.wd source.bin (take n places) source.modifier c.args.runs.now new)
@@ -85,12 +85,12 @@ returns-in_default-clause-right c =
     let left : List ℕ = c.loop-left.left in
     let rest = c.loop-left.invariant.rest in
     let none = subst (IsAround c.loop-left.self c.first.result) c.in_default.is c.in_ok-stretch.ensures.around in
-    let wrong = subst (λ (x : PlaceSource). ¬ (IsRightPlace Chpx x.wd x.bin c.first.result)) c.loop-left.invariant.same
+    let wrong = subst (λ (x : PlaceSource). ¬ (IsValidPlace Chpx x.wd x.bin c.first.result)) c.loop-left.invariant.same
     none in (
       λ t. absurd (true≢false (sym t)),
       λ all.
           absurd
-          (wrong (subst (IsRightPlace Chpx c.args.self.now.wd c.args.self.now.bin)
+          (wrong (subst (IsValidPlace Chpx c.args.self.now.wd c.args.self.now.bin)
           (sym (c.first.ensures ∙ index_rest places left 0 rest))
           (all (length places - length left + 0) (omega (arith, rest.within))))),
     )

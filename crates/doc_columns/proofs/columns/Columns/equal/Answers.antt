@@ -3,7 +3,7 @@ use Rattle.std.proofs.Common.{◌≡◌, ◌∙◌, ℕ, List, map, length, refl
 use Rattle.std.specs.Cmp.Lexicographic.{same_text}
 use Rattle.std.proofs.lemmas.List.{length-map}
 use Rattle.plain_doc.specs.declared.item.Item.{Item}
-use Rattle.doc_columns.specs.Beside.{beside_of}
+use Rattle.doc_columns.specs.Attached.{attached_of}
 use Rattle.doc_columns.proofs.EqualityLemmas.{not_false, column_long, same_columns}
 use Rattle.doc_columns.proofs.columns.Columns.equal.Goals as goal
 
@@ -38,7 +38,7 @@ same_values-requires-clause-other c =
 
 pub same_values-requires-2-clause-one : goal.same_values-requires-2-clause-one
 same_values-requires-2-clause-one c =
-    column_long c.besides.result.now c.args.self.now beside_of c.len-len.result c.besides.ensures
+    column_long c.attachments.result.now c.args.self.now attached_of c.len-len.result c.attachments.ensures
     c.len-len.ensures.len
 
 pub same_values-requires-2-clause-other : goal.same_values-requires-2-clause-other
@@ -47,7 +47,7 @@ same_values-requires-2-clause-other c =
     let units =
     same_units c.args.self.now c.args.other.now c.units.result.now c.units-2.result.now c.units.ensures
     c.units-2.ensures same in
-    column_long c.besides-2.result.now c.args.other.now beside_of c.len-len.result c.besides-2.ensures
+    column_long c.attachments-2.result.now c.args.other.now attached_of c.len-len.result c.attachments-2.ensures
     (same_length c.args.self.now c.args.other.now c.len-len.result c.len-len.ensures.len units)
 
 pub returns : goal.returns
@@ -59,6 +59,6 @@ returns c =
     same_units one other c.units.result.now c.units-2.result.now c.units.ensures c.units-2.ensures same in
     let chps = sym c.chps.ensures ∙ c.if-not-same_values.ensures.0 refl ∙ c.chps-2.ensures in (
       λ yes. same_columns one other units chps
-          (sym c.besides.ensures ∙ c.same_values-2.ensures.0 yes ∙ c.besides-2.ensures),
-      λ e. c.same_values-2.ensures.1 (c.besides.ensures ∙ ap (map beside_of) e ∙ sym c.besides-2.ensures),
+          (sym c.attachments.ensures ∙ c.same_values-2.ensures.0 yes ∙ c.attachments-2.ensures),
+      λ e. c.same_values-2.ensures.1 (c.attachments.ensures ∙ ap (map attached_of) e ∙ sym c.attachments-2.ensures),
     )

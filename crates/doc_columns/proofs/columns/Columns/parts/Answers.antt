@@ -2,7 +2,7 @@
 use Rattle.std.proofs.Common.{◌≡◌, ◌∙◌, ap, length, arith}
 use Rattle.std.proofs.lemmas.List.{length-map}
 use Rattle.plain_doc.specs.declared.item.Item.{Item}
-use Rattle.doc_columns.specs.Beside.{beside_of}
+use Rattle.doc_columns.specs.Attached.{attached_of}
 use Rattle.doc_columns.specs.Columns.{items_of}
 use Rattle.doc_columns.proofs.ItemsOfLemmas.{items_of-maps}
 use Rattle.doc_columns.proofs.EqualityLemmas.{column_long}
@@ -17,10 +17,11 @@ returns-clause-parts c =
       chps_long =
           column_long c.chps.result.now text (λ (item : Item). item.chp) (length c.units.result.now) c.chps.ensures
           long;
-      besides_long = column_long c.besides.result.now text beside_of (length c.units.result.now) c.besides.ensures long;
+      attachments_long = column_long c.attachments.result.now text attached_of (length c.units.result.now)
+          c.attachments.ensures long;
       few = omega (arith, long, c.len-len.ensures.formed.few);
     }
 
 pub returns-clause-items : goal.returns-clause-items
 returns-clause-items c =
-    (λ i. items_of (c.units.ensures i) (c.chps.ensures i) (c.besides.ensures i)) ∙ items_of-maps c.args.self.now
+    (λ i. items_of (c.units.ensures i) (c.chps.ensures i) (c.attachments.ensures i)) ∙ items_of-maps c.args.self.now

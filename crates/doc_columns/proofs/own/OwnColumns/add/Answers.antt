@@ -9,7 +9,7 @@ pub add-requires : goal.add-requires
 add-requires c =
     let own = c.self.inside in
     let are = c.self.invariant in
-    let long = text_long own.units.items own.chps own.besides c.args.self are c.self.view_is in
+    let long = text_long own.units.items own.chps own.attachments c.args.self are c.self.view_is in
     record { few = omega (arith, long, are.chps_long, c.requires.few) }
 
 pub invariant_of-result : goal.invariant_of-result
@@ -17,8 +17,9 @@ invariant_of-result c =
     let own = c.self.inside in
     let are = c.self.invariant in
     let parts = c.parts_of-unit.result in
-    let long = text_long own.units.items own.chps own.besides c.args.self are c.self.view_is in
-    added_are own.units.items own.chps own.besides c.push.new.self.items c.add.new.self c.add-2.new.self parts.0 parts.1
+    let long = text_long own.units.items own.chps own.attachments c.args.self are c.self.view_is in
+    added_are own.units.items own.chps own.attachments c.push.new.self.items c.add.new.self c.add-2.new.self parts.0
+    parts.1
     parts.2 are c.in_ok-push.ensures.items c.in_ok-add.ensures.ok c.in_ok-add-2.ensures.ok
     (omega (arith, long, c.requires.few)) c.is_word.ensures c.is_ranged.ensures
     (subst HasPropertyMaps c.parts_of-unit.ensures c.requires.maps)
@@ -27,7 +28,7 @@ pub returns : goal.returns
 returns c =
     let own = c.self.inside in
     let parts = c.parts_of-unit.result in
-    added_columns own.units.items own.chps own.besides c.push.new.self.items c.add.new.self c.add-2.new.self parts.0
+    added_columns own.units.items own.chps own.attachments c.push.new.self.items c.add.new.self c.add-2.new.self parts.0
     parts.1 parts.2 c.args.self c.self.invariant c.self.view_is c.in_ok-push.ensures.items c.in_ok-add.ensures.ok
     c.in_ok-add-2.ensures.ok
     ∙ ap (λ (item : Item). c.args.self ++ item ∷ []) (sym c.parts_of-unit.ensures)

@@ -8,8 +8,8 @@ use Rattle.doc_columns.proofs.own.OwnColumns.len.Goals as goal
 pub returns-clause-len : goal.returns-clause-len
 returns-clause-len c =
     let own = c.self.inside in
-    let all = length-items_of own.units.items own.chps own.besides c.self.invariant.chps_long
-    c.self.invariant.besides_long in
+    let all = length-items_of own.units.items own.chps own.attachments c.self.invariant.chps_long
+    c.self.invariant.attachments_long in
     let len : vec_len own.units ≡ length own.units.items = search rules in
     omega (arith, ap length c.self.view_is, all, len, c.len.ensures)
 

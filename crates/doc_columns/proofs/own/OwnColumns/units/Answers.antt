@@ -8,5 +8,6 @@ pub returns : goal.returns
 returns c =
     let own = c.self.inside in
     c.deref.ensures.value
-    ∙ sym (units-items_of own.units.items own.chps own.besides c.self.invariant.chps_long c.self.invariant.besides_long)
+    ∙ sym (units-items_of own.units.items own.chps own.attachments c.self.invariant.chps_long
+    c.self.invariant.attachments_long)
     ∙ ap (map (λ (item : Item). item.unit)) c.self.view_is

@@ -3,8 +3,8 @@ use Rattle.std.specs.Prelude.{slice_get, Some, replicate}
 use Rattle.std.proofs.lemmas.List.{take_all}
 use Rattle.std.proofs.lemmas.Option.{slice_get_read}
 use Rattle.prop_map.specs.Formed.{IsPropertyMap, character_groups}
-use Rattle.prop_map.specs.Settings.{Settings}
-use Rattle.run_lists.specs.Spread.{spread}
+use Rattle.prop_map.specs.Settings.{Properties}
+use Rattle.run_lists.specs.Spread.{expanded}
 use Rattle.run_lists.proofs.CutLemmas.{All-runs}
 use Rattle.run_lists.proofs.SpreadLemmas.{spread-nil}
 use Rattle.doc_join.specs.declared.renumbering.Renumbering.{Renumbering}
@@ -14,7 +14,7 @@ use Rattle.doc_join.proofs.kept_maps.KeptMaps.chps.Goals as goal
 
 pub loop-run-init : goal.loop-run-init
 loop-run-init c = record {
-  made = c.new-made.ensures ∙ ap (map (renumbered c.args.self.now.numbers)) (sym (spread-nil Settings));
+  made = c.new-made.ensures ∙ ap (map (renumbered c.args.self.now.numbers)) (sym (spread-nil Properties));
   numbers = refl;
 }
 
@@ -41,10 +41,11 @@ loop-run-preserved c =
     record {
       made =
           c.in_ok-add_chps.ensures.made
-          ∙ (ap (λ (front : List Settings). front ++ replicate run.count (renumbered c.loop-run.self.numbers run.value))
+          ∙ (ap (λ (front : List Properties). front ++ replicate run.count (renumbered c.loop-run.self.numbers
+          run.value))
           c.loop-run.invariant.made
           ∙ (ap (λ (n : Renumbering).
-          map (renumbered numbers) (spread (take c.loop-run.run-index runs)) ++ replicate run.count
+          map (renumbered numbers) (expanded (take c.loop-run.run-index runs)) ++ replicate run.count
           (renumbered n run.value))
           same
           ∙ runs_more (renumbered numbers) runs c.loop-run.run-index run (omega arith) c.run-item.is));
@@ -55,5 +56,5 @@ pub returns-clause-made : goal.returns-clause-made
 returns-clause-made c =
     let runs = c.args.runs.now in
     c.loop-run.invariant.made
-    ∙ ap (λ front. map (renumbered c.args.self.now.numbers) (spread front))
+    ∙ ap (λ front. map (renumbered c.args.self.now.numbers) (expanded front))
     (take_all c.loop-run.run-index runs (omega arith))

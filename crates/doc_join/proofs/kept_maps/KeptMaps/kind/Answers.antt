@@ -22,5 +22,5 @@ returns-in-Char-clause-made c =
 
 pub returns-in-Other-clause-made : goal.returns-in-Other-clause-made
 returns-in-Other-clause-made c =
-    subst (λ (k : Kind). IfOk c.other_kind.result (λ made. made ≡ renumbered_kind c.args.self.now.numbers k))
-    (sym c.in-Other.is) c.other_kind.ensures
+    subst (λ (k : Kind). IfOk c.copy_other_kind.result (λ made. made ≡ renumbered_kind c.args.self.now.numbers k))
+    (sym c.in-Other.is) c.copy_other_kind.ensures

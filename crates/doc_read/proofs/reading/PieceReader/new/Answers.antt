@@ -1,7 +1,7 @@
 use Rattle.std.proofs.Common.{◌≡◌, sym, ap, subst}
 use Rattle.fkp_pages.specs.declared.kind.PageKind.TheVariants.{Chpx, Papx}
 use Rattle.prop_map.specs.Modifiers.{IsFormedModifier}
-use Rattle.direct_props.specs.Kept.{PlaceSource}
+use Rattle.direct_props.specs.GrpprlCache.{PlaceSource}
 use Rattle.doc_read.proofs.ReaderLemmas.{source_as}
 use Rattle.doc_read.proofs.reading.PieceReader.new.Goals as goal
 

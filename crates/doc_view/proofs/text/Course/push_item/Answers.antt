@@ -14,14 +14,14 @@ pass-requires-clause-room g c =
     let manner = c.args.text.now.manner in
     let course = c.args.self.now in
     let format = c.args.stretch.now.format in
-    let beside = c.args.stretch.now.beside.now in
+    let attached = c.args.stretch.now.attached.now in
     let ahead = c.requires.ahead in
     let within = c.requires.within in
     let unit = slice_index parts.units.now course.place in
     let one = item_there parts c.requires.parts course.place (omega (arith, ahead, within)) in
     let same =
-    seen_is manner format course.front one.0 unit beside c.see-seen.result one.1.1
-    (c.requires.beside course.place one.0 (omega arith) ahead one.1.0) c.see-seen.ensures in
+    seen_is manner format course.front one.0 unit attached c.see-seen.result one.1.1
+    (c.requires.attached course.place one.0 (omega arith) ahead one.1.0) c.see-seen.ensures in
     item_room manner (items_in parts) course format one.0 c.see-seen.result c.requires.course one.1.0 same
 
 pub returns-clause-course : goal.returns-clause-course
@@ -30,17 +30,18 @@ returns-clause-course g c =
     let manner = c.args.text.now.manner in
     let course = c.args.self.now in
     let format = c.args.stretch.now.format in
-    let beside = c.args.stretch.now.beside.now in
+    let attached = c.args.stretch.now.attached.now in
     let ahead = c.requires.ahead in
     let within = c.requires.within in
     let unit = slice_index parts.units.now course.place in
     let one = item_there parts c.requires.parts course.place (omega (arith, ahead, within)) in
-    let beside_is = c.requires.beside course.place one.0 (omega arith) ahead one.1.0 in
-    let same = seen_is manner format course.front one.0 unit beside c.see-seen.result one.1.1 beside_is c.see-seen.ensures
+    let attached_is = c.requires.attached course.place one.0 (omega arith) ahead one.1.0 in
+    let same = seen_is manner format course.front one.0 unit attached c.see-seen.result one.1.1 attached_is
+    c.see-seen.ensures
     in
     subst (λ (x : Course). IsCourse manner (items_in parts) x) (sym c.pass.ensures)
-    (item_course manner (items_in parts) course format one.0 unit beside c.see-seen.result c.requires.course one.1.0
-    one.1.1 beside_is same)
+    (item_course manner (items_in parts) course format one.0 unit attached c.see-seen.result c.requires.course one.1.0
+    one.1.1 attached_is same)
 
 pub returns-clause-passes : goal.returns-clause-passes
 returns-clause-passes g c = λ formats istd has.
@@ -48,14 +49,14 @@ returns-clause-passes g c = λ formats istd has.
     let manner = c.args.text.now.manner in
     let course = c.args.self.now in
     let format = c.args.stretch.now.format in
-    let beside = c.args.stretch.now.beside.now in
+    let attached = c.args.stretch.now.attached.now in
     let ahead = c.requires.ahead in
     let within = c.requires.within in
     let unit = slice_index parts.units.now course.place in
     let one = item_there parts c.requires.parts course.place (omega (arith, ahead, within)) in
     let same =
-    seen_is manner format course.front one.0 unit beside c.see-seen.result one.1.1
-    (c.requires.beside course.place one.0 (omega arith) ahead one.1.0) c.see-seen.ensures in
+    seen_is manner format course.front one.0 unit attached c.see-seen.result one.1.1
+    (c.requires.attached course.place one.0 (omega arith) ahead one.1.0) c.see-seen.ensures in
     let said = c.say.ensures in
     subst (λ (x : Course). Passes g.K.Sink
     (record {

@@ -44,11 +44,12 @@ returns-clause-course g c =
     let some : 0 < count = omega (arith, c.if-count-eq0.false) in
     let inside = len.ensures.within in
     let within = c.requires.within in
-    let beside = c.args.stretch.now.beside.now in
-    course_behind c.args.text.now.manner (items_in parts) parts.units.now course c.args.stretch.now.format beside count
+    let attached = c.args.stretch.now.attached.now in
+    course_behind c.args.text.now.manner (items_in parts) parts.units.now course c.args.stretch.now.format attached
+    count
     some c.requires.course (len.ensures.shows some)
-    (units_at parts c.requires.parts beside course.place (course.place + count) (omega (arith, inside, within))
-    (λ k item low below here. c.requires.beside k item low (omega (arith, below, inside)) here) len.ensures.units)
+    (units_at parts c.requires.parts attached course.place (course.place + count) (omega (arith, inside, within))
+    (λ k item low below here. c.requires.attached k item low (omega (arith, below, inside)) here) len.ensures.units)
 
 pub returns-clause-passes : goal.returns-clause-passes
 returns-clause-passes g c = λ formats istd has.
@@ -59,12 +60,12 @@ returns-clause-passes g c = λ formats istd has.
     let some : 0 < count = omega (arith, c.if-count-eq0.false) in
     let inside = len.ensures.within in
     let within = c.requires.within in
-    let beside = c.args.stretch.now.beside.now in
+    let attached = c.args.stretch.now.attached.now in
     let show = c.show_units in
     units_pass g.K.Sink c.args.out.now show.new.out c.args.page.now show.new.page c.args.saying.now show.new.self formats
-    c.args.text.now.manner istd (items_in parts) parts.units.now c.args.stretch.now.format beside course count some
+    c.args.text.now.manner istd (items_in parts) parts.units.now c.args.stretch.now.format attached course count some
     c.requires.course (len.ensures.shows some)
-    (units_at parts c.requires.parts beside course.place (course.place + count) (omega (arith, inside, within))
-    (λ k item low below here. c.requires.beside k item low (omega (arith, below, inside)) here) len.ensures.units)
+    (units_at parts c.requires.parts attached course.place (course.place + count) (omega (arith, inside, within))
+    (λ k item low below here. c.requires.attached k item low (omega (arith, below, inside)) here) len.ensures.units)
     (λ k item low below here. has k item low (omega (arith, below, inside)) here) c.requires.saying
     (len.ensures.whole some) show.ensures.after show.ensures.said

@@ -29,10 +29,10 @@ push_some-requires-clause-course g c = c.loop-self.invariant.course
 pub push_some-requires-clause-saying : goal.push_some-requires-clause-saying
 push_some-requires-clause-saying g c = c.loop-self.invariant.saying
 
-pub push_some-requires-clause-beside : goal.push_some-requires-clause-beside
-push_some-requires-clause-beside g c = λ k item low until here.
+pub push_some-requires-clause-attached : goal.push_some-requires-clause-attached
+push_some-requires-clause-attached g c = λ k item low until here.
     let start = c.loop-self.invariant.low in
-    c.requires.beside k item (omega (arith, start, low)) until here
+    c.requires.attached k item (omega (arith, start, low)) until here
 
 pub loop-self-preserved : goal.loop-self-preserved
 loop-self-preserved g c =

@@ -36,7 +36,7 @@ loop-course-init g c =
       walk =
           subst (λ (n : ℕ). IsWalk parts course.result.walk n) (sym place)
           (first_walk parts course.result.walk course.ensures.walk);
-      marks = start_at parts.besides.now c.new-marks.result c.new-marks.ensures;
+      marks = start_at parts.attachments.now c.new-marks.result c.new-marks.ensures;
       ahead =
           subst (λ (n : ℕ). c.new-marks.result.begin ≤ n) (sym place)
           (begins_at_start c.new-marks.result c.new-marks.ensures);

@@ -16,7 +16,7 @@ invariant-loop-course g l = record {
   within : l.course.place ≤ length l.self.parts.units.now;
   number : l.number ≤ l.course.place;
   walk : IsWalk l.self.parts l.course.walk l.course.place;
-  marks : IsAt l.self.parts.besides.now l.marks;
+  marks : IsAt l.self.parts.attachments.now l.marks;
   ahead : l.marks.begin ≤ l.course.place;
   course : IsCourse l.self.manner (items_in l.self.parts) l.course;
   text : (formats : Formats) → AreFormats l.self.formats.now formats → TextAt g.K.Sink l.fn.out l.fn.page l.out l.page

@@ -11,8 +11,8 @@ use Rattle.fast_save.proofs.fast_parts.FastParts.of_file.Goals as goal
 pub load-requires : goal.load-requires
 load-requires c = held_container c.args.file.now c.args.document.now c.requires
 
-pub named-requires : goal.named-requires
-named-requires c =
+pub required_stream-requires : goal.required_stream-requires
+required_stream-requires c =
     let file = c.args.file.now in
     let contents = c.in_ok-container.container in
     let held = c.requires in (
@@ -24,12 +24,14 @@ named-requires c =
 pub read_fib-fib-requires : goal.read_fib-fib-requires
 read_fib-fib-requires c =
     let contents = c.in_ok-container.container in
-    let named : HasNamed contents.streams wd_name c.named.result.now =
-    subst (λ (n : List ℕ). HasNamed contents.streams n c.named.result.now) c.word_document.ensures c.named.ensures in
-    held_fib c.args.file.now c.args.document.now c.requires contents c.in_ok-container.ensures c.named.result.now named
+    let required_stream : HasNamed contents.streams wd_name c.required_stream.result.now =
+    subst (λ (n : List ℕ). HasNamed contents.streams n c.required_stream.result.now) c.word_document.ensures
+    c.required_stream.ensures in
+    held_fib c.args.file.now c.args.document.now c.requires contents c.in_ok-container.ensures
+    c.required_stream.result.now required_stream
 
-pub named-requires-2 : goal.named-requires-2
-named-requires-2 c =
+pub required_stream-requires-2 : goal.required_stream-requires-2
+required_stream-requires-2 c =
     let file = c.args.file.now in
     let contents = c.in_ok-container.container in
     let held = c.requires in (
@@ -45,16 +47,18 @@ text_base-base-requires c =
     let fib = fib_fields held.holds.parts.text.wd in
     named_short contents fib
     (held_read c.args.file.now c.args.document.now held contents c.in_ok-container.ensures fib refl)
-    c.word_document-2.result.now c.named-2.result.now c.named-2.ensures
+    c.word_document-2.result.now c.required_stream-2.result.now c.required_stream-2.ensures
 
 pub section_places-requires : goal.section_places-requires
 section_places-requires c =
     let file = c.args.file.now in
     let contents = c.in_ok-container.container in
-    let named : HasNamed contents.streams wd_name c.named.result.now =
-    subst (λ (n : List ℕ). HasNamed contents.streams n c.named.result.now) c.word_document.ensures c.named.ensures in
-    let wd = held_wd_is file c.args.document.now c.requires contents c.in_ok-container.ensures c.named.result.now
-    named in
+    let required_stream : HasNamed contents.streams wd_name c.required_stream.result.now =
+    subst (λ (n : List ℕ). HasNamed contents.streams n c.required_stream.result.now) c.word_document.ensures
+    c.required_stream.ensures in
+    let wd = held_wd_is file c.args.document.now c.requires contents c.in_ok-container.ensures
+    c.required_stream.result.now
+    required_stream in
     held_read file c.args.document.now c.requires contents c.in_ok-container.ensures c.read_fib-fib.result
     (c.read_fib-fib.ensures ∙ ap (λ (w : List ℕ). fib_fields w) wd)
 
@@ -64,21 +68,23 @@ returns c = λ held.
     let document = c.args.document.now in
     let contents = c.in_ok-container.container in
     let has = c.in_ok-container.ensures in
-    let named : HasNamed contents.streams wd_name c.named.result.now =
-    subst (λ (n : List ℕ). HasNamed contents.streams n c.named.result.now) c.word_document.ensures c.named.ensures in
-    let again : HasNamed contents.streams wd_name c.named-2.result.now =
-    subst (λ (n : List ℕ). HasNamed contents.streams n c.named-2.result.now) c.word_document-2.ensures
-    c.named-2.ensures in
+    let required_stream : HasNamed contents.streams wd_name c.required_stream.result.now =
+    subst (λ (n : List ℕ). HasNamed contents.streams n c.required_stream.result.now) c.word_document.ensures
+    c.required_stream.ensures in
+    let again : HasNamed contents.streams wd_name c.required_stream-2.result.now =
+    subst (λ (n : List ℕ). HasNamed contents.streams n c.required_stream-2.result.now) c.word_document-2.ensures
+    c.required_stream-2.ensures in
     let fib : c.read_fib-fib.result ≡ fib_fields held.holds.parts.text.wd =
     c.read_fib-fib.ensures
-    ∙ ap (λ (w : List ℕ). fib_fields w) (held_wd_is file document held contents has c.named.result.now named) in
+    ∙ ap (λ (w : List ℕ). fib_fields w) (held_wd_is file document held contents has c.required_stream.result.now
+    required_stream) in
     let bytes : AreBytes file = λ i. omega (arith, c.type_inv.file i) in
     record {
       bytes = bytes;
       base =
           c.text_base-base.ensures
           ∙ ap (λ (w : List ℕ). text_base (length w))
-          (held_wd_is file document held contents has c.named-2.result.now again);
+          (held_wd_is file document held contents has c.required_stream-2.result.now again);
       ends = λ ends ccps. c.ends_behind-ends.ensures ends (ap (λ (f : FibFields). f.ccps) fib ∙ ccps);
       places = c.in_ok-places.ensures (held_read file document held contents has c.read_fib-fib.result fib);
       fib = fib;

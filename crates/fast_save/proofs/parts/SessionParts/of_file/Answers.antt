@@ -4,8 +4,8 @@ use Rattle.cfb_streams.specs.Names.{wd_name}
 use Rattle.fib_form.specs.FibFields.{FibFields}
 use Rattle.doc_read.specs.Opened.{OpenedFile}
 use Rattle.save_laws.specs.Ends.{ends_of}
-use Rattle.edited_text.specs.declared.session_text.SessionText.{SessionText}
-use Rattle.edited_text.specs.SessionText.{unwritten_count}
+use Rattle.session_text.specs.declared.session_text.SessionText.{SessionText}
+use Rattle.session_text.specs.SessionText.{unwritten_count}
 use Rattle.fast_save.specs.declared.parts.SessionParts.{SessionParts}
 use Rattle.fast_save.specs.Session.{text_base}
 use Rattle.fast_save.proofs.OpenLemmas.{read_file, named_short, wd_is}
@@ -20,8 +20,9 @@ text_base-base-requires c =
       contents = c.args.container;
       pieces = c.args.pieces.pieces;
     } in
-    named_short c.args.container c.args.fib (read_file opened c.requires) c.word_document.result.now c.named.result.now
-    c.named.ensures
+    named_short c.args.container c.args.fib (read_file opened c.requires) c.word_document.result.now
+    c.required_stream.result.now
+    c.required_stream.ensures
 
 pub returns-clause-session : goal.returns-clause-session
 returns-clause-session c = λ opening.
@@ -34,9 +35,10 @@ returns-clause-session c = λ opening.
       pieces = c.args.pieces.pieces;
     } in
     let parts : SessionParts = record { text = c.new.result; fib = fib; container = contents } in
-    let named : HasNamed contents.streams wd_name c.named.result.now =
-    subst (λ (n : List ℕ). HasNamed contents.streams n c.named.result.now) c.word_document.ensures c.named.ensures in
-    let wd = wd_is contents fib (read_file opened opening) c.named.result.now named in
+    let required_stream : HasNamed contents.streams wd_name c.required_stream.result.now =
+    subst (λ (n : List ℕ). HasNamed contents.streams n c.required_stream.result.now) c.word_document.ensures
+    c.required_stream.ensures in
+    let wd = wd_is contents fib (read_file opened opening) c.required_stream.result.now required_stream in
     let stand = opened_stand opened opening in
     let are : AreFileParts opened opening parts = record {
       pieces = ap (λ (t : SessionText). t.pieces.pieces) c.new.ensures ∙ opening.is.pieces;

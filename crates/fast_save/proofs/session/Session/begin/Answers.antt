@@ -2,7 +2,7 @@ use Rattle.std.proofs.Common.{◌∙◌, sym, subst, List, ℕ, arith}
 use Rattle.std.proofs.lemmas.Result.{err_from_is_err_and}
 use Rattle.doc_bits.specs.Number.{AreBytes}
 use Rattle.plain_doc.specs.declared.document.Document.{Document}
-use Rattle.fast_save.specs.Session.{IsSession, IsCounted}
+use Rattle.fast_save.specs.Session.{IsSession, IsSessionCounted}
 use Rattle.fast_save.specs.Started.{IsStarted}
 use Rattle.fast_save.proofs.OpenLemmas.{file_whole}
 use Rattle.fast_save.proofs.StartLemmas.{parts_handed_out, started}
@@ -47,10 +47,10 @@ invariant_of-result c =
     in
     let session : IsSession c.args.file.now c.in_ok-document.document parts =
     subst (λ (document : Document). IsSession c.args.file.now document parts) (sym both.0) opened in
-    let counted : IsCounted c.args.file.now parts counts =
+    let counted : IsSessionCounted c.args.file.now parts counts =
     counted_at_start c.args.file.now parts counts (file_whole c.args.file.now c.requires.opened.holds.rules)
     c.counts_of-counts.ensures fresh written in
-    subst (λ (file : List ℕ). IsSession file c.in_ok-document.document parts × IsCounted file parts counts)
+    subst (λ (file : List ℕ). IsSession file c.in_ok-document.document parts × IsSessionCounted file parts counts)
     (sym c.requires.bytes) (session, counted)
 
 pub returns : goal.returns

@@ -6,7 +6,7 @@ use Rattle.full_save.specs.WordDocument.{table_stream}
 use Rattle.fast_save.specs.declared.ledgers.Counts.{Counts}
 use Rattle.fast_save.specs.declared.parts.SessionParts.{SessionParts}
 use Rattle.fast_save.specs.Ledgers.{after_fast, sector_bound}
-use Rattle.fast_save.specs.Session.{SessionView, IsCounted}
+use Rattle.fast_save.specs.Session.{SessionView, IsSessionCounted}
 use Rattle.fast_save.specs.Written.{with_text, CanWrite, IsWrittenFile}
 use Rattle.fast_save.specs.Fast.{CanSaveFast, IsFastFile, IsFastFault, IsHeldFile, AreFastParts, IsSavedFast}
 use Rattle.fast_save.proofs.CanLemmas.{are_small, counted_as_added}
@@ -15,8 +15,8 @@ use Rattle.fast_save.proofs.WrittenLemmas.{can_written, pieces_chosen}
 use Rattle.fast_save.proofs.OpenLemmas.{few_quick_saves}
 use Rattle.fast_save.proofs.session.Session.fast.Goals as goal
 
-pub judged-requires-clause-saves : goal.judged-requires-clause-saves
-judged-requires-clause-saves c =
+pub check_save-requires-clause-saves : goal.check_save-requires-clause-saves
+check_save-requires-clause-saves c =
     let session = c.self.invariant.0 in
     omega (
       arith,
@@ -116,7 +116,7 @@ invariant_of-self c =
     let counts : c.after_fast-self-inside.result ≡ after_fast bound inside.counts =
     c.after_fast-self-inside.ensures ∙ ap (λ (n : ℕ). after_fast n inside.counts) c.in_ok-sectors.ensures.1 in (
       session_after_fast inside.document parts can file made behind are new after,
-      subst (IsCounted file new) (sym counts)
+      subst (IsSessionCounted file new) (sym counts)
           (counted_after_fast inside.document parts can file made behind are new after low),
     )
 

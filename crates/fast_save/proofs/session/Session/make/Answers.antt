@@ -2,17 +2,17 @@ use Rattle.std.proofs.Common.{◌≡◌, ◌∙◌, refl, sym, ap, subst, List, 
 use Rattle.std.proofs.lemmas.Result.{err_from_is_err_and}
 use Rattle.plain_doc.specs.declared.document.Document.{Document}
 use Rattle.edit_guards.specs.declared.facts.Facts.{Facts}
-use Rattle.edit_changes.specs.declared.changes.Change.{Change}
+use Rattle.doc_patch.specs.declared.changes.Change.{Change}
 use Rattle.edit_ops.specs.Edits.{changes_of}
 use Rattle.edit_ops.specs.EditFacts.{edit_facts}
-use Rattle.edited_text.specs.EditSteps.{AreEditSteps}
-use Rattle.edited_text.specs.SessionText.{IsSameText}
-use Rattle.edited_text.specs.TextEdits.{IsTextEdit, IsSectionsEdit}
-use Rattle.edited_text.proofs.CommandLemmas.{commands_are_steps, pieces_are_few}
-use Rattle.edited_text.proofs.StartLemmas.{text_counted}
+use Rattle.session_text.specs.EditSteps.{AreEditSteps}
+use Rattle.session_text.specs.SessionText.{IsSameText}
+use Rattle.session_text.specs.TextEdits.{IsTextEdit, IsSectionsEdit}
+use Rattle.session_text.proofs.CommandLemmas.{commands_are_steps, pieces_are_few}
+use Rattle.session_text.proofs.StartLemmas.{text_counted}
 use Rattle.fast_save.specs.declared.parts.SessionParts.{SessionParts}
 use Rattle.fast_save.specs.Ledgers.{after_edit}
-use Rattle.fast_save.specs.Session.{SessionView, IsSession, IsCounted, saved_stream}
+use Rattle.fast_save.specs.Session.{SessionView, IsSession, IsSessionCounted, saved_stream}
 use Rattle.fast_save.specs.Edited.{HasRoom, IsPlanned, session_after}
 use Rattle.fast_save.proofs.EditLemmas.{has_room, session_stays, counted_stays, session_edited}
 use Rattle.fast_save.proofs.CountLemmas.{counted_after}
@@ -95,7 +95,7 @@ invariant_of-self-2 c =
     let session : IsSession inside.file c.in_ok-document.document new =
     subst (λ (after : Document). IsSession inside.file after new) (sym (both.0 ∙ made.1.1.0))
     (session_edited inside.file document command inside.parts new is made.0 text sections refl refl) in
-    let counted : IsCounted inside.file new (after_edit command units inside.counts) =
+    let counted : IsSessionCounted inside.file new (after_edit command units inside.counts) =
     counted_after inside.file document command inside.parts new inside.counts c.self.invariant.1 room made.0.tried.codes
     text sections (text.fit (saved_stream is.held) is.text is.fit) c.pieces_are_few.ensures (pieces_are_few document
     command)
@@ -108,7 +108,7 @@ invariant_of-self-2 c =
     let counts : c.after_edit-self-inside.result ≡ after_edit command units inside.counts =
     c.after_edit-self-inside.ensures
     ∙ ap (λ (facts : Facts). after_edit command facts.units_in inside.counts) made.1.1.1 in
-    (session, subst (IsCounted inside.file new) (sym counts) counted)
+    (session, subst (IsSessionCounted inside.file new) (sym counts) counted)
 
 pub returns-clause-ok : goal.returns-clause-ok
 returns-clause-ok c =

@@ -1,15 +1,15 @@
 use Rattle.std.proofs.Common.{◌≡◌, ap, sym, ◌∙◌, Some, arith}
 use Rattle.std.specs.Prelude.{slice_get}
 use Rattle.std.proofs.lemmas.Option.{slice_get-get_or}
-use Rattle.doc_columns.specs.Beside.{beside_of}
-use Rattle.doc_columns.specs.declared.beside.Beside.{Beside}
+use Rattle.doc_columns.specs.Attached.{attached_of}
+use Rattle.doc_columns.specs.declared.attached.Attached.{Attached}
 use Rattle.full_save.proofs.AlikeLemmas.{alike_of}
 use Rattle.full_save.specs.RunsSoFar.{AreParagraphsSoFar}
 use Rattle.full_save.proofs.ColumnRuns.{walk_begins, walk_next, walk_ends, run_fits}
 use Rattle.full_save.proofs.runs.ParagraphRuns.push_runs.Goals as goal
 
 pub loop-run-init : goal.loop-run-init
-loop-run-init c = walk_begins AreParagraphsSoFar beside_of c.args.runs.now c.args.start c.args.self.now
+loop-run-init c = walk_begins AreParagraphsSoFar attached_of c.args.runs.now c.args.start c.args.self.now
 
 pub overflow_mul-at : goal.overflow_mul-at
 overflow_mul-at c =
@@ -46,15 +46,15 @@ loop-run-preserved c =
     let run = c.run-item.result in
     let here : slice_get c.args.runs.now c.loop-run.run-index ≡ Some run =
     slice_get-get_or c.args.runs.now c.loop-run.run-index run c.loop-run-test.true ∙ ap Some (sym c.run-item.is) in
-    walk_next AreParagraphsSoFar beside_of c.args.runs.now c.args.start c.loop-run.run-index c.loop-run.at run
+    walk_next AreParagraphsSoFar attached_of c.args.runs.now c.args.start c.loop-run.run-index c.loop-run.at run
     c.args.self.now
     c.loop-run.self c.push_run.new.self here
     (λ base done text place here alike so. c.in_ok-push_run.ensures base done text place here
-    (alike_of beside_of (λ (b : Beside). b.mark) run.value text place run.count alike) so)
+    (alike_of attached_of (λ (b : Attached). b.mark) run.value text place run.count alike) so)
     c.loop-run.invariant
 
 pub returns : goal.returns
 returns c =
-    walk_ends AreParagraphsSoFar beside_of c.args.runs.now c.args.start c.loop-run.run-index
+    walk_ends AreParagraphsSoFar attached_of c.args.runs.now c.args.start c.loop-run.run-index
     c.loop-run.at c.args.self.now c.loop-run.self
     c.loop-run-test.false c.loop-run.invariant

@@ -2,7 +2,7 @@ use Rattle.std.proofs.Common.{◌≡◌, ◌+◌, ◌*◌, length, ap, arith}
 use Rattle.std.proofs.lemmas.List.{length-map, length-append}
 use Rattle.run_lists.proofs.SpreadLemmas.{length-spread}
 use Rattle.plain_doc.specs.declared.item.Item.{Item}
-use Rattle.doc_columns.specs.Beside.{beside_of}
+use Rattle.doc_columns.specs.Attached.{attached_of}
 use Rattle.full_save.specs.WordDocument.{text_at}
 use Rattle.full_save.proofs.text.TextSoFar.push_text.Goals as goal
 
@@ -23,9 +23,9 @@ push_runs-requires-2 c =
     omega (
       arith,
       small,
-      length-spread c.besides.result.now,
-      ap length c.besides.ensures,
-      length-map c.args.text.now beside_of,
+      length-spread c.attachments.result.now,
+      ap length c.attachments.ensures,
+      length-map c.args.text.now attached_of,
     )
 
 pub returns-clause-text : goal.returns-clause-text
@@ -37,5 +37,5 @@ returns-clause-text c = λ done so.
     record {
       long = omega (arith, long, len, length-append done text);
       characters = c.in_ok-push_runs.ensures text_at done text start c.chps.ensures so.characters;
-      paragraphs = c.in_ok-push_runs-2.ensures text_at done text start c.besides.ensures so.paragraphs;
+      paragraphs = c.in_ok-push_runs-2.ensures text_at done text start c.attachments.ensures so.paragraphs;
     }

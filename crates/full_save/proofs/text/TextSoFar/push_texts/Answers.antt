@@ -3,8 +3,9 @@ use Rattle.std.proofs.lemmas.List.{length-append}
 use Rattle.std.proofs.lemmas.Option.{get_or_from_slice_get}
 use Rattle.plain_doc.specs.declared.item.Item.{Item}
 use Rattle.plain_doc.specs.Collected.{joined_texts}
-use Rattle.full_save.proofs.TextLemmas.{goes_on_both, goes_on_by, joined_next, joined_front}
+use Rattle.full_save.proofs.TextLemmas.{goes_on_both, goes_on_by, joined_next}
 use Rattle.full_save.proofs.text.TextSoFar.push_texts.Goals as goal
+use Rattle.plain_doc.proofs.TextListLemmas.{first_joined}
 
 pub push_text-requires : goal.push_text-requires
 push_text-requires c =
@@ -15,7 +16,7 @@ push_text-requires c =
     let here = get_or_from_slice_get texts k c.get.result.now [] c.get.ensures in
     let size = ap length here in
     let next = ap length (joined_next texts k low) in
-    let front = joined_front texts (k + 1) in
+    let front = first_joined texts (k + 1) in
     let count = c.loop-k.invariant.1 in
     let small = c.requires in
     omega (arith, length-append (joined_texts (take k texts)) (get_or texts k []))

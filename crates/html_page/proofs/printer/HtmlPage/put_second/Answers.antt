@@ -4,9 +4,10 @@ use Rattle.text_codes.specs.Shown.{pair_code}
 use Rattle.html_text.specs.Tokens.{Character, printed}
 use Rattle.page_out.specs.Printed.{Prints}
 use Rattle.html_page.specs.Pages.{characters}
-use Rattle.glyph_units.specs.Units.{first_text, replacement}
+use Rattle.glyph_units.specs.Units.{first_text}
 use Rattle.html_page.proofs.PutLemmas.{tokens_then}
 use Rattle.html_page.proofs.printer.HtmlPage.put_second.Goals as goal
+use Rattle.text_codes.specs.Halves.{replacement}
 
 pub returns-in-None-clause-prints : goal.returns-in-None-clause-prints
 returns-in-None-clause-prints g c =

@@ -8,6 +8,6 @@ use Rattle.markdown_page.proofs.printer.MarkdownPage.put_character.Goals as goal
 pub returns-clause-puts : goal.returns-clause-puts
 returns-clause-puts g c =
     said_put g.K.Sink c.args.out.now c.put_piece.new.out c.put_character.new.out c.args.self.now.pen
-    c.put_piece.new.self c.put_character.new.self c.args.self.now.context.seam c.args.code c.given-piece.result
-    (c.given-piece.ensures ∙ ap (λ (there : Bool). given there (Insert tag.Comment)) c.is_parted.ensures)
+    c.put_piece.new.self c.put_character.new.self c.args.self.now.context.seam c.args.code c.if_given-piece.result
+    (c.if_given-piece.ensures ∙ ap (λ (there : Bool). given there (Insert tag.Comment)) c.is_parted.ensures)
     c.put_piece.ensures c.put_character.ensures

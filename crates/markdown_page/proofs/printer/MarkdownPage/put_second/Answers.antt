@@ -1,12 +1,13 @@
 use Rattle.std.proofs.Common.{Bool, ◌++◌, ◌∷◌, [], List, sym, subst}
 use Rattle.std.specs.Prelude.{if◌then◌else◌}
 use Rattle.text_codes.specs.Shown.{pair_code}
-use Rattle.glyph_units.specs.Units.{first_text, replacement}
+use Rattle.glyph_units.specs.Units.{first_text}
 use Rattle.markdown_page.specs.declared.context.Context.{Context}
 use Rattle.markdown_page.specs.Pages.{text_seam, text_tokens}
 use Rattle.markdown_page.specs.Printed.{PutsTokens}
 use Rattle.markdown_page.proofs.TokenLemmas.{text_tokens-append, tokens_as, tokens_then}
 use Rattle.markdown_page.proofs.printer.MarkdownPage.put_second.Goals as goal
+use Rattle.text_codes.specs.Halves.{replacement}
 
 pub returns-in-None-clause-puts : goal.returns-in-None-clause-puts
 returns-in-None-clause-puts g c =

@@ -15,8 +15,8 @@ use Rattle.piece_table.proofs.RangeLemmas.{renewed_met}
 use Rattle.piece_table.proofs.RenumberLemmas.{range_all, extended_numbered}
 use Rattle.piece_table.proofs.pieces.PieceList.modify.Goals as goal
 
-pub met-requires-clause-within : goal.met-requires-clause-within
-met-requires-clause-within c =
+pub entries_in-requires-clause-within : goal.entries_in-requires-clause-within
+entries_in-requires-clause-within c =
     omega (
       arith,
       ap (λ table. total_length table.pieces) c.self.view_is,
@@ -24,8 +24,8 @@ met-requires-clause-within c =
       c.requires.within,
     )
 
-pub met-requires-clause-few : goal.met-requires-clause-few
-met-requires-clause-few c =
+pub entries_in-requires-clause-few : goal.entries_in-requires-clause-few
+entries_in-requires-clause-few c =
     let few = (are_few c.self.inside.modifiers.items c.self.inside.entries.items c.self.invariant.1.0).count in
     omega arith
 

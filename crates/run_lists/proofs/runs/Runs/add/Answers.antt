@@ -2,7 +2,7 @@
 use Rattle.std.proofs.Common.{◌≡◌, ◌+◌, ◌-◌, ◌<◌, length, set, refl, arith, rules}
 use Rattle.std.specs.Vec.{vec_len}
 use Rattle.run_lists.specs.declared.runs.Run.{Run}
-use Rattle.run_lists.specs.Spread.{spread}
+use Rattle.run_lists.specs.Spread.{expanded}
 use Rattle.run_lists.proofs.RunsLemmas.{last_fits, grown, pushed, length_more}
 use Rattle.run_lists.proofs.runs.Runs.add.Goals as goal
 
@@ -25,7 +25,7 @@ invariant_of-self g c =
     let new : Run g.row.T.Denot = record { count = one.count + c.args.count; value = one.value } in
     let len : vec_len c.self.inside.runs ≡ length runs = search rules in
     let end : last + 1 ≡ length runs = omega (arith, c.len-len.ensures, c.if-len-gt0.true) in
-    length_more (spread (set runs last new)) c.args.self.now c.args.count c.args.value
+    length_more (expanded (set runs last new)) c.args.self.now c.args.count c.args.value
     (grown runs c.args.self.now last c.args.count one c.index.result.now new c.args.value end
     c.index_mut-last.ensures.value c.index.ensures (c.if-equal.ensures.0 refl) refl refl c.self.view_is)
     c.requires.few
@@ -44,7 +44,7 @@ returns-then-equal-clause-ok g c =
 pub invariant_of-self-2 : goal.invariant_of-self-2
 invariant_of-self-2 g c =
     let run : Run g.row.T.Denot = record { count = c.args.count; value = c.args.value } in
-    length_more (spread c.push.new.self.items) c.args.self.now c.args.count c.args.value
+    length_more (expanded c.push.new.self.items) c.args.self.now c.args.count c.args.value
     (pushed c.self.inside.runs.items c.push.new.self.items c.args.self.now run c.in_ok-push.ensures.items
     c.self.view_is)
     c.requires.few

@@ -3,7 +3,7 @@ use Rattle.std.proofs.Common.{◌≡◌, ℕ, ◌+◌, List, [], length, get_or,
 use Rattle.std.specs.Prelude.{slice_get}
 use Rattle.std.specs.Vec.{vec_len}
 use Rattle.run_lists.specs.declared.runs.Run.{Run}
-use Rattle.run_lists.specs.Spread.{spread, extent}
+use Rattle.run_lists.specs.Spread.{expanded, total_len}
 use Rattle.run_lists.specs.Places.{IsFound}
 use Rattle.run_lists.proofs.SpreadLemmas.{extent-nil}
 use Rattle.run_lists.proofs.RunsLemmas.{extent_of, spot_inside, found_value}
@@ -11,17 +11,17 @@ use Rattle.run_lists.proofs.runs.Runs.at.Goals as goal
 
 pub find-spot-requires-clause-within : goal.find-spot-requires-clause-within
 find-spot-requires-clause-within g c =
-    let nothing : extent {T = g.row.T.Denot} [] ≡ 0 = extent-nil g.row.T.Denot in
-    let all : extent c.deref.result.now ≡ length c.args.self.now =
-    ap extent c.deref.ensures.value ∙ extent_of c.self.inside.runs.items c.args.self.now c.self.view_is in
+    let nothing : total_len {T = g.row.T.Denot} [] ≡ 0 = extent-nil g.row.T.Denot in
+    let all : total_len c.deref.result.now ≡ length c.args.self.now =
+    ap total_len c.deref.ensures.value ∙ extent_of c.self.inside.runs.items c.args.self.now c.self.view_is in
     omega (arith, c.requires)
 
 pub index-requires : goal.index-requires
 index-requires g c =
     let runs = c.self.inside.runs.items in
     let spot = c.find-spot.result in
-    let nothing : extent {T = g.row.T.Denot} [] ≡ 0 = extent-nil g.row.T.Denot in
-    let all : extent runs ≡ length c.args.self.now = extent_of runs c.args.self.now c.self.view_is in
+    let nothing : total_len {T = g.row.T.Denot} [] ≡ 0 = extent-nil g.row.T.Denot in
+    let all : total_len runs ≡ length c.args.self.now = extent_of runs c.args.self.now c.self.view_is in
     let found : IsFound runs 0 c.args.place spot =
     subst (λ (t : List (Run g.row.T.Denot)). IsFound t 0 c.args.place spot) c.deref.ensures.value c.find-spot.ensures in
     let len : vec_len c.self.inside.runs ≡ length runs = search rules in
@@ -32,13 +32,13 @@ returns g c =
     let runs = c.self.inside.runs.items in
     let spot = c.find-spot.result in
     let read = c.index.result.now in
-    let nothing : extent {T = g.row.T.Denot} [] ≡ 0 = extent-nil g.row.T.Denot in
-    let all : extent runs ≡ length c.args.self.now = extent_of runs c.args.self.now c.self.view_is in
+    let nothing : total_len {T = g.row.T.Denot} [] ≡ 0 = extent-nil g.row.T.Denot in
+    let all : total_len runs ≡ length c.args.self.now = extent_of runs c.args.self.now c.self.view_is in
     let found : IsFound runs 0 c.args.place spot =
     subst (λ (t : List (Run g.row.T.Denot)). IsFound t 0 c.args.place spot) c.deref.ensures.value c.find-spot.ensures in
-    let place : extent {T = g.row.T.Denot} [] + c.args.place ≡ c.args.place = omega arith in
-    let value : slice_get (spread runs) c.args.place ≡ Some (get_or runs spot.run read).value =
-    subst (λ (n : ℕ). slice_get (spread runs) n ≡ Some (get_or runs spot.run read).value) place
+    let place : total_len {T = g.row.T.Denot} [] + c.args.place ≡ c.args.place = omega arith in
+    let value : slice_get (expanded runs) c.args.place ≡ Some (get_or runs spot.run read).value =
+    subst (λ (n : ℕ). slice_get (expanded runs) n ≡ Some (get_or runs spot.run read).value) place
     (found_value runs 0 c.args.place spot read found (omega (arith, c.requires))) in
     ap (λ (v : List g.row.T.Denot). slice_get v c.args.place) (sym c.self.view_is)
     ∙ value

@@ -1,14 +1,14 @@
 -- No runs are the empty list.
 use Rattle.std.proofs.Common.{◌≡◌, ◌∙◌, ap, arith, length}
-use Rattle.run_lists.specs.Spread.{spread}
+use Rattle.run_lists.specs.Spread.{expanded}
 use Rattle.run_lists.proofs.SpreadLemmas.{spread-nil}
 use Rattle.run_lists.proofs.runs.Runs.with_room.Goals as goal
 
 pub invariant_of-result : goal.invariant_of-result
 invariant_of-result g c =
-    let none : length (spread c.in_ok-runs.runs.items) ≡ 0 =
-    ap length (ap spread c.in_ok-runs.ensures.items ∙ spread-nil g.row.T.Denot) in
+    let none : length (expanded c.in_ok-runs.runs.items) ≡ 0 =
+    ap length (ap expanded c.in_ok-runs.ensures.items ∙ spread-nil g.row.T.Denot) in
     omega arith
 
 pub returns : goal.returns
-returns g c = ap spread c.in_ok-runs.ensures.items ∙ spread-nil g.row.T.Denot
+returns g c = ap expanded c.in_ok-runs.ensures.items ∙ spread-nil g.row.T.Denot

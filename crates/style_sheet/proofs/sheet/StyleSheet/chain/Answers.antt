@@ -10,14 +10,14 @@ use Rattle.style_sheet.proofs.sheet.StyleSheet.chain.Goals as goal
 pub loop-base-init : goal.loop-base-init
 loop-base-init c = record {
   n = 0;
-  climbed = climbed_none c.args.self.now c.args.istd c.requires.settings;
+  climbed = climbed_none c.args.self.now c.args.istd c.requires.properties;
   items = c.in_ok-push.ensures.items ∙ ap (λ l. l ++ c.args.istd ∷ []) c.new-items.ensures.items;
 }
 
 pub loop-base-smaller : goal.loop-base-smaller
 loop-base-smaller c =
     let sheet = c.args.self.now in
-    let found = c.requires.sound.chains c.args.istd c.requires.settings in
+    let found = c.requires.sound.chains c.args.istd c.requires.properties in
     let n = c.loop-base.invariant.n in
     let next = climbed_next sheet c.args.istd n c.loop-base.at c.in-Some.base found.0 c.loop-base.invariant.climbed
     (sym c.in-Some.ensures) found.1 in
@@ -32,7 +32,7 @@ loop-base-smaller c =
 pub loop-base-preserved : goal.loop-base-preserved
 loop-base-preserved c =
     let sheet = c.args.self.now in
-    let found = c.requires.sound.chains c.args.istd c.requires.settings in
+    let found = c.requires.sound.chains c.args.istd c.requires.properties in
     let n = c.loop-base.invariant.n in
     let climbed = c.loop-base.invariant.climbed in
     let base = sym c.in-Some.ensures in

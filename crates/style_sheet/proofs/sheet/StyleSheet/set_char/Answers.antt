@@ -10,7 +10,7 @@ put-requires-clause-formed c =
     let style = c.unwrap-style.result.now in
     let kind = c.in_ok-kind.kind in
     let formed = subst IsFormedSheet c.self.view_is c.self.invariant in
-    let settings = c.requires.settings in
+    let properties = c.requires.properties in
     let found = rw c.unwrap-style.ensures at c.get.ensures.style in
     let old = style_formed sheet c.args.istd style (there sheet c.args.istd (omega arith)) formed.styles found in
     subst IsFormedStyle (sym c.with_kind-style.ensures) (kind_formed style kind old (characters_formed c.args.set.now

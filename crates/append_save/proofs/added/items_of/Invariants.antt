@@ -1,6 +1,0 @@
-use Rattle.std.proofs.Common.{◌≡◌, length, take}
-use Rattle.plain_doc.specs.Collected.{joined_texts}
-use Rattle.append_save.proofs.added.items_of.Given as goal
-
-abbrev pub invariant-loop-k : goal.invariant-loop-k
-invariant-loop-k l = l.count ≡ length (joined_texts (take l.k l.texts))

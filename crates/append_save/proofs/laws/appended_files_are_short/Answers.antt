@@ -1,5 +1,0 @@
-use Rattle.append_save.proofs.ShortLemmas.{appended_files_are_short}
-use Rattle.append_save.proofs.laws.appended_files_are_short.Goals as goal
-
-pub returns : goal.returns
-returns c = appended_files_are_short

@@ -1,6 +1,0 @@
-use Rattle.std.proofs.Common.{◌≡◌, drop}
-use Rattle.append_save.specs.RenewedStreams.{bytes_named}
-use Rattle.append_save.proofs.old_streams.bytes_named.Given as goal
-
-abbrev pub invariant-loop-i : goal.invariant-loop-i
-invariant-loop-i l = bytes_named l.container.streams l.name ≡ bytes_named (drop l.i l.container.streams) l.name

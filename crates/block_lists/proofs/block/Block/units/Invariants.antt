@@ -1,7 +1,0 @@
-use Rattle.std.proofs.Common.{◌≡◌, take}
-use Rattle.block_lists.specs.Blocks.{units_of}
-use Rattle.block_lists.proofs.block.Block.units.Given as goal
-
--- the units of the items so far
-abbrev pub invariant-loop-i : goal.invariant-loop-i
-invariant-loop-i g l = l.total ≡ units_of g.T.Measured.units (take l.i l.self)

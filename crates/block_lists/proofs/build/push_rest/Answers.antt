@@ -1,8 +1,0 @@
--- The last block.
-use Rattle.std.proofs.Common.{◌∙◌, ap}
-use Rattle.block_lists.specs.Blocks.{joined}
-use Rattle.block_lists.proofs.BuildLemmas.{joined_push}
-use Rattle.block_lists.proofs.build.push_rest.Goals as goal
-
-pub returns-clause-items : goal.returns-clause-items
-returns-clause-items g c = ap joined c.in_ok-push.ensures.blocks ∙ joined_push c.args.row.now.blocks c.args.items.now

@@ -1,7 +1,0 @@
-use Rattle.std.proofs.Common.{◌≡◌, ◌+◌, length, take}
-use Rattle.block_lists.specs.Blocks.{joined}
-use Rattle.block_lists.proofs.row.Row.place.Given as goal
-
--- the place is counted from this block
-abbrev pub invariant-loop-block : goal.invariant-loop-block
-invariant-loop-block g l = length (joined (take l.block l.self.blocks)) + l.within ≡ l.i

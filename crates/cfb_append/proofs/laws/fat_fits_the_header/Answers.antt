@@ -1,5 +1,0 @@
-use Rattle.cfb_append.proofs.CountLemmas.{fat_fits}
-use Rattle.cfb_append.proofs.laws.fat_fits_the_header.Goals as goal
-
-pub returns : goal.returns
-returns c = fat_fits

@@ -1,5 +1,0 @@
-use Rattle.cfb_append.proofs.SectorsThere.{save_there}
-use Rattle.cfb_append.proofs.laws.save_is_there.Goals as goal
-
-pub returns : goal.returns
-returns c = save_there

@@ -1,5 +1,0 @@
-use Rattle.cfb_append.proofs.ContentsAgain.{save_stays}
-use Rattle.cfb_append.proofs.laws.save_stays_in_place.Goals as goal
-
-pub returns : goal.returns
-returns c = save_stays

@@ -1,5 +1,0 @@
-use Rattle.cfb_append.proofs.PlaceLemmas.{twice_in_place}
-use Rattle.cfb_append.proofs.laws.stays_over_two.Goals as goal
-
-pub returns : goal.returns
-returns c = twice_in_place

@@ -1,5 +1,0 @@
-use Rattle.doc_load.proofs.JudgedLemmas.{none_judged}
-use Rattle.doc_load.proofs.sections.JudgedSepxs.new.Goals as goal
-
-pub returns : goal.returns
-returns c = λ wd. rw (c.new.ensures, c.new-2.ensures.items) (none_judged wd)

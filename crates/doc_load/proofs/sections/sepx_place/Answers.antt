@@ -1,5 +1,0 @@
-use Rattle.std.proofs.Common.{arith}
-use Rattle.doc_load.proofs.sections.sepx_place.Goals as goal
-
-pub returns : goal.returns
-returns c = record { from = omega arith; to = omega arith }

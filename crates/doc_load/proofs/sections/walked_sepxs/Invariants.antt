@@ -1,5 +1,0 @@
-use Rattle.doc_load.specs.SectionRules.{AreJudgedSepxs}
-use Rattle.doc_load.proofs.sections.walked_sepxs.Given as goal
-
-abbrev pub invariant-loop-range : goal.invariant-loop-range
-invariant-loop-range l = AreJudgedSepxs l.wd l.judged.places l.judged.faults.items

@@ -1,5 +1,0 @@
-use Rattle.std.proofs.Common.{◌∙◌, append_assoc}
-use Rattle.doc_tasks.proofs.summary_lines.no_summary_line.Goals as goal
-
-pub returns : goal.returns
-returns c = simp append_assoc (c.from_string.ensures ∙ c.in_ok-line.ensures.ok)

@@ -1,7 +1,0 @@
-use Rattle.std.proofs.Common.{◌≡◌, ◌++◌, replicate}
-use Rattle.full_save.specs.Text.{extra_mark}
-use Rattle.edited_text.proofs.added.with_marks.Given as goal
-
--- so many marks are there
-abbrev pub invariant-loop-k : goal.invariant-loop-k
-invariant-loop-k l = l.items ≡ l.fn.items ++ replicate l._k extra_mark

@@ -1,7 +1,0 @@
-use Rattle.std.proofs.Common.{◌≡◌, ◌++◌, take}
-use Rattle.plain_doc.specs.Collected.{joined_texts}
-use Rattle.edited_text.proofs.gathered.Gathered.with_texts.Given as goal
-
--- the texts so far are there
-abbrev pub invariant-loop-k : goal.invariant-loop-k
-invariant-loop-k l = l.made ≡ l.fn.self ++ joined_texts (take l.k l.fn.texts)

@@ -1,5 +1,0 @@
-use Rattle.edited_text.proofs.BlockLemmas.{blocks_stand}
-use Rattle.edited_text.proofs.session_laws.blocks_stand.Goals as goal
-
-pub returns : goal.returns
-returns c = blocks_stand

@@ -1,5 +1,0 @@
-use Rattle.edited_text.proofs.SectionLemmas.{bookmarks_stay}
-use Rattle.edited_text.proofs.session_laws.bookmarks_stay.Goals as goal
-
-pub returns : goal.returns
-returns c = bookmarks_stay

@@ -1,5 +1,0 @@
-use Rattle.edited_text.proofs.ModifyLemmas.{modifiers_act}
-use Rattle.edited_text.proofs.session_laws.modifiers_act.Goals as goal
-
-pub returns : goal.returns
-returns c = modifiers_act

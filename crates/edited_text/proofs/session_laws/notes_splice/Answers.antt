@@ -1,5 +1,0 @@
-use Rattle.edited_text.proofs.MarkLemmas.{notes_splice}
-use Rattle.edited_text.proofs.session_laws.notes_splice.Goals as goal
-
-pub returns : goal.returns
-returns c = notes_splice

@@ -1,5 +1,0 @@
-use Rattle.edited_text.proofs.SectionLemmas.{sections_splice}
-use Rattle.edited_text.proofs.session_laws.sections_splice.Goals as goal
-
-pub returns : goal.returns
-returns c = sections_splice

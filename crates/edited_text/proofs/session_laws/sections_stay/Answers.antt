@@ -1,5 +1,0 @@
-use Rattle.edited_text.proofs.SectionLemmas.{sections_stay}
-use Rattle.edited_text.proofs.session_laws.sections_stay.Goals as goal
-
-pub returns : goal.returns
-returns c = sections_stay

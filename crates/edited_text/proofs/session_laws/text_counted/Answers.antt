@@ -1,5 +1,0 @@
-use Rattle.edited_text.proofs.StartLemmas.{text_counted}
-use Rattle.edited_text.proofs.session_laws.text_counted.Goals as goal
-
-pub returns : goal.returns
-returns c = text_counted

@@ -1,0 +1,22 @@
+use Rattle.std.proofs.lemmas.Result.{MatchResult-weaker}
+use Rattle.doc_bits.specs.declared.places.Where.TheVariants.{File}
+use Rattle.doc_bits.specs.Rules.{rule, given}
+use Rattle.doc_bits.specs.Places.{rules_in}
+use Rattle.cfb_streams.specs.Contents.{HasNamed}
+use Rattle.file_rules.specs.FileRules.{HasNoStream, wd_rules}
+use Rattle.cfb_streams.specs.Names.{wd_name}
+use Rattle.file_rules.proofs.RefusalLemmas.{refused-next, refused-given, stream-there}
+use Rattle.file_rules.proofs.TextLemmas.{has-text}
+use Rattle.file_rules.proofs.loading.load_text.Goals as goal
+
+pub returns : goal.returns
+returns c =
+    let wd = c.in-Some.wd.now in
+    let contents = c.args.container.now in
+    let named : HasNamed contents.streams wd_name wd = c.in-Some.ensures in
+    let there = stream-there File contents wd_name wd 15 0 named in
+    let is = HasNamed contents.streams wd_name in
+    MatchResult-weaker c.load_wd.result c.load_wd.ensures
+    (λ text h. ((there, (wd, (named, h.0))), has-text contents wd text named h.1))
+    (λ refusal h. refused-next (rules_in File (rule 15 (HasNoStream contents wd_name 0)))
+    (given is (wd_rules contents)) refusal there (refused-given is (wd_rules contents) wd refusal named h))

@@ -1,5 +1,0 @@
-use Rattle.fkp_pages.proofs.FoundLemmas.{lists_have_settings}
-use Rattle.fkp_pages.proofs.page_laws.lists_have_settings.Goals as goal
-
-pub returns : goal.returns
-returns c = lists_have_settings

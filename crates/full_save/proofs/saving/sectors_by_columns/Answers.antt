@@ -1,9 +1,0 @@
-use Rattle.plain_doc.proofs.RightLemmas.{sound_is_right}
-use Rattle.full_save.proofs.TextLaidOut.{few_items}
-use Rattle.full_save.proofs.saving.sectors_by_columns.Goals as goal
-
-pub text_of-requires : goal.text_of-requires
-text_of-requires c = (few_items c.args.document.now (sound_is_right c.args.document.now c.requires)).all
-
-pub sectors_with-sectors-requires-clause-right : goal.sectors_with-sectors-requires-clause-right
-sectors_with-sectors-requires-clause-right c = sound_is_right c.args.document.now c.requires

@@ -1,8 +1,0 @@
-use Rattle.serde_json.specs.View.{view}
-use Rattle.json_doc.proofs.JudgedLemmas.{read_told}
-use Rattle.json_doc.proofs.reading.columns_from_json.Goals as goal
-
-pub returns-in-Ok : goal.returns-in-Ok
-returns-in-Ok c =
-    read_told c.args.bytes.now (view c.in_ok-value.value) c.in-Ok.document c.judged.result c.in_ok-value.ensures
-    c.in-Ok.ensures.0 c.in-Ok.ensures.1 c.columns_are_formed.ensures c.judged.ensures

@@ -1,9 +1,0 @@
-use Rattle.std.proofs.Common.{◌-◌, length}
-use Rattle.list_walks.specs.Keeping.{IsKeeping}
-use Rattle.list_walks.proofs.keeping.advance_keeping.Given as goal
-
-abbrev pub invariant-loop-entry : goal.invariant-loop-entry
-invariant-loop-entry l = IsKeeping l.lists.stream.now l.lists.groups l.here l.places.items l.kept.items
-
-abbrev pub decreases-loop-entry : goal.decreases-loop-entry
-decreases-loop-entry l = length l.lists.stream.now - l.here

@@ -1,9 +1,0 @@
-use Rattle.std.proofs.Common.{◌-◌, length}
-use Rattle.list_walks.specs.Walks.{IsWalk}
-use Rattle.list_walks.proofs.walk.advance.Given as goal
-
-abbrev pub invariant-loop-entry : goal.invariant-loop-entry
-invariant-loop-entry l = IsWalk l.lists.stream.now l.lists.groups l.here l.places.items
-
-abbrev pub decreases-loop-entry : goal.decreases-loop-entry
-decreases-loop-entry l = length l.lists.stream.now - l.here

@@ -1,8 +1,0 @@
-use Rattle.std.proofs.Common.{ℕ, ◌<◌}
-use Rattle.doc_bits.specs.Rules.{Nowhere}
-use Rattle.piece_table.specs.ClxRules.{IsUnread}
-use Rattle.piece_table.proofs.judge.unread.Given as goal
-
--- the rule holds at the pieces before this one
-abbrev pub invariant-loop-k : goal.invariant-loop-k
-invariant-loop-k l = (j : ℕ) → j < l.k → Nowhere (IsUnread l.plc l.base l.prcs j)

@@ -1,5 +1,0 @@
-use Rattle.plain_doc.proofs.LawLemmas.{equal_are_same}
-use Rattle.plain_doc.proofs.laws.equal_settings_are_same.Goals as goal
-
-pub returns : goal.returns
-returns c = equal_are_same

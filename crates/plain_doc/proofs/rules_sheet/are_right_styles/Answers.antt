@@ -1,4 +1,0 @@
-use Rattle.plain_doc.proofs.rules_sheet.are_right_styles.Goals as goal
-
-pub returns-in-None : goal.returns-in-None
-returns-in-None c = λ _. c.in-None.ensures

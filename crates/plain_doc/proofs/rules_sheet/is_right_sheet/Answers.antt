@@ -1,9 +1,0 @@
-use Rattle.std.proofs.Common.{refl}
-use Rattle.plain_doc.proofs.rules_sheet.is_right_sheet.Goals as goal
-
-pub returns : goal.returns
-returns c = λ right. record {
-  bases = c.if-not-has_right_bases.ensures refl;
-  short = c.if-not-are_right_styles.ensures refl;
-  writable = c.are_right_styles-2.ensures right;
-}

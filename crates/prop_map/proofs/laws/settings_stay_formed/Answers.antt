@@ -1,5 +1,0 @@
-use Rattle.prop_map.proofs.LawLemmas.{stay_formed}
-use Rattle.prop_map.proofs.laws.settings_stay_formed.Goals as goal
-
-pub returns : goal.returns
-returns c = stay_formed
