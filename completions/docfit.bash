@@ -2,7 +2,7 @@
 _docfit() {
   local word="${COMP_WORDS[COMP_CWORD]}"
   case "$word" in
-    -*) mapfile -t COMPREPLY < <(compgen -W "--help --version" -- "$word") ;;
+    -*) mapfile -t COMPREPLY < <(compgen -W "--help --plain --version" -- "$word") ;;
     *) mapfile -t COMPREPLY < <(compgen -f -- "$word") ;;
   esac
 }

@@ -121,14 +121,6 @@ class File:
         size = max(struct.unpack_from("<H", self.listed, at + NAME_LENGTH)[0], 2) - 2
         return self.listed[at:at + size].decode("utf-16-le", "replace")
 
-    def names_of_root(self):
-        return [self.name(it).upper() for it in self.of_storage(0)]
-
-    def entry_place(self, entry):
-        """Where an entry stands in the file."""
-        each = self.sector_size // ENTRY
-        return self.place(self.directory[entry // each])[0] + entry % each * ENTRY
-
     def named(self):
         """The entries of streams: number in the directory, name, start, size."""
         for entry in range(len(self.listed) // ENTRY):

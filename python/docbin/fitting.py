@@ -36,6 +36,7 @@ _FORMS = {
     "reference": rf"(?P<story>\S+) {_PLACE} (?P<at>\d+)(?:: (?P<made>.*))?",
     "code": r"(?P<list>\S+) (?P<code>[0-9a-f]{4}) (?P<count>\d+)",
     "repeat": r"(?P<list>\S+) (?P<code>[0-9a-f]{4}) (?P<count>\d+)",
+    "endnote": r"(?P<endnote>\d+): note (?P<note>\d+)",
     "deleted": rf"{_PLACE} (?P<begin>\d+) (?P<end>\d+)(?:: (?P<made>.*))?",
     "bookmark": r"(?P<name>.*) (?P<begin>\d+) (?P<end>\d+)",
     "sheet": r"(?P<bytes>\d+)",
@@ -44,7 +45,7 @@ _FORMS = {
     "row": rf"{_PLACE} (?P<at>\d+): (?P<cells>\d+) cells",
     "end": _PLACE,
 }
-_NUMBERS, _SHOWN = ("pair", "bytes", "units", "page", "at", "count", "begin", "end", "style", "cells"), ("name", "text")
+_NUMBERS, _SHOWN = ("pair", "bytes", "units", "page", "at", "count", "begin", "end", "style", "cells", "endnote", "note"), ("name", "text")
 
 
 def unshown(text: str) -> str:

@@ -134,19 +134,21 @@ class Calls:
         self.raised(TypeError, docbin.fit, "hello")
 
     def test_the_lines_of_a_report(self):
-        report = ("fit: 8 bytes, left out 12, mended 1\nstream 1Table\nstorage Object Pool\npart 50 DggInfo 1234\n"
+        report = ("fit: 8 bytes, left out 11, mended 7\nstream 1Table\nstorage Object Pool\npart 50 DggInfo 1234\n"
                   "story comments 7 | a\\u005cb \u00e4\\u000d\nautotext page 24\nreference endnotes note 3 57\ncode style-char 0801 87\n"
-                  "repeat par d634 12\ndeleted head 6 1 2\nbookmark a b 3 4\nsheet 12\nsomething new\ndeleted main 120 135: struck\n"
+                  "repeat par d634 12\nbookmark a b 3 4\nsheet 12\nsomething new\ndeleted main 120 135: struck\n"
+                  "deleted head 6 1 2\n"
                   "base 7\nmark head 6 0: style 65535\nrow main 8: 3 cells\nreference comments main 9: cut\nend note 0\n")
         got = fitting.fitted(b"", report)
         self.assertEqual(got.left_out, [docbin.Feature(kind, fields) for kind, fields in (
             ("stream", {"name": "1Table"}), ("storage", {"name": "Object Pool"}), ("part", {"pair": 50, "name": "DggInfo", "bytes": 1234}),
             ("story", {"story": "comments", "units": 7, "text": "a\\b \u00e4\r"}), ("autotext", {"page": 24}),
             ("reference", {"story": "endnotes", "place": "note 3", "at": 57}), ("code", {"list": "style-char", "code": "0801", "count": 87}),
-            ("repeat", {"list": "par", "code": "d634", "count": 12}), ("deleted", {"place": "head 6", "begin": 1, "end": 2}),
+            ("repeat", {"list": "par", "code": "d634", "count": 12}),
             ("bookmark", {"name": "a b", "begin": 3, "end": 4}), ("sheet", {"bytes": 12}), ("something", {"words": "new"}))])
         self.assertEqual(got.mended, [docbin.Feature(kind, fields) for kind, fields in (
-            ("deleted", {"place": "main", "begin": 120, "end": 135, "made": "struck"}), ("base", {"style": 7}),
+            ("deleted", {"place": "main", "begin": 120, "end": 135, "made": "struck"}),
+            ("deleted", {"place": "head 6", "begin": 1, "end": 2}), ("base", {"style": 7}),
             ("mark", {"place": "head 6", "at": 0, "style": 65535}), ("row", {"place": "main", "at": 8, "cells": 3}),
             ("reference", {"story": "comments", "place": "main", "at": 9, "made": "cut"}),
             ("end", {"place": "note 0"}))])

@@ -1,5 +1,9 @@
 pub mod MeaningLemmas
 pub mod RefusalLemmas
 pub mod OpenLemmas
+pub mod MendLemmas
 pub mod LossLemmas
 pub mod OneLemmas
+pub mod PieceLemmas
+pub mod AcceptedLemmas
+pub mod NotedLemmas

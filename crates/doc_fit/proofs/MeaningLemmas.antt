@@ -1,98 +1,51 @@
--- A file that breaks none of the rules that are left means one document.
-use Rattle.std.proofs.Common.{◌≡◌, ◌<◌, ◌^◌, sym, subst, ℕ, List, length, ap}
-use Rattle.doc_bits.specs.declared.places.Where.TheVariants.{Wd}
+-- What a file that breaks none of the rules that are left means is mended in one way.
+use Rattle.std.proofs.Common.{◌≡◌, ◌∙◌, ◌++◌, sym, ap, subst, ℕ, List}
 use Rattle.doc_bits.specs.Number.{AreBytes}
 use Rattle.doc_bits.specs.Rules.{Hold, IsSingle}
-use Rattle.cfb_streams.specs.Contents.{Contents, HasNamed}
-use Rattle.cfb_streams.specs.Container.{HasContents}
-use Rattle.cfb_streams.specs.Names.{wd_name}
-use Rattle.cfb_streams.proofs.StoredLemmas.{contents_stored}
-use Rattle.cfb_streams.proofs.UniqueLemmas.{contents_unique}
-use Rattle.fib_form.specs.FibFields.{fib_fields}
-use Rattle.fib_versions.specs.Early.{early_fields, early_pairs}
-use Rattle.fib_versions.specs.VersionRules.{version_rules}
-use Rattle.fib_versions.proofs.EarlyLemmas.{early-read_back}
 use Rattle.plain_doc.specs.declared.document.Document.{Document}
 use Rattle.plain_doc.proofs.SoundLemmas.{document_rules-IsSingle}
-use Rattle.file_rules.specs.BinRules.{rules_of_bins}
-use Rattle.file_rules.specs.FileRules.{FileText, HasText, source_of, table_stream_name}
-use Rattle.file_rules.proofs.ContentsLemmas.{streams-small}
-use Rattle.file_rules.proofs.NameLemmas.{named_one}
-use Rattle.file_rules.proofs.RightPlaces.{hold_out}
-use Rattle.doc_meaning.specs.Meaning.{MeansDocument}
-use Rattle.doc_meaning.proofs.MeaningLemmas.{meaning_is_one}
+use Rattle.file_rules.specs.FileRules.{FileText}
 use Rattle.doc_read.specs.Holds.{FileParts}
 use Rattle.doc_read.proofs.PartsOfOneFile.{file_parts_one}
-use Rattle.doc_losses.specs.References.{Names, names_of}
+use Rattle.doc_losses.specs.References.{names_of}
 use Rattle.doc_mends.specs.Mending.{IsMended}
 use Rattle.doc_mends.proofs.OneLemmas.{one_way}
-use Rattle.doc_lift.specs.LiftedRules.{lifted_wd, lifted_table_rules}
 use Rattle.doc_lift.specs.LiftedFiles.{lifted_rules}
-use Rattle.doc_lift.proofs.BinLemmas.{lifted_bins}
 use Rattle.doc_lift.proofs.RuleLemmas.{lifted_single}
-use Rattle.doc_fit.specs.Rules.{HasMended, LiftsTo, fit_rules}
+use Rattle.deleted_text.proofs.OneLemmas.{struck_one}
+use Rattle.further_notes.proofs.MeantLemmas.{meant_one}
+use Rattle.doc_mends.specs.declared.mends.Mend.{Mend}
+use Rattle.doc_fit.specs.Rules.{IsMendedText, HasMended, LiftsTo, fit_rules}
 
--- the FIB of the early form in front of a stream of the file is read back
-front_fields : (file : List ℕ) (contents : Contents) (name wd : List ℕ) → AreBytes file → HasContents file contents →
-    HasNamed contents.streams name wd → Hold (version_rules wd) →
-    fib_fields (lifted_wd wd) ≡ early_fields wd (early_pairs wd)
-front_fields file contents name wd bytes has named hold =
-    let stored = contents_stored file contents bytes has named.index named.stream named.here in
-    let small : length named.stream.bytes < 2 ^ 32 =
-    streams-small file contents bytes has named.index named.stream named.here in
-    early-read_back wd (subst AreBytes (sym named.same) stored.small)
-    (subst (λ (b : List ℕ). length b < 2 ^ 32) (sym named.same) small) hold
-
--- the rules on the bin tables hold of the text that the streams name
-text_bins : (file : List ℕ) (contents : Contents) (wd table : List ℕ) (text : FileText) → AreBytes file →
-    HasContents file contents → HasNamed contents.streams wd_name wd →
-    HasNamed contents.streams (table_stream_name wd) table → HasText contents text → Hold (version_rules wd) →
-    Hold (lifted_table_rules wd table) → Hold (rules_of_bins (source_of text))
-text_bins file contents wd table text bytes has named table_named has_text version hold =
-    let wd_is : wd ≡ text.wd = named_one file contents wd_name wd text.wd has named has_text.has_wd in
-    let there : HasNamed contents.streams (table_stream_name text.wd) table =
-    subst (λ w. HasNamed contents.streams (table_stream_name w) table) wd_is table_named in
-    let table_is : table ≡ text.table =
-    named_one file contents (table_stream_name text.wd) table text.table has there has_text.has_table in
-    lifted_bins wd table (source_of text) (front_fields file contents wd_name wd bytes has named version) (sym wd_is)
-    (sym table_is) hold
-
-meant_bins : (file : List ℕ) (document : Document) → AreBytes file → Hold (lifted_rules file) →
-    (means : MeansDocument file document) → Hold (rules_of_bins (source_of means.parts.text))
-meant_bins file document bytes hold means =
-    let has = means.has_parts.has_contents in
-    let same : hold.1.0 ≡ means.parts.contents =
-    contents_unique file hold.1.0 means.parts.contents hold.1.1.0 has in
-    let inner = hold.1.1.1 in
-    let below = inner.1.1.1 in
-    let wd = inner.1.0 in
-    let table = below.1.1.0 in
-    text_bins file means.parts.contents wd table means.parts.text bytes has
-    (subst (λ (c : Contents). HasNamed c.streams wd_name wd) same inner.1.1.0)
-    (subst (λ (c : Contents). HasNamed c.streams (table_stream_name wd) table) same below.1.1.1.0)
-    means.has_parts.has_text (hold_out Wd (version_rules wd) below.0) below.1.1.1.1
-
-pub meant_one : (file : List ℕ) (one other : Document) → AreBytes file → Hold (lifted_rules file) →
-    MeansDocument file one → MeansDocument file other → one ≡ other
-meant_one file one other bytes rules a b = meaning_is_one file one other a (meant_bins file one bytes rules a) b
-
--- and it is mended in one way
+-- its document is mended in one way
 pub record AreOneMended (file : List ℕ) (one other : Document) (a : HasMended file one) (b : HasMended file other) :
     Type 0 where
   pub document : one ≡ other
   pub meant : a.meant ≡ b.meant
   pub mends : a.mends ≡ b.mends
 
+-- a text is struck and mended in one way
+pub text_mended_one : (text : FileText) (meant one other : Document) (mends others : List Mend) →
+    IsMendedText text meant one mends → IsMendedText text meant other others → (one ≡ other) × (mends ≡ others)
+text_mended_one text meant one other mends others a b =
+    let struck = struck_one text meant a.struck b.struck a.strikes b.strikes a.struck_is b.struck_is in
+    let names = names_of text.wd text.table in
+    let same = one_way names b.struck one other a.others b.others
+    (subst (λ (d : Document). IsMended names d one a.others) struck.0 a.mended_is) b.mended_is in (
+      same.0,
+      a.mends_are ∙ ((λ i. struck.1 i ++ same.1 i) ∙ sym b.mends_are),
+    )
+
 pub mended_one : (file : List ℕ) (one other : Document) → AreBytes file → Hold (lifted_rules file) →
     (a : HasMended file one) → (b : HasMended file other) → AreOneMended file one other a b
 mended_one file one other bytes rules a b =
     let meant : a.meant ≡ b.meant = meant_one file a.meant b.meant bytes rules a.means b.means in
-    let names = λ (p : FileParts). names_of p.text.wd p.text.table in
-    let parts : names a.means.parts ≡ names b.means.parts =
-    ap names (file_parts_one file a.means.parts b.means.parts a.means.has_parts b.means.has_parts) in
-    let same = one_way (names b.means.parts) b.meant one other a.mends b.mends
-    (subst (λ (d : Document). IsMended (names b.means.parts) d one a.mends) meant
-    (subst (λ (n : Names). IsMended n a.meant one a.mends) parts a.mended_is)) b.mended_is in
+    let text : a.means.parts.text ≡ b.means.parts.text =
+    ap (λ (p : FileParts). p.text)
+    (file_parts_one file a.means.parts b.means.parts a.means.has_parts b.means.has_parts) in
+    let same = text_mended_one b.means.parts.text b.meant one other a.mends b.mends
+    (subst (λ (d : Document). IsMendedText b.means.parts.text d one a.mends) meant
+    (subst (λ (t : FileText). IsMendedText t a.meant one a.mends) text a.mended_is)) b.mended_is in
     record { document = same.0; meant = meant; mends = same.1 }
 
 pub lifts_one : (file : List ℕ) (one other : Document) → AreBytes file → LiftsTo file one → LiftsTo file other →

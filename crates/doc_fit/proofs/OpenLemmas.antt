@@ -1,10 +1,10 @@
 -- What is lifted and sound is opened, and what is not is refused by the first rule of all.
-use Rattle.std.proofs.Common.{◌≡◌, ◌∙◌, ap, subst, ℕ, List}
+use Rattle.std.proofs.Common.{◌≡◌, ◌∙◌, subst, ℕ, List}
 use Rattle.cfb_streams.specs.Contents.{Contents}
 use Rattle.cfb_streams.proofs.UniqueLemmas.{contents_unique}
 use Rattle.file_rules.specs.FileRules.{FileText, HasText}
 use Rattle.file_rules.proofs.TextLemmas.{text_one}
-use Rattle.doc_losses.specs.References.{Names, names_of}
+use Rattle.doc_losses.specs.References.{names_of}
 use Rattle.plain_doc.specs.Marks.{HasFormedBookmarks}
 use Rattle.doc_bits.specs.Rules.{Hold, given}
 use Rattle.plain_doc.specs.Sound.{document_rules}
@@ -14,16 +14,15 @@ use Rattle.file_rules.proofs.RefusalLemmas.{refused-first, refused-next, refused
 use Rattle.doc_lift.specs.declared.lifting.Lifted.{Lifted}
 use Rattle.doc_lift.specs.LiftedFiles.{IsLifted, lifted_rules}
 use Rattle.doc_mends.specs.declared.mends.Mend.{Mend}
-use Rattle.doc_mends.specs.Mending.{IsMended}
 use Rattle.doc_mends.proofs.BookmarkLemmas.{bookmarks_stay}
 use Rattle.doc_fit.specs.declared.opening.OpenedAny.{OpenedAny}
-use Rattle.doc_fit.specs.Rules.{HasMended, LiftsTo, fit_rules}
-use Rattle.doc_fit.specs.Losses.{AreLossLines, HasLiftedStreams}
-use Rattle.doc_fit.proofs.LossLemmas.{wd_same, table_same}
-use Rattle.doc_fit.specs.Opened.{IsReported, IsOpenedAny}
+use Rattle.deleted_text.proofs.StrikeLemmas.{struck_formed}
+use Rattle.doc_fit.specs.Rules.{IsMendedText, HasMended, LiftsTo, fit_rules}
+use Rattle.doc_fit.specs.Losses.{HasLiftedStreams}
+use Rattle.doc_fit.specs.Opened.{HasDeletions, IsReported, IsOpenedAny}
 
 -- the text that the streams name is that of the parts by which the file means its document
-text_meant : (file : List ℕ) (lifted : Lifted) → (is : IsLifted file lifted) → is.text ≡ is.means.parts.text
+pub text_meant : (file : List ℕ) (lifted : Lifted) → (is : IsLifted file lifted) → is.text ≡ is.means.parts.text
 text_meant file lifted is =
     let has = is.means.has_parts in
     let same : is.means.parts.contents ≡ lifted.outer.container =
@@ -31,20 +30,20 @@ text_meant file lifted is =
     text_one file lifted.outer.container is.text is.means.parts.text is.has_contents is.has_text
     (subst (λ (c : Contents). HasText c is.means.parts.text) same has.has_text)
 
-names_meant : (file : List ℕ) (lifted : Lifted) (lines : List (List ℕ)) → (is : IsLifted file lifted) →
-    (are : AreLossLines lifted lines) →
-    names_of are.wd are.table ≡ names_of is.means.parts.text.wd is.means.parts.text.table
-names_meant file lifted lines is are =
-    ap (λ (w : List ℕ). names_of w are.table) (wd_same file lifted lines is are)
-    ∙ (ap (λ (t : List ℕ). names_of is.text.wd t) (table_same file lifted lines is are)
-    ∙ ap (λ (t : FileText). names_of t.wd t.table) (text_meant file lifted is))
+reported_text : (file : List ℕ) (before after : Lifted) (lines : List (List ℕ)) (mends : List Mend) →
+    (is : IsLifted file before) → (reported : IsReported before after lines mends) →
+    reported.text ≡ is.means.parts.text
+reported_text file before after lines mends is reported =
+    text_one file before.outer.container reported.text is.text is.has_contents reported.has_text is.has_text
+    ∙ text_meant file before is
 
+-- it is struck and mended
 pub mended_by : (file : List ℕ) (before after : Lifted) (lines : List (List ℕ)) (mends : List Mend) →
     (is : IsLifted file before) → IsReported before after lines mends →
-    IsMended (names_of is.means.parts.text.wd is.means.parts.text.table) before.document after.document mends
+    IsMendedText is.means.parts.text before.document after.document mends
 mended_by file before after lines mends is reported =
-    subst (λ (n : Names). IsMended n before.document after.document mends)
-    (names_meant file before lines is reported.losses) reported.mended
+    subst (λ (t : FileText). IsMendedText t before.document after.document mends)
+    (reported_text file before after lines mends is reported) reported.mended
 
 has_mended : (file : List ℕ) (before after : Lifted) (lines : List (List ℕ)) (mends : List Mend) →
     IsLifted file before → IsReported before after lines mends → HasMended file after.document
@@ -79,8 +78,20 @@ mended_refused file before after lines mends fault is reported refused =
 pub mended_formed : (file : List ℕ) (before after : Lifted) (lines : List (List ℕ)) (mends : List Mend) →
     IsLifted file before → IsReported before after lines mends → HasFormedBookmarks after.document
 mended_formed file before after lines mends is reported =
-    bookmarks_stay (names_of reported.losses.wd reported.losses.table) before.document after.document mends is.formed
-    reported.mended
+    let text = reported.text in
+    let mended = reported.mended in
+    bookmarks_stay (names_of text.wd text.table) mended.struck after.document mended.others
+    (struck_formed text before.document mended.struck mended.strikes is.formed mended.struck_is) mended.mended_is
+
+-- what of the text a reviser deleted
+pub lifted_deletions : (file : List ℕ) (lifted : Lifted) → IsLifted file lifted → HasDeletions lifted
+lifted_deletions file lifted is = record {
+  file = file;
+  has_contents = is.has_contents;
+  text = is.text;
+  has_text = is.has_text;
+  deleted = is.deleted;
+}
 
 -- the streams that the report is made of
 pub lifted_streams : (file : List ℕ) (lifted : Lifted) → IsLifted file lifted → HasLiftedStreams lifted

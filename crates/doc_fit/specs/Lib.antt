@@ -3,3 +3,5 @@ pub mod Rules
 pub mod Refusals
 pub mod Losses
 pub mod Opened
+pub mod Laws
+pub mod Noted

@@ -1,5 +1,5 @@
 -- The rules that are left: those of the file, and those on the document that it means, once this is mended.
-use Rattle.std.specs.Prelude.{List, ℕ}
+use Rattle.std.specs.Prelude.{◌≡◌, List, ℕ, ◌++◌}
 use Rattle.doc_bits.specs.Rules.{Rules, ◌then◌, given, Hold}
 use Rattle.doc_bits.specs.Places.{Place}
 use Rattle.plain_doc.specs.declared.document.Document.{Document}
@@ -7,15 +7,27 @@ use Rattle.plain_doc.specs.Sound.{document_rules}
 use Rattle.doc_losses.specs.References.{names_of}
 use Rattle.doc_mends.specs.declared.mends.Mend.{Mend}
 use Rattle.doc_mends.specs.Mending.{IsMended}
+use Rattle.file_rules.specs.FileRules.{FileText}
+use Rattle.deleted_text.specs.Texts.{IsStruckText}
 use Rattle.doc_meaning.specs.Meaning.{MeansDocument}
 use Rattle.doc_lift.specs.LiftedFiles.{lifted_rules}
 
--- the document is the mended one of what the file means; its tables name the marks of stories that are left out
+-- what a reviser deleted of the document of a text is struck, and then the document is mended; the tables name the
+-- marks of stories that are left out
+pub record IsMendedText (text : FileText) (meant mended : Document) (mends : List Mend) : Type 0 where
+  pub struck : Document
+  pub strikes : List Mend
+  pub struck_is : IsStruckText text meant struck strikes
+  pub others : List Mend
+  pub mended_is : IsMended (names_of text.wd text.table) struck mended others
+  pub mends_are : mends ≡ strikes ++ others
+
+-- the document is the mended one of what the file means
 pub record HasMended (file : List ℕ) (document : Document) : Type 0 where
   pub meant : Document
   pub means : MeansDocument file meant
   pub mends : List Mend
-  pub mended_is : IsMended (names_of means.parts.text.wd means.parts.text.table) meant document mends
+  pub mended_is : IsMendedText means.parts.text meant document mends
 
 -- and the file breaks none of the rules 1 to 57 that are left
 pub record LiftsTo (file : List ℕ) (document : Document) : Type 0 where

@@ -2,14 +2,18 @@
 //! why there is none.
 #![tactic(auto)]
 
+mod laws;
 mod lines;
 mod list_losses;
 mod losses;
+mod noting;
 mod opening;
 mod refusing;
 mod status;
 mod streams;
 
+pub use laws::accepted_files_break_few;
+pub use noting::open_fit;
 pub use opening::{OpenedAny, open_any};
 pub use refusing::{refusal, status_of_rule, why_not_opened};
 pub use status::{STATUS_ENCRYPTED, STATUS_NOT_WORD};

@@ -5,6 +5,7 @@ ghost use Rattle.doc_fit.specs.Opened.{IsFoundIn};
 
 use crate::list_losses::{add_features, text_losses_of};
 use crate::streams::{fib_of, main_stream, table_stream};
+use deleted_text::{StoryBegins, story_begins};
 use doc_bits::Memory;
 use doc_lift::Lifted;
 use doc_losses::{Marks, doc_losses};
@@ -16,9 +17,11 @@ use std::alloc::Global;
 pub(crate) struct Found {
     pub(crate) losses: LossLines,
     pub(crate) marks: Marks,
+    pub(crate) begins: StoryBegins,
 }
 
-/// The lines of what is left out of a file, one a feature, and the marks of stories that are left out.
+/// The lines of what is left out of a file, one a feature, the marks of stories that are left out, and where the
+/// stories begin.
 pub(crate) fn found_in(alloc: Global, lifted: &Lifted) -> Result<Found, Memory>
     requires { HasLiftedStreams lifted.now }
     ensures { IfOk result (IsFoundIn lifted.now) }
@@ -32,5 +35,9 @@ pub(crate) fn found_in(alloc: Global, lifted: &Lifted) -> Result<Found, Memory>
     add_features(alloc, &mut losses, &lists)?;
     add_features(alloc, &mut losses, &others)?;
     let marks = Marks::read(alloc, &fib, table)?;
-    Ok(Found { losses, marks })
+    Ok(Found {
+        losses,
+        marks,
+        begins: story_begins(wd),
+    })
 }

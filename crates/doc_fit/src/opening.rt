@@ -5,16 +5,18 @@ ghost use Rattle.plain_doc.specs.Sound.{IsSound};
 ghost use Rattle.file_rules.specs.Faults.{IsReadFault};
 ghost use Rattle.doc_lift.specs.LiftedFiles.{IsLifted};
 ghost use Rattle.doc_fit.specs.Losses.{HasLiftedStreams};
-ghost use Rattle.doc_fit.specs.Opened.{IsOpenedAny, IsReported};
+ghost use Rattle.doc_fit.specs.Opened.{HasDeletions, IsOpenedAny, IsReported};
 ghost use Rattle.doc_fit.specs.Rules.{fit_rules};
 
 use crate::losses::found_in;
+use deleted_text::strike_text;
 use doc_bits::{Memory, drop_then};
 use doc_lift::{Lifted, ReadFault, lift};
 use doc_mends::{Mend, mend};
 use doc_read::check_document;
 use loss_report::LossLines;
 use std::alloc::Global;
+use std::mem;
 
 /// What was opened: a sound document with the streams of its file, a line for each feature that is left out of it, and
 /// what of it was mended.
@@ -44,7 +46,11 @@ pub fn open_any(alloc: Global, file: &[u8]) -> Result<OpenedAny, ReadFault>
 }
 
 /// Opens what was lifted out of a file.
-fn open_lifted(alloc: Global, file: &[u8], mut lifted: Lifted) -> Result<OpenedAny, ReadFault>
+pub(crate) fn open_lifted(
+    alloc: Global,
+    file: &[u8],
+    mut lifted: Lifted,
+) -> Result<OpenedAny, ReadFault>
     requires { IsLifted file.now lifted }
     ensures { MatchResult result (IsOpenedAny file.now) (IsReadFault (fit_rules file.now)) }
 {
@@ -55,7 +61,7 @@ fn open_lifted(alloc: Global, file: &[u8], mut lifted: Lifted) -> Result<OpenedA
 }
 
 /// What was opened, of its parts. It takes no memory.
-fn open_parts(lifted: Lifted, report: Report) -> OpenedAny
+pub(crate) fn open_parts(lifted: Lifted, report: Report) -> OpenedAny
     ensures { result ≡ record { lifted = lifted; losses = report.losses; mends = report.mends } }
 {
     let Report { losses, mends } = report;
@@ -85,11 +91,15 @@ fn check_lifted(alloc: Global, file: &[u8], lifted: &mut Lifted) -> Result<Repor
 /// Mends what was lifted, and tells of it.
 fn mend_lifted(alloc: Global, lifted: &mut Lifted) -> Result<Report, Memory>
     requires streams { HasLiftedStreams lifted.old }
+    requires deletions { HasDeletions lifted.old }
     requires formed { HasFormedBookmarks lifted.old.document }
     ensures { IfOk result (λ report. IsReported lifted.old lifted.new report.losses report.mends.items) }
 {
     let found = found_in(alloc, lifted)?;
-    let mends = mend(alloc, &mut lifted.document, &found.marks)?;
+    let deleted = mem::replace(&mut lifted.deleted, Vec::new(alloc));
+    let mut mends = strike_text(alloc, &mut lifted.document, found.begins, &deleted)?;
+    let others = mend(alloc, &mut lifted.document, &found.marks)?;
+    mends.extend_from_slice(&others)?;
     let losses = found.losses;
     Ok(Report { losses, mends })
 }

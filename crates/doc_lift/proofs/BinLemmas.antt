@@ -15,8 +15,10 @@ use Rattle.doc_meaning.specs.Lifted.{IsReadPart}
 use Rattle.doc_meaning.specs.Apart.{ReadsClx}
 use Rattle.doc_meaning.proofs.ApartLemmas.{apart_part}
 use Rattle.doc_meaning.proofs.ListLemmas.{read_of}
-use Rattle.doc_lift.specs.LiftedRules.{lifted_wd, lifted_table_rules, read_table_rules}
+use Rattle.file_rules.specs.FileRules.{source_of}
+use Rattle.doc_lift.specs.LiftedRules.{IsLiftedSource, lifted_wd, lifted_table_rules}
 use Rattle.doc_lift.proofs.SkipLemmas.{read_part}
+use Rattle.doc_lift.proofs.FillLemmas.{read_layout}
 
 -- the rule on a bin table reads its bytes and its place alone
 same_bin : (number : ℕ) (bytes other : List ℕ) (place at : ℕ) → bytes ≡ other → place ≡ at →
@@ -31,17 +33,12 @@ record HasPartOf (wd table : List ℕ) (source : DocSource) (part : TablePart) :
   place : part_place source part ≡ (fib_pair wd (pair_of part)).0
   bytes : part_bytes source part ≡ table_part wd table (pair_of part)
 
-source_part : (wd table read : List ℕ) (part : TablePart) → IsReadPart part →
+source_part : (wd table read : List ℕ) (part : TablePart) (source : DocSource) → IsReadPart part →
     fib_fields (lifted_wd wd) ≡ early_fields wd (early_pairs wd) → ReadsClx (early_pairs wd) table read →
-    (hold : Hold (read_table_rules wd read)) → HasPartOf wd table hold.1.0 part
-source_part wd table read part reads fields clx hold =
-    let is = hold.1.1.0 in
+    (is : IsLiftedSource wd read source) → HasPartOf wd table (source_of is.read) part
+source_part wd table read part source reads fields clx is =
     let found = read_part wd read is.units is.text is.read part fields is.front is.read_is reads.no_sheet in
-    record {
-      place = ap (λ (s : DocSource). part_place s part) is.source_is ∙ found.place;
-      bytes = ap (λ (s : DocSource). part_bytes s part) is.source_is
-          ∙ (found.bytes ∙ apart_part wd table read part clx reads.no_clx);
-    }
+    record { place = found.place; bytes = found.bytes ∙ apart_part wd table read part clx reads.no_clx }
 
 -- so they hold of every source of the two streams
 pub lifted_bins : (wd table : List ℕ) (old : DocSource) → fib_fields (lifted_wd wd) ≡ early_fields wd (early_pairs wd) →
@@ -50,14 +47,15 @@ lifted_bins wd table old fields wd_is table_is hold =
     let read = hold.0 in
     let clx = hold.1.0 in
     let held = hold.1.1 in
-    let source = held.1.0 in
+    let is = held.1.1.0 in
+    let source = source_of is.read in
     let place : (part : TablePart) → part_place old part ≡ (fib_pair wd (pair_of part)).0 =
     λ part. ap (λ (w : List ℕ). (fib_pair w (pair_of part)).0) wd_is in
     let bytes : (part : TablePart) → part_bytes old part ≡ table_part wd table (pair_of part) =
     λ part. λ i. table_part (wd_is i) (table_is i) (pair_of part) in
-    let chars = source_part wd table read PlcfBteChpx (read_of PlcfBteChpx refl) fields clx held in
-    let pars = source_part wd table read PlcfBtePapx (read_of PlcfBtePapx refl) fields clx held in
-    let bins = held.1.1.1.0.1 in (
+    let chars = source_part wd table read PlcfBteChpx held.1.0 (read_of PlcfBteChpx refl) fields clx is in
+    let pars = source_part wd table read PlcfBtePapx held.1.0 (read_of PlcfBtePapx refl) fields clx is in
+    let bins = (read_layout wd read held.1.0 is held.1.1.1).1 in (
       same_bin 37 (part_bytes source PlcfBteChpx) (part_bytes old PlcfBteChpx) (part_place source PlcfBteChpx)
           (part_place old PlcfBteChpx) (chars.bytes ∙ sym (bytes PlcfBteChpx)) (chars.place ∙ sym (place PlcfBteChpx))
           bins.0,

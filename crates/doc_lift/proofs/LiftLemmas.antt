@@ -1,8 +1,8 @@
 -- What the front of a text, behind a FIB of the early form, tells of the streams.
-use Rattle.std.proofs.Common.{◌≡◌, ◌∙◌, ◌++◌, ◌<◌, ◌≤◌, ◌^◌, refl, sym, ap, subst, inl, inr, ℕ, List}
-use Rattle.std.proofs.Common.{length, drop, arith}
+use Rattle.std.proofs.Common.{◌≡◌, ◌∙◌, ◌++◌, ◌+◌, ◌<◌, ◌≤◌, ◌^◌, refl, sym, ap, subst, inl, inr, ℕ, zero, suc}
+use Rattle.std.proofs.Common.{List, [], ◌∷◌, Bool, length, map, take, drop, arith}
 use Rattle.std.proofs.lemmas.Bool.{cases_lt}
-use Rattle.std.proofs.lemmas.List.{length-drop, length-append}
+use Rattle.std.proofs.lemmas.List.{length-drop, length-append, take-take}
 use Rattle.doc_bits.specs.Rules.{Rules, Hold, Nowhere}
 use Rattle.doc_bits.specs.Places.{Place}
 use Rattle.cfb_streams.specs.Contents.{Contents, HasNamed}
@@ -16,7 +16,7 @@ use Rattle.fib_versions.specs.Versions.{all_text_length}
 use Rattle.fib_versions.specs.VersionRules.{version_rules}
 use Rattle.plain_doc.specs.declared.document.Document.{Document}
 use Rattle.plain_doc.specs.Marks.{HasFormedBookmarks}
-use Rattle.file_rules.specs.PartRules.{part_rules}
+use Rattle.file_rules.specs.PartRules.{layout_rules, part_rules}
 use Rattle.file_rules.specs.FileRules.{FileText, IsFrontOf, source_of, rules_of_pieces, table_stream_name}
 use Rattle.cfb_sectors.proofs.OpeningLemmas.{whole_length}
 use Rattle.cfb_directory.specs.Reach.{BreaksName}
@@ -29,13 +29,26 @@ use Rattle.doc_read.proofs.FewLemmas.{leaves_room}
 use Rattle.doc_read.proofs.FormedBookmarks.{parts-formed}
 use Rattle.doc_meaning.specs.Meaning.{MeansFrom}
 use Rattle.doc_meaning.specs.Apart.{IsReadTable}
-use Rattle.doc_meaning.proofs.ApartLemmas.{clx_table_len}
+use Rattle.doc_meaning.proofs.ApartLemmas.{clx_table_len, apart_part}
 use Rattle.doc_meaning.proofs.FrontLemmas.{HasFront, whole_text, front_text}
 use Rattle.doc_meaning.proofs.LoadedLemmas.{loaded_is_meant}
 use Rattle.doc_lift.specs.declared.text_lifting.LiftedText.{LiftedText}
 use Rattle.doc_lift.specs.LiftedRules.{lifted_wd, IsReadFor}
 use Rattle.doc_lift.specs.LiftedTexts.{IsLiftedBy}
-use Rattle.doc_lift.proofs.SkipLemmas.{read_table_len, read_loaded_for}
+use Rattle.deleted_text.specs.Places.{AreDeletions}
+use Rattle.deleted_text.specs.Texts.{AreTextDeletions}
+use Rattle.fib_form.specs.Fib.{table_part}
+use Rattle.fib_form.specs.TableParts.{pair_of}
+use Rattle.fib_form.specs.declared.stories.StoryKind.{StoryKind}
+use Rattle.fib_form.specs.declared.stories.StoryKind.TheVariants.{Main, Notes, Heads}
+use Rattle.fib_form.specs.declared.table_parts.TablePart.TheVariants.{PlcfBteChpx}
+use Rattle.fkp_pages.specs.Bin.{IsBinTable}
+use Rattle.piece_table.specs.Piece.{UnitPlace, flat_pieces}
+use Rattle.file_rules.specs.Source.{story_length}
+use Rattle.file_rules.specs.FormatRules.{judged_places, text_count}
+use Rattle.file_rules.proofs.RightPlaces.{bin_tables}
+use Rattle.doc_meaning.proofs.EarlyLemmas.{story_same}
+use Rattle.doc_lift.proofs.SkipLemmas.{read_table_len, read_loaded_for, read_part}
 use Rattle.fib_versions.proofs.EarlyLemmas.{length-early_pairs}
 
 -- a FIB that is long enough for the rules is as long as the early form
@@ -118,6 +131,7 @@ lifted_under rules below contents lifted hold is = record {
   has_text = is.has_text;
   fib = is.fib;
   units = is.units;
+  deleted = is.deleted;
   means = is.means;
   formed = is.formed;
 }
@@ -154,3 +168,63 @@ outer_bounded file contents holds has =
     let same = directory_unique file holds.1.1.1.0 has.parts.directory holds.1.1.1.1.0 has.directory in
     bounded file contents (whole_length file holds.0.0) has
     (subst (λ sectors. Nowhere (BreaksName file sectors)) same holds.1.1.1.1.1.1.1.0)
+
+-- ---- what a reviser deleted
+
+-- what is said of the places of the characters, where the bin table is one
+abbrev pub SaysDeletions : (wd table : List ℕ) → FileText → List Bool → Type 0
+SaysDeletions wd table text flags =
+    let bin = table_part wd table (pair_of PlcfBteChpx) in
+    IsBinTable bin → AreDeletions wd bin (judged_places (source_of text)) flags
+
+pub deleted_found : (wd table fib : List ℕ) (text : FileText) (flags : List Bool) → fib ≡ wd →
+    (IsBinTable (table_part fib table (pair_of PlcfBteChpx)) →
+    AreDeletions wd (table_part fib table (pair_of PlcfBteChpx)) (judged_places (source_of text)) flags) →
+    SaysDeletions wd table text flags
+deleted_found wd table fib text flags same found =
+    subst (λ (f : List ℕ). IsBinTable (table_part f table (pair_of PlcfBteChpx)) →
+    AreDeletions wd (table_part f table (pair_of PlcfBteChpx)) (judged_places (source_of text)) flags) same found
+
+map_front : {A B : Type 0} (f : A → B) (n : ℕ) (xs : List A) → map f (take n xs) ≡ take n (map f xs)
+map_front f zero xs = refl
+map_front f (suc n) [] = refl
+map_front {B = B} f (suc n) (x ∷ xs) = ap (λ (l : List B). f x ∷ l) (map_front f n xs)
+
+-- the front has the places of the whole text
+front_places : (wd own table : List ℕ) (text : FileText) (units : List ℕ) →
+    fib_fields (lifted_wd wd) ≡ early_fields wd (early_pairs wd) →
+    (front : IsFrontOf (lifted_wd wd) table text units) →
+    judged_places (source_of text) ≡ judged_places (source_of (whole_text wd own front.all))
+front_places wd own table text units fields front =
+    let at : UnitPlace → ℕ = λ place. place.at in
+    let flat = flat_pieces front.all in
+    let whole = whole_text wd own front.all in
+    let counts : (story : StoryKind) → story_length (source_of text) story ≡ story_length (source_of whole) story =
+    λ story. story_same (source_of whole) (source_of text) story (ap fib_fields front.wd_is ∙ fields) in
+    let count : text_count (source_of text) ≡ text_count (source_of whole) =
+    λ i. counts Main i + counts Notes i + counts Heads i in
+    let most : text_count (source_of text) ≤ text_length (fib_fields text.wd).ccps = omega arith in
+    let few : text_count (source_of text) ≤ text_length (fib_fields (lifted_wd wd)).ccps =
+    subst (λ (w : List ℕ). text_count (source_of text) ≤ text_length (fib_fields w).ccps) front.wd_is most in
+    let n = text_length (fib_fields (lifted_wd wd)).ccps in
+    ap (λ (l : List UnitPlace). take (text_count (source_of text)) (map at l)) front.front
+    ∙ (ap (take (text_count (source_of text))) (map_front at n flat)
+    ∙ (take-take (text_count (source_of text)) n (map at flat) few
+    ∙ ap (λ k. take k (map at flat)) count))
+
+pub front_deleted : (contents : Contents) (wd table : List ℕ) (text_len : ℕ) (text : FileText) (units : List ℕ)
+    (read : FileText) (flags : List Bool) → (reads : IsReadTable contents wd table) → HasFront wd table text_len →
+    (front : IsFrontOf (lifted_wd wd) table text units) → IsReadFor wd table units text read →
+    Hold (layout_rules (source_of read)) → SaysDeletions wd table text flags →
+    AreTextDeletions (whole_text wd reads.own front.all) flags
+front_deleted contents wd table text_len text units read flags reads has front for hold says =
+    let whole = whole_text wd reads.own front.all in
+    let bytes = (read_part wd table units text read PlcfBteChpx has.fields front for
+    (λ e. absurd (omega (arith, e)))).bytes in
+    let bins = (bin_tables (source_of read) hold.1).0 in
+    let own : table_part wd table (pair_of PlcfBteChpx) ≡ table_part wd reads.own (pair_of PlcfBteChpx) =
+    apart_part wd reads.own table PlcfBteChpx reads.clx (λ e. absurd (omega (arith, e))) in
+    let found = says (subst IsBinTable bytes bins) in
+    subst (λ (b : List ℕ). AreDeletions wd b (judged_places (source_of whole)) flags) own
+    (subst (λ (p : List ℕ). AreDeletions wd (table_part wd table (pair_of PlcfBteChpx)) p flags)
+    (front_places wd reads.own table text units has.fields front) found)

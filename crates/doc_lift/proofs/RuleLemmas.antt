@@ -25,7 +25,9 @@ use Rattle.fib_versions.specs.Early.{early_pairs}
 use Rattle.doc_meaning.proofs.ApartLemmas.{clx_table_one}
 use Rattle.doc_lift.specs.LiftedRules.{lifted_wd_rules}
 use Rattle.doc_lift.specs.LiftedFiles.{lifted_rules}
+use Rattle.doc_lift.specs.FilledTexts.{IsFilledText, IsFilledRead}
 use Rattle.doc_lift.proofs.SkipLemmas.{AreOneStreams, streams_one, pieces_one, units_one}
+use Rattle.doc_lift.proofs.FillLemmas.{fills_one, gap_bins}
 
 -- the source of the first places of a text
 abbrev source_by : List ℕ → List ℕ → List UnitPlace → DocSource
@@ -76,6 +78,31 @@ read_one wd table units others text other read other_read one two (inr a) (inr b
     ∙ (front_one (lifted_wd wd) table (lifted_wd wd) table units others text other one two streams
     ∙ sym (ap source_of a.1))
 
+-- the text of filled streams is one
+filled_text_one : (wd units : List ℕ) (read : DocSource) (one other : FileText) → IsFilledText wd units read one →
+    IsFilledText wd units read other → source_of other ≡ source_of one
+filled_text_one wd units read one other a b =
+    let streams = fills_one wd read.wd read.table one.wd one.table other.wd other.table (gap_bins read a.gap)
+    a.is.streams.fills b.is.streams.fills in
+    front_one one.wd one.table other.wd other.table units units one other a.is.text.front b.is.text.front streams
+
+-- so is what is read of a text
+filled_one : (wd units others : List ℕ) (read other_read filled other : FileText) →
+    source_of other_read ≡ source_of read → others ≡ units → IsFilledRead wd units read filled →
+    IsFilledRead wd others other_read other → source_of other ≡ source_of filled
+filled_one wd units others read other_read filled other same all (inl a) (inl b) =
+    filled_text_one wd units (source_of read) filled other a
+    (subst (λ (s : DocSource). IsFilledText wd units s other) same
+    (subst (λ (us : List ℕ). IsFilledText wd us (source_of other_read) other) all b))
+filled_one wd units others read other_read filled other same all (inl a) (inr b) =
+    absurd (b.0 filled (subst (λ (s : DocSource). IsFilledText wd others s filled) (sym same)
+    (subst (λ (us : List ℕ). IsFilledText wd us (source_of read) filled) (sym all) a)))
+filled_one wd units others read other_read filled other same all (inr a) (inl b) =
+    absurd (a.0 other (subst (λ (s : DocSource). IsFilledText wd units s other) same
+    (subst (λ (us : List ℕ). IsFilledText wd us (source_of other_read) other) all b)))
+filled_one wd units others read other_read filled other same all (inr a) (inr b) =
+    ap source_of b.1 ∙ (same ∙ sym (ap source_of a.1))
+
 source_one : (wd table : List ℕ) (one other : DocSource) → IsLiftedSource wd table one →
     IsLiftedSource wd table other → one ≡ other
 source_one wd table one other a b =
@@ -83,8 +110,10 @@ source_one wd table one other a b =
     let streams : AreOneStreams early table early table = record { wd_is = refl; table_is = refl } in
     let units : a.units ≡ b.units =
     units_one early table early table b.units a.units b.text a.text b.front a.front streams in
+    let read : source_of a.read ≡ source_of b.read =
+    read_one wd table b.units a.units b.text a.text b.read a.read b.front a.front b.read_is a.read_is units in
     a.source_is
-    ∙ (read_one wd table b.units a.units b.text a.text b.read a.read b.front a.front b.read_is a.read_is units
+    ∙ (filled_one wd b.units a.units b.read a.read b.filled a.filled read units b.filled_is a.filled_is
     ∙ sym b.source_is)
 
 read_single : (wd table : List ℕ) → IsSingle (read_table_rules wd table)

@@ -1,6 +1,6 @@
 -- Streams in which the codes that are not read are skipped, and the text that is read of them.
 use Rattle.std.specs.Prelude.{slice_get, slice_range, MatchOption}
-use Rattle.std.proofs.Common.{◌≡◌, ◌∙◌, ◌++◌, ◌+◌, ◌-◌, ◌≤◌, sym, ap, subst, inl, inr, ℕ, List, []}
+use Rattle.std.proofs.Common.{◌≡◌, ◌∙◌, ◌++◌, ◌+◌, ◌≤◌, sym, ap, subst, inl, inr, ℕ, List, []}
 use Rattle.std.proofs.Common.{length, map, take, drop, Option, Some, None, arith}
 use Rattle.std.proofs.lemmas.List.{length-append, length-drop}
 use Rattle.doc_bits.specs.declared.places.Where.{Where}
@@ -33,7 +33,7 @@ use Rattle.file_rules.specs.Source.{part_place, part_bytes}
 use Rattle.file_rules.specs.FormatRules.{text_count}
 use Rattle.file_rules.specs.FileRules.{FileText, IsFrontOf, source_of, clx_of, rules_of_pieces}
 use Rattle.doc_meaning.specs.Skipped.{SkipsTable, KeepsSepxs, bins_of, sections_of, sheet_from, sheet_to}
-use Rattle.doc_meaning.specs.Lifted.{IsOther}
+use Rattle.doc_meaning.specs.Lifted.{IsOther, KeepsPlaces, KeepsUnits}
 use Rattle.doc_meaning.specs.Loaded.{KeepsTable, IsLoadedFor}
 use Rattle.doc_meaning.proofs.EarlyLemmas.{pair_same}
 use Rattle.doc_meaning.proofs.LoadedLemmas.{table_part_kept}
@@ -151,34 +151,27 @@ units_one wd table other_wd other_table units others text other one two streams 
 some_one : (x y : ℕ) → Some x ≡ Some y → x ≡ y
 some_one x y same = cc same
 
--- a skipped text is loaded in place of the one that the streams name
-pub skipped_loaded : (wd table : List ℕ) (text_len : ℕ) (text : FileText) (units : List ℕ)
-    (read : FileText) → HasFront wd table text_len → (front : IsFrontOf (lifted_wd wd) table text units) →
-    IsSkippedText wd table units read → IsLoadedFor (whole_text wd table front.all) read
-skipped_loaded wd table text_len text units read has front is =
-    let streams = is.streams in
-    let early = early_fields wd (early_pairs wd) in
-    let clx : clx_of read.wd read.table ≡ clx_of (lifted_wd wd) table =
-    skipped_part wd table read.wd read.table Clx streams.fields streams.table_is (λ e. absurd (omega (arith, e)))
-    ∙ sym (ap (λ (p : ℕ × ℕ). slice_range table p.0 (p.0 + p.1)) (pair_same wd (lifted_wd wd) Clx has.fields)) in
-    let all : is.front.all ≡ front.all =
-    pieces_one (lifted_wd wd) table read.wd read.table units units text read front is.front clx in
+-- the front of a Clx that is the same has the places and the units of the text that the streams name
+pub record KeepsText (old new : FileText) : Type 0 where
+  pub places : KeepsPlaces old.pieces new.pieces (text_count (source_of new))
+  pub units : KeepsUnits old new (text_count (source_of new))
+
+pub text_kept : (wd table : List ℕ) (text_len : ℕ) (text : FileText) (units : List ℕ) (read : FileText) →
+    HasFront wd table text_len → (front : IsFrontOf (lifted_wd wd) table text units) →
+    IsFrontOf read.wd read.table read units → clx_of read.wd read.table ≡ clx_of (lifted_wd wd) table →
+    KeepsText (whole_text wd table front.all) read
+text_kept wd table text_len text units read has front own clx =
+    let all : own.all ≡ front.all =
+    pieces_one (lifted_wd wd) table read.wd read.table units units text read front own clx in
     let flat = flat_pieces front.all in
     let count = text_length (fib_fields read.wd).ccps in
     let places_are : flat_pieces read.pieces ≡ take count flat =
-    is.front.front ∙ ap (λ (ps : List TextPiece). take count (flat_pieces ps)) all in
+    own.front ∙ ap (λ (ps : List TextPiece). take count (flat_pieces ps)) all in
     let few : text_count (source_of read) ≤ count = omega arith in
     let units_are : map (unit_at read.wd) flat ≡ map (unit_at wd) flat =
-    sym (ap (text_units read.wd) all) ∙ (sym is.front.units_are
+    sym (ap (text_units read.wd) all) ∙ (sym own.units_are
     ∙ front_units wd table text_len text units has front) in
     record {
-      pages = streams.pages;
-      kept_pages = inl streams.skips;
-      behind = ap (drop (form_size Early)) streams.front
-          ∙ drop_front (written_fib early) (drop (form_size Early) streams.pages) (form_size Early)
-          (length-written_fib early (length-early_pairs wd));
-      fields = streams.fields;
-      table = kept_table wd table read.table front.all streams.table_is;
       places = λ cp below.
           ap (λ (places : List UnitPlace). slice_get places cp) places_are
           ∙ front_get flat count cp (omega (arith, below, few));
@@ -189,6 +182,29 @@ skipped_loaded wd table text_len text units read has front is =
           some_one (unit_at read.wd place) (unit_at wd place)
           (sym (get-map (unit_at read.wd) flat cp place there)
           ∙ (ap (λ (us : List ℕ). slice_get us cp) units_are ∙ get-map (unit_at wd) flat cp place there));
+    }
+
+-- a skipped text is loaded in place of the one that the streams name
+pub skipped_loaded : (wd table : List ℕ) (text_len : ℕ) (text : FileText) (units : List ℕ)
+    (read : FileText) → HasFront wd table text_len → (front : IsFrontOf (lifted_wd wd) table text units) →
+    IsSkippedText wd table units read → IsLoadedFor (whole_text wd table front.all) read
+skipped_loaded wd table text_len text units read has front is =
+    let streams = is.streams in
+    let early = early_fields wd (early_pairs wd) in
+    let clx : clx_of read.wd read.table ≡ clx_of (lifted_wd wd) table =
+    skipped_part wd table read.wd read.table Clx streams.fields streams.table_is (λ e. absurd (omega (arith, e)))
+    ∙ sym (ap (λ (p : ℕ × ℕ). slice_range table p.0 (p.0 + p.1)) (pair_same wd (lifted_wd wd) Clx has.fields)) in
+    let kept = text_kept wd table text_len text units read has front is.front clx in
+    record {
+      pages = streams.pages;
+      kept_pages = inl streams.skips;
+      behind = ap (drop (form_size Early)) streams.front
+          ∙ drop_front (written_fib early) (drop (form_size Early) streams.pages) (form_size Early)
+          (length-written_fib early (length-early_pairs wd));
+      fields = streams.fields;
+      table = kept_table wd table read.table front.all streams.table_is;
+      places = kept.places;
+      units = kept.units;
       sepxs = is.sepxs;
     }
 
@@ -294,13 +310,13 @@ pub record AreLoaded (wd new_wd new_table w t : List ℕ) (len : ℕ) : Type 0 w
   pub len_is : len ≡ all_text_length wd
 
 -- a front that is loaded of them
-loaded_front : (wd new_wd new_table w t : List ℕ) (len : ℕ) (text : FileText) (found : List ℕ) →
+pub loaded_front : (wd new_wd new_table w t : List ℕ) (len : ℕ) (text : FileText) (found : List ℕ) →
     AreLoaded wd new_wd new_table w t len → IsFrontOf w t text found → IsFrontOf new_wd new_table text found
 loaded_front wd new_wd new_table w t len text found are front =
     subst (λ (b : List ℕ). IsFrontOf new_wd b text found) are.table_is
     (subst (λ (b : List ℕ). IsFrontOf b t text found) are.wd_is front)
 
-loaded_rules : (wd new_wd new_table w t : List ℕ) (len : ℕ) → AreLoaded wd new_wd new_table w t len →
+pub loaded_rules : (wd new_wd new_table w t : List ℕ) (len : ℕ) → AreLoaded wd new_wd new_table w t len →
     Hold (rules_of_pieces w t len) → Hold (rules_of_pieces new_wd new_table (all_text_length wd))
 loaded_rules wd new_wd new_table w t len are hold =
     subst (λ n. Hold (rules_of_pieces new_wd new_table n)) are.len_is

@@ -9,6 +9,7 @@ use Rattle.fib_versions.specs.VersionRules.{version_rules}
 use Rattle.plain_doc.specs.Marks.{HasFormedBookmarks}
 use Rattle.file_rules.specs.Units.{text_units}
 use Rattle.file_rules.specs.FileRules.{FileText, HasText}
+use Rattle.deleted_text.specs.Texts.{AreTextDeletions}
 use Rattle.doc_meaning.specs.Meaning.{MeansDocument}
 use Rattle.doc_lift.specs.declared.lifting.Lifted.{Lifted}
 use Rattle.doc_lift.specs.LiftedRules.{lifted_contents_rules}
@@ -32,5 +33,6 @@ pub record IsLifted (file : List ℕ) (lifted : Lifted) : Type 0 where
   pub has_text : HasText lifted.outer.container text
   pub fib : Hold (version_rules text.wd)
   pub units : lifted.units.items ≡ text_units text.wd text.pieces
+  pub deleted : AreTextDeletions text lifted.deleted.items
   pub means : MeansDocument file lifted.document
   pub formed : HasFormedBookmarks lifted.document

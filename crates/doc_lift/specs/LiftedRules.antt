@@ -1,6 +1,6 @@
 -- The rules of the streams of a file of any program, 15 to 57: those of doc_load's `contents_rules`, of which 22 and 24
 -- are gone, and 16 to 18, 21, 23 and 28 are weaker. The rules 27 to 32 are asked of the Clx, and 33 to 57 of the
--- streams, in which the codes that are not read are skipped. Their places are those of the file.
+-- streams, in which the codes that are not read are skipped and gaps filled. Their places are those of the file.
 use Rattle.std.specs.Prelude.{◌≡◌, ◌⊎◌, ℕ, List, ◌++◌, drop}
 use Rattle.doc_bits.specs.declared.places.Where.TheVariants.{File, Wd}
 use Rattle.doc_bits.specs.Rules.{Rules, rule, ◌then◌, given, Hold}
@@ -20,6 +20,7 @@ use Rattle.file_rules.specs.PartRules.{part_rules}
 use Rattle.file_rules.specs.FileRules.{FileText, HasNoStream, IsFrontOf, source_of, table_stream_name, rules_of_pieces}
 use Rattle.doc_meaning.specs.Skipped.{bins_of, sections_of, SkipsTable, KeepsSepxs}
 use Rattle.doc_meaning.specs.Apart.{ReadsClx}
+use Rattle.doc_lift.specs.FilledTexts.{IsFilledRead}
 
 -- WordDocument with a FIB of the early form in front, which has the same counts and the pairs of the same parts
 abbrev pub lifted_wd : List ℕ → List ℕ
@@ -48,14 +49,16 @@ IsReadFor wd table units text read =
     ⊎ (((other : FileText) → ¬ IsSkippedText wd table units other) × (read ≡ text))
 
 -- what the rules on the parts read: this stream, the table stream, and the front of the text; or these streams with the
--- codes skipped that are not read
+-- codes skipped that are not read; and these with the gaps filled, where one breaks the first broken rule
 pub record IsLiftedSource (wd table : List ℕ) (source : DocSource) : Type 0 where
   pub text : FileText
   pub units : List ℕ
   pub front : IsFrontOf (lifted_wd wd) table text units
   pub read : FileText
   pub read_is : IsReadFor wd table units text read
-  pub source_is : source ≡ source_of read
+  pub filled : FileText
+  pub filled_is : IsFilledRead wd units read filled
+  pub source_is : source ≡ source_of filled
 
 -- rules 26 to 57 of a table stream. The pieces have the CPs of all stories
 abbrev pub read_table_rules : List ℕ → List ℕ → Rules Place

@@ -1,4 +1,5 @@
--- What is lifted out of the streams of a file: the document that they mean, and the units of the whole text.
+-- What is lifted out of the streams of a file: the document that they mean, the units of the whole text, and what of it
+-- a reviser deleted.
 use Rattle.std.specs.Prelude.{◌≡◌}
 use Rattle.doc_bits.specs.Rules.{Rules, Hold}
 use Rattle.doc_bits.specs.Places.{Place}
@@ -7,6 +8,7 @@ use Rattle.fib_versions.specs.VersionRules.{version_rules}
 use Rattle.plain_doc.specs.Marks.{HasFormedBookmarks}
 use Rattle.file_rules.specs.Units.{text_units}
 use Rattle.file_rules.specs.FileRules.{FileText, HasText}
+use Rattle.deleted_text.specs.Texts.{AreTextDeletions}
 use Rattle.doc_meaning.specs.Meaning.{MeansFrom}
 use Rattle.doc_lift.specs.declared.text_lifting.LiftedText.{LiftedText}
 
@@ -17,5 +19,6 @@ pub record IsLiftedBy (rules : Rules Place) (contents : Contents) (lifted : Lift
   pub has_text : HasText contents text
   pub fib : Hold (version_rules text.wd)
   pub units : lifted.units.items ≡ text_units text.wd text.pieces
+  pub deleted : AreTextDeletions text lifted.deleted.items
   pub means : MeansFrom contents lifted.document
   pub formed : HasFormedBookmarks lifted.document

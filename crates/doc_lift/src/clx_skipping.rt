@@ -105,7 +105,7 @@ fn levels_stand_apart(table: &[u8], from: usize, to: usize, pair: (u32, u32)) ->
 }
 
 /// Whether the levels behind a PlfLst are whole, and end before a place.
-fn end_before(table: &[u8], pair: (u32, u32), place: usize) -> bool
+pub(crate) fn end_before(table: &[u8], pair: (u32, u32), place: usize) -> bool
     requires { length table.now < 2 ^ 32 }
     ensures { IsTrue result ↔ EndBefore table.now pair place }
 {

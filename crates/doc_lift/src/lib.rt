@@ -3,6 +3,8 @@
 #![tactic(auto)]
 
 mod clx_skipping;
+mod gap_filling;
+mod gap_reading;
 mod laws;
 mod lifting;
 mod skipping;

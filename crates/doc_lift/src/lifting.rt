@@ -19,13 +19,15 @@ use std::alloc::Global;
 /// Where the flags of the FIB stand, which name the table stream.
 const FLAGS: u32 = 10;
 
-/// What is lifted out of a file: its document, its streams with the names of its storages, and the units of all CPs of
-/// its text, those of the stories among them that the document has no place for.
+/// What is lifted out of a file: its document, its streams with the names of its storages, the units of all CPs of its
+/// text, those of the stories among them that the document has no place for, and of each CP of the others whether a
+/// reviser deleted it.
 #[derive(Drop)]
 pub struct Lifted {
     pub document: ColumnDocument,
     pub outer: OuterContainer,
     pub units: Vec<u16>,
+    pub deleted: Vec<bool>,
 }
 
 /// Lifts the document of a file. The rules on documents, 60 to 71, are not judged.
@@ -44,13 +46,19 @@ pub fn lift(alloc: Global, file: &[u8]) -> Result<Lifted, ReadFault>
 
 /// What is lifted, of its parts. It takes no memory.
 fn lifted_of(outer: OuterContainer, found: LiftedText) -> Lifted
-    ensures { result ≡ record { document = found.document; outer = outer; units = found.units } }
+    ensures { result
+        ≡ record { document = found.document; outer = outer; units = found.units; deleted = found.deleted } }
 {
-    let LiftedText { document, units } = found;
+    let LiftedText {
+        document,
+        units,
+        deleted,
+    } = found;
     Lifted {
         document,
         outer,
         units,
+        deleted,
     }
 }
 

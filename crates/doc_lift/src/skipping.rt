@@ -188,6 +188,13 @@ fn are_same(bytes: &[u8], others: &[u8]) -> bool
     bytes == others
 }
 
+/// Whether units are these.
+pub(crate) fn are_units(units: &[u16], others: &[u16]) -> bool
+    ensures { IsTrue result ↔ units.now ≡ others.now }
+{
+    units == others
+}
+
 /// Whether the count of bytes and the list of a Sepx behind the FIB are the same in both streams.
 fn keeps_sepx(old: &[u8], new: &[u8], fc: u32) -> bool
     requires len { length new.now ≡ length old.now }

@@ -8,7 +8,13 @@ ghost use Rattle.cfb_streams.specs.Contents.{HasNamed};
 ghost use Rattle.cfb_streams.specs.Names.{wd_name};
 ghost use Rattle.fib_versions.specs.VersionRules.{version_rules};
 ghost use Rattle.file_rules.specs.Faults.{IsReadFault};
-ghost use Rattle.file_rules.specs.FileRules.{FileText, table_stream_name};
+ghost use Rattle.deleted_text.specs.Places.{AreDeletions};
+ghost use Rattle.fib_form.specs.Fib.{table_part};
+ghost use Rattle.fib_form.specs.TableParts.{pair_of};
+ghost use Rattle.fib_form.specs.declared.table_parts.TablePart.TheVariants.{PlcfBteChpx};
+ghost use Rattle.fkp_pages.specs.Bin.{IsBinTable};
+ghost use Rattle.file_rules.specs.FileRules.{FileText, source_of, table_stream_name};
+ghost use Rattle.file_rules.specs.FormatRules.{judged_places};
 ghost use Rattle.doc_read.specs.CarriedParts.{AreWithinBounds};
 ghost use Rattle.doc_meaning.specs.Skipped.{KeepsSepxs};
 ghost use Rattle.doc_meaning.specs.Apart.{IsReadTable};
@@ -16,23 +22,28 @@ ghost use Rattle.doc_lift.specs.LiftedRules.{SkipsStreams, IsSkippedText, lifted
 ghost use Rattle.doc_lift.specs.LiftedTexts.{IsLiftedBy};
 
 use crate::clx_skipping::clx_skipped;
-use crate::skipping::{SkippedStreams, early_fib, keeps_sepxs, skipped_streams, with_fib};
+use crate::gap_reading::{ReadText, read_filled};
+use crate::skipping::{
+    PLCF_BTE_CHPX, SkippedStreams, are_units, early_fib, keeps_sepxs, skipped_streams, with_fib,
+};
 use cfb_streams::Container;
+use deleted_text::deleted_places;
 use doc_bits::Memory;
 use doc_columns::ColumnDocument;
-use doc_read::read_loaded;
 use fib_versions::AnyFib;
-use file_rules::{LoadedText, ReadFault, load_front};
+use file_rules::{FrontText, LoadedText, ReadFault, load_front};
 use std::alloc::Global;
 
 /// The pair of the sections.
 const PLCF_SED: u16 = 6;
 
-/// What is lifted out of the streams of a file: the document, and the units of all CPs of the text.
+/// What is lifted out of the streams of a file: the document, the units of all CPs of the text, and of each CP of its
+/// three stories whether a reviser deleted it.
 #[derive(Drop)]
 pub(crate) struct LiftedText {
     pub(crate) document: ColumnDocument,
     pub(crate) units: Vec<u16>,
+    pub(crate) deleted: Vec<bool>,
 }
 
 /// Lifts the document of `WordDocument` and of the table stream.
@@ -76,14 +87,33 @@ fn lift_read(
     let early = early_fib(fib);
     let lifted = with_fib(alloc, wd, &early)?;
     let front = load_front(alloc, &lifted, early, table, fib.text_len())?;
+    let deleted = deleted_cps(alloc, fib, wd, table, &front.text)?;
     let skipped = skipped_streams(alloc, fib, wd, table)?;
-    let read = load_skipped(alloc, fib, wd, table, &skipped, &front.units)?;
-    let text = text_instead(read, front.text);
-    let document = read_loaded(alloc, container, text)?;
-    Ok(LiftedText {
-        document,
-        units: front.units,
-    })
+    let found = load_skipped(alloc, fib, wd, table, &skipped, &front.units)?;
+    if let Some(text) = found {
+        let front = with_text(front, text);
+        let read = read_filled(alloc, container, fib, front, &skipped.wd, &skipped.table)?;
+        return Ok(lifted_read(read, deleted));
+    }
+    let read = read_filled(alloc, container, fib, front, &lifted, table)?;
+    Ok(lifted_read(read, deleted))
+}
+
+/// Of each CP of the three stories of a text, whether a reviser deleted it.
+fn deleted_cps(
+    alloc: Global,
+    fib: &AnyFib<'_>,
+    wd: &[u8],
+    table: &[u8],
+    text: &LoadedText<'_>,
+) -> Result<Vec<bool>, Memory>
+    ensures { IfOk result (λ flags. IsBinTable (table_part fib.now table.now (pair_of PlcfBteChpx))
+        → AreDeletions wd.now (table_part fib.now table.now (pair_of PlcfBteChpx)) (judged_places (source_of text.now))
+        flags.items) }
+{
+    let source = text.source();
+    let places = source.judged_places();
+    deleted_places(alloc, wd, fib.part(table, PLCF_BTE_CHPX), &places)
 }
 
 /// Loads the front of skipped streams, where the units of all CPs and the Sepxs are those of the file.
@@ -135,19 +165,25 @@ fn keeps_text(sections: &[u8], old: &[u8], new: &[u8], new_units: &[u16], units:
     keeps_sepxs(sections, old, new)
 }
 
-/// Whether units are these.
-fn are_units(units: &[u16], others: &[u16]) -> bool
-    ensures { IsTrue result ↔ units.now ≡ others.now }
+/// The front of a text, with this one in place of its own.
+fn with_text<'a>(front: FrontText<'_>, text: LoadedText<'a>) -> FrontText<'a>
+    ensures text { result.text ≡ text.entry }
+    ensures units { result.units ≡ front.entry.units }
 {
-    units == others
+    FrontText {
+        text,
+        units: front.units,
+    }
 }
 
-/// The text that is found, or else the other one.
-fn text_instead<'a>(found: Option<LoadedText<'a>>, text: LoadedText<'a>) -> LoadedText<'a>
-    ensures { MatchOption found.entry (result ≡ text.entry) (λ found. result ≡ found) }
+/// What is lifted, of its parts. It takes no memory.
+fn lifted_read(read: ReadText, deleted: Vec<bool>) -> LiftedText
+    ensures { result ≡ record { document = read.document; units = read.units; deleted = deleted } }
 {
-    match found {
-        Some(found) => found,
-        None => text,
+    let ReadText { document, units } = read;
+    LiftedText {
+        document,
+        units,
+        deleted,
     }
 }

@@ -1,7 +1,7 @@
 -- A table stream in which the Prcs of a Clx are skipped that stands apart has the other parts, and the levels, as they
 -- were, and the same pieces.
 use Rattle.std.specs.Prelude.{slice_range, slice_index}
-use Rattle.std.proofs.Common.{◌≡◌, ◌≢◌, ◌∙◌, ◌+◌, ◌-◌, ◌*◌, ◌≤◌, ◌<◌, refl, sym, ap, subst, inl, inr, ℕ, zero, suc}
+use Rattle.std.proofs.Common.{◌≡◌, ◌≢◌, ◌⊎◌, ◌∙◌, ◌+◌, ◌-◌, ◌*◌, ◌≤◌, ◌<◌, refl, sym, ap, subst, inl, inr, ℕ, zero, suc}
 use Rattle.std.proofs.Common.{List, ◌++◌, length, take, drop, arith}
 use Rattle.std.proofs.lemmas.List.{append_assoc, length-append, length-take-le, take-take, drop-take, get_or-take}
 use Rattle.doc_bits.specs.Number.{number_at, u16_at}
@@ -25,6 +25,8 @@ use Rattle.fib_form.specs.declared.stories.StoryKind.{StoryKind}
 use Rattle.fib_form.specs.declared.stories.StoryKind.TheVariants.{Main, Notes, Heads}
 use Rattle.fkp_pages.specs.declared.kind.PageKind.{PageKind}
 use Rattle.fkp_pages.specs.declared.kind.PageKind.TheVariants.{Chpx, Papx}
+use Rattle.fkp_pages.specs.Properties.{bare_list}
+use Rattle.fkp_gaps.specs.Gaps.{IsGap}
 use Rattle.page_copies.specs.Pages.{bin_of}
 use Rattle.page_copies.specs.Laws.{HasListBefore}
 use Rattle.style_sheet.specs.Stsh.{HasStyleSheet}
@@ -47,19 +49,19 @@ range_take xs place from to low within =
     ap (λ n. drop from (take n xs)) (sym whole) ∙ drop-take from (place - from) xs in
     ap (take (to - from)) left ∙ take-take (to - from) (place - from) (drop from xs) (omega (arith, within, low))
 
-range_before : (old new : List ℕ) (place from to : ℕ) → take place new ≡ take place old → from ≤ place → to ≤ place →
+pub range_before : (old new : List ℕ) (place from to : ℕ) → take place new ≡ take place old → from ≤ place → to ≤ place →
     slice_range new from to ≡ slice_range old from to
 range_before old new place from to same low within =
     sym (range_take new place from to low within)
     ∙ (ap (λ (xs : List ℕ). slice_range xs from to) same ∙ range_take old place from to low within)
 
-byte_before : (old new : List ℕ) (place at : ℕ) → take place new ≡ take place old → at < place →
+pub byte_before : (old new : List ℕ) (place at : ℕ) → take place new ≡ take place old → at < place →
     slice_index new at ≡ slice_index old at
 byte_before old new place at same low =
     sym (get_or-take place new at 0 low)
     ∙ (ap (λ (xs : List ℕ). slice_index xs at) same ∙ get_or-take place old at 0 low)
 
-number_before : (old new : List ℕ) (place at width : ℕ) → take place new ≡ take place old → at + width ≤ place →
+pub number_before : (old new : List ℕ) (place at width : ℕ) → take place new ≡ take place old → at + width ≤ place →
     number_at new at width ≡ number_at old at width
 number_before old new place at width same low =
     sym (number_at-take place new at width low)
@@ -105,7 +107,7 @@ behind_clx pairs old new skips =
     ∙ drop_front front (drop to old) to len
 
 -- the Clx itself
-clx_there : (pairs : List (ℕ × ℕ)) (old new : List ℕ) (skips : SkipsClx pairs old new) →
+pub clx_there : (pairs : List (ℕ × ℕ)) (old new : List ℕ) (skips : SkipsClx pairs old new) →
     slice_range new (clx_from pairs) (clx_to pairs) ≡ skips.puts.clx
 clx_there pairs old new skips =
     let from = clx_from pairs in
@@ -187,7 +189,7 @@ levels_before_place old new place from (suc k) same low =
     ap (level_end new) (levels_before_place old new place from k same (omega (arith, low, up)))
     ∙ level_before old new place (level_start old from k) same low
 
-levels_end_before : (old new : List ℕ) (place : ℕ) (pair : ℕ × ℕ) (len : ℕ) (bytes : List ℕ) →
+pub levels_end_before : (old new : List ℕ) (place : ℕ) (pair : ℕ × ℕ) (len : ℕ) (bytes : List ℕ) →
     take place new ≡ take place old → EndBefore old pair place →
     StandBehindPart new pair.0 (slice_range old pair.0 (pair.0 + pair.1)) len bytes →
     StandBehindPart old pair.0 (slice_range old pair.0 (pair.0 + pair.1)) len bytes
@@ -284,7 +286,7 @@ reads_apart text table read clx same =
       counts = λ story. same.counts story ∙ count_same text table story;
       kept = same.kept;
       pairs = same.pairs;
-      parts = λ part reads. same.parts part reads ∙ apart_part wd old table part clx reads.no_clx;
+      parts = λ part plain. same.parts part plain ∙ apart_part wd old table part clx plain.reads.no_clx;
       sheet = λ sheet has.
           subst (λ (b : List ℕ). HasStyleSheet b sheet)
           (apart_part wd old table Stshf clx (λ e. absurd (omega (arith, e)))) (same.sheet sheet has);
@@ -297,7 +299,7 @@ reads_apart text table read clx same =
       places = same.places;
       units = same.units;
       lists = λ kind fc made has low.
-          subst (λ (bin : List ℕ). HasListBefore kind bin wd fc made) (bin_apart kind wd old table clx)
-          (same.lists kind fc made has low);
+          subst (λ (bin : List ℕ). HasListBefore kind bin wd fc made ⊎ (IsGap kind bin wd fc × (made ≡ bare_list kind)))
+          (bin_apart kind wd old table clx) (same.lists kind fc made has low);
       sections = same.sections;
     }

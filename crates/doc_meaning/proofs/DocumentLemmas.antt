@@ -20,14 +20,15 @@ use Rattle.doc_read.proofs.DocumentLemmas.{notes_within, heads_within}
 use Rattle.doc_read.proofs.ExistItems.{parts_of}
 use Rattle.doc_read.proofs.GivenPlaces.{RightText}
 use Rattle.doc_meaning.specs.Lifted.{ReadsTheSame}
-use Rattle.doc_meaning.specs.Meaning.{MeansFrom}
-use Rattle.doc_meaning.proofs.ListLemmas.{lists_same, read_of}
+use Rattle.doc_meaning.specs.Items.{MeansItems, MeansTexts}
+use Rattle.doc_meaning.specs.Meaning.{IsMeantFrom, MeansFrom}
+use Rattle.doc_meaning.proofs.ListLemmas.{lists_same, plain_of}
 use Rattle.doc_meaning.proofs.ItemLemmas.{begin_same, item_same, maps_same}
 
 -- a stretch of the three stories
 items_same : (old : FileText) (r : RightText) (maps : List Properties) (from to : ℕ) (items : List Item) →
     ReadsTheSame old r.text → from ≤ to → to ≤ text_count (source_of r.text) →
-    HoldsItems (parts_of r.text r.lists maps) from to items → HoldsItems (parts_of old r.lists maps) from to items
+    HoldsItems (parts_of r.text r.lists maps) from to items → MeansItems (parts_of old r.lists maps) from to items
 items_same old r maps from to items same order within holds = record {
   len = holds.len;
   each = λ i item here.
@@ -41,7 +42,7 @@ texts_same : (old : FileText) (r : RightText) (maps : List Properties) (begin : 
     (texts : List (List Item)) → ReadsTheSame old r.text →
     AreCutsWithin begin cuts (text_count (source_of r.text)) →
     HoldsTexts (parts_of r.text r.lists maps) begin cuts count texts →
-    HoldsTexts (parts_of old r.lists maps) begin cuts count texts
+    MeansTexts (parts_of old r.lists maps) begin cuts count texts
 texts_same old r maps begin cuts count texts same within holds = record {
   len = holds.len;
   there = λ k text here more.
@@ -56,12 +57,12 @@ carried_same : (contents : Contents) (old new : FileText) (levels : List ℕ) (c
     ReadsTheSame old new → HoldsCarried contents (source_of new) levels carried →
     HoldsCarried contents (source_of old) levels carried
 carried_same contents old new levels carried same holds = record {
-  fonts = holds.fonts ∙ same.parts SttbfFfn (read_of SttbfFfn refl);
-  dop = holds.dop ∙ same.parts Dop (read_of Dop refl);
-  assoc = holds.assoc ∙ same.parts SttbfAssoc (read_of SttbfAssoc refl);
-  lst = holds.lst ∙ same.parts PlfLst (read_of PlfLst refl);
+  fonts = holds.fonts ∙ same.parts SttbfFfn (plain_of SttbfFfn refl refl);
+  dop = holds.dop ∙ same.parts Dop (plain_of Dop refl refl);
+  assoc = holds.assoc ∙ same.parts SttbfAssoc (plain_of SttbfAssoc refl refl);
+  lst = holds.lst ∙ same.parts PlfLst (plain_of PlfLst refl refl);
   levels_are = holds.levels_are;
-  lfo = holds.lfo ∙ same.parts PlfLfo (read_of PlfLfo refl);
+  lfo = holds.lfo ∙ same.parts PlfLfo (plain_of PlfLfo refl refl);
   clsid = holds.clsid;
   lid = holds.lid ∙ ap (λ kept. kept.lid) same.kept;
   lid_fe = holds.lid_fe ∙ ap (λ kept. kept.lid_fe) same.kept;
@@ -71,7 +72,7 @@ carried_same contents old new levels carried same holds = record {
 
 document_same : (contents : Contents) (old : FileText) (r : RightText) (document : Document) →
     ReadsTheSame old r.text → IsDocumentFrom contents r.text r.lists document →
-    IsDocumentFrom contents old r.lists document
+    IsMeantFrom contents old r.lists document
 document_same contents old r document same from =
     let new = r.text in
     let lists = r.lists in
@@ -91,9 +92,9 @@ document_same contents old r document same from =
       sections = maps;
       has_sections = maps_same old r maps same from.has_sections;
       document_is = record {
-        main = subst (λ n. HoldsItems parts 0 n document.main) (same.counts Main) main;
-        notes = subst (λ n. HoldsTexts parts n lists.notes (length lists.notes - 1) document.notes) begin.0 notes;
-        heads = subst (λ n. HoldsTexts parts n lists.heads (head_texts lists) document.heads) begin.1 heads;
+        main = subst (λ n. MeansItems parts 0 n document.main) (same.counts Main) main;
+        notes = subst (λ n. MeansTexts parts n lists.notes (length lists.notes - 1) document.notes) begin.0 notes;
+        heads = subst (λ n. MeansTexts parts n lists.heads (head_texts lists) document.heads) begin.1 heads;
         sheet = is.sheet;
         carried = carried_same contents old new lists.levels document.carried same is.carried;
         bookmarks = is.bookmarks;

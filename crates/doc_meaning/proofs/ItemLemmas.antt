@@ -1,18 +1,19 @@
 -- What is read at a CP, and of the sections, is the same for a text that reads the same.
 use Rattle.std.specs.Prelude.{is_some}
-use Rattle.std.proofs.Common.{◌≡◌, ◌≢◌, ◌∙◌, ◌+◌, ◌<◌, refl, sym, ap, subst, inl, inr, ℕ, List, length, map}
+use Rattle.std.proofs.Common.{◌≡◌, ◌≢◌, ◌∙◌, ◌+◌, ◌<◌, refl, sym, ap, subst, inl, inr, ℕ, List, [], length, map}
 use Rattle.std.proofs.Common.{Bool, true, false, Option, Some, None, take, drop, arith, ◌++◌}
 use Rattle.std.proofs.lemmas.Bool.{cases_lt}
 use Rattle.std.proofs.lemmas.Option.{slice_get_within}
 use Rattle.std.specs.Option.{unwrap_or}
 use Rattle.std.specs.FinMap.{empty}
-use Rattle.doc_bits.specs.Number.{u16_at}
+use Rattle.doc_bits.specs.Number.{u16_at, number_at}
 use Rattle.doc_bits.proofs.NumberLemmas.{number_at-take}
-use Rattle.sprm_table.proofs.SprmLemmas.{spelt_unique}
+use Rattle.sprm_table.proofs.SprmLemmas.{spelt_unique, spells_end}
 use Rattle.prop_map.specs.Settings.{Properties}
 use Rattle.prop_map.specs.Formed.{character_groups, paragraph_groups, section_groups}
 use Rattle.prop_map.specs.Acting.{ArePropertiesAfter, style_named}
-use Rattle.prop_map.specs.Modifiers.{mark_style}
+use Rattle.prop_map.specs.Modifiers.{mark_style, IsCharacterAfter, IsMarkAfter}
+use Rattle.prop_map.proofs.LawLemmas.{acting_one}
 use Rattle.prop_map.specs.declared.modifiers.Modifier.{Modifier}
 use Rattle.prl_skips.specs.Skips.{skipped, SkipsOrStays, HoldsNoPictures}
 use Rattle.prl_skips.proofs.SkipLemmas.{make_skips, style_skips}
@@ -21,9 +22,10 @@ use Rattle.fib_form.specs.declared.table_parts.TablePart.TheVariants.{PlcfBteChp
 use Rattle.fib_form.specs.declared.stories.StoryKind.TheVariants.{Main, Notes, Heads}
 use Rattle.fkp_pages.specs.declared.kind.PageKind.{PageKind}
 use Rattle.fkp_pages.specs.declared.kind.PageKind.TheVariants.{Chpx, Papx}
-use Rattle.fkp_pages.specs.Properties.{HasListAt}
+use Rattle.fkp_pages.specs.Properties.{HasListAt, bare_list}
+use Rattle.fkp_gaps.specs.Gaps.{IsGap}
 use Rattle.page_copies.specs.Pages.{bin_of}
-use Rattle.page_copies.specs.Laws.{IsListCopy, HasListBefore}
+use Rattle.page_copies.specs.Laws.{IsListCopy}
 use Rattle.page_copies.proofs.ListLemmas.{copy_acts}
 use Rattle.direct_props.specs.Direct.{MakesProperties, IsDirectCharacter}
 use Rattle.direct_props.specs.PageRules.{IsValidPlace}
@@ -44,9 +46,19 @@ use Rattle.doc_read.proofs.ExistItems.{parts_of}
 use Rattle.doc_read.proofs.GivenPlaces.{RightText, character_place, mark_place}
 use Rattle.doc_read.proofs.SettingsLemmas.{sepx-there}
 use Rattle.doc_meaning.specs.Skipped.{bins_of}
-use Rattle.doc_meaning.specs.Lifted.{KeepsLists, ReadsTheSame}
+use Rattle.doc_meaning.specs.Places.{MeansCharacter, MeansMark}
+use Rattle.doc_meaning.specs.Items.{MeansMarkAt, MeansItem}
+use Rattle.doc_meaning.specs.Lifted.{IsListFor, KeepsLists, ReadsTheSame}
 
 -- ---- what lists make
+
+bare_istd : u16_at (bare_list Papx) 0 ≡ 0
+unfolding number_at
+bare_istd = refl
+
+-- no code does nothing
+nothing_acts : (groups : ℕ) (before : Properties) → ArePropertiesAfter [] groups before before
+nothing_acts groups before = λ code. refl
 
 -- what a list makes once its codes are skipped it makes before
 makes_before : (old new : List ℕ) (groups : ℕ) (made : Properties) (style : Option ℕ) → HoldsNoPictures groups →
@@ -92,7 +104,7 @@ istd_before list made copy =
 list_right : (kind : PageKind) (old new : FileText) (fc : ℕ) (made : List ℕ) → KeepsLists kind old new →
     IsValidPlace kind new.wd (bin_of kind (bins_of new.wd new.table)) fc →
     HasListAt kind (bin_of kind (bins_of new.wd new.table)) new.wd fc made →
-    HasListBefore kind (bin_of kind (bins_of old.wd old.table)) old.wd fc made
+    IsListFor kind old fc made
 list_right kind old new fc made keeps right has =
     let is = right_places_have_lists kind new.wd (bin_of kind (bins_of new.wd new.table)) fc made right has in
     keeps fc made (record {
@@ -104,41 +116,82 @@ list_right kind old new fc made keeps right has =
       answered = is.answered;
     }) is.low
 
+-- the bare list makes nothing, and names no style
+bare_makes : (groups : ℕ) (made : Properties) (style : Option ℕ) → MakesProperties [] groups made style →
+    (made ≡ empty) × (style ≡ None)
+bare_makes groups made style makes =
+    let none : makes.prls ≡ [] = spelt_unique [] makes.prls [] makes.spelt (spells_end [] (inl (omega arith))) in (
+      acting_one [] groups empty made empty (subst (λ l. ArePropertiesAfter l groups empty made) none makes.map)
+          (nothing_acts groups empty),
+      makes.style_is ∙ ap (λ l. style_named l groups) none,
+    )
+
+character_in_gap : (bin wd list : List ℕ) (fc : ℕ) (modifier : Modifier) (chp made : Properties) (style : Option ℕ) →
+    IsGap Chpx bin wd fc → list ≡ bare_list Chpx → MakesProperties list character_groups made style →
+    IsCharacterAfter modifier made chp → MeansCharacter wd bin fc modifier chp
+character_in_gap bin wd list fc modifier chp made style gap bare makes modified =
+    let none = bare_makes character_groups made style
+    (subst (λ l. MakesProperties l character_groups made style) bare makes) in
+    inr (gap, subst (λ m. IsCharacterAfter modifier m chp) none.0 modified)
+
+mark_in_gap : (bin wd list : List ℕ) (fc : ℕ) (modifier : Modifier) (istd : ℕ) (pap made : Properties)
+    (style : Option ℕ) → IsGap Papx bin wd fc → list ≡ bare_list Papx →
+    MakesProperties (drop 2 list) paragraph_groups made style →
+    istd ≡ mark_style modifier (unwrap_or style (u16_at list 0)) → IsMarkAfter modifier made pap →
+    MeansMark wd bin fc modifier istd pap
+mark_in_gap bin wd list fc modifier istd pap made style gap bare makes style_is modified =
+    let none = bare_makes paragraph_groups made style
+    (subst (λ l. MakesProperties (drop 2 l) paragraph_groups made style) bare makes) in
+    let zero_istd : unwrap_or style (u16_at list 0) ≡ 0 =
+    ap (λ s. unwrap_or s (u16_at list 0)) none.1 ∙ (ap (λ l. u16_at l 0) bare ∙ bare_istd) in
+    inr (
+      gap,
+      (style_is ∙ ap (mark_style modifier) zero_istd, subst (λ m. IsMarkAfter modifier m pap) none.0 modified),
+    )
+
 character_same : (old new : FileText) (fc : ℕ) (modifier : Modifier) (chp : Properties) → KeepsLists Chpx old new →
     IsValidPlace Chpx new.wd (part_bytes (source_of new) PlcfBteChpx) fc →
     IsDirectCharacter new.wd (part_bytes (source_of new) PlcfBteChpx) fc modifier chp →
-    IsDirectCharacter old.wd (part_bytes (source_of old) PlcfBteChpx) fc modifier chp
+    MeansCharacter old.wd (part_bytes (source_of old) PlcfBteChpx) fc modifier chp
 character_same old new fc modifier chp keeps right is =
-    let before = list_right Chpx old new fc is.list keeps right is.has in
-    record {
-      list = before.list;
-      has = before.has;
-      made = is.made;
-      style = is.style;
-      makes = characters_before before.list is.list is.made is.style before.copy is.makes;
-      modified = is.modified;
-    }
+    elim (list_right Chpx old new fc is.list keeps right is.has) [
+      | inl before ↦ inl (record {
+        list = before.list;
+        has = before.has;
+        made = is.made;
+        style = is.style;
+        makes = characters_before before.list is.list is.made is.style before.copy is.makes;
+        modified = is.modified;
+      })
+      | inr gap ↦
+          character_in_gap (part_bytes (source_of old) PlcfBteChpx) old.wd is.list fc modifier chp is.made is.style
+          gap.0 gap.1 is.makes is.modified
+    ]
 
 mark_same : (ends : Bool) (old new : FileText) (fc : ℕ) (modifier : Modifier) (mark : Option Mark) →
     KeepsLists Papx old new →
     (ends ≡ true → IsValidPlace Papx new.wd (part_bytes (source_of new) PlcfBtePapx) fc) →
     IsMarkAt ends new.wd (part_bytes (source_of new) PlcfBtePapx) fc modifier mark →
-    IsMarkAt ends old.wd (part_bytes (source_of old) PlcfBtePapx) fc modifier mark
+    MeansMarkAt ends old.wd (part_bytes (source_of old) PlcfBtePapx) fc modifier mark
 mark_same true old new fc modifier None keeps right is = is
 mark_same false old new fc modifier (Some mark) keeps right is = is
 mark_same false old new fc modifier None keeps right is = is
 mark_same true old new fc modifier (Some mark) keeps right is =
-    let before = list_right Papx old new fc is.list keeps (right refl) is.has in
-    record {
-      list = before.list;
-      has = before.has;
-      made = is.made;
-      style = is.style;
-      makes = paragraphs_before before.list is.list is.made is.style before.copy is.makes;
-      style_is = is.style_is
-          ∙ ap (λ n. mark_style modifier (unwrap_or is.style n)) (istd_before before.list is.list before.copy);
-      modified = is.modified;
-    }
+    elim (list_right Papx old new fc is.list keeps (right refl) is.has) [
+      | inl before ↦ inl (record {
+        list = before.list;
+        has = before.has;
+        made = is.made;
+        style = is.style;
+        makes = paragraphs_before before.list is.list is.made is.style before.copy is.makes;
+        style_is = is.style_is
+            ∙ ap (λ n. mark_style modifier (unwrap_or is.style n)) (istd_before before.list is.list before.copy);
+        modified = is.modified;
+      })
+      | inr gap ↦
+          mark_in_gap (part_bytes (source_of old) PlcfBtePapx) old.wd is.list fc modifier mark.istd mark.pap is.made
+          is.style gap.0 gap.1 is.makes is.style_is is.modified
+    ]
 
 -- ---- items
 
@@ -167,7 +220,7 @@ fields_at old new lists same =
 -- an item of a CP of the three stories
 pub item_same : (old : FileText) (r : RightText) (maps : List Properties) (cp : ℕ) (item : Item) →
     ReadsTheSame old r.text → cp < text_count (source_of r.text) → IsItemAt (parts_of r.text r.lists maps) cp item →
-    IsItemAt (parts_of old r.lists maps) cp item
+    MeansItem (parts_of old r.lists maps) cp item
 item_same old r maps cp item same below is =
     let new = r.text in
     let place = is.place in
@@ -199,7 +252,7 @@ properties_same old new fc properties same (inr made) = inr (record {
 })
 
 -- a Sepx that does not lack is there
-sepx_found : (wd : List ℕ) (fc : ℕ) → ¬ (LacksSepx wd fc) → fc ≢ 0xFFFFFFFF → HasSepx wd fc
+pub sepx_found : (wd : List ℕ) (fc : ℕ) → ¬ (LacksSepx wd fc) → fc ≢ 0xFFFFFFFF → HasSepx wd fc
 sepx_found wd fc none properties = elim (cases_lt fc 1024) [
   | inl low ↦ absurd (none (record {
     properties = properties;

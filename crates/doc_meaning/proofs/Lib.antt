@@ -1,3 +1,4 @@
+pub mod OneLemmas
 pub mod BehindLemmas
 pub mod EarlyLemmas
 pub mod TableLemmas
@@ -8,3 +9,5 @@ pub mod DocumentLemmas
 pub mod LoadedLemmas
 pub mod FrontLemmas
 pub mod MeaningLemmas
+pub mod GapLemmas
+pub mod FilledLemmas

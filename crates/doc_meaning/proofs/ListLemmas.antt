@@ -19,17 +19,17 @@ use Rattle.file_rules.specs.NoteRules.{HasEntries, HasNoteCuts}
 use Rattle.file_rules.specs.BookmarkRules.{HasBookmarks}
 use Rattle.file_rules.specs.PartRules.{PartLists, HasPartLists}
 use Rattle.file_rules.specs.FileRules.{FileText, source_of}
-use Rattle.doc_meaning.specs.Lifted.{ReadsTheSame, IsReadPart}
+use Rattle.doc_meaning.specs.Lifted.{ReadsTheSame, IsReadPart, IsPlainPart}
 
 -- the parts of two sources, and how long their stories are
 record HaveSameParts (old new : DocSource) : Type 0 where
-  place : (part : TablePart) → part_place new part ≡ part_place old part
-  bytes : (part : TablePart) → IsReadPart part → part_bytes new part ≡ part_bytes old part
+  place : (part : TablePart) → IsPlainPart part → part_place new part ≡ part_place old part
+  bytes : (part : TablePart) → IsPlainPart part → part_bytes new part ≡ part_bytes old part
   count : (story : StoryKind) → story_length new story ≡ story_length old story
 
 same_parts : (old new : FileText) → ReadsTheSame old new → HaveSameParts (source_of old) (source_of new)
 same_parts old new same = record {
-  place = λ part. ap (λ (p : ℕ × ℕ). p.0) (same.pairs part);
+  place = λ part plain. ap (λ (p : ℕ × ℕ). p.0) (same.pairs part plain);
   bytes = same.parts;
   count = same.counts;
 }
@@ -41,10 +41,19 @@ read_of part other = record {
   no_clx = λ e. absurd (cc (sym other ∙ ap (λ n. n == 1 || n == 33) e));
 }
 
-field_read : (story : StoryKind) → IsReadPart (field_part story)
-field_read Main = read_of PlcfFldMom refl
-field_read Notes = read_of PlcfFldFtn refl
-field_read Heads = read_of PlcfFldHdr refl
+-- and that of no bin table
+pub plain_of : (part : TablePart) → (pair_of part == 1 || pair_of part == 33) ≡ false →
+    (pair_of part == 12 || pair_of part == 13) ≡ false → IsPlainPart part
+plain_of part other no_bin = record {
+  reads = read_of part other;
+  no_chpx = λ e. absurd (cc (sym no_bin ∙ ap (λ n. n == 12 || n == 13) e));
+  no_papx = λ e. absurd (cc (sym no_bin ∙ ap (λ n. n == 12 || n == 13) e));
+}
+
+field_read : (story : StoryKind) → IsPlainPart (field_part story)
+field_read Main = plain_of PlcfFldMom refl refl
+field_read Notes = plain_of PlcfFldFtn refl refl
+field_read Heads = plain_of PlcfFldHdr refl refl
 
 -- a fact on bytes and on a length
 two : (P : List ℕ → ℕ → Type 0) (x y : List ℕ) (m n : ℕ) → x ≡ y → m ≡ n → P x m → P y n
@@ -66,22 +75,22 @@ notes_same old new list same has =
     let cuts = part_bytes new PlcffndTxt in
     let count = story_length new Notes in
     let has_refs : AreNoteCuts (part_bytes old PlcffndRef) cuts count list =
-    subst (λ b. AreNoteCuts b cuts count list) (same.bytes PlcffndRef (read_of PlcffndRef refl)) has in
+    subst (λ b. AreNoteCuts b cuts count list) (same.bytes PlcffndRef (plain_of PlcffndRef refl refl)) has in
     two (λ b n. AreNoteCuts (part_bytes old PlcffndRef) b n list) cuts (part_bytes old PlcffndTxt) count
-    (story_length old Notes) (same.bytes PlcffndTxt (read_of PlcffndTxt refl)) (same.count Notes) has_refs
+    (story_length old Notes) (same.bytes PlcffndTxt (plain_of PlcffndTxt refl refl)) (same.count Notes) has_refs
 
 bookmarks_same : (old new : DocSource) (list : List Bookmark) → HaveSameParts old new → HasBookmarks new list →
     HasBookmarks old list
 bookmarks_same old new list same has =
     let names : part_bytes new SttbfBkmk ≡ part_bytes old SttbfBkmk =
-    same.bytes SttbfBkmk (read_of SttbfBkmk refl) in
+    same.bytes SttbfBkmk (plain_of SttbfBkmk refl refl) in
     let starts : part_bytes new PlcfBkf ≡ part_bytes old PlcfBkf =
-    same.bytes PlcfBkf (read_of PlcfBkf refl) in
+    same.bytes PlcfBkf (plain_of PlcfBkf refl refl) in
     let ends : part_bytes new PlcfBkl ≡ part_bytes old PlcfBkl =
-    same.bytes PlcfBkl (read_of PlcfBkl refl) in
-    let at_names : part_place new SttbfBkmk ≡ part_place old SttbfBkmk = same.place SttbfBkmk in
-    let at_starts : part_place new PlcfBkf ≡ part_place old PlcfBkf = same.place PlcfBkf in
-    let at_ends : part_place new PlcfBkl ≡ part_place old PlcfBkl = same.place PlcfBkl in
+    same.bytes PlcfBkl (plain_of PlcfBkl refl refl) in
+    let at_names : part_place new SttbfBkmk ≡ part_place old SttbfBkmk = same.place SttbfBkmk (plain_of SttbfBkmk refl refl) in
+    let at_starts : part_place new PlcfBkf ≡ part_place old PlcfBkf = same.place PlcfBkf (plain_of PlcfBkf refl refl) in
+    let at_ends : part_place new PlcfBkl ≡ part_place old PlcfBkl = same.place PlcfBkl (plain_of PlcfBkl refl refl) in
     let count : story_length new Main ≡ story_length old Main = same.count Main in
     has
     ∙ (λ i. bookmarks_of (parts_at (names i) (starts i) (ends i) (at_names i ∷ at_starts i ∷ at_ends i ∷ [])) (count i))
@@ -95,18 +104,18 @@ lists_same old new lists same has =
     let parts = same_parts old new same in
     record {
       has_sections = two (λ bytes n. AreSections bytes n lists.sections) (part_bytes b PlcfSed) (part_bytes a PlcfSed)
-          (story_length b Main) (story_length a Main) (parts.bytes PlcfSed (read_of PlcfSed refl))
+          (story_length b Main) (story_length a Main) (parts.bytes PlcfSed (plain_of PlcfSed refl refl))
           (parts.count Main) has.has_sections;
       has_sheet = same.sheet lists.sheet has.has_sheet;
       has_main_fields = fields_same a b Main lists.main_fields parts has.has_main_fields;
       has_note_fields = fields_same a b Notes lists.note_fields parts has.has_note_fields;
       has_head_fields = fields_same a b Heads lists.head_fields parts has.has_head_fields;
       has_refs = two (λ bytes n. AreRefs bytes n lists.refs) (part_bytes b PlcffndRef) (part_bytes a PlcffndRef)
-          (story_length b Main) (story_length a Main) (parts.bytes PlcffndRef (read_of PlcffndRef refl))
+          (story_length b Main) (story_length a Main) (parts.bytes PlcffndRef (plain_of PlcffndRef refl refl))
           (parts.count Main) has.has_refs;
       has_notes = notes_same a b lists.notes parts has.has_notes;
       has_heads = two (λ bytes n. AreCuts bytes n lists.heads) (part_bytes b PlcfHdd) (part_bytes a PlcfHdd)
-          (story_length b Heads) (story_length a Heads) (parts.bytes PlcfHdd (read_of PlcfHdd refl))
+          (story_length b Heads) (story_length a Heads) (parts.bytes PlcfHdd (plain_of PlcfHdd refl refl))
           (parts.count Heads) has.has_heads;
       has_levels = same.levels lists.levels has.has_levels;
       has_bookmarks = bookmarks_same a b lists.bookmarks parts has.has_bookmarks;

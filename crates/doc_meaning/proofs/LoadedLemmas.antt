@@ -97,7 +97,7 @@ levels_kept old new bytes loaded has =
 
 -- ---- pages
 
-bin_same : (kind : PageKind) (old new : FileText) → IsLoadedFor old new →
+pub bin_same : (kind : PageKind) (old new : FileText) → IsLoadedFor old new →
     bin_of kind (bins_of new.wd new.table) ≡ bin_of kind (bins_of old.wd old.table)
 bin_same Chpx old new loaded = part_kept old new PlcfBteChpx loaded (λ e. absurd (omega (arith, e)))
 bin_same Papx old new loaded = part_kept old new PlcfBtePapx loaded (λ e. absurd (omega (arith, e)))
@@ -125,18 +125,18 @@ lists_kept kind old new loaded = λ fc made has low.
     let page : page_at new.wd number ≡ page_at pages number =
     range_behind pages new.wd (form_size Early) (512 * number) (512 * number + 512) loaded.behind
     (omega (arith, low)) in
-    list_in_pages kind old pages fc made loaded.kept_pages (record {
+    inl (list_in_pages kind old pages fc made loaded.kept_pages (record {
       number = number;
       named = subst (λ bin. IsBinPage bin fc number) (bin_same kind old new loaded) has.named;
       within = omega (arith, within, len);
       answer = has.answer;
       answers = subst (λ p. HasRunAnswer kind p fc has.answer) page has.answers;
       answered = subst (λ p. IsListAnswered kind p has.answer made) page has.answered;
-    }) low
+    }) low)
 
 -- ---- sections
 
-pages_len : (old : FileText) (pages : List ℕ) → KeepsPages old pages → length pages ≡ length old.wd
+pub pages_len : (old : FileText) (pages : List ℕ) → KeepsPages old pages → length pages ≡ length old.wd
 pages_len old pages (inl skips) = skips.len
 pages_len old pages (inr same) = ap length same
 
@@ -159,12 +159,12 @@ sections_kept old new loaded = λ list k has below sepx.
 
 -- ---- the text
 
-loaded_reads : (old new : FileText) → IsLoadedFor old new → ReadsTheSame old new
+pub loaded_reads : (old new : FileText) → IsLoadedFor old new → ReadsTheSame old new
 loaded_reads old new loaded = record {
   counts = λ story. story_same (source_of old) (source_of new) story loaded.fields;
   kept = ap (λ (f : FibFields). f.kept) loaded.fields;
-  pairs = λ part. pair_same old.wd new.wd part loaded.fields;
-  parts = λ part read. part_kept old new part loaded read.no_sheet;
+  pairs = λ part plain. pair_same old.wd new.wd part loaded.fields;
+  parts = λ part plain. part_kept old new part loaded plain.reads.no_sheet;
   sheet = λ sheet has. sheet_kept old new sheet loaded has;
   levels = λ bytes has. levels_kept old new bytes loaded has;
   places = loaded.places;

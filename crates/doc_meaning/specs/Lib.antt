@@ -1,5 +1,8 @@
+pub mod Places
+pub mod Items
 pub mod Meaning
 pub mod Skipped
 pub mod Apart
 pub mod Lifted
 pub mod Loaded
+pub mod Filled

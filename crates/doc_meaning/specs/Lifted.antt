@@ -1,14 +1,16 @@
 -- A text that reads the same as another one: it has the same counts, parts and styles, the same places and units of its
--- CPs, the same Sepxs, and at each byte place the same list, or one whose codes that are not read are skipped.
-use Rattle.std.specs.Prelude.{◌≡◌, ◌≢◌, ℕ, ◌<◌, ◌≤◌, List, length, Some}
+-- CPs, the same Sepxs, and at each byte place the same list, or one whose codes that are not read are skipped; or the
+-- bare list in a gap.
+use Rattle.std.specs.Prelude.{◌≡◌, ◌≢◌, ◌⊎◌, ℕ, ◌<◌, ◌≤◌, List, length, Some}
 use Rattle.fib_form.specs.Fib.{fib_pair}
 use Rattle.fib_form.specs.FibFields.{fib_fields}
 use Rattle.fib_form.specs.TableParts.{pair_of}
 use Rattle.fib_form.specs.declared.stories.StoryKind.{StoryKind}
 use Rattle.fib_form.specs.declared.table_parts.TablePart.{TablePart}
-use Rattle.fib_form.specs.declared.table_parts.TablePart.TheVariants.{Stshf, Clx}
+use Rattle.fib_form.specs.declared.table_parts.TablePart.TheVariants.{Stshf, Clx, PlcfBteChpx, PlcfBtePapx}
 use Rattle.fkp_pages.specs.declared.kind.PageKind.{PageKind}
-use Rattle.fkp_pages.specs.Properties.{HasListAt}
+use Rattle.fkp_pages.specs.Properties.{HasListAt, bare_list}
+use Rattle.fkp_gaps.specs.Gaps.{IsGap}
 use Rattle.page_copies.specs.Pages.{bin_of}
 use Rattle.page_copies.specs.Laws.{HasListBefore}
 use Rattle.piece_table.specs.Piece.{TextPiece, UnitPlace, place_of_cp}
@@ -37,11 +39,17 @@ abbrev pub KeepsUnits : FileText → FileText → ℕ → Type 0
 KeepsUnits old new count = (cp : ℕ) (place : UnitPlace) → cp < count → place_of_cp new.pieces cp ≡ Some place →
     unit_at new.wd place ≡ unit_at old.wd place
 
+-- a list that is that of the place, or the bare one, where the place is a gap
+abbrev pub IsListFor : PageKind → FileText → ℕ → List ℕ → Type 0
+IsListFor kind old fc made =
+    HasListBefore kind (bin_of kind (bins_of old.wd old.table)) old.wd fc made
+    ⊎ (IsGap kind (bin_of kind (bins_of old.wd old.table)) old.wd fc × (made ≡ bare_list kind))
+
 -- each list of a page that does not lie over the FIB
 abbrev pub KeepsLists : PageKind → FileText → FileText → Type 0
 KeepsLists kind old new = (fc : ℕ) (made : List ℕ) →
     (has : HasListAt kind (bin_of kind (bins_of new.wd new.table)) new.wd fc made) → 2 ≤ has.number →
-    HasListBefore kind (bin_of kind (bins_of old.wd old.table)) old.wd fc made
+    IsListFor kind old fc made
 
 -- each Sepx that is there
 abbrev pub KeepsSections : FileText → FileText → Type 0
@@ -58,11 +66,18 @@ pub record IsReadPart (part : TablePart) : Type 0 where
   pub no_sheet : IsOther part
   pub no_clx : pair_of part ≢ pair_of Clx
 
+-- and no bin table, of which the lists of the places alone are read
+pub record IsPlainPart (part : TablePart) : Type 0 where
+  pub reads : IsReadPart part
+  pub no_chpx : pair_of part ≢ pair_of PlcfBteChpx
+  pub no_papx : pair_of part ≢ pair_of PlcfBtePapx
+
 pub record ReadsTheSame (old new : FileText) : Type 0 where
   pub counts : (story : StoryKind) → story_length (source_of new) story ≡ story_length (source_of old) story
   pub kept : (fib_fields new.wd).kept ≡ (fib_fields old.wd).kept
-  pub pairs : (part : TablePart) → fib_pair new.wd (pair_of part) ≡ fib_pair old.wd (pair_of part)
-  pub parts : (part : TablePart) → IsReadPart part →
+  pub pairs : (part : TablePart) → IsPlainPart part →
+      fib_pair new.wd (pair_of part) ≡ fib_pair old.wd (pair_of part)
+  pub parts : (part : TablePart) → IsPlainPart part →
       part_bytes (source_of new) part ≡ part_bytes (source_of old) part
   pub sheet : (sheet : Sheet) → HasSheet (source_of new) sheet → HasSheet (source_of old) sheet
   pub levels : (bytes : List ℕ) → HasLevels (source_of new) bytes → HasLevels (source_of old) bytes

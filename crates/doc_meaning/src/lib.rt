@@ -3,4 +3,4 @@
 
 mod laws;
 
-pub use laws::{held_is_meant, loaded_is_meant, meaning_is_one, meant_is_held};
+pub use laws::{filled_is_meant, held_is_meant, loaded_is_meant, meaning_is_one, meant_is_held};

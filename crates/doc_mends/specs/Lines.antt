@@ -5,10 +5,16 @@ use Rattle.doc_bits.specs.declared.places.Story.{Story}
 use Rattle.text_losses.specs.declared.features.Reference.{Reference}
 use Rattle.text_losses.specs.Lines.{place_text, reference_text}
 use Rattle.doc_mends.specs.declared.mends.DeletedRange.{DeletedRange}
+use Rattle.doc_mends.specs.declared.mends.MadeNote.{MadeNote}
 use Rattle.doc_mends.specs.declared.mends.WrongMark.{WrongMark}
 use Rattle.doc_mends.specs.declared.mends.BrokenRow.{BrokenRow}
 use Rattle.doc_mends.specs.declared.mends.Mend.{Mend}
 use Rattle.doc_mends.specs.declared.mends.Mend.TheVariants as mends
+
+-- the endnote, and which note it became
+abbrev pub made_line : MadeNote → List ℕ
+made_line made =
+    codes "endnote " ++ (decimal made.endnote ++ (codes ": note " ++ (decimal made.note ++ 10 ∷ [])))
 
 -- the range, and that it is struck
 abbrev pub strike_line : DeletedRange → List ℕ
@@ -16,6 +22,12 @@ strike_line range =
     codes "deleted "
     ++ (place_text range.story
     ++ (32 ∷ [] ++ (decimal range.from ++ (32 ∷ [] ++ (decimal range.to ++ (codes ": struck" ++ 10 ∷ []))))))
+
+-- the range alone, where it stays as it is
+abbrev pub keep_line : DeletedRange → List ℕ
+keep_line range =
+    codes "deleted "
+    ++ (place_text range.story ++ (32 ∷ [] ++ (decimal range.from ++ (32 ∷ [] ++ (decimal range.to ++ 10 ∷ [])))))
 
 -- the number of the style
 abbrev pub base_line : ℕ → List ℕ
@@ -44,7 +56,9 @@ abbrev pub end_line : Story → List ℕ
 end_line story = codes "end " ++ (place_text story ++ 10 ∷ [])
 
 abbrev pub mend_line : Mend → List ℕ
+mend_line (mends.MakeNote made) = made_line made
 mend_line (mends.StrikeDeleted range) = strike_line range
+mend_line (mends.KeepDeleted range) = keep_line range
 mend_line (mends.DropBase istd) = base_line istd
 mend_line (mends.NormalMark mark) = mark_line mark
 mend_line (mends.PlainRow row) = row_line row

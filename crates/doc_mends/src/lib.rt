@@ -23,6 +23,6 @@ pub use laws::{mended_rows_are_whole, mends_are_one, mends_keep_bookmarks, sound
 pub use lines::push_mends;
 pub use marking::normal_marks;
 pub use mending::mend;
-pub use mends::{BrokenRow, DeletedRange, Mend, Mended, WrongMark};
+pub use mends::{BrokenRow, DeletedRange, MadeNote, Mend, Mended, WrongMark};
 pub use striking::strike_deleted;
 pub use tables::plain_rows;

@@ -1,11 +1,12 @@
 // The line of a mend.
 ghost use Rattle.std.specs.Prelude.{◌≡◌, ◌++◌, IfOk, OnOk};
 ghost use Rattle.std.specs.List.{flat_map};
-ghost use Rattle.doc_mends.specs.Lines.{mend_line as line_of, strike_line as line_of_strike};
+ghost use Rattle.doc_mends.specs.Lines.{made_line as line_of_made};
+ghost use Rattle.doc_mends.specs.Lines.{mend_line as line_of, strike_line as line_of_strike, keep_line as line_of_keep};
 ghost use Rattle.doc_mends.specs.Lines.{base_line as line_of_base, mark_line as line_of_mark};
 ghost use Rattle.doc_mends.specs.Lines.{row_line as line_of_row, cut_line as line_of_cut, end_line as line_of_end};
 
-use crate::mends::{BrokenRow, DeletedRange, Mend, WrongMark};
+use crate::mends::{BrokenRow, DeletedRange, MadeNote, Mend, WrongMark};
 use doc_bits::{Memory, Story, Text};
 use std::alloc::Global;
 use text_losses::{Reference, reference_text, story_place};
@@ -33,13 +34,25 @@ fn mend_line(alloc: Global, mend: &Mend) -> Result<Text, Memory>
     ensures { IfOk result (λ line. line ≡ line_of mend.now) }
 {
     match mend {
+        Mend::MakeNote(made) => made_line(alloc, *made),
         Mend::StrikeDeleted(range) => strike_line(alloc, *range),
+        Mend::KeepDeleted(range) => keep_line(alloc, *range),
         Mend::DropBase(istd) => base_line(alloc, *istd),
         Mend::NormalMark(mark) => mark_line(alloc, *mark),
         Mend::PlainRow(row) => row_line(alloc, *row),
         Mend::CutReference(reference) => cut_line(alloc, *reference),
         Mend::EndText(story) => end_line(alloc, *story),
     }
+}
+
+/// The line of an endnote that became a note.
+fn made_line(alloc: Global, made: MadeNote) -> Result<Text, Memory>
+    ensures { IfOk result (λ line. line ≡ line_of_made made) }
+{
+    let endnote = made.endnote;
+    let note = made.note;
+    let line = format!(in alloc; "endnote {endnote}: note {note}\n")?;
+    Ok(Text::from_string(line))
 }
 
 /// The line of a range that is struck.
@@ -51,6 +64,18 @@ fn strike_line(alloc: Global, range: DeletedRange) -> Result<Text, Memory>
     let from = range.from;
     let to = range.to;
     let line = format!(in alloc; "deleted {place} {from} {to}: struck\n")?;
+    Ok(Text::from_string(line))
+}
+
+/// The line of a range that stays as it is.
+fn keep_line(alloc: Global, range: DeletedRange) -> Result<Text, Memory>
+    ensures { IfOk result (λ line. line ≡ line_of_keep range) }
+{
+    let place = story_place(alloc, range.story)?;
+    let place = place.as_str();
+    let from = range.from;
+    let to = range.to;
+    let line = format!(in alloc; "deleted {place} {from} {to}\n")?;
     Ok(Text::from_string(line))
 }
 

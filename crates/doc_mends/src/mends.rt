@@ -29,11 +29,22 @@ pub struct BrokenRow {
     pub cells: usize,
 }
 
+/// An endnote by its number, and the note that it became.
+#[derive(Clone, Copy)]
+pub struct MadeNote {
+    pub endnote: usize,
+    pub note: usize,
+}
+
 /// A change of a document that is named.
 #[derive(Clone, Copy)]
 pub enum Mend {
+    /// The endnote became a note.
+    MakeNote(MadeNote),
     /// The items of a range that a reviser deleted are struck through.
     StrikeDeleted(DeletedRange),
+    /// A range that a reviser deleted stays as it is: the properties of one of its items would be too long.
+    KeepDeleted(DeletedRange),
     /// The style of this number has no base any more.
     DropBase(u16),
     /// The mark has style 0.

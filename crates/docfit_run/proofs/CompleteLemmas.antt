@@ -1,5 +1,5 @@
 -- A file in whose way nothing stands is fitted.
-use Rattle.std.proofs.Common.{◌≡◌, ◌≢◌, ◌<◌, inl, inr, refl, ap, subst, ℕ, List, Some, length, arith}
+use Rattle.std.proofs.Common.{◌≡◌, ◌≢◌, ◌<◌, inl, inr, refl, ap, subst, ℕ, Bool, List, Some, length, arith}
 use Rattle.doc_bits.specs.declared.places.Where.TheVariants.{File}
 use Rattle.doc_bits.specs.Number.{AreBytes}
 use Rattle.doc_bits.specs.Rules.{Hold}
@@ -12,7 +12,8 @@ use Rattle.doc_mends.specs.declared.mends.Mend.{Mend}
 use Rattle.run_stages.specs.Outcomes.{Outcome}
 use Rattle.run_stages.specs.Stages.{longest_file, BreaksLengthRule}
 use Rattle.run_stages.proofs.SaidLemmas.{Says, settled}
-use Rattle.doc_fit.specs.Rules.{HasMended, fit_rules}
+use Rattle.doc_fit.specs.Rules.{fit_rules}
+use Rattle.doc_fit.specs.Noted.{IsDocumentWith}
 use Rattle.doc_fit.proofs.MeaningLemmas.{fit_single}
 use Rattle.docfit_run.specs.Requests.{fit, requested}
 use Rattle.docfit_run.specs.Fitted.{IsSaved, JudgesFit}
@@ -30,30 +31,31 @@ saved_done : (out : List ℕ) (document : Document) (lines : List (List ℕ)) (m
 saved_done out document lines mends outcome fits (inl put) = ap (λ (o : Outcome). o.status) put.ends
 saved_done out document lines mends outcome fits (inr many) = let over = many.over in absurd (omega (arith, fits, over))
 
-judged_done : (name out file : List ℕ) (outcome : Outcome) → AreBytes file → Hold (fit_rules file) →
-    ((document : Document) → HasMended file document → FitsCompoundFile document) →
-    JudgesFit name out file outcome → outcome.status ≡ 0
-judged_done name out file outcome bytes hold fits (inl refused) =
+judged_done : (plain : Bool) (name out file : List ℕ) (outcome : Outcome) → AreBytes file → Hold (fit_rules file) →
+    ((noted : Bool) (document : Document) (mends : List Mend) → IsDocumentWith noted file document mends →
+    FitsCompoundFile document) → JudgesFit plain name out file outcome → outcome.status ≡ 0
+judged_done plain name out file outcome bytes hold fits (inl refused) =
     absurd (hold_or_first Upto (fit_rules file) refused.rule refused.place (fit_single file bytes) hold refused.first)
-judged_done name out file outcome bytes hold fits (inr (holds, fitted)) =
-    saved_done out fitted.document _ _ outcome (fits fitted.document fitted.mended) fitted.saved
+judged_done plain name out file outcome bytes hold fits (inr (holds, fitted)) =
+    saved_done out fitted.document _ _ outcome
+    (fits fitted.noted fitted.document fitted.mends fitted.document_is) fitted.saved
 
-said_done : (name out : List ℕ) (files : Files) (outcome : Outcome) → (can : CanFit files name) →
-    Says name (BreaksLengthRule name) (JudgesBytes name out) (Some can.bytes) outcome → outcome.status ≡ 0
-said_done name out files outcome can (inl long) = absurd (not_long can.bytes can.hold long.0)
-said_done name out files outcome can (inr read) =
-    judged_done name out can.bytes outcome read.1.0 can.hold can.fits read.1.1
+said_done : (plain : Bool) (name out : List ℕ) (files : Files) (outcome : Outcome) → (can : CanFit files name) →
+    Says name (BreaksLengthRule name) (JudgesBytes plain name out) (Some can.bytes) outcome → outcome.status ≡ 0
+said_done plain name out files outcome can (inl long) = absurd (not_long can.bytes can.hold long.0)
+said_done plain name out files outcome can (inr read) =
+    judged_done plain name out can.bytes outcome read.1.0 can.hold can.fits read.1.1
 
-fit_done : (name out : List ℕ) (files : Files) (outcome : Outcome) → CanFit files name →
-    Ends (Some files) (Some (fit name out)) outcome → outcome.status ≢ 4 → outcome.status ≡ 0
-fit_done name out files outcome can ends calm =
-    said_done name out files outcome can
-    (subst (λ t. Says name (BreaksLengthRule name) (JudgesBytes name out) t outcome) can.there
-    (settled name files (BreaksLengthRule name) (JudgesBytes name out) outcome
-    (read_bytes name out (Some files) outcome ends) calm))
+fit_done : (plain : Bool) (name out : List ℕ) (files : Files) (outcome : Outcome) → CanFit files name →
+    Ends (Some files) (Some (fit plain name out)) outcome → outcome.status ≢ 4 → outcome.status ≡ 0
+fit_done plain name out files outcome can ends calm =
+    said_done plain name out files outcome can
+    (subst (λ t. Says name (BreaksLengthRule name) (JudgesBytes plain name out) t outcome) can.there
+    (settled name files (BreaksLengthRule name) (JudgesBytes plain name out) outcome
+    (read_bytes plain name out (Some files) outcome ends) calm))
 
-pub complete : (words : List (List ℕ)) (file out : List ℕ) (files : Files) (outcome : Outcome) →
-    requested words ≡ Some (fit file out) → CanFit files file → IsEnding words (Some files) outcome →
+pub complete : (words : List (List ℕ)) (plain : Bool) (file out : List ℕ) (files : Files) (outcome : Outcome) →
+    requested words ≡ Some (fit plain file out) → CanFit files file → IsEnding words (Some files) outcome →
     outcome.status ≢ 4 → outcome.status ≡ 0
-complete words file out files outcome asked can is calm =
-    fit_done file out files outcome can (subst (λ r. Ends (Some files) r outcome) asked is) calm
+complete words plain file out files outcome asked can is calm =
+    fit_done plain file out files outcome can (subst (λ r. Ends (Some files) r outcome) asked is) calm

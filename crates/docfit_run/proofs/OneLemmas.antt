@@ -1,5 +1,5 @@
 -- Words and told files have one outcome.
-use Rattle.std.proofs.Common.{◌≡◌, ◌≢◌, ◌∙◌, inl, inr, sym, ap, subst, ℕ, List, Option, Some, None, arith, length}
+use Rattle.std.proofs.Common.{◌≡◌, ◌≢◌, ◌∙◌, inl, inr, sym, ap, subst, ℕ, Bool, List, Option, Some, None, arith, length}
 use Rattle.doc_bits.specs.Number.{AreBytes}
 use Rattle.doc_bits.specs.Rules.{Hold}
 use Rattle.doc_bits.specs.Places.{Upto}
@@ -13,10 +13,11 @@ use Rattle.run_stages.specs.Outcomes.{Outcome, puts}
 use Rattle.run_stages.specs.Stages.{BreaksLengthRule, Reads}
 use Rattle.run_stages.proofs.SaidLemmas.{reads_one}
 use Rattle.doc_fit.specs.Rules.{fit_rules}
-use Rattle.doc_fit.specs.Losses.{AreFitLines}
+use Rattle.doc_fit.specs.Noted.{IsDocumentWith, AreLinesWith}
 use Rattle.doc_mends.specs.declared.mends.Mend.{Mend}
-use Rattle.doc_fit.proofs.MeaningLemmas.{AreOneMended, mended_one, fit_single}
-use Rattle.doc_fit.proofs.OneLemmas.{refused_one, inventory_one, text_same, lines_one}
+use Rattle.doc_fit.proofs.MeaningLemmas.{fit_single}
+use Rattle.doc_fit.proofs.OneLemmas.{refused_one, inventory_one, text_same}
+use Rattle.doc_fit.proofs.NotedLemmas.{document_one, are_noted_one, lines_with_one}
 use Rattle.docfit_run.specs.Requests.{Request, help, version, fit, requested}
 use Rattle.docfit_run.specs.Fitted.{IsPut, IsSaved, IsFitted, JudgesFit, FitsFile, fit_report}
 use Rattle.docfit_run.specs.Endings.{Ends}
@@ -41,41 +42,48 @@ saved_one out document lines others mends a b same (inr x) (inl y) =
     let fits = y.savable.fits in let over = x.over in absurd (omega (arith, fits, over))
 saved_one out document lines others mends a b same (inr x) (inr y) = x.ends ∙ sym y.ends
 
-fitted_one : (out file : List ℕ) (a b : Outcome) → AreBytes file → Hold (fit_rules file) → IsFitted out file a →
-    IsFitted out file b → a ≡ b
-fitted_one out file a b bytes hold x y =
-    let one : AreOneMended file x.document y.document x.mended y.mended =
-    mended_one file x.document y.document bytes hold.0 x.mended y.mended in
+fitted_one : (plain : Bool) (out file : List ℕ) (a b : Outcome) → AreBytes file → Hold (fit_rules file) →
+    IsFitted plain out file a → IsFitted plain out file b → a ≡ b
+fitted_one plain out file a b bytes hold x y =
+    let noted : x.noted ≡ y.noted =
+    are_noted_one plain x.noted y.noted file x.document y.document x.mends y.mends x.are_noted y.are_noted
+    x.document_is y.document_is in
+    let one : (x.document ≡ y.document) × (x.mends ≡ y.mends) =
+    document_one y.noted file x.document y.document x.mends y.mends bytes hold.0
+    (subst (λ (n : Bool). IsDocumentWith n file x.document x.mends) noted x.document_is) y.document_is in
     let inventory : x.inventory ≡ y.inventory = inventory_one file x.inventory y.inventory x.has y.has in
     let text : x.has.text ≡ y.has.text = text_same file x.inventory y.inventory x.has y.has in
-    saved_one out y.document x.lines y.lines y.mended.mends a b
-    (λ first other. lines_one y.has.text y.inventory x.lines y.lines
-    (subst (λ (t : FileText). AreFitLines t y.inventory x.lines) text
-    (subst (λ (i : Inventory). AreFitLines x.has.text i x.lines) inventory (x.lines_are first))) (y.lines_are other))
-    (subst (λ (m : List Mend). IsSaved out y.document x.lines m a) one.mends
-    (subst (λ (d : Document). IsSaved out d x.lines x.mended.mends a) one.document x.saved)) y.saved
+    saved_one out y.document x.lines y.lines y.mends a b
+    (λ first other. lines_with_one y.noted y.has.text y.inventory x.lines y.lines
+    (subst (λ (n : Bool). AreLinesWith n y.has.text y.inventory x.lines) noted
+    (subst (λ (t : FileText). AreLinesWith x.noted t y.inventory x.lines) text
+    (subst (λ (i : Inventory). AreLinesWith x.noted x.has.text i x.lines) inventory (x.lines_are first))))
+    (y.lines_are other))
+    (subst (λ (m : List Mend). IsSaved out y.document x.lines m a) one.1
+    (subst (λ (d : Document). IsSaved out d x.lines x.mends a) one.0 x.saved)) y.saved
 
-judged_one : (name out file : List ℕ) (a b : Outcome) → AreBytes file → JudgesFit name out file a →
-    JudgesFit name out file b → a ≡ b
-judged_one name out file a b bytes (inl x) (inl y) = refused_one file name a b bytes x y
-judged_one name out file a b bytes (inl x) (inr y) =
+judged_one : (plain : Bool) (name out file : List ℕ) (a b : Outcome) → AreBytes file →
+    JudgesFit plain name out file a → JudgesFit plain name out file b → a ≡ b
+judged_one plain name out file a b bytes (inl x) (inl y) = refused_one file name a b bytes x y
+judged_one plain name out file a b bytes (inl x) (inr y) =
     absurd (hold_or_first Upto (fit_rules file) x.rule x.place (fit_single file bytes) y.0 x.first)
-judged_one name out file a b bytes (inr x) (inl y) =
+judged_one plain name out file a b bytes (inr x) (inl y) =
     absurd (hold_or_first Upto (fit_rules file) y.rule y.place (fit_single file bytes) x.0 y.first)
-judged_one name out file a b bytes (inr x) (inr y) = fitted_one out file a b bytes x.0 x.1 y.1
+judged_one plain name out file a b bytes (inr x) (inr y) =
+    fitted_one plain out file a b bytes x.0 x.1 y.1
 
 -- ---- runs
 
 -- what is judged is a file of bytes
-abbrev pub JudgesBytes : (name out file : List ℕ) → Outcome → Type 0
-JudgesBytes name out file outcome = AreBytes file × JudgesFit name out file outcome
+abbrev pub JudgesBytes : Bool → (name out file : List ℕ) → Outcome → Type 0
+JudgesBytes plain name out file outcome = AreBytes file × JudgesFit plain name out file outcome
 
-pub read_bytes : (name out : List ℕ) (held : Option Files) (outcome : Outcome) → FitsFile name out held outcome →
-    Reads name held (BreaksLengthRule name) (JudgesBytes name out) outcome
-read_bytes name out held outcome (inl x) = inl x
-read_bytes name out held outcome (inr (inl x)) = inr (inl x)
-read_bytes name out held outcome (inr (inr (inl x))) = inr (inr (inl x))
-read_bytes name out held outcome (inr (inr (inr x))) =
+pub read_bytes : (plain : Bool) (name out : List ℕ) (held : Option Files) (outcome : Outcome) →
+    FitsFile plain name out held outcome → Reads name held (BreaksLengthRule name) (JudgesBytes plain name out) outcome
+read_bytes plain name out held outcome (inl x) = inl x
+read_bytes plain name out held outcome (inr (inl x)) = inr (inl x)
+read_bytes plain name out held outcome (inr (inr (inl x))) = inr (inr (inl x))
+read_bytes plain name out held outcome (inr (inr (inr x))) =
     inr (inr (inr (record {
       bytes = x.bytes;
       told = x.told;
@@ -89,10 +97,10 @@ ends_one : (files : Files) (request : Option Request) (a b : Outcome) → Ends (
 ends_one files None a b x y ca cb = x ∙ sym y
 ends_one files (Some help) a b x y ca cb = x ∙ sym y
 ends_one files (Some version) a b x y ca cb = x ∙ sym y
-ends_one files (Some (fit name out)) a b x y ca cb =
-    reads_one (a ≡ b) name files (BreaksLengthRule name) (JudgesBytes name out) a b ca cb (λ e. e) (λ s t. s ∙ sym t)
-    (λ bytes there s t. judged_one name out bytes a b s.0 s.1 t.1) (read_bytes name out (Some files) a x)
-    (read_bytes name out (Some files) b y)
+ends_one files (Some (fit plain name out)) a b x y ca cb =
+    reads_one (a ≡ b) name files (BreaksLengthRule name) (JudgesBytes plain name out) a b ca cb (λ e. e)
+    (λ s t. s ∙ sym t) (λ bytes there s t. judged_one plain name out bytes a b s.0 s.1 t.1)
+    (read_bytes plain name out (Some files) a x) (read_bytes plain name out (Some files) b y)
 
 pub fit_is_one : FitIsOne
 fit_is_one words files a b x y ca cb = ends_one files (requested words) a b x y ca cb

@@ -1,6 +1,6 @@
 -- What a run puts, and where; and that its status is none of those for what fails later.
-use Rattle.std.proofs.Common.{◌≡◌, ◌≢◌, ◌⊎◌, ◌↔◌, ◌∙◌, ◌<◌, inl, inr, refl, sym, ap, subst, ℕ, List, Option}
-use Rattle.std.proofs.Common.{Some, None, arith}
+use Rattle.std.proofs.Common.{◌≡◌, ◌≢◌, ◌⊎◌, ◌↔◌, ◌∙◌, ◌<◌, inl, inr, refl, sym, ap, subst, ℕ, Bool, List}
+use Rattle.std.proofs.Common.{Option, Some, None, arith}
 use Rattle.std.proofs.lemmas.Option.{none-some, same_Some}
 use Rattle.doc_bits.specs.Places.{Place}
 use Rattle.plain_doc.specs.declared.document.Document.{Document}
@@ -67,21 +67,23 @@ saved_fine out document lines mends outcome (inl put) =
     }
 saved_fine out document lines mends outcome (inr many) = said_fine out 9 _ outcome many.ends (quiet 9 (inr (omega arith)))
 
-judged_fine : (name out file : List ℕ) (outcome : Outcome) → JudgesFit name out file outcome → IsFine out outcome
-judged_fine name out file outcome (inl refused) =
+judged_fine : (plain : Bool) (name out file : List ℕ) (outcome : Outcome) → JudgesFit plain name out file outcome →
+    IsFine out outcome
+judged_fine plain name out file outcome (inl refused) =
     refused_fine name out file refused.rule refused.place outcome refused.ends
-judged_fine name out file outcome (inr (hold, fitted)) =
+judged_fine plain name out file outcome (inr (hold, fitted)) =
     saved_fine out fitted.document _ _ outcome fitted.saved
 
-pub file_fine : (name out : List ℕ) (held : Option Files) (outcome : Outcome) → FitsFile name out held outcome →
-    IsFine out outcome
-file_fine name out held outcome (inl missing) =
+pub file_fine : (plain : Bool) (name out : List ℕ) (held : Option Files) (outcome : Outcome) →
+    FitsFile plain name out held outcome → IsFine out outcome
+file_fine plain name out held outcome (inl missing) =
     said_fine out 3 _ outcome missing.ends (quiet 3 (inl (inr (omega arith, omega arith))))
-file_fine name out held outcome (inr (inl fault)) =
+file_fine plain name out held outcome (inr (inl fault)) =
     said_fine out 4 _ outcome fault (quiet 4 (inl (inr (omega arith, omega arith))))
-file_fine name out held outcome (inr (inr (inl long))) =
+file_fine plain name out held outcome (inr (inr (inl long))) =
     said_fine out 1 _ outcome long.ends (quiet 1 (inl (inl (omega arith))))
-file_fine name out held outcome (inr (inr (inr read))) = judged_fine name out read.bytes outcome read.goes_on
+file_fine plain name out held outcome (inr (inr (inr read))) =
+    judged_fine plain name out read.bytes outcome read.goes_on
 
 -- what comes behind reading
 refused_inside : (name file : List ℕ) (rule : ℕ) (place : Place) (outcome : Outcome) →
@@ -98,11 +100,11 @@ saved_inside out document lines mends outcome (inl put) =
     inl (omega (arith, same))
 saved_inside out document lines mends outcome (inr many) = said_inside 9 _ outcome many.ends (inr (omega arith))
 
-pub judged_inside : (name out file : List ℕ) (outcome : Outcome) → JudgesFit name out file outcome →
-    IsAfterReading outcome.status
-judged_inside name out file outcome (inl refused) =
+pub judged_inside : (plain : Bool) (name out file : List ℕ) (outcome : Outcome) →
+    JudgesFit plain name out file outcome → IsAfterReading outcome.status
+judged_inside plain name out file outcome (inl refused) =
     refused_inside name file refused.rule refused.place outcome refused.ends
-judged_inside name out file outcome (inr (hold, fitted)) =
+judged_inside plain name out file outcome (inr (hold, fitted)) =
     saved_inside out fitted.document _ _ outcome fitted.saved
 
 -- an ending of a request
@@ -112,8 +114,9 @@ said_nothing status text outcome file e put = none-some file (sym (ap (λ (o : O
 
 -- what a request puts
 record IsPutBy (request : Option Request) (outcome : Outcome) (file : PutFile) : Type 0 where
+  plain : Bool
   name : List ℕ
-  asked : request ≡ Some (fit name file.name)
+  asked : request ≡ Some (fit plain name file.name)
   done : outcome.status ≡ 0
 
 ends_puts : (held : Option Files) (request : Option Request) (outcome : Outcome) (file : PutFile) →
@@ -121,10 +124,10 @@ ends_puts : (held : Option Files) (request : Option Request) (outcome : Outcome)
 ends_puts held None outcome file e put = absurd (said_nothing 2 _ outcome file e put)
 ends_puts held (Some help) outcome file e put = absurd (said_nothing 0 _ outcome file e put)
 ends_puts held (Some version) outcome file e put = absurd (said_nothing 0 _ outcome file e put)
-ends_puts held (Some (fit name out)) outcome file e put =
-    let fine = file_fine name out held outcome e in
+ends_puts held (Some (fit plain name out)) outcome file e put =
+    let fine = file_fine plain name out held outcome e in
     let is = fine.puts file put in
-    record { name = name; asked = ap (λ o. Some (fit name o)) is.0; done = is.1 }
+    record { plain = plain; name = name; asked = ap (λ o. Some (fit plain name o)) is.0; done = is.1 }
 
 ends_calm : (held : Option Files) (request : Option Request) (outcome : Outcome) → Ends held request outcome →
     (outcome.status ≢ 5) × (outcome.status ≢ 6)
@@ -137,7 +140,8 @@ ends_calm held (Some help) outcome e =
 ends_calm held (Some version) outcome e =
     let same : outcome.status ≡ 0 = ap (λ (o : Outcome). o.status) e in
     (λ s. omega (arith, same, s), λ s. omega (arith, same, s))
-ends_calm held (Some (fit name out)) outcome e = let fine = file_fine name out held outcome e in fine.calm
+ends_calm held (Some (fit plain name out)) outcome e =
+    let fine = file_fine plain name out held outcome e in fine.calm
 
 -- the status of words that ask for nothing
 ends_usage : (held : Option Files) (request : Option Request) (outcome : Outcome) → Ends held request outcome →
@@ -149,9 +153,9 @@ ends_usage held (Some help) outcome e =
 ends_usage held (Some version) outcome e =
     let same : outcome.status ≡ 0 = ap (λ (o : Outcome). o.status) e in
     ((λ is. absurd (omega (arith, same, is))), λ none. absurd (none-some version (sym none)))
-ends_usage held (Some (fit name out)) outcome e =
-    let fine = file_fine name out held outcome e in
-    ((λ is. absurd (fine.asked is)), λ none. absurd (none-some (fit name out) (sym none)))
+ends_usage held (Some (fit plain name out)) outcome e =
+    let fine = file_fine plain name out held outcome e in
+    ((λ is. absurd (fine.asked is)), λ none. absurd (none-some (fit plain name out) (sym none)))
 
 pub ending_usage : (words : List (List ℕ)) (held : Option Files) (outcome : Outcome) →
     IsEnding words held outcome → outcome.status ≡ 2 ↔ requested words ≡ None
@@ -166,7 +170,7 @@ ending_calm words held outcome is = ends_calm held (requested words) outcome is
 pub ending_puts : (words : List (List ℕ)) (held : Option Files) (outcome : Outcome) (file : PutFile) →
     IsEnding words held outcome → outcome.put ≡ Some file → PutsUnder words file.name × (outcome.status ≡ 0)
 ending_puts words held outcome file is put =
-    let by = ends_puts held (requested words) outcome file is put in ((by.name, by.asked), by.done)
+    let by = ends_puts held (requested words) outcome file is put in ((by.plain, (by.name, by.asked)), by.done)
 
 -- a run that puts may end by a failing shelf
 ends_faulted : (held : Option Files) (request : Option Request) (outcome : Outcome) (file : PutFile) →
@@ -174,7 +178,7 @@ ends_faulted : (held : Option Files) (request : Option Request) (outcome : Outco
 ends_faulted held None outcome file e put = absurd (said_nothing 2 _ outcome file e put)
 ends_faulted held (Some help) outcome file e put = absurd (said_nothing 0 _ outcome file e put)
 ends_faulted held (Some version) outcome file e put = absurd (said_nothing 0 _ outcome file e put)
-ends_faulted held (Some (fit name out)) outcome file e put = inr (inl refl)
+ends_faulted held (Some (fit plain name out)) outcome file e put = inr (inl refl)
 
 pub ending_faulted : (words : List (List ℕ)) (held : Option Files) (outcome : Outcome) (file : PutFile)
     (failed : Outcome) → IsEnding words held outcome → outcome.put ≡ Some file →

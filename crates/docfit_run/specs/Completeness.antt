@@ -1,14 +1,19 @@
 -- When a file must be fitted.
-use Rattle.std.specs.Prelude.{◌≡◌, ℕ, List, Some}
+use Rattle.std.specs.Prelude.{◌≡◌, ℕ, Bool, List, Some}
 use Rattle.doc_bits.specs.Rules.{Hold}
 use Rattle.doc_outer.specs.Held.{Files, file_at}
 use Rattle.plain_doc.specs.declared.document.Document.{Document}
 use Rattle.full_save.specs.Layout.{FitsCompoundFile}
-use Rattle.doc_fit.specs.Rules.{HasMended, fit_rules}
+use Rattle.doc_mends.specs.declared.mends.Mend.{Mend}
+use Rattle.doc_fit.specs.Rules.{fit_rules}
+use Rattle.doc_fit.specs.Noted.{IsDocumentWith}
 
--- the name holds a file that breaks none of the rules that are left, and its mended document fits a file
+-- the name holds a file that breaks none of the rules that are left, and its mended document fits a file, with endnotes
+-- as notes and without
 pub record CanFit (files : Files) (name : List ℕ) : Type 0 where
   pub bytes : List ℕ
   pub there : file_at files name ≡ Some bytes
   pub hold : Hold (fit_rules bytes)
-  pub fits : (document : Document) → HasMended bytes document → FitsCompoundFile document
+  pub fits :
+      (noted : Bool) (document : Document) (mends : List Mend) → IsDocumentWith noted bytes document mends →
+      FitsCompoundFile document

@@ -11,7 +11,7 @@ abbrev pub Ends : Option Files → Option Request → Outcome → Type 0
 Ends held None outcome = outcome ≡ says 2 USAGE.now
 Ends held (Some help) outcome = outcome ≡ says 0 HELP.now
 Ends held (Some version) outcome = outcome ≡ says 0 VERSION.now
-Ends held (Some (fit file out)) outcome = FitsFile file out held outcome
+Ends held (Some (fit plain file out)) outcome = FitsFile plain file out held outcome
 
 -- what a run over these words and this shelf may come to
 abbrev pub IsEnding : List (List ℕ) → Option Files → Outcome → Type 0

@@ -1,26 +1,31 @@
 -- What the definitions of a fit imply.
-use Rattle.std.specs.Prelude.{◌≡◌, ◌≢◌, ℕ, List, Some}
+use Rattle.std.specs.Prelude.{◌≡◌, ◌≢◌, ℕ, Bool, List, Some}
 use Rattle.doc_bits.specs.Rules.{Hold}
 use Rattle.doc_outer.specs.Held.{Files}
 use Rattle.plain_doc.specs.declared.document.Document.{Document}
 use Rattle.full_save.specs.Layout.{full_save_image}
 use Rattle.doc_read.specs.Holds.{HoldsDocument, IsAccepted, all_rules}
 use Rattle.run_stages.specs.Outcomes.{Outcome, PutFile}
-use Rattle.doc_fit.specs.Rules.{HasMended}
+use Rattle.doc_mends.specs.declared.mends.Mend.{Mend}
+use Rattle.doc_fit.specs.Noted.{AreNoted, IsDocumentWith}
 use Rattle.docfit_run.specs.Fitted.{IsFitted}
 use Rattle.docfit_run.specs.Endings.{IsEnding}
 
--- the bytes are accepted, and hold the mended document of what the file means
-pub record IsHeldFit (file bytes : List ℕ) : Type 0 where
+-- the bytes are accepted, and hold the mended document of what the file means, with its endnotes as notes where they can
+-- be, unless it is to be plain
+pub record IsHeldFit (plain : Bool) (file bytes : List ℕ) : Type 0 where
+  pub noted : Bool
+  pub are_noted : AreNoted plain file noted
   pub document : Document
-  pub mended : HasMended file document
+  pub mends : List Mend
+  pub document_is : IsDocumentWith noted file document mends
   pub accepted : Hold (all_rules bytes)
   pub holds : HoldsDocument bytes document
 
 -- what is put under the name is so
 abbrev pub FitsAreHeld : Type 0
-FitsAreHeld = (out file : List ℕ) (outcome : Outcome) (put : PutFile) → IsFitted out file outcome →
-    outcome.put ≡ Some put → IsHeldFit file put.bytes
+FitsAreHeld = (plain : Bool) (out file : List ℕ) (outcome : Outcome) (put : PutFile) → IsFitted plain out file outcome →
+    outcome.put ≡ Some put → IsHeldFit plain file put.bytes
 
 -- where what names hold is told, a run has one outcome, unless the shelf fails
 abbrev pub FitIsOne : Type 0
@@ -29,12 +34,12 @@ FitIsOne = (words : List (List ℕ)) (files : Files) (one other : Outcome) → I
 
 -- where a file is accepted, its fit is the full save of the document that it holds
 abbrev pub FitsSaveAccepted : Type 0
-FitsSaveAccepted = (out file : List ℕ) (outcome : Outcome) (document : Document) (put : PutFile) →
-    IsAccepted file → HoldsDocument file document → IsFitted out file outcome → outcome.put ≡ Some put →
+FitsSaveAccepted = (plain : Bool) (out file : List ℕ) (outcome : Outcome) (document : Document) (put : PutFile) →
+    IsAccepted file → HoldsDocument file document → IsFitted plain out file outcome → outcome.put ≡ Some put →
     put.bytes ≡ full_save_image document
 
 -- the fit of a fit is the same bytes
 abbrev pub FitsAreFixed : Type 0
-FitsAreFixed = (out file : List ℕ) (outcome : Outcome) (put : PutFile) (other : List ℕ) (again : Outcome)
-    (put_again : PutFile) → IsFitted out file outcome → outcome.put ≡ Some put →
-    IsFitted other put.bytes again → again.put ≡ Some put_again → put_again.bytes ≡ put.bytes
+FitsAreFixed = (plain plain_again : Bool) (out file : List ℕ) (outcome : Outcome) (put : PutFile) (other : List ℕ)
+    (again : Outcome) (put_again : PutFile) → IsFitted plain out file outcome → outcome.put ≡ Some put →
+    IsFitted plain_again other put.bytes again → again.put ≡ Some put_again → put_again.bytes ≡ put.bytes

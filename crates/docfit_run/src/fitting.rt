@@ -13,7 +13,7 @@ use crate::lines::{fit_line, needs_line};
 use crate::status::STATUS_TOO_LARGE;
 use doc_bits::{Bytes, Memory, Text, drop_then};
 use doc_columns::columns_are_formed;
-use doc_fit::{OpenedAny, open_any, refusal};
+use doc_fit::{OpenedAny, open_fit, refusal};
 use doc_mends::push_mends;
 use doc_outer::Shelf;
 use full_save::{SaveFault, full_of_columns};
@@ -26,31 +26,44 @@ pub(crate) fn fit_name<S: Shelf>(
     shelf: &mut S,
     name: &str,
     out: &str,
+    plain: bool,
 ) -> Result<Ending, Memory>
     ensures read { IsOnlyRead S.Shelf shelf.old shelf.new }
-    ensures ends { IfOk result (λ e. FitsFile name.now out.now (S.held shelf.old) e) }
+    ensures ends { IfOk result (λ e. FitsFile plain name.now out.now (S.held shelf.old) e) }
     ensures cause { IfOk result (λ e. IsCaused S.Shelf shelf.old shelf.new e.status) }
 {
     let taken = take_file(alloc, shelf, name)?;
-    fit_taken(alloc, name, taken, out)
+    fit_taken(alloc, name, taken, out, plain)
 }
 
 /// Fits what was read.
-fn fit_taken(alloc: Global, name: &str, taken: Stage<Bytes>, out: &str) -> Result<Ending, Memory>
-    ensures { IfOk result (λ e. Follows taken (JudgesFit name.now out.now) e) }
+fn fit_taken(
+    alloc: Global,
+    name: &str,
+    taken: Stage<Bytes>,
+    out: &str,
+    plain: bool,
+) -> Result<Ending, Memory>
+    ensures { IfOk result (λ e. Follows taken (JudgesFit plain name.now out.now) e) }
 {
     match taken {
-        Stage::Go(bytes) => fit_file(alloc, name, bytes.as_slice(), out),
+        Stage::Go(bytes) => fit_file(alloc, name, bytes.as_slice(), out, plain),
         Stage::Stop(ending) => Ok(ending),
     }
 }
 
 /// Fits a file.
-fn fit_file(alloc: Global, name: &str, file: &[u8], out: &str) -> Result<Ending, Memory>
-    ensures judges { IfOk result (λ e. JudgesFit name.now out.now file.now e) }
+fn fit_file(
+    alloc: Global,
+    name: &str,
+    file: &[u8],
+    out: &str,
+    plain: bool,
+) -> Result<Ending, Memory>
+    ensures judges { IfOk result (λ e. JudgesFit plain name.now out.now file.now e) }
     ensures bytes { AreBytes file.now }
 {
-    match open_any(alloc, file) {
+    match open_fit(alloc, file, plain) {
         Ok(opened) => {
             let ending = save(alloc, &opened, out);
             drop_then(opened, ending)

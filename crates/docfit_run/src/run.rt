@@ -1,5 +1,5 @@
 // One run of docfit: what it prints is made first; then its file is put, and then it is printed.
-ghost use Rattle.std.specs.Prelude.{◌≡◌, ◌≢◌, ◌↔◌, ℕ, List, map, None, Some, IfOk, OnErr};
+ghost use Rattle.std.specs.Prelude.{◌≡◌, ◌≢◌, ◌↔◌, ℕ, Bool, List, map, None, Some, IfOk, OnErr};
 ghost use Rattle.std.specs.String.{string_bytes};
 ghost use Rattle.doc_outer.specs.Counts.{Rose};
 ghost use Rattle.doc_outer.specs.Held.{Files, StaysAt};
@@ -26,11 +26,11 @@ pub const PROGRAM: &str = "docfit";
 
 /// How the program is called.
 pub const HELP: &str =
-    "usage: docfit IN OUT\n\nReads IN, a document of Word 97 to 2007, and puts its document under OUT as a file that docbin accepts. Prints a line\nfor each stream, storage, part and story that is left out, and for each mend. OUT may be IN.\n  --help     this text\n  --version  the version\n";
+    "usage: docfit [--plain] IN OUT\n\nReads IN, a document of Word 97 to 2007, and puts its document under OUT as a file that docbin accepts. Its endnotes\nbecome notes. Prints a line for each stream, storage, part and story that is left out, and for each mend. OUT may be\nIN.\n  --plain    endnotes are left out\n  --help     this text\n  --version  the version\n";
 
 pub const VERSION: &str = "docfit 1.0.0\n";
 
-const USAGE: &str = "usage: docfit IN OUT | --help | --version\n";
+const USAGE: &str = "usage: docfit [--plain] IN OUT | --help | --version\n";
 
 /// Runs the words over the files of a shelf, and answers the status. Why the run ends so is told to `reasons`, whose
 /// faults change nothing.
@@ -62,7 +62,8 @@ pub fn docfit_run<S: Shelf, K: Sink, E: Sink>(
     ensures usage { result ≢ 5 → result ≢ 6
         → (result ≡ 2 ↔ requested (map string_bytes words.now) ≡ None) }
 
-    // What is put is accepted, and holds the mended document of what the file means.
+    // What is put is accepted, and holds the mended document of what the file means, with its endnotes as notes where
+    // they can be, unless it is to be plain.
     ensures held { FitsAreHeld }
 
     // Words and told files have one outcome, unless the shelf fails.
@@ -75,8 +76,8 @@ pub fn docfit_run<S: Shelf, K: Sink, E: Sink>(
     ensures fixed { FitsAreFixed }
 
     // A file in whose way nothing stands is fitted, unless a fault rose or memory was refused.
-    ensures complete { (file name : List ℕ) (files : Files)
-        → requested (map string_bytes words.now) ≡ Some (fit file name)
+    ensures complete { (plain : Bool) (file name : List ℕ) (files : Files)
+        → requested (map string_bytes words.now) ≡ Some (fit plain file name)
         → S.held shelf.old ≡ Some files → CanFit files file
         → ¬ (Rose (S.faults shelf.old) (S.faults shelf.new))
         → ¬ (Rose (K.faults out.old) (K.faults out.new)) → result ≢ 6 → result ≡ 0 }
@@ -148,7 +149,7 @@ pub fn ending_of<S: Shelf>(alloc: Global, words: &[String], shelf: &mut S) -> Re
     ensures cause { IfOk result (λ e. IsCaused S.Shelf shelf.old shelf.new e.status) }
 {
     match asked_by(words) {
-        Some(Asked::Fit { file, out }) => fit_name(alloc, shelf, file, out),
+        Some(Asked::Fit { plain, file, out }) => fit_name(alloc, shelf, file, out, plain),
         Some(Asked::Help) => print_ending(alloc, STATUS_DONE, HELP),
         Some(Asked::Version) => print_ending(alloc, STATUS_DONE, VERSION),
         None => print_ending(alloc, STATUS_USAGE, USAGE),

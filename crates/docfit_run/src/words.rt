@@ -10,8 +10,12 @@ pub enum Asked<'a> {
     Help,
     /// Which program this is.
     Version,
-    /// The document of a file, under a name.
-    Fit { file: &'a str, out: &'a str },
+    /// The document of a file, under a name: plain, or with its endnotes as notes.
+    Fit {
+        plain: bool,
+        file: &'a str,
+        out: &'a str,
+    },
 }
 
 /// What the words ask for, where they ask for something.
@@ -23,11 +27,29 @@ pub(crate) fn asked_by(words: &[String]) -> Option<Asked<'_>>
     match words {
         [word] => asked_alone(word.as_str()),
         [file, out] => Some(Asked::Fit {
+            plain: false,
             file: file.as_str(),
             out: out.as_str(),
         }),
+        [word, file, out] => asked_plain(word.as_str(), file.as_str(), out.as_str()),
         _ => None,
     }
+}
+
+/// What a word before two names asks for.
+fn asked_plain<'a>(word: &str, file: &'a str, out: &'a str) -> Option<Asked<'a>>
+    ensures { MatchOption result
+        (requested (word.now ∷ file.now ∷ out.now ∷ []) ≡ None)
+        (λ asked. requested (word.now ∷ file.now ∷ out.now ∷ []) ≡ Some (request_of asked)) }
+{
+    if word == "--plain" {
+        return Some(Asked::Fit {
+            plain: true,
+            file,
+            out,
+        });
+    }
+    None
 }
 
 /// What one word asks for.

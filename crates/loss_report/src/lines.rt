@@ -21,7 +21,8 @@ impl Model for LossLines {
 }
 
 impl LossLines {
-    pub(crate) fn new(alloc: Global) -> LossLines
+    /// No lines.
+    pub fn new(alloc: Global) -> LossLines
         ensures { result ≡ [] }
     {
         LossLines {

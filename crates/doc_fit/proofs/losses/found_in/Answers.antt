@@ -1,8 +1,9 @@
-use Rattle.std.proofs.Common.{◌≡◌, ◌∙◌, ◌++◌, ap, sym, subst, ℕ, List, map}
+use Rattle.std.proofs.Common.{◌≡◌, ◌≤◌, ◌∙◌, ◌++◌, ap, sym, subst, arith, ℕ, List, map, length}
 use Rattle.doc_bits.specs.Rules.{Hold}
 use Rattle.cfb_streams.specs.Contents.{HasNamed}
 use Rattle.cfb_streams.specs.Names.{wd_name}
 use Rattle.fib_versions.specs.VersionRules.{version_rules}
+use Rattle.fib_versions.proofs.VersionLemmas.{long_enough}
 use Rattle.file_rules.specs.FileRules.{table_stream_name}
 use Rattle.file_rules.proofs.NameLemmas.{named_one}
 use Rattle.loss_report.specs.Losses.{losses}
@@ -44,6 +45,15 @@ text_losses_of-requires-clause-version c =
     (named_one streams.file c.args.lifted.now.outer.container wd_name streams.wd c.main_stream-wd.result.now
     streams.has_contents streams.named c.main_stream-wd.ensures) streams.fib
 
+pub story_begins-requires : goal.story_begins-requires
+story_begins-requires c =
+    let streams = c.requires in
+    let wd = named_one streams.file c.args.lifted.now.outer.container wd_name streams.wd c.main_stream-wd.result.now
+    streams.has_contents streams.named c.main_stream-wd.ensures in
+    let long : 900 ≤ length c.main_stream-wd.result.now = subst (λ (w : List ℕ). 900 ≤ length w) wd
+    (long_enough streams.wd streams.fib) in
+    omega (arith, long)
+
 pub returns : goal.returns
 returns c =
     let lifted = c.args.lifted.now in
@@ -81,4 +91,5 @@ returns c =
     record {
       losses = lines;
       marks = subst (λ (w : List ℕ). AreMarksOf w table c.in_ok-marks.marks) fib c.in_ok-marks.ensures;
+      begins = c.story_begins.ensures;
     }

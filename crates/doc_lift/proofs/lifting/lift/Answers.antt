@@ -45,6 +45,7 @@ returns-in-Ok-lift_contents c =
       has_text = is.has_text;
       fib = is.fib;
       units = is.units;
+      deleted = is.deleted;
       means = file_means file contents found.document outer.1.0 is.means;
       formed = is.formed;
     })

@@ -16,14 +16,15 @@ returns-in-Ok-clause-judges c =
     let opened = c.in-Ok.opened in
     rw c.drop_then.ensures
     (IfOk-weaker c.save-ending.result (λ e. IsSaved out opened.lifted.document opened.losses opened.mends.items e)
-    (λ e. JudgesFit name out file e) (λ e is. opened_fits name out file opened e c.in-Ok.ensures is)
+    (λ e. JudgesFit c.args.plain name out file e)
+    (λ e is. opened_fits c.args.plain name out file opened e c.in-Ok.ensures is)
     c.save-ending.ensures)
 
 pub returns-in-Err-clause-judges : goal.returns-in-Err-clause-judges
 returns-in-Err-clause-judges c =
     let name = c.args.name.now in
     let file = c.args.file.now in
-    IfOk-weaker c.refusal.result (λ e. IsFitRefused file name e) (λ e. JudgesFit name c.args.out.now file e)
+    IfOk-weaker c.refusal.result (λ e. IsFitRefused file name e) (λ e. JudgesFit c.args.plain name c.args.out.now file e)
     (λ e is. inl is) c.refusal.ensures
 
 pub returns-in-Ok-clause-bytes : goal.returns-in-Ok-clause-bytes

@@ -4,5 +4,5 @@ use Rattle.docfit_run.proofs.fitting.fit_taken.Goals as goal
 
 pub returns-in-Go : goal.returns-in-Go
 returns-in-Go c =
-    whole_follows c.args.taken c.in-Go.bytes c.as_slice.result.now (JudgesFit c.args.name.now c.args.out.now)
+    whole_follows c.args.taken c.in-Go.bytes c.as_slice.result.now (JudgesFit c.args.plain c.args.name.now c.args.out.now)
     c.fit_file.result c.in-Go.is c.as_slice.ensures c.fit_file.ensures.bytes c.fit_file.ensures.judges

@@ -49,9 +49,9 @@ returns-in-Ok-write_all-clause-usage g c no_sink no_memory =
     rw c.status.ensures (ending_usage words (g.S.Shelf.held c.args.shelf.now) c.in-Ok.ending c.in-Ok.ensures.ending)
 
 pub returns-in-Ok-write_all-clause-complete : goal.returns-in-Ok-write_all-clause-complete
-returns-in-Ok-write_all-clause-complete g c file name files asked told can no_fault no_sink_fault memory =
+returns-in-Ok-write_all-clause-complete g c plain file name files asked told can no_fault no_sink_fault memory =
     let words = map string_bytes c.args.words.now in
     let ending = c.in-Ok.ending in
     let is = subst (λ held. IsEnding words held ending) told c.in-Ok.ensures.ending in
-    c.status.ensures ∙ complete words file name files ending asked can is
+    c.status.ensures ∙ complete words plain file name files ending asked can is
     (λ e. no_fault (c.in-Ok.ensures.cause.shelf_fault e))

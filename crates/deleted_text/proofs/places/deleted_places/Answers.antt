@@ -1,0 +1,19 @@
+use Rattle.std.proofs.Common.{refl}
+use Rattle.std.proofs.lemmas.Result.{IfOk-weaker}
+use Rattle.fkp_pages.specs.Bin.{IsBinTable}
+use Rattle.deleted_text.specs.Places.{AreDeletions}
+use Rattle.deleted_text.proofs.places.deleted_places.Goals as goal
+
+pub returns-then-not-is_bin_table : goal.returns-then-not-is_bin_table
+returns-then-not-is_bin_table c = λ table. absurd (cc (c.if-not-is_bin_table.ensures.1 table))
+
+pub flags_of-requires : goal.flags_of-requires
+flags_of-requires c = c.if-not-is_bin_table.ensures.0 refl
+
+pub returns : goal.returns
+returns c =
+    let wd = c.args.wd.now in
+    let bin = c.args.bin.now in
+    let places = c.args.places.now in
+    IfOk-weaker c.flags_of.result (λ flags. AreDeletions wd bin places flags.items)
+    (λ flags. IsBinTable bin → AreDeletions wd bin places flags.items) (λ flags are table. are) c.flags_of.ensures

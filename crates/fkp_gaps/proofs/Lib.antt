@@ -1,0 +1,4 @@
+pub mod GapLemmas
+pub mod RangeLemmas
+pub mod PageLemmas
+pub mod FilledLemmas

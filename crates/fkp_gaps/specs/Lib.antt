@@ -1,0 +1,4 @@
+pub mod Gaps
+pub mod Filled
+pub mod Ranges
+pub mod Laws

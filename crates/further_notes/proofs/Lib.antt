@@ -1,0 +1,4 @@
+pub mod MeantLemmas
+pub mod KindLemmas
+pub mod SourceLemmas
+pub mod SpliceLemmas

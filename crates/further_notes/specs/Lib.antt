@@ -1,0 +1,3 @@
+pub mod EndnoteFiles
+pub mod Sources
+pub mod Splices
