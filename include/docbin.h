@@ -1,7 +1,7 @@
 /* docbin: documents of Word 97, by the library libdocbin_c.a. Each call takes bytes and gives bytes; no file is read or written.
 
    A call serves one command of the program `docbin` (the last four: of `docfit` and `docview`) and answers its status, the text that the command
-   prints, and the bytes that it puts.
+   prints, and the bytes that it writes.
    The caller lends room for both. `text_len` and `bytes_len` tell how much there is; the rooms hold as much of it as they can, and behind that
    what stood there. So a call with rooms of length 0 asks for the lengths, and a call whose rooms were too small is made once more.
 
@@ -47,7 +47,7 @@ enum docbin_status {
 /* What a call came to. */
 typedef struct {
   uint64_t text_len;  /* how long the text is */
-  uint64_t bytes_len; /* how long the bytes are; 0 where the command puts none */
+  uint64_t bytes_len; /* how long the bytes are; 0 where the command writes none */
   uint32_t status;    /* an enum docbin_status */
 } docbin_answer;
 

@@ -241,12 +241,13 @@ class Homes:
 
 def rename_words(text, old, new, pattern):
     """A text with another name for a word that is no field."""
-    left, at, before = [], 0, ""
+    left, at, before = [], 0, None
     for it in tokens_of(pattern, text):
-        if it.text == old and it.kind == "word" and before != ".":
+        is_field = before and before.text == "." and before.end == it.start
+        if it.text == old and it.kind == "word" and not is_field:
             left += [text[at : it.start], new]
             at = it.end
-        before = it.text
+        before = it
     return "".join([*left, text[at:]])
 
 
@@ -384,19 +385,19 @@ def doubled_lemmas(sources):
             there = re.search(rf"^(?:pub )?{re.escape(name)} :([^\n]*\n(?:[ \t]+\S[^\n]*\n)*)", file.text, re.M)
             if not there:
                 continue
-            left, bound, before = [], {}, ""
+            left, bound, before = [], {}, None
             for token in tokens_of(ANTT, there.group(1)):
-                word = token.text
+                word, is_field = token.text, before and before.text == "." and before.end == token.start
                 if token.kind == "comment":
                     continue
-                if word in known and before != ".":
+                if word in known and not is_field:
                     word = str(known[word])
-                elif word in file.items and before != ".":
+                elif word in file.items and not is_field:
                     word = f"{crate} {module} {word}"
-                elif re.match(r"[A-Za-z_]", word) and before != ".":
+                elif re.match(r"[A-Za-z_]", word) and not is_field:
                     word = bound.setdefault(word, f"v{len(bound)}")
                 left.append(word)
-                before = token.text
+                before = token
             found.setdefault(" ".join(left), set()).add((crate, f"{crate}.{'.'.join(module)}.{name}"))
     return found
 

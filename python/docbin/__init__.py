@@ -28,7 +28,7 @@ A document of a later program is fitted first, and read as people read it:
 'Hello\\n'
 
 The calls are those of the library libdocbin.so (DOCBIN_LIBRARY, or beside this file); where it is not there, runs of the programs (DOCBIN, DOCFIT
-and DOCVIEW, or docbin, docfit and docview in the PATH), with the same results. What is proved of a call stands in crates/docbin_c, crates/doc_run,
+and DOCVIEW, or docbin, docfit and docview in the PATH), with the same results. What is proved of a call is said in crates/docbin_c, crates/doc_run,
 crates/docfit_run and crates/docview_run; this package hands bytes over and proves nothing."""
 import json as _json
 import operator

@@ -1,4 +1,4 @@
-"""`python -m docbin COMMAND ..`: the commands of the program `docbin` that take files and put one at most, by the package's own calls.
+"""`python -m docbin COMMAND ..`: the commands of the program `docbin` that take files and write one at most, by the package's own calls.
 
     text streams check show outline title FILE       what they print
     props FILE POSITION                              the same

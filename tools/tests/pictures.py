@@ -2,7 +2,9 @@
 import importlib.machinery
 import importlib.util
 import os
+import re
 import struct
+import urllib.parse
 
 from tool import TOP, VIEWER, Tool, needs_viewer
 
@@ -69,8 +71,21 @@ class Pictures(Tool):
         self.assertEqual((self.read("p/picture-1.png"), self.read("p/picture-2.jpg")), (PNG, b"mine"))
         status, printed, said = self.view("html", "--pictures", "p", "--force", "f.doc")
         self.assertEqual((status, said), (0, ""))
-        self.assertIn("[picture]", printed)
+        self.assertIn('<p><img src="p/picture-1.png" alt=""><img src="p/picture-2.jpg" alt=""><img src="p/picture-1.png" alt="">lo</p>', printed)
         self.assertEqual(self.read("p/picture-2.jpg"), JPEG)
+
+    def test_a_page_names_the_files_that_are_there(self):
+        folder = 'a "<é&%:\n'
+        os.mkdir(self.path(folder))
+        status, printed, said = self.view("html", "--pictures", folder, "f.doc")
+        self.assertEqual((status, said), (0, ""))
+        named = [urllib.parse.unquote(src) for src in re.findall('<img src="([^"]*)" alt="">', printed)]
+        self.assertEqual(named, [f"{folder}/picture-1.png", f"{folder}/picture-2.jpg", f"{folder}/picture-1.png"])
+        self.assertNotIn("[picture]", printed)
+
+    def test_without_files_a_page_names_none(self):
+        status, printed, said = self.view("html", "f.doc")
+        self.assertEqual((status, said, printed.count("[picture]"), "<img" in printed), (0, "", 3, False))
 
     def test_a_folder_that_is_not_there(self):
         status, printed, said = self.view("text", "--pictures", "none", "f.doc")

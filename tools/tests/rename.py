@@ -24,7 +24,7 @@ FILES = {
         "    let counted_twice = counted(beside.named);\n    if counted_twice > MOST || !is_right(TWICE) {\n        return 0;\n    }\n    named(beside)\n}\n"
     ),
     "crates/high/proofs/Lib.antt": "pub mod Words\n",
-    "crates/high/proofs/Words.antt": "use Rattle.std.proofs.Common.{ℕ, ◌≡◌, refl}\n\nagain : (m : ℕ) → m ≡ m\nagain m = refl\n\npub told : (m : ℕ) → m ≡ m\ntold m = again m\n",
+    "crates/high/proofs/Words.antt": "use Rattle.std.proofs.Common.{ℕ, ◌≡◌, refl}\n\nagain : (m : ℕ) → m ≡ m\nagain m = refl\n\npub told : (m : ℕ) → m ≡ m\ntold m = (λ k. again k) m\n",
     "crates/high/proofs/task/named/Answers.antt": (
         "use Rattle.high.proofs.task.named.Goals as goal\n\npub returns-then : goal.returns-then\nreturns-then c = c.counted-counted_twice.ensures (c.if-counted_twice-gt-MOST.true) c.args.beside.named\n"
     ),
@@ -35,7 +35,7 @@ FILES = {
     ),
     "crates/low/proofs/kinds/steps/Answers.antt": (
         "use Rattle.low.specs.declared.kinds.Kind.TheVariants.{Settings, Other}\nuse Rattle.low.proofs.kinds.steps.Goals as goal\n\n"
-        "pub told-told-requires : goal.told-told-requires\ntold-told-requires c = is Settings c.in_ok-reached.reached.items c.in_ok-reached.ensures (c.reached.result) (c.told-told.ensures)\n\npub returns-clause-told : goal.returns-clause-told\nreturns-clause-told c = c.in_ok-reached.ensures.told\n"
+        "pub told-told-requires : goal.told-told-requires\ntold-told-requires c = is Settings c.in_ok-reached.reached.items c.in_ok-reached.ensures (c.reached.result) (c.told-told.ensures)\n\npub returns-clause-told : goal.returns-clause-told\nreturns-clause-told c = c.in_ok-reached.ensures.told\n\npub steps-requires : goal.steps-requires\nsteps-requires c = record { told = c.told-told.result; reached = c.reached.ensures }\n"
     ),
     "crates/high/proofs/task/named/Invariants.antt": "use Rattle.high.proofs.task.named.Goals as goal\n\npub then-le-MOST-clause : goal.then-le-MOST-clause\nthen-le-MOST-clause c = c.if-gt-MOST.true\n",
     "docs/GUIDE.md": "# Guide\n\nIt prints `FILE: reached`, and has `MOST`.\n",
@@ -109,7 +109,7 @@ class Rename(Tool):
 
     def test_a_lemma_has_one_home(self):
         self.said(MAP, "--write")
-        text = self.has("crates/high/proofs/Words.antt", "use Rattle.base.proofs.Truths.{same}", "told m = same m")
+        text = self.has("crates/high/proofs/Words.antt", "use Rattle.base.proofs.Truths.{same}", "told m = (λ k. same k) m")
         self.assertNotIn("again", text)
         self.assertNotIn("refl", text)
         self.has("crates/base/src/counts.rt", "pub const TWICE: u8 = 2;")
@@ -119,6 +119,7 @@ class Rename(Tool):
         self.said(MAP, "--write")
         text = self.has("crates/base/proofs/kinds/steps/Answers.antt", "tell-told-requires : goal.tell-told-requires\ntell-told-requires c", "is Properties c.in_ok-reached.reached.items c.in_ok-reached.ensures (c.reach.result)\n    (c.tell-told.ensures)")
         self.assertIn("TheVariants.{Properties, Other}", text)
+        self.assertIn("record { told = c.tell-told.result; reached = c.reach.ensures }", text)
         self.assertIn("pub returns-clause-told : goal.returns-clause-told\nreturns-clause-told c = c.in_ok-reached.ensures.told\n", text)
         self.has("crates/base/src/kinds.rt", "    Properties,\n", "ensures told {", "let reached = reach(count)?;", "let told = tell(reached);", '": reached\\n"')
         self.has("crates/high/proofs/task/task/Invariants.antt", "pub then-le-MAX-clause : goal.then-le-MAX-clause\nthen-le-MAX-clause c = c.if-gt-MAX.true")
@@ -132,7 +133,7 @@ class Rename(Tool):
         self.put("house/crates/low/proofs/More.antt", "use Rattle.high.proofs.Public.{again as twice, told}\n\nmore : (n : ℕ) → n ≡ n\nmore n = twice (told n)\n")
         status, printed, said = self.said("[homes]\nstd.proofs.Common.self_is = high.proofs.Words.again\n", "--write")
         self.assertEqual((status, said), (0, ""), printed)
-        self.assertNotIn("again", self.has("crates/high/proofs/Words.antt", "use Rattle.std.proofs.Common.{ℕ, ◌≡◌, self_is}", "told m = self_is m"))
+        self.assertNotIn("again", self.has("crates/high/proofs/Words.antt", "use Rattle.std.proofs.Common.{ℕ, ◌≡◌, self_is}", "told m = (λ k. self_is k) m"))
         self.has("crates/high/proofs/Public.antt", "pub use Rattle.high.proofs.Words.{told}\n")
         self.has("crates/low/proofs/More.antt", "use Rattle.high.proofs.Public.{told}\nuse Rattle.std.proofs.Common.{self_is as twice}\n")
 
@@ -157,6 +158,31 @@ class Rename(Tool):
         printed = self.tool("--top", self.path("house"), "--counts", "--names")[1]
         self.assertIn("constants of one name, type and value: 1 of 2 in two crates or more, 1 copies\n    high::more::MOST low::counts::MOST\n", printed)
         self.assertIn("statements of lemmas: 1 of 1 in two crates or more, 1 copies\n    high.proofs.Words.again high.proofs.Words.told low.proofs.Facts.same\n", printed)
+
+    def test_a_crate_goes_into_another_one(self):
+        self.put("house/crates/top/src/lib.rt", "//! The top.\n\nuse high::twice;\nuse low::{MOST, counted};\n")
+        self.put("house/crates.txt", FILES["crates.txt"] + "top: high low\n")
+        self.put("house/crates/low/README.md", "# low\n\nNumbers.\n\n## Choices\n\n- One.\n")
+        self.put("house/crates/high/README.md", "# high\n\nWhat stands on low.\n\n## Choices\n\n- Two.\n")
+        self.put("house/docs/CLAIMS.md", "# Claims\n\n## low\n\n- A claim, [low](../crates/low/src/beside.rt).\n\n## high\n\n- Another.\n")
+        self.put("house/crates/high/src/lib.rt", "//! What stands on them.\n\nmod task;\n\npub use task::twice;\n")
+        status, printed, said = self.said("[merges]\nlow = high\n", "--write")
+        self.assertEqual((status, said), (0, ""), printed)
+        self.assertEqual(self.read("house/crates.txt").decode(), "# what stands on them\nhigh: std_of_kit\ntop: high\n")
+        self.has("crates/high/src/lib.rt", "mod beside;\nmod counts;\nmod kinds;\nmod task;\n", "pub use beside::Beside;\npub use counts::{MOST, counted, is_right};\npub use task::twice;\n")
+        self.has("crates/high/src/task.rt", "use crate::{Beside, MOST, counted, is_right};", "using(crate::proofs::Facts::same)")
+        self.has("crates/high/proofs/Lib.antt", "pub mod Words\npub mod Facts\n")
+        self.has("crates/high/specs/Beside.antt", "use Rattle.high.specs.declared.beside.Beside.{Beside}")
+        self.has("crates/top/src/lib.rt", "use high::{MOST, counted, twice};\n")
+        self.assertEqual(self.read("house/docs/CLAIMS.md").decode(), "# Claims\n\n## high\n\n- A claim, [high](../crates/high/src/beside.rt).\n- Another.\n")
+        self.assertEqual(self.read("house/crates/high/README.md").decode(), "# high\n\nWhat stands on high.\n\nNumbers.\n\n## Choices\n\n- Two.\n- One.\n")
+        self.assertFalse(os.path.exists(self.path("house/crates/low")))
+
+    def test_a_module_that_both_crates_have(self):
+        self.put("house/crates/high/src/counts.rt", "// Counts too.\n")
+        status, _, said = self.said("[merges]\nlow = high\n", "--write")
+        self.assertEqual(status, 1)
+        self.assertIn("crates/low/src/counts.rt is in high too: give one of them another name first", said)
 
     def test_a_second_run_finds_nothing(self):
         self.said(MAP, "--write")

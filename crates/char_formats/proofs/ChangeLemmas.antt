@@ -141,10 +141,10 @@ pub on-after : (act : Act) (change : Change) → IsChangeOf act change → (i : 
 on-after act change h i low = sym (h.flags i low None)
 
 -- functions that agree have the same format
-pub format_in-same : (one other : ℕ → Option (List ℕ)) → ((code : ℕ) → one code ≡ other code) → format_in one ≡
-    format_in other
+pub format_in-same : (picture : Option ℕ) (one other : ℕ → Option (List ℕ)) → ((code : ℕ) → one code ≡ other code) →
+    format_in picture one ≡ format_in picture other
 unfolding format_in
-format_in-same one other same =
+format_in-same picture one other same =
     rw (
       same 0x0835,
       same 0x0836,

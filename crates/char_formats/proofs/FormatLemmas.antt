@@ -14,6 +14,7 @@ use Rattle.effective_props.specs.Layers.{AreNamedLayers}
 use Rattle.char_formats.specs.declared.change.Change.{Change}
 use Rattle.char_formats.specs.declared.format.CharFormat.{CharFormat}
 use Rattle.char_formats.specs.Formats.{format_in, IsCharFormat}
+use Rattle.char_formats.specs.Locations.{location_in}
 use Rattle.char_formats.specs.Changes.{Act, with_layer, over_all, IsChangeOf}
 use Rattle.char_formats.specs.Styles.{IsStyleChange, IsNamedChange, IsUnderChange}
 use Rattle.char_formats.specs.Laws.{CharFormatIsOne, CharFormatIsThere}
@@ -61,7 +62,7 @@ value_through style named direct code =
 pub format_said : (sheet : Sheet) (istd : ℕ) (direct : Properties) (under change : Change) (format : CharFormat) →
     IsUnderChange sheet istd (named_style direct) under → ((act : Act) → IsChangeOf act under → IsChangeOf
     (with_layer direct act) change) → ((act : Act) → IsChangeOf act change → format ≡ format_in
-    (λ code. act code None)) → IsCharFormat sheet istd direct format
+    (location_in direct) (λ code. act code None)) → IsCharFormat sheet istd direct format
 format_said sheet istd direct under change format h laid said =
     let act : Act = λ code before. over_all h.of_named code (over_all h.of_style code before) in
     record {
@@ -74,7 +75,7 @@ format_said sheet istd direct under change format h laid said =
         are = refl;
       };
       said = said (with_layer direct act) (laid act h.said)
-          ∙ format_in-same (λ code. with_layer direct act code None) (effective_value (layers_of h.of_style h.of_named
+          ∙ format_in-same (location_in direct) (λ code. with_layer direct act code None) (effective_value (layers_of h.of_style h.of_named
           direct)) (value_through h.of_style h.of_named direct);
     }
 
@@ -96,7 +97,7 @@ format_one sheet istd direct one other h k =
     let named = named_layers_one sheet (named_style direct) h.are.of_named k.are.of_named h.are.named k.are.named in
     let layers : h.layers ≡ k.layers = h.are.are ∙ (ap (λ l. layers_of l h.are.of_named direct) style ∙ (ap (λ l.
     layers_of k.are.of_style l direct) named ∙ sym k.are.are)) in
-    h.said ∙ (ap (λ l. format_in (effective_value l)) layers ∙ sym k.said)
+    h.said ∙ (ap (λ l. format_in (location_in direct) (effective_value l)) layers ∙ sym k.said)
 
 -- ---- and it has one
 
@@ -131,7 +132,7 @@ format_there sheet istd direct sound kind =
     let chain = sound.chains istd some in
     let style : List Properties = properties_of_styles character_properties sheet chain.0 in
     let named = named_there sheet (named_style direct) sound in (
-      format_in (effective_value (layers_of style named.0 direct)),
+      format_in (location_in direct) (effective_value (layers_of style named.0 direct)),
       record {
         layers = layers_of style named.0 direct;
         are = record {

@@ -7,6 +7,7 @@ use Rattle.effective_props.specs.Toggles.{is_byte}
 use Rattle.effective_props.specs.Values.{effective_value}
 use Rattle.effective_props.specs.Layers.{AreCharacterLayers}
 use Rattle.char_formats.specs.declared.format.CharFormat.{CharFormat}
+use Rattle.char_formats.specs.Locations.{location_in}
 use Rattle.char_formats.specs.declared.format.Position.{Position}
 use Rattle.char_formats.specs.declared.format.Symbol.{Symbol}
 use Rattle.char_formats.specs.declared.format.Position.TheVariants.{Normal, Raised, Lowered}
@@ -35,9 +36,10 @@ font_of None = None
 font_of (Some value) = if length value == 2 then Some (u16_at value 0) else None
 
 -- [MS-DOC] sprmCFBold, sprmCFItalic, sprmCKul, sprmCFStrike and sprmCFDStrike, sprmCFSmallCaps, sprmCFCaps, sprmCIss,
--- sprmCFVanish, sprmCFSpec, sprmCFData, sprmCFOle2 and sprmCFObj, sprmCSymbol, sprmCRgFtc2
-unfoldable pub format_in : (ℕ → Option (List ℕ)) → CharFormat
-format_in values = record {
+-- sprmCFVanish, sprmCFSpec, sprmCFData, sprmCFOle2 and sprmCFObj, sprmCSymbol, sprmCRgFtc2, of a character that names a
+-- picture or none
+unfoldable pub format_in : Option ℕ → (ℕ → Option (List ℕ)) → CharFormat
+format_in picture values = record {
   bold = is_set (values 0x0835);
   italic = is_set (values 0x0836);
   underline = is_set (values 0x2A3E);
@@ -51,10 +53,11 @@ format_in values = record {
   object = is_set (values 0x080A) || is_set (values 0x0856);
   symbol = symbol_of (values 0x6A09);
   font = font_of (values 0x4A51);
+  picture = picture;
 }
 
 -- the format of a character, with these direct properties, in a paragraph of the style
 pub record IsCharFormat (sheet : Sheet) (istd : ℕ) (direct : Properties) (format : CharFormat) : Type 0 where
   pub layers : List Properties
   pub are : AreCharacterLayers sheet istd direct layers
-  pub said : format ≡ format_in (effective_value layers)
+  pub said : format ≡ format_in (location_in direct) (effective_value layers)

@@ -1,3 +1,4 @@
+pub mod Locations
 pub mod Formats
 pub mod Flags
 pub mod Changes

@@ -82,9 +82,9 @@ impl Change {
         self.font = font_after(self.font, code, value);
     }
 
-    /// The format of a character of which nothing was said before.
-    pub(crate) fn format(&self) -> CharFormat
-        ensures { (act : Act) → IsChangeOf act self.now → result ≡ format_in (λ code. act code None) }
+    /// The format of a character of which nothing was said before, and which names a picture or none.
+    pub(crate) fn format(&self, picture: Option<u32>) -> CharFormat
+        ensures { (act : Act) → IsChangeOf act self.now → result ≡ format_in picture (λ code. act code None) }
     {
         let [
             data,
@@ -114,6 +114,7 @@ impl Change {
             object: ole.is_on() | object.is_on(),
             symbol: self.symbol.unwrap_or(None),
             font: self.font.unwrap_or(None),
+            picture,
         }
     }
 }

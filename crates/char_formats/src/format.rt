@@ -39,4 +39,6 @@ pub struct CharFormat {
     pub symbol: Option<Symbol>,
     /// The number of its font in the font table, where it is no character of ASCII and of no East Asian script.
     pub font: Option<u16>,
+    /// The place in the stream `Data` that the character itself names.
+    pub picture: Option<u32>,
 }

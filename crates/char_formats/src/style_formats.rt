@@ -8,6 +8,7 @@ ghost use Rattle.char_formats.specs.Styles.{IsStyleChange, IsNamedChange, IsUnde
 
 use crate::CharFormat;
 use crate::change::Change;
+use crate::location::location_in;
 use crate::style_changes::style_changes;
 use doc_bits::Memory;
 use prop_map::PropMap;
@@ -54,7 +55,7 @@ impl StyleFormats {
     {
         let mut change = self.under_direct(istd, direct);
         change.lay_all(direct);
-        change.format()
+        change.format(location_in(direct))
     }
 
     /// The change of the style, and behind it that of the style that the direct properties name.

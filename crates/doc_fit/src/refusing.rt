@@ -31,6 +31,17 @@ const RULE_PARAGRAPH_CODES: u8 = 48;
 
 const RULE_STYLE_CODES: u8 = 51;
 
+/// The rules on places that no run of a page holds.
+const RULE_CHPX_BIN: u8 = 39;
+
+const RULE_CHPX_RUN: u8 = 41;
+
+const RULE_PAPX_BIN: u8 = 44;
+
+const RULE_PAPX_RUN: u8 = 46;
+
+const RULE_PAPX_LIST: u8 = 47;
+
 const OTHER_PROGRAM: &str =
     "of Word 95 or older, or of another program: soffice --convert-to doc makes a Word 97 document of it";
 
@@ -40,6 +51,9 @@ const OTHER_FORM: &str = "damaged: the FIB is that of no program";
 
 const CODES_NOT_SKIPPED: &str =
     "a list of settings that is cut short, or one whose codes are not skipped where it stands: save it anew in the program that made it";
+
+const GAPS_NOT_FILLED: &str =
+    "damaged: text whose formatted disk pages are not there, or a part that leaves the table stream: save it anew in the program that made it";
 
 /// [MS-DOC] FibBase: wIdent and nFib, which tell the program that wrote a file.
 #[derive(Clone, Copy)]
@@ -111,6 +125,9 @@ pub fn why_not_opened(rule: u8, file: &[u8]) -> &'static str {
         RULE_FORM => OTHER_FORM,
         RULE_PRC_CODES | RULE_CHARACTER_CODES | RULE_PARAGRAPH_CODES | RULE_STYLE_CODES => {
             CODES_NOT_SKIPPED
+        }
+        RULE_CHPX_BIN | RULE_CHPX_RUN | RULE_PAPX_BIN | RULE_PAPX_RUN | RULE_PAPX_LIST => {
+            GAPS_NOT_FILLED
         }
         _ => why_refused(rule, file),
     }

@@ -1,4 +1,5 @@
 pub mod WriteLemmas
+pub mod CellLemmas
 pub mod LabelLemmas
 pub mod TitleLemmas
 pub mod HeadLemmas

@@ -109,7 +109,7 @@ note_hidden sink a page formats manner number reference note hidden =
     let none : Places = [] in
     puts_same sink a a page page none (note_places formats manner number reference note) (sym (ap (λ (b : Bool). if b
     then shown
-    (note_path number ++ BackLink number ∷ []) (label_of reference.number) ∷ text_places (hypertext_of [] number note) (note_path number)
+    (note_path number ++ BackLink number ∷ []) (label_of reference.number) ∷ text_places (hypertext_of [] number note []) (note_path number)
     (paragraphs_of formats
     manner note) else none) hidden)) (places_none sink a page)
 
@@ -118,12 +118,12 @@ pub note_shown : {K : Type 0} (sink : Ghosts K) (a b c : K) (p q r : FormPage) (
     (number : ℕ)
     (reference : Reference) (note : List Item) → reference.is_shown ≡ true → PutsPlaces sink a p b q (shown (note_path
     number ++
-    BackLink number ∷ []) (label_of reference.number) ∷ []) → PutsPlaces sink b q c r (text_places (hypertext_of [] number note) (note_path number)
+    BackLink number ∷ []) (label_of reference.number) ∷ []) → PutsPlaces sink b q c r (text_places (hypertext_of [] number note []) (note_path number)
     (paragraphs_of
     formats manner note)) → PutsPlaces sink a p c r (note_places formats manner number reference note)
 note_shown sink a b c p q r formats manner number reference note is label text =
     let label_place = shown (note_path number ++ BackLink number ∷ []) (label_of reference.number) in
-    let rest = text_places (hypertext_of [] number note) (note_path number) (paragraphs_of formats manner note) in
+    let rest = text_places (hypertext_of [] number note []) (note_path number) (paragraphs_of formats manner note) in
     let none : Places = [] in
     puts_same sink a c p r (label_place ∷ rest) (note_places formats manner number reference note) (sym (ap (λ (b :
     Bool). if b

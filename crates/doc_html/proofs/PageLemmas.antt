@@ -12,7 +12,8 @@ use Rattle.page_out.specs.Printed.{FailsIn, Prints}
 use Rattle.html_page.specs.Pages.{page_text}
 use Rattle.form_page.specs.declared.page.PageForm.{PageForm}
 use Rattle.form_page.specs.Forms.{form_text}
-use Rattle.plain_doc.specs.declared.document.Document.{Document}
+use Rattle.doc_pictures.specs.Files.{ImageFiles}
+use Rattle.html_page.specs.Sources.{PageSource}
 use Rattle.plain_doc.specs.Sound.{IsSound}
 use Rattle.plain_doc.proofs.RightLemmas.{sound_is_valid}
 use Rattle.list_numbers.specs.declared.paragraph_values.ParagraphValues.{ParagraphValues}
@@ -33,17 +34,17 @@ use Rattle.html_page.proofs.BracketLemmas.{page_nests}
 
 -- ---- the page of a document
 
-pub form_ok : {K E : Type 0} (sink : Ghosts K) (a b c : K) (p q : Page) (form : PageForm) (document : Document) (values : List
-    ParagraphValues) (options : Options) (taken : Result (Unit {0}) E) → AreParagraphValuesOf document values → IsSound document → p.block ≡ [] → p.failed ≡ false →
-    ((formats : Formats) → AreFormats document.sheet formats → Prints sink a p b q (form_text form document (head_of formats options document) (places_of formats values
+pub form_ok : {K E : Type 0} (sink : Ghosts K) (a b c : K) (p q : Page) (form : PageForm) (source : PageSource) (values : List
+    ParagraphValues) (options : Options) (taken : Result (Unit {0}) E) → AreParagraphValuesOf source.document values → IsSound source.document → p.block ≡ [] → p.failed ≡ false →
+    ((formats : Formats) → AreFormats source.document.sheet formats → Prints sink a p b q (form_text form source (head_of formats options source.document) (places_of formats values
     options
-    document))) → OnOk taken (q.failed ≡ false) → OnOk taken (Appends (sink.written b) (sink.written c) q.block) →
-    OnOk taken ((bytes : List ℕ) × (IsFormPage form options document bytes × Appends (sink.written a) (sink.written c)
+    source.document))) → OnOk taken (q.failed ≡ false) → OnOk taken (Appends (sink.written b) (sink.written c) q.block) →
+    OnOk taken ((bytes : List ℕ) × (IsFormPage form options source bytes × Appends (sink.written a) (sink.written c)
     bytes))
-form_ok sink a b c p q form document values options (Err e) are sound empty right put fine ends = tt
-form_ok sink a b c p q form document values options (Ok u) are sound empty right put fine ends =
-    let there = formats_there document.sheet (sound_is_valid document sound).bases in
-    let bytes = encode_utf8_all (form_text form document (head_of there.0 options document) (places_of there.0 values options document)) in (
+form_ok sink a b c p q form source values options (Err e) are sound empty right put fine ends = tt
+form_ok sink a b c p q form source values options (Ok u) are sound empty right put fine ends =
+    let there = formats_there source.document.sheet (sound_is_valid source.document sound).bases in
+    let bytes = encode_utf8_all (form_text form source (head_of there.0 options source.document) (places_of there.0 values options source.document)) in (
       bytes,
       (
         record { formats = there.0; are = there.1; values = values; are_values = are; text = refl },
@@ -51,18 +52,18 @@ form_ok sink a b c p q form document values options (Ok u) are sound empty right
       ),
     )
 
-pub form_prefix : {K E : Type 0} (sink : Ghosts K) (a b c : K) (p q : Page) (form : PageForm) (document : Document) (values : List
-    ParagraphValues) (options : Options) (taken : Result (Unit {0}) E) → AreParagraphValuesOf document values → IsSound document → p.block ≡ [] → p.failed ≡ false →
-    ((formats : Formats) → AreFormats document.sheet formats → Prints sink a p b q (form_text form document (head_of formats options document) (places_of formats values
+pub form_prefix : {K E : Type 0} (sink : Ghosts K) (a b c : K) (p q : Page) (form : PageForm) (source : PageSource) (values : List
+    ParagraphValues) (options : Options) (taken : Result (Unit {0}) E) → AreParagraphValuesOf source.document values → IsSound source.document → p.block ≡ [] → p.failed ≡ false →
+    ((formats : Formats) → AreFormats source.document.sheet formats → Prints sink a p b q (form_text form source (head_of formats options source.document) (places_of formats values
     options
-    document))) → OnErr taken (q.failed ≡ false → FailsIn sink b q c []) →
+    source.document))) → OnErr taken (q.failed ≡ false → FailsIn sink b q c []) →
     OnErr taken (q.failed ≡ true → sink.written c ≡ sink.written b) → GoesOn (sink.faults b) (sink.faults c) →
-    OnErr taken ((bytes : List ℕ) × (IsFormPage form options document bytes
+    OnErr taken ((bytes : List ℕ) × (IsFormPage form options source bytes
     × AppendsPrefix (sink.written a) (sink.written c) bytes))
-form_prefix sink a b c p q form document values options (Ok u) are sound empty right put fails stays on = tt
-form_prefix sink a b c p q form document values options (Err e) are sound empty right put fails stays on =
-    let there = formats_there document.sheet (sound_is_valid document sound).bases in
-    let bytes = encode_utf8_all (form_text form document (head_of there.0 options document) (places_of there.0 values options document)) in (
+form_prefix sink a b c p q form source values options (Ok u) are sound empty right put fails stays on = tt
+form_prefix sink a b c p q form source values options (Err e) are sound empty right put fails stays on =
+    let there = formats_there source.document.sheet (sound_is_valid source.document sound).bases in
+    let bytes = encode_utf8_all (form_text form source (head_of there.0 options source.document) (places_of there.0 values options source.document)) in (
       bytes,
       (
         record { formats = there.0; are = there.1; values = values; are_values = are; text = refl },
@@ -71,65 +72,65 @@ form_prefix sink a b c p q form document values options (Err e) are sound empty 
       ),
     )
 
-pub form_rose : {K E : Type 0} (sink : Ghosts K) (a b c : K) (p q : Page) (form : PageForm) (document : Document) (values : List
-    ParagraphValues) (options : Options) (taken : Result (Unit {0}) E) → AreParagraphValuesOf document values → IsSound document → p.failed ≡ false →
-    ((formats : Formats) → AreFormats document.sheet formats → Prints sink a p b q (form_text form document (head_of formats options document) (places_of formats values
+pub form_rose : {K E : Type 0} (sink : Ghosts K) (a b c : K) (p q : Page) (form : PageForm) (source : PageSource) (values : List
+    ParagraphValues) (options : Options) (taken : Result (Unit {0}) E) → AreParagraphValuesOf source.document values → IsSound source.document → p.failed ≡ false →
+    ((formats : Formats) → AreFormats source.document.sheet formats → Prints sink a p b q (form_text form source (head_of formats options source.document) (places_of formats values
     options
-    document))) → OnErr taken (q.failed ≡ false → FailsIn sink b q c []) →
+    source.document))) → OnErr taken (q.failed ≡ false → FailsIn sink b q c []) →
     OnErr taken (q.failed ≡ true → sink.written c ≡ sink.written b) → GoesOn (sink.faults b) (sink.faults c) →
     OnErr taken (Rose (sink.faults a) (sink.faults c))
-form_rose sink a b c p q form document values options (Ok u) are sound right put fails stays on = tt
-form_rose sink a b c p q form document values options (Err e) are sound right put fails stays on =
-    let there = formats_there document.sheet (sound_is_valid document sound).bases in
-    let bytes = encode_utf8_all (form_text form document (head_of there.0 options document) (places_of there.0 values options document)) in
+form_rose sink a b c p q form source values options (Ok u) are sound right put fails stays on = tt
+form_rose sink a b c p q form source values options (Err e) are sound right put fails stays on =
+    let there = formats_there source.document.sheet (sound_is_valid source.document sound).bases in
+    let bytes = encode_utf8_all (form_text form source (head_of there.0 options source.document) (places_of there.0 values options source.document)) in
     (failed_page sink a b c p q bytes right (put there.0 there.1) fails stays on).rose
 
 -- a document has one page
 pub form_pages_one : FormPagesAreOne
-form_pages_one form options document one other a b =
+form_pages_one form options source one other a b =
     a.text
-    ∙ ap (λ (formats : Formats). encode_utf8_all (form_text form document (head_of formats options document) (places_of formats a.values
-    options document)))
-    (same_formats document.sheet a.formats b.formats a.are b.are)
-    ∙ ap (λ (values : List ParagraphValues). encode_utf8_all (form_text form document (head_of b.formats options document) (places_of
-    b.formats values options document))) (paragraph_values_of_one document a.values b.values a.are_values b.are_values)
+    ∙ ap (λ (formats : Formats). encode_utf8_all (form_text form source (head_of formats options source.document) (places_of formats a.values
+    options source.document)))
+    (same_formats source.document.sheet a.formats b.formats a.are b.are)
+    ∙ ap (λ (values : List ParagraphValues). encode_utf8_all (form_text form source (head_of b.formats options source.document) (places_of
+    b.formats values options source.document))) (paragraph_values_of_one source.document a.values b.values a.are_values b.are_values)
     ∙ sym b.text
 
 -- each page is read back, and safe
 pub html_pages_read : HtmlPagesAreReadBack
-html_pages_read options document bytes is =
-    let head = head_of is.formats options document in
-    let places = places_of is.formats is.values options document in
+html_pages_read options source bytes is =
+    let head = head_of is.formats options source.document in
+    let places = places_of is.formats is.values options source.document in
     record {
       formats = is.formats;
       are = is.are;
       values = is.values;
       are_values = is.are_values;
-      text = page_text document head places;
+      text = page_text source head places;
       bytes_are = is.text;
-      reads = page_read document head places;
-      safe = record { known = tags_known document head places; nests = page_nests document head places };
+      reads = page_read source head places;
+      safe = record { known = tags_known source head places; nests = page_nests source head places };
     }
 
 pub html_pages_safe : HtmlPagesAreSafe
-html_pages_safe options document bytes is =
-    let back = html_pages_read options document bytes is in
+html_pages_safe options source bytes is =
+    let back = html_pages_read options source bytes is in
     (back.text, (back.bytes_are, back.safe))
 
 -- so is the one that was written
-pub html_known : {K : Type 0} (sink : Ghosts K) (a b : K) (document : Document) (options : Options) → (bytes : List ℕ) ×
-    (IsHtmlPage options document bytes × Appends (sink.written a) (sink.written b) bytes) → (page : List ℕ) × (IsSafe
+pub html_known : {K : Type 0} (sink : Ghosts K) (a b : K) (source : PageSource) (options : Options) → (bytes : List ℕ) ×
+    (IsHtmlPage options source bytes × Appends (sink.written a) (sink.written b) bytes) → (page : List ℕ) × (IsSafe source.images
     page × Appends (sink.written a) (sink.written b) (encode_utf8_all page))
-html_known sink a b document options written =
-    let safe = html_pages_safe options document written.0 written.1.0 in (
+html_known sink a b source options written =
+    let safe = html_pages_safe options source written.0 written.1.0 in (
       safe.0,
       (safe.1.1, subst (λ (bytes : List ℕ). Appends (sink.written a) (sink.written b) bytes) safe.1.0 written.1.1),
     )
 
-pub html_safe : {K E : Type 0} (sink : Ghosts K) (a b : K) (document : Document) (options : Options)
+pub html_safe : {K E : Type 0} (sink : Ghosts K) (a b : K) (source : PageSource) (options : Options)
     (taken : Result (Unit {0}) E) →
-    OnOk taken ((bytes : List ℕ) × (IsHtmlPage options document bytes × Appends (sink.written a) (sink.written b)
+    OnOk taken ((bytes : List ℕ) × (IsHtmlPage options source bytes × Appends (sink.written a) (sink.written b)
     bytes)) →
-    OnOk taken ((page : List ℕ) × (IsSafe page × Appends (sink.written a) (sink.written b) (encode_utf8_all page)))
-html_safe sink a b document options (Ok u) written = html_known sink a b document options written
-html_safe sink a b document options (Err e) written = tt
+    OnOk taken ((page : List ℕ) × (IsSafe source.images page × Appends (sink.written a) (sink.written b) (encode_utf8_all page)))
+html_safe sink a b source options (Ok u) written = html_known sink a b source options written
+html_safe sink a b source options (Err e) written = tt

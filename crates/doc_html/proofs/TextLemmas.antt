@@ -7,7 +7,8 @@ use Rattle.std.specs.List.{flat_map}
 use Rattle.std.proofs.lemmas.List.Concat.{flat_map-cons}
 use Rattle.doc_outer.specs.declared.sink.Sink.{Ghosts}
 use Rattle.view_places.specs.declared.element.Element.{Element}
-use Rattle.view_places.specs.declared.element.Element.TheVariants.{Paragraph as AParagraph}
+use Rattle.view_places.specs.declared.element.Element.TheVariants.{Table, TableHead, TableBody, Row as TableRow}
+use Rattle.view_places.specs.declared.element.Element.TheVariants.{Cell as TableCell, HeadCell}
 use Rattle.list_numbers.specs.declared.paragraph_values.ParagraphValues.{ParagraphValues}
 use Rattle.form_page.specs.declared.page.FormPage.{FormPage}
 use Rattle.form_page.specs.Forms.{Places, PutsPlaces}
@@ -19,15 +20,16 @@ use Rattle.doc_view.specs.declared.standing.Standing.TheVariants.{Outside, Insid
 use Rattle.doc_view.specs.Layout.{is_in_table}
 use Rattle.doc_view.specs.Seen.{Paragraph, is_here, references_in, references_of, some_shown}
 use Rattle.doc_places.specs.declared.grid.Grid.{Grid}
-use Rattle.doc_places.specs.Grid.{grid_after, grid_of, is_head_row}
+use Rattle.doc_places.specs.declared.grid.InCell.{InCell}
+use Rattle.doc_places.specs.Grid.{grid_after, grid_of}
 use Rattle.doc_places.specs.declared.lists.Frame.{Frame}
 use Rattle.doc_places.specs.declared.lists.ListItem.{ListItem}
 use Rattle.doc_places.specs.declared.lists.Lists.{Lists}
 use Rattle.doc_places.specs.declared.looks.Look.{Look}
 use Rattle.doc_places.specs.Lists.{frame_at, frame_elements, level_elements, lists_after, lists_of, no_lists, with_item}
 use Rattle.doc_places.specs.Looks.{label_units, look_of}
-use Rattle.doc_places.specs.Places.{Hypertext, anchor_places, block_of, item_count, item_elements, items_places}
-use Rattle.doc_places.specs.Places.{label_places, paragraph_form}
+use Rattle.doc_places.specs.Places.{Hypertext, anchor_places, around_of, block_of, cell_at, cell_form, cell_of, is_part}
+use Rattle.doc_places.specs.Places.{item_count, item_elements, items_places, label_places, own_elements}
 use Rattle.doc_places.specs.Places.{paragraph_places, paragraphs_places, text_places}
 use Rattle.doc_places.proofs.PlaceLemmas.{grid_of-cons}
 use Rattle.doc_html.specs.Writes.{At, Writes, head_by, label_before}
@@ -48,7 +50,7 @@ pub record TextAt {K : Type 0} (sink : Ghosts K) (start : K) (page : FormPage) (
 -- at the start all is left
 pub text_start : {K : Type 0} (sink : Ghosts K) (start : K) (page : FormPage) (hypertext : Hypertext) (outer : List
     Element) (all : List Paragraph) (grid : Grid) (lists : Lists) (references : List Reference) →
-    grid ≡ record { number = 0; table = 0; row = 0; cell = 0; heads = true } → lists ≡ no_lists →
+    grid ≡ record { number = 0; table = 0; row = 0; cell = 0; ended = 0; heads = true } → lists ≡ no_lists →
     TextAt sink start page start page hypertext outer all all grid lists 0 0 references references
 text_start sink start page hypertext outer all grid lists references is none = record {
   before = [];
@@ -80,11 +82,12 @@ pub text_on : {K : Type 0} (sink : Ghosts K) (start : K) (page : FormPage) (hype
     (out : K) (left : FormPage) (standing : Standing) (own : Option ParagraphValues) (seen : List Seen) → there ≡
     record { standing = standing; values = own; items = seen } ∷ rest → a.begun ≡ false →
     TextAt sink start page a.out a.page hypertext outer all there grid lists a.count a.place first a.references →
-    PutsPlaces sink a.out a.page out left (anchor_places (outer ++ block_of grid (is_in_table standing) (grid.heads &&
-    head_by standing rest) (look_of own (is_in_table standing) (nat_le 2 (length seen))) lists) (hypertext.anchors
-    a.place (a.place + length seen))) →
-    Writes sink (record a { out = out; page = left }) b (hypertext.links a.place) (outer ++ block_of grid (is_in_table
-    standing) (grid.heads && head_by standing rest) (look_of own (is_in_table standing) (nat_le 2 (length seen))) lists)
+    PutsPlaces sink a.out a.page out left (anchor_places (outer ++ block_of grid (cell_at hypertext.cells grid standing
+    (grid.heads && head_by standing rest)) (look_of own (is_in_table standing) (nat_le 2 (length seen))) lists)
+    (hypertext.anchors a.place (a.place + length seen))) →
+    Writes sink (record a { out = out; page = left }) b (hypertext.links a.place) (outer ++ block_of grid (cell_at
+    hypertext.cells grid standing (grid.heads && head_by standing rest)) (look_of own (is_in_table standing) (nat_le 2
+    (length seen))) lists)
     (label_units (look_of own (is_in_table standing) (nat_le 2 (length seen))).item own) seen →
     TextAt sink start page b.out b.page hypertext outer all rest (grid_after grid standing) (lists_after lists (look_of
     own (is_in_table standing) (nat_le 2 (length seen))).item grid.number b.begun) b.count b.place first b.references
@@ -95,8 +98,8 @@ text_on {K = K} sink start page hypertext outer all there rest grid lists first 
     let head = head_by standing rest in
     let look = look_of own (is_in_table standing) (nat_le 2 (length seen)) in
     let label = label_units look.item own in
-    let block : Grid → Lists → List Element = λ g l. outer ++ block_of g (is_in_table standing) (g.heads && head) look l
-    in
+    let block : Grid → Lists → List Element = λ g l.
+    outer ++ block_of g (cell_at hypertext.cells g standing (g.heads && head)) look l in
     let here : Grid → Lists → ℕ → Places = λ g l n. paragraph_places hypertext (block g l) a.count n paragraph in
     let next : ℕ → Places = λ n. paragraphs_places hypertext outer (paragraph ∷ at.before) n rest in
     let behind = next (a.count + length (references_in seen)) in
@@ -166,15 +169,38 @@ item_few : (lists : Lists) (item : Option ListItem) (number : ℕ) → length (i
 item_few lists None number = omega arith
 item_few lists (Some item) number = let few = level_few (with_item lists item number) 6 in omega (arith, few)
 
-pub block_few : (grid : Grid) (in_table in_head : Bool) (look : Look) (lists : Lists) → length (block_of grid in_table
-    in_head look lists) ≤ 13
-block_few grid true true look lists = omega arith
-block_few grid true false look lists = omega arith
-block_few grid false in_head look lists =
-    let around = item_elements lists look.item grid.number in
-    let few = item_few lists look.item grid.number in
-    let long = length-append around (AParagraph (paragraph_form grid.number look) ∷ []) in
-    omega (arith, few, long)
+cell_few_elements : (grid : Grid) (cell : InCell) → length (cell_of grid cell) ≤ 12
+cell_few_elements grid cell =
+    let form = cell_form grid cell in
+    elim cell.in_head as (λ (b : Bool). length (if b then Table grid.table ∷ TableHead ∷ TableRow grid.row ∷ HeadCell
+    form ∷ [] else Table grid.table ∷ TableBody ∷ TableRow grid.row ∷ TableCell form ∷ []) ≤ 12)
+    [ true ↦ omega arith | false ↦ omega arith ]
+
+around_few : (grid : Grid) (cell : Option InCell) (item : Option ListItem) (lists : Lists) → length (around_of grid cell
+    item lists) ≤ 12
+around_few grid None item lists = item_few lists item grid.number
+around_few grid (Some cell) item lists = cell_few_elements grid cell
+
+own_few : (part : Bool) (number : ℕ) (look : Look) → length (own_elements part number look) ≤ 1
+own_few true number look = omega arith
+own_few false number look = omega arith
+
+pub block_few : (grid : Grid) (cell : Option InCell) (look : Look) (lists : Lists) → length (block_of grid cell look
+    lists) ≤ 13
+block_few grid cell look lists =
+    let around = around_of grid cell look.item lists in
+    let own = own_elements (is_part cell) grid.number look in
+    let few = around_few grid cell look.item lists in
+    let one = own_few (is_part cell) grid.number look in
+    let long = length-append around own in
+    omega (arith, few, one, long)
+
+pub ended_few : (grid : Grid) (standing : Standing) → (grid_after grid standing).ended ≤ grid.ended + 1
+ended_few grid Outside = omega arith
+ended_few grid Inside = omega arith
+ended_few grid Cell = omega arith
+ended_few grid Row = omega arith
+ended_few grid HeadRow = omega arith
 
 pub cell_few : (grid : Grid) (standing : Standing) → (grid_after grid standing).cell ≤ grid.cell + 1
 cell_few grid Outside = omega arith

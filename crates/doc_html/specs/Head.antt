@@ -61,7 +61,7 @@ title_unit Tab = Some 0x20
 title_unit LineBreak = Some 0x20
 title_unit PageBreak = Some 0x20
 title_unit (NoteMark number) = None
-title_unit Picture = None
+title_unit (Picture place) = None
 title_unit Object = None
 
 abbrev pub title_glyph : Option Glyph → Option ℕ

@@ -1,7 +1,8 @@
 -- The page of a document in a form: in HTML or in Markdown.
 use Rattle.std.specs.Prelude.{◌≡◌, ℕ, List, [], encode_utf8_all}
 use Rattle.std.specs.List.{All}
-use Rattle.plain_doc.specs.declared.document.Document.{Document}
+use Rattle.doc_pictures.specs.Files.{ImageFiles}
+use Rattle.html_page.specs.Sources.{PageSource}
 use Rattle.list_numbers.specs.declared.paragraph_values.ParagraphValues.{ParagraphValues}
 use Rattle.list_numbers.specs.ParagraphValues.{AreParagraphValuesOf}
 use Rattle.doc_view.specs.declared.view.Options.{Options}
@@ -17,20 +18,21 @@ use Rattle.doc_places.specs.Places.{places_of}
 use Rattle.doc_html.specs.Head.{head_of}
 
 -- the bytes are the page
-pub record IsFormPage (form : PageForm) (options : Options) (document : Document) (bytes : List ℕ) : Type 0 where
+pub record IsFormPage (form : PageForm) (options : Options) (source : PageSource) (bytes : List ℕ) : Type 0 where
   pub formats : Formats
-  pub are : AreFormats document.sheet formats
+  pub are : AreFormats source.document.sheet formats
   pub values : List ParagraphValues
-  pub are_values : AreParagraphValuesOf document values
+  pub are_values : AreParagraphValuesOf source.document values
   pub text :
-      bytes ≡ encode_utf8_all (form_text form document (head_of formats options document)
-      (places_of formats values options document))
+      bytes ≡ encode_utf8_all (form_text form source (head_of formats options source.document)
+      (places_of formats values options source.document))
 
 -- the bytes are the page in HTML
-abbrev pub IsHtmlPage : Options → Document → List ℕ → Type 0
-IsHtmlPage options document bytes = IsFormPage form.Html options document bytes
+abbrev pub IsHtmlPage : Options → PageSource → List ℕ → Type 0
+IsHtmlPage options source bytes = IsFormPage form.Html options source bytes
 
--- what is read of the page is characters, and tags of a closed list, in which links lead to allowed URLs alone; they nest
-pub record IsSafe (page : List ℕ) : Type 0 where
-  pub known : All IsKnown (read page)
+-- what is read of the page is characters, and tags of a closed list, in which links lead to allowed URLs alone and images
+-- are files of these pictures; they nest
+pub record IsSafe (images : ImageFiles) (page : List ℕ) : Type 0 where
+  pub known : All (IsKnown images) (read page)
   pub nests : AreBrackets [] (read page) []

@@ -33,6 +33,18 @@ pub(crate) fn write_anchors<K: Sink>(
     number
 }
 
+/// The number of the first bookmark from one on that does not begin before a place.
+pub(crate) fn next_anchor(bookmarks: &Bookmarks, next: usize, end: usize) -> usize
+    requires { next ≤ lead bookmarks.now end }
+    ensures { result ≡ lead bookmarks.now end }
+{
+    let mut number = next;
+    while begins_before(bookmarks, number, end) {
+        number += 1;
+    }
+    number
+}
+
 /// Whether the bookmark with this number is there and begins before a place, where those before it do.
 fn begins_before(bookmarks: &Bookmarks, number: usize, end: usize) -> bool
     requires { number ≤ lead bookmarks.now end }

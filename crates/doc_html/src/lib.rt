@@ -2,6 +2,7 @@
 #![tactic(auto)]
 
 mod anchors;
+mod cells;
 mod head;
 mod heads;
 mod laws;

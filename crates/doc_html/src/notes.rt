@@ -13,6 +13,7 @@ ghost use Rattle.doc_view.specs.declared.reading.TextKind.TheVariants as text_ki
 
 use crate::reading::{Context, write_text};
 use crate::writer::Writer;
+use cell_spans::Spans;
 use char_formats::StyleFormats;
 use doc_columns::ColumnTexts;
 use doc_outer::Sink;
@@ -95,10 +96,12 @@ impl Notes<'_> {
         };
         let bookmarks = Bookmarks::new(self.alloc);
         let values = ParagraphValuesList::new(self.alloc);
+        let cells = Spans::new(self.alloc);
         let context = Context {
             note: k + 1,
             bookmarks: &bookmarks,
             values: &values,
+            cells: &cells,
         };
         let references = References::none(self.alloc);
         let _ = write_text(writer, out, &text, &context, references);

@@ -19,10 +19,11 @@ ghost use Rattle.doc_html.specs.Writes.{IsReading, Writes, at, links_in};
 use crate::anchors::write_anchors;
 use crate::heads::{is_head, known_behind};
 use crate::writer::Writer;
+use cell_spans::Spans;
 use doc_columns::{Attached, alike_from, paragraph_end};
 use doc_outer::Sink;
 use doc_parts::Bookmarks;
-use doc_places::{Grid, Lists, Look, Origin, label_units, push_block};
+use doc_places::{Grid, Lists, Look, Origin, cell_at, label_units, push_block};
 use doc_view::{Bounds, Course, Reference, References, Standing, Stretch, Text, see, style_of};
 use list_numbers::ParagraphValuesList;
 use run_lists::{Cursor, seek};
@@ -86,13 +87,14 @@ impl Reading {
     }
 }
 
-/// What else is known of a text: the number of its note, from 1, or 0 of the main text, its bookmarks, and the values of its
-/// paragraphs.
+/// What else is known of a text: the number of its note, from 1, or 0 of the main text, its bookmarks, the values of its
+/// paragraphs, and how far its cells reach.
 #[derive(Drop)]
 pub(crate) struct Context<'a> {
     pub(crate) note: usize,
     pub(crate) bookmarks: &'a Bookmarks,
     pub(crate) values: &'a ParagraphValuesList,
+    pub(crate) cells: &'a Spans,
 }
 
 /// Writes a text inside of the elements that are open. Its bookmarks are in order. It answers the notes that the text
@@ -112,8 +114,8 @@ pub(crate) fn write_text<K: Sink>(
     ensures path { writer.new.path ≡ writer.old.path }
     ensures puts { (formats : Formats) → AreFormats text.now.formats.now formats
         → PutsPlaces K.Sink out.old writer.old.page out.new writer.new.page
-        (text_places (hypertext_of context.now.bookmarks.now context.now.note (items_in text.now.parts)) writer.old.path
-        (with_values context.now.values.now (paragraphs_of formats text.now.manner (items_in text.now.parts)))) }
+        (text_places (hypertext_of context.now.bookmarks.now context.now.note (items_in text.now.parts)
+        context.now.cells.now) writer.old.path (with_values context.now.values.now (paragraphs_of formats text.now.manner (items_in text.now.parts)))) }
     ensures references { (formats : Formats) → AreFormats text.now.formats.now formats → result.list
         ≡ references.list ++ references_of (with_values context.now.values.now
         (paragraphs_of formats text.now.manner (items_in text.now.parts))) }
@@ -139,8 +141,8 @@ pub(crate) fn write_text<K: Sink>(
         let in_table = standing.is_in_table();
         let look = Look::of(own, in_table, end - reading.course.place >= 2);
         let head = is_head(&text.parts, marks, end, standing, known);
-        let in_head = grid.in_head(head);
-        push_block(&mut writer.path, grid, in_table, in_head, &look, &lists);
+        let cell = cell_at(context.cells, grid, standing, grid.in_head(head));
+        push_block(&mut writer.path, grid, cell, &look, &lists);
         let bounds = Bounds {
             end,
             istd: style_of(&last.mark),

@@ -183,6 +183,6 @@ fn title_unit(glyph: Glyph) -> Option<u16>
     match glyph {
         Glyph::Unit(unit) => Some(unit),
         Glyph::Tab | Glyph::LineBreak | Glyph::PageBreak => Some(SPACE),
-        Glyph::NoteMark(_) | Glyph::Picture | Glyph::Object => None,
+        Glyph::NoteMark(_) | Glyph::Picture(_) | Glyph::Object => None,
     }
 }

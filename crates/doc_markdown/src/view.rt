@@ -8,8 +8,10 @@ ghost use Rattle.doc_markdown.specs.Page.{IsMarkdownPage};
 use doc_columns::ColumnDocument;
 use doc_html::write_form;
 use doc_outer::Sink;
+use doc_pictures::{Images, Pictures};
 use doc_view::{Options, ViewFault};
 use form_page::PageForm;
+use html_page::Source;
 use std::alloc::Global;
 
 /// Writes the page of a document in Markdown, its main text and its notes. All memory is taken before the first byte. It
@@ -32,5 +34,13 @@ pub fn write_markdown<K: Sink>(
     // Without memory nothing is written.
     ensures memory { IsErrOf result ViewFault.Memory → K.written out.new ≡ K.written out.old }
 {
-    write_form(alloc, document, PageForm::Markdown, options, out)
+    let none = Pictures::none(alloc);
+    let source = Source {
+        document,
+        images: Images {
+            folder: "",
+            pictures: &none,
+        },
+    };
+    write_form(alloc, &source, PageForm::Markdown, options, out)
 }

@@ -5,6 +5,7 @@ use Rattle.std.specs.Prelude.{slice_get}
 use Rattle.std.specs.List.{All}
 use Rattle.std.proofs.Math.Nat.{le_trans}
 use Rattle.std.proofs.lemmas.List.Elements.{All-cons, All-nil}
+use Rattle.std.proofs.lemmas.Option.{slice_get_within}
 use Rattle.doc_outer.specs.Counts.{GoesOn}
 use Rattle.doc_outer.specs.Held.{Files, OthersStay, StaysAt, held_with}
 use Rattle.doc_outer.proofs.HeldLemmas.{StaysAt-refl}
@@ -38,6 +39,11 @@ counts-on first mid now a b = record {
   not_fallen = le_trans a.not_fallen b.not_fallen;
   not_beyond = λ low. b.not_beyond (a.not_beyond low);
 }
+
+-- the place of a picture is within the list
+pub within-length : (pictures : List Picture) (k : ℕ) (picture : Picture) → slice_get pictures k ≡ Some picture →
+    k < length pictures
+within-length pictures k picture here = slice_get_within pictures k picture here
 
 -- ---- one file more
 

@@ -3,3 +3,5 @@ pub mod OrderLemmas
 pub mod StepLemmas
 pub mod PlaceLemmas
 pub mod AlbumLemmas
+pub mod FileLemmas
+pub mod ApartLemmas

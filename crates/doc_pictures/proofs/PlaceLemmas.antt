@@ -12,7 +12,8 @@ use Rattle.plain_doc.specs.declared.item.Item.{Item}
 use Rattle.doc_columns.specs.declared.walk.Parts.{Parts}
 use Rattle.doc_columns.specs.Walks.{items_in, AreParts}
 use Rattle.doc_columns.proofs.WalkLemmas.{units_are}
-use Rattle.doc_pictures.specs.Places.{location_in, place_of, places_in}
+use Rattle.char_formats.specs.Locations.{location_in}
+use Rattle.doc_pictures.specs.Places.{place_of, places_in}
 
 -- the front of a list and what stands behind it
 take-suc_is : {A : Type 0} (xs : List A) (i : ℕ) (x : A) → slice_get xs i ≡ Some x →

@@ -1,5 +1,5 @@
 -- Picture files in a folder.
-use Rattle.std.specs.Prelude.{◌≡◌, ℕ, ◌+◌, ◌≤◌, Bool, true, false, List, [], ◌∷◌, length, take, Option, Some, ⊤}
+use Rattle.std.specs.Prelude.{◌≡◌, ℕ, ◌+◌, ◌≤◌, Bool, true, false, List, [], ◌∷◌, length, take, Option, None, Some, ⊤}
 use Rattle.std.specs.Prelude.{slice_get, slice_range}
 use Rattle.std.specs.List.{All}
 use Rattle.doc_outer.specs.Held.{Files, IsAbsent, OthersStay, Told, held_with}
@@ -23,6 +23,16 @@ abbrev pub MayWrite : (force : Bool) → List ℕ → Option Files → Type 0
 MayWrite true name held = ⊤
 MayWrite false name held = Told held name IsAbsent
 
+-- a name holds a file
+abbrev pub IsThere : Option (List ℕ) → Type 0
+IsThere None = ⊥
+IsThere (Some bytes) = ⊤
+
+-- a name holds a file that is not to be written over
+pub record IsHeld (force : Bool) (name : List ℕ) (held : Option Files) : Type 0 where
+  pub keeps : force ≡ false
+  pub there : Told held name IsThere
+
 -- the bytes were written under the name
 pub record IsWritten (force : Bool) (name bytes : List ℕ) (before after : Option Files) : Type 0 where
   pub may : MayWrite force name before
@@ -42,6 +52,12 @@ pub record IsPicturePath (folder : List ℕ) (pictures : List Picture) (name : L
   pub picture : Picture
   pub there : slice_get pictures k ≡ Some picture
   pub path : name ≡ picture_path folder (k + 1) picture.file.kind
+
+-- the path of one of the pictures holds a file that is not to be written over
+pub record IsTaken (force : Bool) (folder : List ℕ) (pictures : List Picture) (held : Option Files) : Type 0 where
+  pub name : List ℕ
+  pub path : IsPicturePath folder pictures name
+  pub holds : IsHeld force name held
 
 -- the files of the pictures before one were written, and nothing is said of the name of that one
 pub record IsCutShort (force : Bool) (folder stream : List ℕ) (pictures : List Picture) (before after : Option Files) :

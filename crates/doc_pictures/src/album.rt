@@ -1,9 +1,9 @@
 // Picture files in a folder.
-ghost use Rattle.std.specs.Prelude.{◌≡◌, ◌<◌, ℕ, List, length, slice_get, Some, false, OnOk, OnErr, IsErrOf};
+ghost use Rattle.std.specs.Prelude.{◌≡◌, ◌<◌, ◌+◌, ◌^◌, ℕ, List, length, slice_get, Some, OnOk, OnErr, IsErrOf};
 ghost use Rattle.doc_outer.specs.Counts.{GoesOn, Rose};
 ghost use Rattle.doc_outer.specs.Held.{OthersStay, StaysAt, held_with};
-ghost use Rattle.doc_pictures.specs.Album.{AreWithin, IsCutShort, IsPicturePath, IsWithinStream, IsWritten, MayWrite};
-ghost use Rattle.doc_pictures.specs.Album.{Writes, file_bytes};
+ghost use Rattle.doc_pictures.specs.Album.{AreWithin, IsCutShort, IsHeld, IsPicturePath, IsTaken, IsWithinStream};
+ghost use Rattle.doc_pictures.specs.Album.{IsWritten, MayWrite, Writes, file_bytes};
 ghost use Rattle.doc_pictures.specs.Names.{picture_path as path_of};
 
 use crate::names::picture_path;
@@ -62,8 +62,9 @@ pub fn write_pictures<S: Shelf>(
     ensures others { (name : List ℕ) → ¬ (IsPicturePath album.now.folder.now pictures.now name)
         → StaysAt name (S.held shelf.old) (S.held shelf.new) }
 
-    // Each fault has its cause.
-    ensures there { IsErrOf result AlbumFault.There → album.now.force ≡ false }
+    // Each fault has its cause: a name of a picture held a file before, or the file system failed.
+    ensures there { IsErrOf result AlbumFault.There
+        → IsTaken album.now.force album.now.folder.now pictures.now (S.held shelf.old) }
     ensures failed { IsErrOf result AlbumFault.Failed → Rose (S.faults shelf.old) (S.faults shelf.new) }
 
     // Counts never fall.
@@ -102,7 +103,8 @@ fn write_picture<S: Shelf>(
         (file_bytes stream.now picture) (S.held shelf.old) (S.held shelf.new)) }
     ensures others { OthersStay (path_of album.now.folder.now number picture.file.kind)
         (S.held shelf.old) (S.held shelf.new) }
-    ensures there { IsErrOf result AlbumFault.There → album.now.force ≡ false }
+    ensures there { IsErrOf result AlbumFault.There → IsHeld album.now.force
+        (path_of album.now.folder.now number picture.file.kind) (S.held shelf.old) }
     ensures failed { IsErrOf result AlbumFault.Failed → Rose (S.faults shelf.old) (S.faults shelf.new) }
     ensures faults { GoesOn (S.faults shelf.old) (S.faults shelf.new) }
     ensures missed { GoesOn (S.missed shelf.old) (S.missed shelf.new) }
@@ -123,7 +125,7 @@ fn write_file<S: Shelf>(
 ) -> Result<(), AlbumFault>
     ensures written { OnOk result (IsWritten force path.now bytes.now (S.held shelf.old) (S.held shelf.new)) }
     ensures others { OthersStay path.now (S.held shelf.old) (S.held shelf.new) }
-    ensures there { IsErrOf result AlbumFault.There → force ≡ false }
+    ensures there { IsErrOf result AlbumFault.There → IsHeld force path.now (S.held shelf.old) }
     ensures failed { IsErrOf result AlbumFault.Failed → Rose (S.faults shelf.old) (S.faults shelf.new) }
     ensures faults { GoesOn (S.faults shelf.old) (S.faults shelf.new) }
     ensures missed { GoesOn (S.missed shelf.old) (S.missed shelf.new) }
@@ -154,7 +156,7 @@ fn put_file<S: Shelf>(shelf: &mut S, path: &str, bytes: &[u8]) -> Result<(), Alb
 fn find_free<S: Shelf>(shelf: &mut S, path: &str, force: bool) -> Result<(), AlbumFault>
     ensures kept { S.held shelf.new ≡ S.held shelf.old }
     ensures free { OnOk result (MayWrite force path.now (S.held shelf.old)) }
-    ensures there { IsErrOf result AlbumFault.There → force ≡ false }
+    ensures there { IsErrOf result AlbumFault.There → IsHeld force path.now (S.held shelf.old) }
     ensures failed { IsErrOf result AlbumFault.Failed → Rose (S.faults shelf.old) (S.faults shelf.new) }
     ensures faults { GoesOn (S.faults shelf.old) (S.faults shelf.new) }
     ensures missed { GoesOn (S.missed shelf.old) (S.missed shelf.new) }

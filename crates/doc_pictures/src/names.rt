@@ -1,10 +1,18 @@
 // The names of picture files.
 ghost use Rattle.std.specs.Prelude.{◌≡◌, IfOk};
+ghost use Rattle.std.specs.Str.{IsAscii};
 ghost use Rattle.doc_pictures.specs.Names.{is_whole, picture_path, suffix_of};
 
 use doc_bits::{Memory, Text};
 use inline_pictures::PictureKind;
 use std::alloc::Global;
+
+/// The name of the file of a picture: its number, from 1, and its kind.
+#[derive(Clone, Copy)]
+pub struct PictureName {
+    pub number: usize,
+    pub kind: PictureKind,
+}
 
 /// The path of the picture with this number, from 1, in a folder.
 pub fn picture_path(
@@ -20,9 +28,10 @@ pub fn picture_path(
     Ok(Text::from_string(path))
 }
 
-/// What a file of this kind ends with.
-fn suffix_of(kind: PictureKind) -> &'static str
-    ensures { result.now ≡ suffix_of kind }
+/// What the name of a file of this kind ends with.
+pub fn suffix_of(kind: PictureKind) -> &'static str
+    ensures is { result.now ≡ suffix_of kind }
+    ensures ascii { IsAscii result.now }
 {
     match kind {
         PictureKind::Png => "png",

@@ -1,10 +1,11 @@
 // The pictures of a document, in the order in which they stand in the stream `Data`.
-ghost use Rattle.std.specs.Prelude.{◌≡◌, MatchOption, IfOk, OnOk};
+ghost use Rattle.std.specs.Prelude.{◌≡◌, [], MatchOption, IfOk, OnOk};
 ghost use Rattle.std.specs.List.Sorted.{IsNonDecreasing};
 ghost use Rattle.inline_pictures.specs.declared.picture.PictureFile.{PictureFile as AFile};
 ghost use Rattle.doc_pictures.specs.Pictures.{ArePictures, HasFile};
 ghost use Rattle.doc_pictures.specs.Steps.{IsStep};
 ghost use Rattle.doc_pictures.specs.Places.{places_of};
+ghost use Rattle.doc_pictures.specs.Order.{AreAscending};
 
 use crate::names::is_whole;
 use crate::places::places_of;
@@ -12,12 +13,59 @@ use doc_bits::Memory;
 use doc_columns::ColumnDocument;
 use inline_pictures::{PictureFile, picture_at};
 use std::alloc::Global;
+use std::marker::Model;
 
 /// A picture: its place, an offset in the stream `Data`, and its file there.
 #[derive(Clone, Copy)]
 pub struct Picture {
     pub place: u32,
     pub file: PictureFile,
+}
+
+/// The pictures of a document, in the order in which they stand in the stream.
+#[derive(Drop)]
+pub struct Pictures {
+    list: Vec<Picture>,
+}
+
+impl Model for Pictures {
+    ghost use Rattle.std.specs.Prelude.{List};
+    ghost use Rattle.std.specs.Coded.{coded_list};
+    ghost use Rattle.doc_pictures.specs.declared.pictures.Picture.{Picture};
+    ghost use Rattle.doc_pictures.specs.contracts.pictures.Picture as row;
+    ghost use Rattle.doc_pictures.specs.Order.{AreAscending};
+
+    ghost Value = { List Picture };
+
+    ghost coded = { coded_list row.the_row.coded };
+
+    ghost view = { λ p. p.list.items };
+
+    ghost invariant = { λ p. AreAscending p.list.items };
+}
+
+impl Pictures {
+    /// None.
+    pub fn none(alloc: Global) -> Pictures
+        ensures { result ≡ [] }
+    {
+        Pictures::of(Vec::new(alloc))
+    }
+
+    /// Those of a list, in their order.
+    fn of(list: Vec<Picture>) -> Pictures
+        requires { AreAscending list.items }
+        ensures { result ≡ list.items }
+    {
+        Pictures { list }
+    }
+
+    pub fn as_slice(&self) -> &[Picture]
+        ensures is { result.now ≡ self.now }
+        ensures order { AreAscending result.now }
+    {
+        &self.list
+    }
 }
 
 /// The pictures of a document whose stream `Data` has these bytes. They stand one behind the other in the stream, so
@@ -27,13 +75,13 @@ pub fn pictures_of(
     alloc: Global,
     document: &ColumnDocument,
     stream: &[u8],
-) -> Result<Vec<Picture>, Memory>
-    ensures { IfOk result (λ pictures. ArePictures stream.now (places_of document.now) pictures.items) }
+) -> Result<Pictures, Memory>
+    ensures { IfOk result (λ pictures. ArePictures stream.now (places_of document.now) pictures) }
 {
     let mut places = places_of(alloc, document)?;
     places.sort_unstable();
-    let pictures = pictures_at(alloc, stream, &places)?;
-    Ok(pictures)
+    let list = pictures_at(alloc, stream, &places)?;
+    Ok(Pictures::of(list))
 }
 
 /// The pictures at places in their order.

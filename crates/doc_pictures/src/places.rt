@@ -3,19 +3,12 @@ ghost use Rattle.std.specs.Prelude.{◌≡◌, ◌<◌, ◌++◌, [], length, sl
 ghost use Rattle.std.specs.List.{cons_option, flat_map};
 ghost use Rattle.plain_doc.specs.declared.item.Item.{Item};
 ghost use Rattle.doc_columns.specs.Walks.{items_in, AreParts, IsWalk};
-ghost use Rattle.doc_pictures.specs.Places.{location_in, location_of, place_of, places_in, places_of};
+ghost use Rattle.doc_pictures.specs.Places.{place_of, places_in, places_of};
 
-use doc_bits::{Memory, get32};
+use char_formats::location_in;
+use doc_bits::Memory;
 use doc_columns::{ColumnDocument, ColumnTexts, Columns, Parts, Walk, alike_from};
-use prop_map::PropMap;
-use sprm_table::Code;
 use std::alloc::Global;
-
-/// [MS-DOC] sprmCPicLocation.
-const SPRM_C_PIC_LOCATION: Code = Code(0x6A03);
-
-/// The bytes of its operand.
-const LOCATION_LEN: usize = 4;
 
 /// [MS-DOC] the character of a picture.
 const PICTURE: u16 = 0x01;
@@ -78,25 +71,4 @@ fn place_at(parts: &Parts<'_>, walk: &mut Walk, i: usize) -> Option<u32>
     }
     let alike = alike_from(parts, walk, i);
     location_in(alike.chp)
-}
-
-/// The place that the properties of the character of a picture name.
-fn location_in(chp: &PropMap) -> Option<u32>
-    ensures { result ≡ location_in chp.now }
-{
-    match chp.get(SPRM_C_PIC_LOCATION) {
-        None => None,
-        Some(value) => location_of(value),
-    }
-}
-
-/// The place that an operand names.
-fn location_of(value: &[u8]) -> Option<u32>
-    ensures { result ≡ location_of (Some value.now) }
-{
-    if value.len() == LOCATION_LEN {
-        Some(get32(value, 0))
-    } else {
-        None
-    }
 }

@@ -15,7 +15,7 @@ use Rattle.doc_view.specs.declared.standing.Standing.{Standing}
 use Rattle.doc_view.specs.Layout.{ends_cell, ends_head, is_in_table, keeps_row}
 use Rattle.doc_view.specs.Seen.{Paragraph, glyphs_in, is_here, references_in, shown_glyph, some_shown}
 use Rattle.doc_places.specs.declared.grid.Grid.{Grid}
-use Rattle.doc_places.specs.Grid.{all_heads, cells_of, first_of, grid_after, grid_of}
+use Rattle.doc_places.specs.Grid.{all_heads, cells_of, ended_of, first_of, grid_after, grid_of}
 use Rattle.doc_places.specs.Places.{Places, block_at, count_of, item_places, items_places, label_places}
 use Rattle.doc_places.specs.Places.{Hypertext, anchor_places, item_count, paragraph_places, paragraphs_places, place_of}
 use Rattle.doc_places.specs.Places.{shown, text_places}
@@ -95,6 +95,7 @@ grid_of-cons paragraph before =
       row = if keeps_row paragraph.standing then first_of keeps_row before else length before + 1;
       cell =
           if keeps_row paragraph.standing then cells_of before + (if ends_cell paragraph.standing then 1 else 0) else 0;
+      ended = ended_of before + (if ends_cell paragraph.standing then 1 else 0);
       heads =
           if is_in_table paragraph.standing then (keeps_row paragraph.standing || ends_head paragraph.standing) && all_heads
           before else true;
@@ -169,7 +170,7 @@ glyphs-paragraphs : (hypertext : Hypertext) (outer : List Element) (before : Lis
 unfolding paragraphs_places
 glyphs-paragraphs hypertext outer before count [] = refl
 glyphs-paragraphs hypertext outer before count (paragraph ∷ more) =
-    let block = outer ++ block_at before paragraph more in
+    let block = outer ++ block_at hypertext.cells before paragraph more in
     let at = item_count before in
     let rest = count + length (references_in paragraph.items) in
     filter_map-append (λ (place : Place Element Glyph). place.glyph) (paragraph_places hypertext block count at

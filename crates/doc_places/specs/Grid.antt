@@ -18,6 +18,11 @@ cells_of [] = 0
 cells_of (paragraph ∷ before) =
     if keeps_row paragraph.standing then cells_of before + (if ends_cell paragraph.standing then 1 else 0) else 0
 
+-- how many cells of the text ended
+abbrev pub ended_of : List Paragraph → ℕ
+ended_of [] = 0
+ended_of (paragraph ∷ before) = ended_of before + (if ends_cell paragraph.standing then 1 else 0)
+
 -- each row of the table that ended is a head
 abbrev pub all_heads : List Paragraph → Bool
 all_heads [] = true
@@ -37,6 +42,7 @@ grid_of before = record {
   table = first_of is_in_table before;
   row = first_of keeps_row before;
   cell = cells_of before;
+  ended = ended_of before;
   heads = all_heads before;
 }
 
@@ -47,5 +53,6 @@ grid_after grid standing = record {
   table = if is_in_table standing then grid.table else grid.number + 1;
   row = if keeps_row standing then grid.row else grid.number + 1;
   cell = if keeps_row standing then grid.cell + (if ends_cell standing then 1 else 0) else 0;
+  ended = grid.ended + (if ends_cell standing then 1 else 0);
   heads = if is_in_table standing then (keeps_row standing || ends_head standing) && grid.heads else true;
 }

@@ -1,5 +1,6 @@
 pub mod Grid
 pub mod Looks
 pub mod Lists
+pub mod Cells
 pub mod Places
 pub mod Laws

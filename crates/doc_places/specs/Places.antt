@@ -1,5 +1,5 @@
 -- The places of a document: each item that is shown has one, in their order, and so has the label of each note.
-use Rattle.std.specs.Prelude.{zero, suc, ◌-◌, nat_le, nat_lt, is_some, map, take}
+use Rattle.std.specs.Prelude.{zero, suc, ◌-◌, ◌==◌, nat_le, nat_lt, false, not, is_some, map, slice_get, take}
 use Rattle.std.specs.Prelude.{ℕ, ◌+◌, Bool, ◌&&◌, List, [], ◌∷◌, ◌++◌, length, Option, Some, None, if◌then◌else◌}
 use Rattle.std.specs.List.{cons_option}
 use Rattle.plain_doc.specs.declared.item.Item.{Item}
@@ -14,6 +14,9 @@ use Rattle.view_places.specs.declared.element.Element.TheVariants.{Notes, Note, 
 use Rattle.view_places.specs.declared.element.Element.TheVariants.{Paragraph as AParagraph, Reference as AReference}
 use Rattle.view_places.specs.declared.element.Element.TheVariants.{BackLink, HeadCell, Label}
 use Rattle.view_places.specs.declared.element.Paragraph.{Paragraph as ParagraphForm}
+use Rattle.view_places.specs.declared.element.Cell.{Cell as CellForm}
+use Rattle.view_places.specs.declared.element.Span.{Span}
+use Rattle.cell_spans.specs.Spans.{single, span_at}
 use Rattle.view_places.specs.declared.element.Element.TheVariants.{Bold, Italic, Underline, Strike, SmallCaps, Caps}
 use Rattle.view_places.specs.declared.element.Element.TheVariants.{Raised, Lowered, Link as ALink, Anchor}
 use Rattle.doc_parts.specs.declared.bookmark_order.Bookmark.{Bookmark}
@@ -26,11 +29,14 @@ use Rattle.doc_view.specs.declared.references.Reference.{Reference}
 use Rattle.doc_view.specs.declared.reading.Manner.{Manner}
 use Rattle.doc_view.specs.declared.reading.Seen.{Seen}
 use Rattle.doc_view.specs.declared.view.Options.{Options}
-use Rattle.doc_view.specs.Layout.{is_in_table}
+use Rattle.doc_view.specs.Layout.{is_in_table, keeps_row}
+use Rattle.doc_view.specs.declared.standing.Standing.{Standing}
 use Rattle.doc_view.specs.Page.{main_manner, note_manner}
 use Rattle.doc_view.specs.Labels.{label_glyphs}
 use Rattle.doc_view.specs.Seen.{Formats, Paragraph, is_here, paragraphs_of, references_in, references_of, with_values}
 use Rattle.doc_places.specs.declared.grid.Grid.{Grid}
+use Rattle.doc_places.specs.declared.grid.InCell.{InCell}
+use Rattle.doc_places.specs.Cells.{cells_in}
 use Rattle.doc_places.specs.Grid.{grid_of, is_head_row}
 use Rattle.doc_places.specs.declared.lists.ListItem.{ListItem}
 use Rattle.doc_places.specs.declared.lists.Lists.{Lists}
@@ -40,6 +46,10 @@ use Rattle.doc_places.specs.Lists.{list_elements, lists_of, with_item}
 
 abbrev pub Places : Type 0
 Places = List (Place Element Glyph)
+
+-- how far the cell with a number in its text reaches, where it is no part of another one
+abbrev pub CellSpans : Type 0
+CellSpans = ℕ → Option Span
 
 -- ---- what a glyph stands in within its paragraph
 
@@ -143,10 +153,24 @@ links_of note items begin place =
 -- ---- the places of paragraphs
 
 -- the table, its head or its body, the row and the cell
-abbrev pub cell_of : Grid → Bool → List Element
-cell_of grid in_head =
-    if in_head then Table grid.table ∷ TableHead ∷ Row grid.row ∷ HeadCell grid.cell ∷ [] else Table grid.table ∷
-    TableBody ∷ Row grid.row ∷ Cell grid.cell ∷ []
+abbrev pub cell_form : Grid → InCell → CellForm
+cell_form grid cell = record { number = grid.cell; span = cell.span }
+
+abbrev pub cell_of : Grid → InCell → List Element
+cell_of grid cell =
+    if cell.in_head then Table grid.table ∷ TableHead ∷ Row grid.row ∷ HeadCell (cell_form grid cell) ∷ [] else Table
+    grid.table ∷ TableBody ∷ Row grid.row ∷ Cell (cell_form grid cell) ∷ []
+
+-- the cell of a paragraph that stands so, by how far the cells of the text reach; the mark of a row is in none of them
+abbrev pub own_span : CellSpans → ℕ → Bool → Option Span
+own_span cells number keeps = if keeps then cells number else Some single
+
+abbrev pub cell_at : CellSpans → Grid → Standing → Bool → Option InCell
+cell_at cells grid standing in_head =
+    if not (is_in_table standing) then None else Some (record {
+      in_head = in_head;
+      span = own_span cells grid.ended (keeps_row standing);
+    })
 
 -- an item stands in its lists, by those that are open before it
 abbrev pub item_elements : Lists → Option ListItem → ℕ → List Element
@@ -162,20 +186,32 @@ paragraph_form number look = record {
   breaks_page = look.breaks_page;
 }
 
--- what a paragraph stands in, in a table or not and in its head or not, and the paragraph
-abbrev pub block_of : Grid → Bool → Bool → Look → Lists → List Element
-block_of grid in_table in_head look lists =
-    (if in_table then cell_of grid in_head else item_elements lists look.item grid.number)
-    ++ AParagraph (paragraph_form grid.number look) ∷ []
+-- what stands around a paragraph, in a cell or not
+abbrev pub around_of : Grid → Option InCell → Option ListItem → Lists → List Element
+around_of grid None item lists = item_elements lists item grid.number
+around_of grid (Some cell) item lists = cell_of grid cell
+
+-- in a part of another cell nothing is seen, and there is no paragraph
+abbrev pub is_part : Option InCell → Bool
+is_part None = false
+is_part (Some cell) = not (is_some cell.span)
+
+abbrev pub own_elements : Bool → ℕ → Look → List Element
+own_elements part number look = if part then [] else AParagraph (paragraph_form number look) ∷ []
+
+-- what a paragraph stands in, in a cell or not, and the paragraph
+abbrev pub block_of : Grid → Option InCell → Look → Lists → List Element
+block_of grid cell look lists =
+    around_of grid cell look.item lists ++ own_elements (is_part cell) grid.number look
 
 -- the first of some paragraphs behind others: the first rows of a table that are heads are its head
 abbrev pub in_head : List Paragraph → List Paragraph → Bool
 in_head before here = (grid_of before).heads && is_head_row here
 
-abbrev pub block_at : List Paragraph → Paragraph → List Paragraph → List Element
-block_at before paragraph more =
-    block_of (grid_of before) (is_in_table paragraph.standing) (in_head before (paragraph ∷ more)) (look_in paragraph)
-    (lists_of before)
+abbrev pub block_at : CellSpans → List Paragraph → Paragraph → List Paragraph → List Element
+block_at cells before paragraph more =
+    block_of (grid_of before) (cell_at cells (grid_of before) paragraph.standing (in_head before (paragraph ∷ more)))
+    (look_in paragraph) (lists_of before)
 
 -- a label, where it has units
 abbrev pub label_places : List Element → List ℕ → Places
@@ -202,13 +238,30 @@ anchors_of bookmarks begin end = numbers (lead bookmarks begin) (lead bookmarks 
 abbrev pub anchor_places : List Element → List ℕ → Places
 anchor_places block numbers = map (λ number. bare (block ++ Anchor number ∷ [])) numbers
 
--- the links and the anchors of a text
+-- the links, the anchors and the cells of a text
 pub record Hypertext : Type 0 where
   pub links : Links
   pub anchors : ℕ → ℕ → List ℕ
+  pub cells : CellSpans
 
-abbrev pub hypertext_of : List Bookmark → ℕ → List Item → Hypertext
-hypertext_of bookmarks note items = record { links = links_of note items; anchors = anchors_of bookmarks }
+abbrev pub hypertext_of : List Bookmark → ℕ → List Item → List (Option Span) → Hypertext
+hypertext_of bookmarks note items spans =
+    record { links = links_of note items; anchors = anchors_of bookmarks; cells = span_at spans }
+
+-- ---- the cells of a text
+
+abbrev pub has_label : Option ParagraphValues → Bool
+has_label None = false
+has_label (Some values) = is_some values.label
+
+-- a paragraph of so many items from a place on has its mark alone, no number of a list, and no bookmark begins at it
+abbrev pub is_mark_alone : List Bookmark → List ParagraphValues → ℕ → ℕ → ℕ → Bool
+is_mark_alone bookmarks values number place count =
+    count == 1
+    && (not (has_label (slice_get values number)) && lead bookmarks place == lead bookmarks (place + count))
+
+abbrev pub cells_of : List Bookmark → List ParagraphValues → List Item → List (Option Span)
+cells_of bookmarks values text = cells_in (is_mark_alone bookmarks values) text
 
 -- how many items paragraphs have
 abbrev pub item_count : List Paragraph → ℕ
@@ -226,7 +279,7 @@ paragraph_places hypertext block count begin paragraph =
 unfoldable pub paragraphs_places : Hypertext → List Element → List Paragraph → ℕ → List Paragraph → Places
 paragraphs_places hypertext outer before count [] = []
 paragraphs_places hypertext outer before count (paragraph ∷ more) =
-    paragraph_places hypertext (outer ++ block_at before paragraph more) count (item_count before) paragraph
+    paragraph_places hypertext (outer ++ block_at hypertext.cells before paragraph more) count (item_count before) paragraph
     ++ paragraphs_places hypertext outer (paragraph ∷ before) (count + length (references_in paragraph.items)) more
 
 abbrev pub text_places : Hypertext → List Element → List Paragraph → Places
@@ -245,7 +298,7 @@ note_path number = Notes ∷ Note number ∷ []
 abbrev pub note_places : Formats → Manner → ℕ → Reference → List Item → Places
 note_places formats manner number reference note =
     if reference.is_shown then shown (note_path number ++ BackLink number ∷ []) (label_of reference.number) ∷
-    text_places (hypertext_of [] number note) (note_path number) (paragraphs_of formats manner note) else []
+    text_places (hypertext_of [] number note []) (note_path number) (paragraphs_of formats manner note) else []
 
 -- the notes of references, the first of which has this number
 unfoldable pub notes_places : Formats → Manner → ℕ → List Reference → List (List Item) → Places
@@ -259,5 +312,6 @@ notes_places formats manner number (reference ∷ references) (note ∷ notes) =
 abbrev pub places_of : Formats → List ParagraphValues → Options → Document → Places
 places_of formats values options document =
     let paragraphs = with_values values (paragraphs_of formats (main_manner options document) document.main) in
-    text_places (hypertext_of document.bookmarks 0 document.main) [] paragraphs
+    let cells = cells_of document.bookmarks values document.main in
+    text_places (hypertext_of document.bookmarks 0 document.main cells) [] paragraphs
     ++ notes_places formats (note_manner options document) 1 (references_of paragraphs) document.notes

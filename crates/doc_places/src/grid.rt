@@ -1,37 +1,50 @@
 // Where a paragraph stands.
 ghost use Rattle.std.specs.Prelude.{◌≡◌, ◌+◌, ◌^◌, ◌<◌, ◌≤◌, ◌++◌, ◌&&◌, [], ◌∷◌, length, true, if◌then◌else◌};
 ghost use Rattle.doc_places.specs.Grid.{grid_after};
-ghost use Rattle.doc_places.specs.Places.{block_of, cell_of, item_elements};
+ghost use Rattle.cell_spans.specs.Spans.{span_at};
+ghost use Rattle.doc_places.specs.Places.{around_of, block_of, cell_at, cell_of, is_part, item_elements};
+ghost use Rattle.doc_places.specs.Places.{own_elements};
 ghost use Rattle.doc_view.specs.Layout.{ends_cell};
 ghost use Rattle.view_places.specs.declared.element.Element.TheVariants.{Table, TableBody, TableHead, Row, Cell, HeadCell};
 
 use crate::lists::{ListItem, Lists};
 use crate::looks::Look;
+use cell_spans::{Spans, single};
 use doc_view::Standing;
 use view_paths::{MAX_DEPTH, Path};
-use view_places::{Element, Paragraph};
+use view_places::{Cell as CellForm, Element, Paragraph, Span};
 
 /// The number of a paragraph in its text, the numbers of the first paragraphs of its table and of its row, and how many
-/// cells of the row are before it; and whether each row of the table before its own is a head.
+/// cells of the row and of the text are before it; and whether each row of the table before its own is a head.
 #[derive(Clone, Copy)]
 pub struct Grid {
     pub number: usize,
     pub table: usize,
     pub row: usize,
     pub cell: usize,
+    pub ended: usize,
     pub heads: bool,
+}
+
+/// The cell that a paragraph is in: whether it is in the head of its table, and how far it reaches, where it is no part of
+/// another cell.
+#[derive(Clone, Copy)]
+pub struct InCell {
+    pub in_head: bool,
+    pub span: Option<Span>,
 }
 
 impl Grid {
     /// At the start of a text.
     pub fn new() -> Grid
-        ensures { result ≡ record { number = 0; table = 0; row = 0; cell = 0; heads = true } }
+        ensures { result ≡ record { number = 0; table = 0; row = 0; cell = 0; ended = 0; heads = true } }
     {
         Grid {
             number: 0,
             table: 0,
             row: 0,
             cell: 0,
+            ended: 0,
             heads: true,
         }
     }
@@ -47,6 +60,7 @@ impl Grid {
     pub fn behind(self, standing: Standing) -> Grid
         requires number { self.number + 1 < 2 ^ 64 }
         requires cell { self.cell + 1 < 2 ^ 64 }
+        requires ended { self.ended + 1 < 2 ^ 64 }
         ensures { result ≡ grid_after self standing }
     {
         let next = self.number + 1;
@@ -62,6 +76,7 @@ impl Grid {
             } else {
                 0
             },
+            ended: self.ended + count_ended(standing),
             heads: if in_table {
                 (keeps || ends_head) && self.heads
             } else {
@@ -79,47 +94,80 @@ fn count_ended(standing: Standing) -> usize
     if standing.ends_cell() { 1 } else { 0 }
 }
 
-/// Puts the elements that a paragraph stands in, in a table or not and in its head or not, behind these lists, and the
-/// paragraph, inside of a path.
+/// The cell of a paragraph that stands so, in the head of a table or not, by how far the cells of the text reach. A mark of
+/// a row is in none of them.
+pub fn cell_at(spans: &Spans, grid: Grid, standing: Standing, in_head: bool) -> Option<InCell>
+    ensures { result ≡ cell_at (span_at spans.now) grid standing in_head }
+{
+    if !standing.is_in_table() {
+        return None;
+    }
+    let span = if standing.keeps_row() {
+        spans.get(grid.ended)
+    } else {
+        Some(single())
+    };
+    Some(InCell { in_head, span })
+}
+
+/// Puts the elements that a paragraph stands in, in a cell or behind these lists, and the paragraph, inside of a path. In a
+/// cell that is a part of another one there is no paragraph.
 pub fn push_block(
     path: &mut Path<Element>,
     grid: Grid,
-    in_table: bool,
-    in_head: bool,
+    cell: Option<InCell>,
     look: &Look,
     lists: &Lists,
 )
     requires { length path.old + 13 ≤ MAX_DEPTH }
-    ensures { path.new ≡ path.old ++ block_of grid in_table in_head look.now lists.now }
+    ensures { path.new ≡ path.old ++ block_of grid cell look.now lists.now }
 {
-    push_around(path, grid, in_table, in_head, look.item, lists);
-    path.push(Element::Paragraph(Paragraph {
-        number: grid.number,
-        level: look.level,
-        right_to_left: look.right_to_left,
-        breaks_page: look.breaks_page,
-    }));
+    push_around(path, grid, cell, look.item, lists);
+    push_own(path, is_part(cell), grid.number, look);
 }
 
 /// Puts what stands around a paragraph.
 fn push_around(
     path: &mut Path<Element>,
     grid: Grid,
-    in_table: bool,
-    in_head: bool,
+    cell: Option<InCell>,
     item: Option<ListItem>,
     lists: &Lists,
 )
     requires { length path.old + 12 ≤ MAX_DEPTH }
-    ensures is { path.new ≡ path.old
-        ++ (if in_table then cell_of grid in_head else item_elements lists.now item grid.number) }
+    ensures is { path.new ≡ path.old ++ around_of grid cell item lists.now }
     ensures few { length path.new ≤ length path.old + 12 }
 {
-    if in_table {
-        push_cell(path, grid, in_head);
-    } else {
-        push_item(path, lists, item, grid.number);
+    match cell {
+        None => push_item(path, lists, item, grid.number),
+        Some(cell) => push_cell(path, grid, cell),
     }
+}
+
+/// Whether a paragraph is in a cell that is a part of another one.
+fn is_part(cell: Option<InCell>) -> bool
+    ensures { result ≡ is_part cell }
+{
+    match cell {
+        None => false,
+        Some(cell) => cell.span.is_none(),
+    }
+}
+
+/// Puts a paragraph with this number, where it is in no part of a cell.
+fn push_own(path: &mut Path<Element>, is_part: bool, number: usize, look: &Look)
+    requires { length path.old < MAX_DEPTH }
+    ensures { path.new ≡ path.old ++ own_elements is_part number look.now }
+{
+    if is_part {
+        return;
+    }
+    path.push(Element::Paragraph(Paragraph {
+        number,
+        level: look.level,
+        right_to_left: look.right_to_left,
+        breaks_page: look.breaks_page,
+    }));
 }
 
 /// Puts the lists of an item, where there is one.
@@ -135,36 +183,40 @@ fn push_item(path: &mut Path<Element>, lists: &Lists, item: Option<ListItem>, nu
 }
 
 /// Puts a table, its head or its body, a row and a cell.
-fn push_cell(path: &mut Path<Element>, grid: Grid, in_head: bool)
+fn push_cell(path: &mut Path<Element>, grid: Grid, cell: InCell)
     requires { length path.old + 4 ≤ MAX_DEPTH }
-    ensures is { path.new ≡ path.old ++ cell_of grid in_head }
+    ensures is { path.new ≡ path.old ++ cell_of grid cell }
     ensures few { length path.new ≤ length path.old + 4 }
 {
-    if in_head {
-        push_head_cell(path, grid);
+    let form = CellForm {
+        number: grid.cell,
+        span: cell.span,
+    };
+    if cell.in_head {
+        push_head_cell(path, grid, form);
     } else {
-        push_body_cell(path, grid);
+        push_body_cell(path, grid, form);
     }
 }
 
 /// Puts a table, its head, a row and a cell.
-fn push_head_cell(path: &mut Path<Element>, grid: Grid)
+fn push_head_cell(path: &mut Path<Element>, grid: Grid, form: CellForm)
     requires { length path.old + 4 ≤ MAX_DEPTH }
-    ensures { path.new ≡ path.old ++ Table grid.table ∷ TableHead ∷ Row grid.row ∷ HeadCell grid.cell ∷ [] }
+    ensures { path.new ≡ path.old ++ Table grid.table ∷ TableHead ∷ Row grid.row ∷ HeadCell form ∷ [] }
 {
     path.push(Element::Table(grid.table));
     path.push(Element::TableHead);
     path.push(Element::Row(grid.row));
-    path.push(Element::HeadCell(grid.cell));
+    path.push(Element::HeadCell(form));
 }
 
 /// Puts a table, its body, a row and a cell.
-fn push_body_cell(path: &mut Path<Element>, grid: Grid)
+fn push_body_cell(path: &mut Path<Element>, grid: Grid, form: CellForm)
     requires { length path.old + 4 ≤ MAX_DEPTH }
-    ensures { path.new ≡ path.old ++ Table grid.table ∷ TableBody ∷ Row grid.row ∷ Cell grid.cell ∷ [] }
+    ensures { path.new ≡ path.old ++ Table grid.table ∷ TableBody ∷ Row grid.row ∷ Cell form ∷ [] }
 {
     path.push(Element::Table(grid.table));
     path.push(Element::TableBody);
     path.push(Element::Row(grid.row));
-    path.push(Element::Cell(grid.cell));
+    path.push(Element::Cell(form));
 }

@@ -8,7 +8,7 @@ mod links;
 mod lists;
 mod looks;
 
-pub use grid::{Grid, push_block};
+pub use grid::{Grid, InCell, cell_at, push_block};
 pub use inline::{push_inline, push_link};
 pub use laws::each_glyph_has_a_place;
 pub use links::Origin;

@@ -147,7 +147,7 @@ glyph_code Tab = 32
 glyph_code LineBreak = 32
 glyph_code PageBreak = 32
 glyph_code (NoteMark number) = 32
-glyph_code Picture = 32
+glyph_code (Picture place) = 32
 glyph_code Object = 32
 
 abbrev pub IsPlainGlyph : Glyph → Type 0
@@ -193,8 +193,8 @@ pub glyph_plain : (fonts : SymbolFonts) (format : CharFormat) (ends_section : Bo
 glyph_plain fonts format ends_section unit =
     let drawn = drawn_unit fonts format unit in
     either_glyph (is_stand_in format unit) (stand_in_glyph format) (unit_glyph drawn ends_section)
-    (either_glyph format.of_field None (if format.object then Some Object else Some Picture) refl
-    (either_glyph format.object (Some Object) (Some Picture) refl refl))
+    (either_glyph format.of_field None (if format.object then Some Object else Some (Picture format.picture)) refl
+    (either_glyph format.object (Some Object) (Some (Picture format.picture)) refl refl))
     (unit_by_tests drawn ends_section (nat_lt drawn 0x20) (is_windows drawn) refl refl)
 
 whole_plain : (one next : Glyph) → ArePlain (whole_text one next)
@@ -204,13 +204,13 @@ whole_plain (Unit first) Tab = none_plain
 whole_plain (Unit first) LineBreak = none_plain
 whole_plain (Unit first) PageBreak = none_plain
 whole_plain (Unit first) (NoteMark number) = none_plain
-whole_plain (Unit first) Picture = none_plain
+whole_plain (Unit first) (Picture place) = none_plain
 whole_plain (Unit first) Object = none_plain
 whole_plain Tab next = none_plain
 whole_plain LineBreak next = none_plain
 whole_plain PageBreak next = none_plain
 whole_plain (NoteMark number) next = none_plain
-whole_plain Picture next = none_plain
+whole_plain (Picture place) next = none_plain
 whole_plain Object next = none_plain
 
 own_plain : (in_cell : Bool) (glyph : Glyph) → IsPlainGlyph glyph → ArePlain (glyph_text in_cell glyph)
@@ -223,7 +223,7 @@ own_plain in_cell PageBreak plain = one_plain (if in_cell then 32 else 12) (one_
 own_plain in_cell (NoteMark number) plain =
     more_plain 91 (decimal number ++ 93 ∷ []) refl
     (both_plain (decimal number) (93 ∷ []) (decimal_plain number) (one_plain 93 refl))
-own_plain in_cell Picture plain = known_plain (codes "[picture]") refl
+own_plain in_cell (Picture place) plain = known_plain (codes "[picture]") refl
 own_plain in_cell Object plain = known_plain (codes "[object]") refl
 
 pub glyphs_plain : (in_cell : Bool) (glyphs : List Glyph) → All IsPlainGlyph glyphs → ArePlain (glyphs_text in_cell glyphs)

@@ -60,13 +60,13 @@ whole_size in_cell (Unit first) Tab = omega arith
 whole_size in_cell (Unit first) LineBreak = omega arith
 whole_size in_cell (Unit first) PageBreak = omega arith
 whole_size in_cell (Unit first) (NoteMark number) = omega arith
-whole_size in_cell (Unit first) Picture = omega arith
+whole_size in_cell (Unit first) (Picture place) = omega arith
 whole_size in_cell (Unit first) Object = omega arith
 whole_size in_cell Tab next = omega arith
 whole_size in_cell LineBreak next = omega arith
 whole_size in_cell PageBreak next = omega arith
 whole_size in_cell (NoteMark number) next = omega arith
-whole_size in_cell Picture next = omega arith
+whole_size in_cell (Picture place) next = omega arith
 whole_size in_cell Object next = omega arith
 
 pub glyphs_size : (in_cell : Bool) (glyphs : List Glyph) → length (glyphs_text in_cell glyphs) ≤ sizes in_cell glyphs
@@ -108,7 +108,7 @@ IsSmall Tab = ⊤
 IsSmall LineBreak = ⊤
 IsSmall PageBreak = ⊤
 IsSmall (NoteMark number) = number < 1000000
-IsSmall Picture = ⊤
+IsSmall (Picture place) = ⊤
 IsSmall Object = ⊤
 
 abbrev pub IsSmallIn : Option Glyph → Type 0
@@ -122,7 +122,7 @@ small_size in_cell LineBreak small = omega arith
 small_size in_cell PageBreak small = omega arith
 small_size in_cell (NoteMark number) small =
     omega (arith, digits_few number small, length-append (decimal number) (93 ∷ []))
-small_size in_cell Picture small = few_by 9 9 (codes "[picture]") refl (omega arith)
+small_size in_cell (Picture place) small = few_by 9 9 (codes "[picture]") refl (omega arith)
 small_size in_cell Object small = few_by 9 8 (codes "[object]") refl (omega arith)
 
 pub sizes_nine : (in_cell : Bool) (glyphs : List Glyph) → All IsSmall glyphs → sizes in_cell glyphs ≤ 9 * length glyphs
@@ -164,8 +164,8 @@ glyph_small : (fonts : SymbolFonts) (format : CharFormat) (ends_section : Bool) 
 glyph_small fonts format ends_section unit =
     either_small (is_stand_in format unit) (stand_in_glyph format)
     (unit_glyph (drawn_unit fonts format unit) ends_section)
-    (either_small format.of_field None (if format.object then Some Object else Some Picture) tt
-    (either_small format.object (Some Object) (Some Picture) tt tt))
+    (either_small format.of_field None (if format.object then Some Object else Some (Picture format.picture)) tt
+    (either_small format.object (Some Object) (Some (Picture format.picture)) tt tt))
     (unit_small (drawn_unit fonts format unit) ends_section)
 
 visible_small : (kind : Option NoteKind) (number : ℕ) (glyph : Option Glyph) → number < 1000000 → IsSmallIn glyph →

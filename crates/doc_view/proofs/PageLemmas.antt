@@ -69,7 +69,7 @@ is_other n is = λ same. absurd (grind (arith, nat_tests))
 format_or : (sheet : Sheet) → HasSoundBases sheet → (istd : ℕ) (direct : Properties) (is_paragraph : Bool) →
     (kind_at sheet istd == 1) ≡ is_paragraph → CharFormat
 format_or sheet bases istd direct true is = (there sheet istd direct bases (is_one (kind_at sheet istd) is)).0
-format_or sheet bases istd direct false is = format_in (λ code. None)
+format_or sheet bases istd direct false is = format_in None (λ code. None)
 
 right_or : (sheet : Sheet) (bases : HasSoundBases sheet) (istd : ℕ) (direct : Properties) (is_paragraph : Bool)
     (is : (kind_at sheet istd == 1) ≡ is_paragraph) → kind_at sheet istd ≡ 1 →
@@ -80,7 +80,7 @@ right_or sheet bases istd direct false is kind = absurd (is_other (kind_at sheet
 
 none_or : (sheet : Sheet) (bases : HasSoundBases sheet) (istd : ℕ) (direct : Properties) (is_paragraph : Bool)
     (is : (kind_at sheet istd == 1) ≡ is_paragraph) → kind_at sheet istd ≢ 1 →
-    format_or sheet bases istd direct is_paragraph is ≡ format_in (λ code. None)
+    format_or sheet bases istd direct is_paragraph is ≡ format_in None (λ code. None)
 unfolding format_or
 none_or sheet bases istd direct true is other = absurd (other (is_one (kind_at sheet istd) is))
 none_or sheet bases istd direct false is other = refl

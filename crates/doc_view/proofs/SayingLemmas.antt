@@ -36,7 +36,7 @@ no_half unit low Tab = refl
 no_half unit low LineBreak = refl
 no_half unit low PageBreak = refl
 no_half unit low (NoteMark number) = refl
-no_half unit low Picture = refl
+no_half unit low (Picture place) = refl
 no_half unit low Object = refl
 
 high_surrogate : (unit : ℕ) → is_high unit ≡ true → is_surrogate unit ≡ true
@@ -90,7 +90,7 @@ glyph_on in_table None Tab rest is = alone in_table Tab rest (λ next. refl)
 glyph_on in_table None LineBreak rest is = alone in_table LineBreak rest (λ next. refl)
 glyph_on in_table None PageBreak rest is = alone in_table PageBreak rest (λ next. refl)
 glyph_on in_table None (NoteMark number) rest is = alone in_table (NoteMark number) rest (λ next. refl)
-glyph_on in_table None Picture rest is = alone in_table Picture rest (λ next. refl)
+glyph_on in_table None (Picture place) rest is = alone in_table (Picture place) rest (λ next. refl)
 glyph_on in_table None Object rest is = alone in_table Object rest (λ next. refl)
 glyph_on in_table (Some first) (Unit unit) rest is =
     half_on in_table first unit rest (is_pair first unit) (is first refl) refl
@@ -101,7 +101,7 @@ glyph_on in_table (Some first) PageBreak rest is =
     other_on in_table first PageBreak rest (is first refl) refl (λ next. refl)
 glyph_on in_table (Some first) (NoteMark number) rest is =
     other_on in_table first (NoteMark number) rest (is first refl) refl (λ next. refl)
-glyph_on in_table (Some first) Picture rest is = other_on in_table first Picture rest (is first refl) refl (λ next. refl)
+glyph_on in_table (Some first) (Picture place) rest is = other_on in_table first (Picture place) rest (is first refl) refl (λ next. refl)
 glyph_on in_table (Some first) Object rest is = other_on in_table first Object rest (is first refl) refl (λ next. refl)
 
 -- ---- what waits is a half
@@ -125,7 +125,7 @@ glyph_still half Tab = λ unit same. absurd (cc (same))
 glyph_still half LineBreak = λ unit same. absurd (cc (same))
 glyph_still half PageBreak = λ unit same. absurd (cc (same))
 glyph_still half (NoteMark number) = λ unit same. absurd (cc (same))
-glyph_still half Picture = λ unit same. absurd (cc (same))
+glyph_still half (Picture place) = λ unit same. absurd (cc (same))
 glyph_still half Object = λ unit same. absurd (cc (same))
 
 -- ---- items one by one
@@ -260,7 +260,7 @@ said_unit in_table half Tab unit is = absurd (cc (is))
 said_unit in_table half LineBreak unit is = absurd (cc (is))
 said_unit in_table half PageBreak unit is = absurd (cc (is))
 said_unit in_table half (NoteMark number) unit is = absurd (cc (is))
-said_unit in_table half Picture unit is = absurd (cc (is))
+said_unit in_table half (Picture place) unit is = absurd (cc (is))
 said_unit in_table half Object unit is = absurd (cc (is))
 
 pub waits_unit : (half : Option ℕ) (g : Glyph) (unit : ℕ) → unit_in g ≡ Some unit →
@@ -271,7 +271,7 @@ waits_unit half Tab unit is = absurd (cc (is))
 waits_unit half LineBreak unit is = absurd (cc (is))
 waits_unit half PageBreak unit is = absurd (cc (is))
 waits_unit half (NoteMark number) unit is = absurd (cc (is))
-waits_unit half Picture unit is = absurd (cc (is))
+waits_unit half (Picture place) unit is = absurd (cc (is))
 waits_unit half Object unit is = absurd (cc (is))
 
 pub said_other : (in_table : Bool) (half : Option ℕ) (g : Glyph) → unit_in g ≡ None →
@@ -281,7 +281,7 @@ said_other in_table half Tab is = refl
 said_other in_table half LineBreak is = refl
 said_other in_table half PageBreak is = refl
 said_other in_table half (NoteMark number) is = refl
-said_other in_table half Picture is = refl
+said_other in_table half (Picture place) is = refl
 said_other in_table half Object is = refl
 
 pub waits_other : (half : Option ℕ) (g : Glyph) → unit_in g ≡ None → waits_after half g ≡ None
@@ -290,5 +290,5 @@ waits_other half Tab is = refl
 waits_other half LineBreak is = refl
 waits_other half PageBreak is = refl
 waits_other half (NoteMark number) is = refl
-waits_other half Picture is = refl
+waits_other half (Picture place) is = refl
 waits_other half Object is = refl

@@ -52,7 +52,7 @@ abbrev pub is_stand_in : CharFormat → ℕ → Bool
 is_stand_in format unit = format.special && (unit == 0x01 || unit == 0x08)
 
 abbrev pub stand_in_glyph : CharFormat → Option Glyph
-stand_in_glyph format = if format.of_field then None else if format.object then Some Object else Some Picture
+stand_in_glyph format = if format.of_field then None else if format.object then Some Object else Some (Picture format.picture)
 
 -- what is visible of a unit of this format in a document with these symbol fonts
 abbrev pub glyph_of : SymbolFonts → CharFormat → Bool → ℕ → Option Glyph
@@ -67,7 +67,7 @@ glyph_text in_cell Tab = (if in_cell then 32 else 9) ∷ []
 glyph_text in_cell LineBreak = (if in_cell then 32 else 10) ∷ []
 glyph_text in_cell PageBreak = (if in_cell then 32 else 12) ∷ []
 glyph_text in_cell (NoteMark number) = 91 ∷ [] ++ (decimal number ++ 93 ∷ [])
-glyph_text in_cell Picture = codes "[picture]"
+glyph_text in_cell (Picture place) = codes "[picture]"
 glyph_text in_cell Object = codes "[object]"
 
 -- two glyphs are the halves of one character

@@ -68,7 +68,7 @@ unit_in Tab = None
 unit_in LineBreak = None
 unit_in PageBreak = None
 unit_in (NoteMark number) = None
-unit_in Picture = None
+unit_in (Picture place) = None
 unit_in Object = None
 
 -- a glyph that is no unit
@@ -78,7 +78,7 @@ other_said in_table Tab = glyph_text in_table Tab
 other_said in_table LineBreak = glyph_text in_table LineBreak
 other_said in_table PageBreak = glyph_text in_table PageBreak
 other_said in_table (NoteMark number) = glyph_text in_table (NoteMark number)
-other_said in_table Picture = glyph_text in_table Picture
+other_said in_table (Picture place) = glyph_text in_table (Picture place)
 other_said in_table Object = glyph_text in_table Object
 
 abbrev pub glyph_said : Bool → Option ℕ → Glyph → List ℕ
@@ -87,7 +87,7 @@ glyph_said in_table half Tab = half_text half ++ glyph_text in_table Tab
 glyph_said in_table half LineBreak = half_text half ++ glyph_text in_table LineBreak
 glyph_said in_table half PageBreak = half_text half ++ glyph_text in_table PageBreak
 glyph_said in_table half (NoteMark number) = half_text half ++ glyph_text in_table (NoteMark number)
-glyph_said in_table half Picture = half_text half ++ glyph_text in_table Picture
+glyph_said in_table half (Picture place) = half_text half ++ glyph_text in_table (Picture place)
 glyph_said in_table half Object = half_text half ++ glyph_text in_table Object
 
 abbrev pub waits_after : Option ℕ → Glyph → Option ℕ
@@ -96,7 +96,7 @@ waits_after half Tab = None
 waits_after half LineBreak = None
 waits_after half PageBreak = None
 waits_after half (NoteMark number) = None
-waits_after half Picture = None
+waits_after half (Picture place) = None
 waits_after half Object = None
 
 -- the same of what may be a glyph

@@ -21,7 +21,7 @@ use Rattle.doc_view.specs.declared.reading.TextKind.TheVariants as text_kind
 pub record AreFormats (sheet : Sheet) (formats : Formats) : Type 0 where
   pub right :
       (istd : ℕ) (direct : Properties) → kind_at sheet istd ≡ 1 → IsCharFormat sheet istd direct (formats istd direct)
-  pub none : (istd : ℕ) (direct : Properties) → kind_at sheet istd ≢ 1 → formats istd direct ≡ format_in (λ code. None)
+  pub none : (istd : ℕ) (direct : Properties) → kind_at sheet istd ≢ 1 → formats istd direct ≡ format_in None (λ code. None)
 
 -- the symbol fonts of a document
 abbrev pub fonts_of : Document → SymbolFonts

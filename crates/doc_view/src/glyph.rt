@@ -59,7 +59,7 @@ fn stand_in_glyph(format: &CharFormat) -> Option<Glyph>
     } else if format.object {
         Some(Glyph::Object)
     } else {
-        Some(Glyph::Picture)
+        Some(Glyph::Picture(format.picture))
     }
 }
 

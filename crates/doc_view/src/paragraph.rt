@@ -276,7 +276,7 @@ fn unit_in(glyph: Glyph) -> Option<u16>
         Glyph::LineBreak => None,
         Glyph::PageBreak => None,
         Glyph::NoteMark(_) => None,
-        Glyph::Picture => None,
+        Glyph::Picture(_) => None,
         Glyph::Object => None,
     }
 }
@@ -291,7 +291,7 @@ fn push_other<K: Sink>(page: &mut Page, out: &mut K, in_table: bool, glyph: Glyp
         Glyph::LineBreak => push_break(page, out, in_table, b'\n'),
         Glyph::PageBreak => push_break(page, out, in_table, 0x0C),
         Glyph::NoteMark(number) => push_mark(page, out, number),
-        Glyph::Picture => page.push_ascii(out, b"[picture]"),
+        Glyph::Picture(_) => page.push_ascii(out, b"[picture]"),
         Glyph::Object => page.push_ascii(out, b"[object]"),
     }
 }

@@ -1,12 +1,12 @@
 -- What is opened and saved is the fit of a file.
-use Rattle.std.proofs.Common.{refl, inr, ℕ, Bool, true, false, List}
+use Rattle.std.proofs.Common.{refl, inr, subst, ℕ, Bool, true, false, List}
 use Rattle.run_stages.specs.Outcomes.{Outcome}
 use Rattle.doc_fit.specs.declared.opening.OpenedAny.{OpenedAny}
 use Rattle.doc_fit.specs.Opened.{IsOpenedAny}
-use Rattle.doc_fit.specs.Noted.{IsOpenedNoted, IsOpenedWith, IsOpenedFit, AreNoted}
+use Rattle.file_rules.specs.FileRules.{FileText}
+use Rattle.doc_fit.specs.Noted.{IsNotedText, IsOpenedNoted, IsOpenedWith, IsOpenedFit, AreNoted}
 use Rattle.doc_fit.proofs.LossLemmas.{inventory_of, lifted_inventory, lines_fit}
-use Rattle.doc_fit.proofs.OpenLemmas.{mended_by}
-use Rattle.doc_fit.proofs.NotedLemmas.{noted_by}
+use Rattle.doc_fit.proofs.OpenLemmas.{mended_by, text_meant}
 use Rattle.docfit_run.specs.Fitted.{IsFitted, IsSaved, JudgesFit}
 
 plain_fit : (plain : Bool) (out file : List ℕ) (opened : OpenedAny) (outcome : Outcome) → AreNoted plain file false →
@@ -51,7 +51,15 @@ noted_fit plain out file opened outcome are is saved =
       document = opened.lifted.document;
       mends = opened.mends.items;
       document_is = record {
-        noted = noted_by file is.before opened.lifted opened.losses opened.mends.items by;
+        noted = record {
+          rules = lifts.rules;
+          meant = is.before.document;
+          means = lifts.means;
+          mends = opened.mends.items;
+          noted_is = subst (λ (t : FileText). IsNotedText t is.before.document opened.lifted.document opened.mends.items)
+              (text_meant file is.before lifts) by.noted_is;
+          sound = by.sound;
+        };
         mends_are = refl;
       };
       inventory = inventory_of is.before lifts.text.wd;

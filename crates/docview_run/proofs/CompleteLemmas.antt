@@ -1,6 +1,6 @@
 -- A file that has a document is shown.
 use Rattle.std.proofs.Common.{◌≡◌, ◌≢◌, ◌<◌, ◌⊎◌, ◌∙◌, inl, inr, refl, sym, ap, subst, ℕ, List, Bool, false}
-use Rattle.std.proofs.Common.{Option, Some, length, arith, true≢false}
+use Rattle.std.proofs.Common.{Option, None, Some, length, arith, true≢false}
 use Rattle.doc_bits.specs.declared.places.Where.TheVariants.{File}
 use Rattle.doc_bits.specs.Number.{AreBytes}
 use Rattle.doc_bits.specs.Rules.{Hold}
@@ -44,13 +44,13 @@ not_refused strict file name outcome bytes (inr (other, hold)) (inr (is, x)) =
     hold_or_first Upto (fit_rules file) refused.rule refused.place (fit_single file bytes) hold refused.first
 
 shown_done : (view : View) (name file : List ℕ) (outcome : Outcome) → AreBytes file → IsValid view.strict file →
-    ShowsFile view name file outcome → outcome.status ≡ 0
+    ShowsFile view None name file outcome → outcome.status ≡ 0
 shown_done view name file outcome bytes right (inl not) =
     absurd (not_refused view.strict file name outcome bytes right not)
-shown_done view name file outcome bytes right (inr shown) = ap (λ (o : Outcome). o.status) shown.ends
+shown_done view name file outcome bytes right (inr shown) = ap (λ (o : Outcome). o.status) shown.shows.ends
 
 said_done : (view : View) (name : List ℕ) (files : Files) (outcome : Outcome) → (can : CanView view.strict files name) →
-    Says name (BreaksLengthRule name) (ShowsBytes view name) (Some can.bytes) outcome → outcome.status ≡ 0
+    Says name (BreaksLengthRule name) (ShowsBytes view None name) (Some can.bytes) outcome → outcome.status ≡ 0
 said_done view name files outcome can (inl long) = absurd (not_long view.strict can.bytes can.right long.0)
 said_done view name files outcome can (inr read) =
     shown_done view name can.bytes outcome read.1.0 can.right read.1.1
@@ -59,9 +59,9 @@ view_done : (view : View) (name : List ℕ) (files : Files) (outcome : Outcome) 
     Shows (Some files) (Some (page view name)) outcome → outcome.status ≢ 4 → outcome.status ≡ 0
 view_done view name files outcome can ends calm =
     said_done view name files outcome can
-    (subst (λ t. Says name (BreaksLengthRule name) (ShowsBytes view name) t outcome) can.there
-    (settled name files (BreaksLengthRule name) (ShowsBytes view name) outcome
-    (read_bytes view name (Some files) outcome ends) calm))
+    (subst (λ t. Says name (BreaksLengthRule name) (ShowsBytes view None name) t outcome) can.there
+    (settled name files (BreaksLengthRule name) (ShowsBytes view None name) outcome
+    (read_bytes view None name (Some files) outcome ends) calm))
 
 pub files_shown : FilesAreShown
 files_shown words view name files outcome asked can is calm =

@@ -8,6 +8,16 @@ use Rattle.doc_outer.specs.Held.{Files}
 use Rattle.plain_doc.specs.declared.document.Document.{Document}
 use Rattle.doc_read.specs.Holds.{all_rules}
 use Rattle.doc_read.proofs.OneDocument.{all_single}
+use Rattle.cfb_streams.specs.Contents.{Contents, HasNamed, HasNoNamed, Stream}
+use Rattle.cfb_streams.specs.Container.{HasContents}
+use Rattle.cfb_streams.proofs.UniqueLemmas.{contents_unique}
+use Rattle.file_rules.proofs.NameLemmas.{named_one}
+use Rattle.doc_pictures.specs.declared.pictures.Picture.{Picture}
+use Rattle.doc_pictures.specs.Files.{ImageFiles}
+use Rattle.doc_pictures.specs.Places.{places_of}
+use Rattle.doc_pictures.specs.Pictures.{ArePictures}
+use Rattle.doc_pictures.proofs.OrderLemmas.{pictures-one}
+use Rattle.html_page.specs.Sources.{PageSource}
 use Rattle.doc_view.specs.declared.view.Options.{Options}
 use Rattle.doc_view.proofs.LawLemmas.{pages_one}
 use Rattle.doc_html.proofs.PageLemmas.{form_pages_one}
@@ -24,16 +34,54 @@ use Rattle.docview_run.specs.declared.view.Form.TheVariants.{Text, Html, Markdow
 use Rattle.docview_run.specs.declared.view.View.{View}
 use Rattle.docview_run.specs.Requests.{Request, help, version, page, pictured, properties, requested}
 use Rattle.docview_run.specs.Viewed.{IsNotViewed, IsViewed}
-use Rattle.docview_run.specs.Pictured.{KeepsFiles}
-use Rattle.docview_run.specs.Endings.{IsPageIn, Shows, ShowsFile, ShowsName, ShowsPage, ShowsPictured}
+use Rattle.docview_run.specs.Pictured.{ArePicturesOf, IsDataIn, IsDataOf, KeepsFiles, NamesFiles, data_name}
+use Rattle.docview_run.specs.Endings.{IsPageIn, Shows, ShowsDocument, ShowsFile, ShowsName, ShowsPage, ShowsPictured}
+use Rattle.docview_run.specs.Endings.{bare}
 use Rattle.docview_run.specs.Laws.{AsksForProperties, ViewIsOne}
 use Rattle.docview_run.proofs.ViewLemmas.{viewed_one}
 
-pages_same : (form : Form) (options : Options) (document : Document) (one other : List ℕ) →
-    IsPageIn form options document one → IsPageIn form options document other → one ≡ other
-pages_same Text options document one other a b = pages_one options document one other a b
-pages_same Html options document one other a b = form_pages_one form.Html options document one other a b
-pages_same Markdown options document one other a b = form_pages_one form.Markdown options document one other a b
+pages_same : (form : Form) (options : Options) (source : PageSource) (one other : List ℕ) →
+    IsPageIn form options source one → IsPageIn form options source other → one ≡ other
+pages_same Text options source one other a b = pages_one options source.document one other a b
+pages_same Html options source one other a b = form_pages_one form.Html options source one other a b
+pages_same Markdown options source one other a b =
+    form_pages_one form.Markdown options (bare source.document) one other a b
+
+-- ---- a document has one list of pictures
+
+named_or_not : (streams : List Stream) (name bytes : List ℕ) → HasNamed streams name bytes → HasNoNamed streams name → ⊥
+named_or_not streams name bytes x none = none x.index x.stream x.here x.named
+
+data_in_one : (file : List ℕ) (contents : Contents) (a b : List ℕ) → HasContents file contents →
+    IsDataIn contents.streams a → IsDataIn contents.streams b → a ≡ b
+data_in_one file contents a b has (inl x) (inl y) = named_one file contents data_name a b has x y
+data_in_one file contents a b has (inl x) (inr y) = absurd (named_or_not contents.streams data_name a x y.0)
+data_in_one file contents a b has (inr x) (inl y) = absurd (named_or_not contents.streams data_name b y x.0)
+data_in_one file contents a b has (inr x) (inr y) = x.1 ∙ sym y.1
+
+data_one : (file a b : List ℕ) → IsDataOf file a → IsDataOf file b → a ≡ b
+data_one file a b x y =
+    let same : y.contents ≡ x.contents = contents_unique file y.contents x.contents y.has x.has in
+    data_in_one file x.contents a b x.has x.there
+    (subst (λ (contents : Contents). IsDataIn contents.streams b) same y.there)
+
+pictures_same : (file : List ℕ) (document : Document) (a b : List Picture) → ArePicturesOf file document a →
+    ArePicturesOf file document b → a ≡ b
+pictures_same file document a b x y =
+    let same : y.stream ≡ x.stream = data_one file y.stream x.stream y.is x.is in
+    pictures-one x.stream (places_of document) a b x.are
+    (subst (λ (stream : List ℕ). ArePictures stream (places_of document) b) same y.are)
+
+files_same : (a b : ImageFiles) → a.folder ≡ b.folder → a.pictures ≡ b.pictures → a ≡ b
+files_same a b folder pictures = λ i. record { folder = folder i; pictures = pictures i }
+
+names_same : (folder : Option (List ℕ)) (file : List ℕ) (document : Document) (a b : ImageFiles) →
+    NamesFiles folder file document a → NamesFiles folder file document b → a ≡ b
+names_same None file document a b x y = x ∙ sym y
+names_same (Some folder) file document a b x y =
+    files_same a b (x.0 ∙ sym y.0) (pictures_same file document a.pictures b.pictures x.1 y.1)
+
+-- ---- one page
 
 not_viewed_one : (strict : Bool) (file name : List ℕ) (a b : Outcome) → AreBytes file →
     IsNotViewed strict file name a → IsNotViewed strict file name b → a ≡ b
@@ -56,35 +104,44 @@ viewed_or_not strict file name outcome document bytes (inr (is, x)) (inr (also, 
     let refused = x.ends in
     hold_or_first Upto (fit_rules file) refused.rule refused.place (fit_single file bytes) lifted.rules refused.first
 
-shown_one : (view : View) (file : List ℕ) (a b : Outcome) → AreBytes file → ShowsPage view file a →
-    ShowsPage view file b → a ≡ b
-shown_one view file a b bytes x y =
-    let document : x.document ≡ y.document =
-    viewed_one view.strict view.strict file x.document y.document bytes x.viewed y.viewed in
+same_document : (view : View) (folder : Option (List ℕ)) (file : List ℕ) (document : Document) (a b : Outcome) →
+    ShowsDocument view folder file document a → ShowsDocument view folder file document b → a ≡ b
+same_document view folder file document a b x y =
+    let images : x.images ≡ y.images = names_same folder file document x.images y.images x.names y.names in
     let page : x.bytes ≡ y.bytes =
-    pages_same view.form view.options y.document x.bytes y.bytes
-    (subst (λ (d : Document). IsPageIn view.form view.options d x.bytes) document x.are) y.are in
+    pages_same view.form view.options (record { document = document; images = y.images }) x.bytes y.bytes
+    (subst (λ (i : ImageFiles). IsPageIn view.form view.options (record { document = document; images = i }) x.bytes)
+    images x.are) y.are in
     x.ends ∙ (ap (λ (b : List ℕ). says 0 b) page ∙ sym y.ends)
 
-file_one : (view : View) (name file : List ℕ) (a b : Outcome) → AreBytes file → ShowsFile view name file a →
-    ShowsFile view name file b → a ≡ b
-file_one view name file a b bytes (inl x) (inl y) = not_viewed_one view.strict file name a b bytes x y
-file_one view name file a b bytes (inl x) (inr y) =
+shown_one : (view : View) (folder : Option (List ℕ)) (file : List ℕ) (a b : Outcome) → AreBytes file →
+    ShowsPage view folder file a → ShowsPage view folder file b → a ≡ b
+shown_one view folder file a b bytes x y =
+    let document : x.document ≡ y.document =
+    viewed_one view.strict view.strict file x.document y.document bytes x.viewed y.viewed in
+    same_document view folder file y.document a b
+    (subst (λ (d : Document). ShowsDocument view folder file d a) document x.shows) y.shows
+
+file_one : (view : View) (folder : Option (List ℕ)) (name file : List ℕ) (a b : Outcome) → AreBytes file →
+    ShowsFile view folder name file a → ShowsFile view folder name file b → a ≡ b
+file_one view folder name file a b bytes (inl x) (inl y) = not_viewed_one view.strict file name a b bytes x y
+file_one view folder name file a b bytes (inl x) (inr y) =
     absurd (viewed_or_not view.strict file name a y.document bytes x y.viewed)
-file_one view name file a b bytes (inr x) (inl y) =
+file_one view folder name file a b bytes (inr x) (inl y) =
     absurd (viewed_or_not view.strict file name b x.document bytes y x.viewed)
-file_one view name file a b bytes (inr x) (inr y) = shown_one view file a b bytes x y
+file_one view folder name file a b bytes (inr x) (inr y) = shown_one view folder file a b bytes x y
 
 -- what is shown is a file of bytes
-abbrev pub ShowsBytes : View → (name file : List ℕ) → Outcome → Type 0
-ShowsBytes view name file outcome = AreBytes file × ShowsFile view name file outcome
+abbrev pub ShowsBytes : View → Option (List ℕ) → (name file : List ℕ) → Outcome → Type 0
+ShowsBytes view folder name file outcome = AreBytes file × ShowsFile view folder name file outcome
 
-pub read_bytes : (view : View) (name : List ℕ) (held : Option Files) (outcome : Outcome) →
-    ShowsName view name held outcome → Reads name held (BreaksLengthRule name) (ShowsBytes view name) outcome
-read_bytes view name held outcome (inl x) = inl x
-read_bytes view name held outcome (inr (inl x)) = inr (inl x)
-read_bytes view name held outcome (inr (inr (inl x))) = inr (inr (inl x))
-read_bytes view name held outcome (inr (inr (inr x))) =
+pub read_bytes : (view : View) (folder : Option (List ℕ)) (name : List ℕ) (held : Option Files) (outcome : Outcome) →
+    ShowsName view folder name held outcome →
+    Reads name held (BreaksLengthRule name) (ShowsBytes view folder name) outcome
+read_bytes view folder name held outcome (inl x) = inl x
+read_bytes view folder name held outcome (inr (inl x)) = inr (inl x)
+read_bytes view folder name held outcome (inr (inr (inl x))) = inr (inr (inl x))
+read_bytes view folder name held outcome (inr (inr (inr x))) =
     inr (inr (inr (record {
       bytes = x.bytes;
       told = x.told;
@@ -93,19 +150,21 @@ read_bytes view name held outcome (inr (inr (inr x))) =
       goes_on = (x.are, x.goes_on);
     })))
 
-name_one : (view : View) (name : List ℕ) (files : Files) (a b : Outcome) → ShowsName view name (Some files) a →
-    ShowsName view name (Some files) b → a.status ≢ 4 → b.status ≢ 4 → a ≡ b
-name_one view name files a b x y ca cb =
-    reads_one (a ≡ b) name files (BreaksLengthRule name) (ShowsBytes view name) a b ca cb (λ e. e) (λ s t. s ∙ sym t)
-    (λ bytes there s t. file_one view name bytes a b s.0 s.1 t.1) (read_bytes view name (Some files) a x)
-    (read_bytes view name (Some files) b y)
+name_one : (view : View) (folder : Option (List ℕ)) (name : List ℕ) (files : Files) (a b : Outcome) →
+    ShowsName view folder name (Some files) a → ShowsName view folder name (Some files) b → a.status ≢ 4 →
+    b.status ≢ 4 → a ≡ b
+name_one view folder name files a b x y ca cb =
+    reads_one (a ≡ b) name files (BreaksLengthRule name) (ShowsBytes view folder name) a b ca cb (λ e. e)
+    (λ s t. s ∙ sym t) (λ bytes there s t. file_one view folder name bytes a b s.0 s.1 t.1)
+    (read_bytes view folder name (Some files) a x) (read_bytes view folder name (Some files) b y)
 
-pictured_one : (view : View) (name : List ℕ) (files : Files) (a b : Outcome) → ShowsPictured view true name (Some files) a →
-    ShowsPictured view true name (Some files) b → a.status ≢ 4 → b.status ≢ 4 → a ≡ b
-pictured_one view name files a b (inl x) (inl y) ca cb = name_one view name files a b x y ca cb
-pictured_one view name files a b (inl x) (inr y) ca cb = absurd (true≢false y.keeps)
-pictured_one view name files a b (inr x) (inl y) ca cb = absurd (true≢false x.keeps)
-pictured_one view name files a b (inr x) (inr y) ca cb = absurd (true≢false x.keeps)
+pictured_one : (view : View) (folder name : List ℕ) (files : Files) (a b : Outcome) →
+    ShowsPictured view true folder name (Some files) a → ShowsPictured view true folder name (Some files) b →
+    a.status ≢ 4 → b.status ≢ 4 → a ≡ b
+pictured_one view folder name files a b (inl x) (inl y) ca cb = name_one view (Some folder) name files a b x y ca cb
+pictured_one view folder name files a b (inl x) (inr y) ca cb = absurd (true≢false y.file.keeps)
+pictured_one view folder name files a b (inr x) (inl y) ca cb = absurd (true≢false x.file.keeps)
+pictured_one view folder name files a b (inr x) (inr y) ca cb = absurd (true≢false x.file.keeps)
 
 ends_one : (files : Files) (request : Option Request) (a b : Outcome) → Shows (Some files) request a →
     Shows (Some files) request b → a.status ≢ 4 → b.status ≢ 4 →
@@ -113,9 +172,9 @@ ends_one : (files : Files) (request : Option Request) (a b : Outcome) → Shows 
 ends_one files None a b x y ca cb other kept = x ∙ sym y
 ends_one files (Some help) a b x y ca cb other kept = x ∙ sym y
 ends_one files (Some version) a b x y ca cb other kept = x ∙ sym y
-ends_one files (Some (page view name)) a b x y ca cb other kept = name_one view name files a b x y ca cb
+ends_one files (Some (page view name)) a b x y ca cb other kept = name_one view None name files a b x y ca cb
 ends_one files (Some (pictured view folder true name)) a b x y ca cb other kept =
-    pictured_one view name files a b x y ca cb
+    pictured_one view folder name files a b x y ca cb
 ends_one files (Some (pictured view folder false name)) a b x y ca cb other kept =
     absurd (kept (view, (folder, (name, refl))))
 ends_one files (Some (properties shape name)) a b x y ca cb other kept = absurd (other (shape, (name, refl)))

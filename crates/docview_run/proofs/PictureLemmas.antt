@@ -1,5 +1,6 @@
 -- The files of the pictures of a document that is shown.
-use Rattle.std.proofs.Common.{◌≡◌, ◌≢◌, ◌⊎◌, ◌∙◌, ◌+◌, ◌<◌, ℕ, List, [], Bool, true, false, true≢false, Option, Some, refl, sym, ap, subst, inl, inr, arith}
+use Rattle.std.proofs.Common.{◌≡◌, ◌≢◌, ◌⊎◌, ◌∙◌, ◌+◌, ◌<◌, ℕ, List, [], Bool, true, false, true≢false, Option, None, Some, Result, Ok, Err, refl, sym, ap, subst, inl, inr, arith}
+use Rattle.std.specs.Prelude.{IsErrOf, OnErr}
 use Rattle.doc_bits.specs.Number.{AreBytes}
 use Rattle.doc_bits.specs.Places.{Upto}
 use Rattle.doc_bits.proofs.RuleLemmas.{hold_or_first}
@@ -24,7 +25,7 @@ use Rattle.doc_fit.proofs.MeaningLemmas.{fit_single}
 use Rattle.doc_pictures.specs.declared.album.AlbumFault.{AlbumFault}
 use Rattle.doc_pictures.specs.declared.album.AlbumFault.TheVariants.{There, Failed, Memory}
 use Rattle.doc_pictures.specs.declared.pictures.Picture.{Picture}
-use Rattle.doc_pictures.specs.Album.{IsPicturePath}
+use Rattle.doc_pictures.specs.Album.{IsPicturePath, IsTaken}
 use Rattle.run_stages.specs.Leaves.{HasCause, IsOnlyRead}
 use Rattle.run_stages.specs.Lines.{shelf_fault_line}
 use Rattle.run_stages.specs.Outcomes.{Outcome, says}
@@ -33,8 +34,10 @@ use Rattle.run_stages.specs.Stages.{BreaksLengthRule, IsMissing, IsOverlong, IsS
 use Rattle.docview_run.specs.declared.view.View.{View}
 use Rattle.docview_run.specs.Requests.{Request}
 use Rattle.docview_run.specs.Viewed.{IsViewed}
-use Rattle.docview_run.specs.Pictured.{IsPictureName, Leaves, LeavesPictures, WritesOf, WritesViewed, fault_status}
-use Rattle.docview_run.specs.Endings.{IsOfFile, RunEnds, ShowsFile, ShowsName, ShowsPage, ShowsPictured, ShowsTaken}
+use Rattle.docview_run.specs.Pictured.{ArePicturesOf, CutsIn, CutsOf, IsDataOf, IsFileThere, IsPictureName, Leaves, LeavesHeld}
+use Rattle.docview_run.specs.Pictured.{LeavesPictures, LeavesTaken, StaysViewed, WritesOf, WritesViewed, fault_status}
+use Rattle.docview_run.specs.Endings.{IsOfFile, PrintsPage, RunEnds, ShowsFile, ShowsHeld, ShowsName, ShowsPictured}
+use Rattle.docview_run.specs.Endings.{ShowsTaken, pictured_source}
 use Rattle.docview_run.proofs.EndLemmas.{ends_weaker, memory_ends, told_ends}
 use Rattle.docview_run.proofs.SafeLemmas.{not_viewed}
 use Rattle.docview_run.proofs.ViewLemmas.{not_accepted, viewed_one}
@@ -68,55 +71,129 @@ read_leaves shelf strict force folder name status before now is other_status = r
       subst (λ (held : Option Files). StaysAt other (shelf.held before) held) (sym is.kept)
       (StaysAt-refl other (shelf.held before));
   written = λ done. absurd (other_status done);
+  cut = inl is.kept;
 }
 
 -- it was read, and then pictures were written or not
-abbrev pub OthersStayed : {S : Type 0} → Shelf S → List ℕ → S → S → Type 0
-OthersStayed shelf folder mid now =
-    (other : List ℕ) → ¬ (IsPictureName folder other) → StaysAt other (shelf.held mid) (shelf.held now)
-
 pub taken_leaves : {S : Type 0} (shelf : Shelf S) (strict force : Bool) (folder name file : List ℕ) (status : ℕ)
     (before mid now : S) → IsOnlyRead shelf before mid → IsFound name (shelf.held before) file →
-    OthersStayed shelf folder mid now →
-    (status ≡ 0 → WritesViewed strict force folder file (shelf.held mid) (shelf.held now)) →
+    LeavesTaken strict force folder file status (shelf.held mid) (shelf.held now) →
     LeavesPictures shelf strict force folder name status before now
-taken_leaves shelf strict force folder name file status before mid now is found others writes = record {
+taken_leaves shelf strict force folder name file status before mid now is found taken = record {
   others = λ other apart.
-      subst (λ (held : Option Files). StaysAt other held (shelf.held now)) is.kept (others other apart);
+      subst (λ (held : Option Files). StaysAt other held (shelf.held now)) is.kept (taken.others other apart);
   written = λ done. record {
     file = file;
     told = found.told;
     writes =
         subst (λ (held : Option Files). WritesViewed strict force folder file held (shelf.held now)) is.kept
-        (writes done);
+        (taken.written done);
   };
+  cut = elim taken.cut [
+    | inl same ↦ inl (same ∙ is.kept)
+    | inr stays ↦
+        inr (record {
+          file = file;
+          told = found.told;
+          stays =
+              subst (λ (held : Option Files). StaysViewed strict force folder file held (shelf.held now)) is.kept stays;
+        })
+  ];
 }
 
-page_shown : (view : View) (name file : List ℕ) (outcome : Outcome) → ShowsFile view name file outcome →
-    outcome.status ≡ 0 → ShowsPage view file outcome
-page_shown view name file outcome (inl not) done = absurd (not_viewed view name file outcome not done)
-page_shown view name file outcome (inr shown) done = shown
+-- the document is the one that is shown
+pub viewed_leaves : (strict force : Bool) (folder file : List ℕ) (document : Document) (status : ℕ)
+    (before after : Option Files) → IsViewed strict file document →
+    LeavesHeld force folder file document status before after →
+    LeavesTaken strict force folder file status before after
+viewed_leaves strict force folder file document status before after viewed leaves = record {
+  others = leaves.others;
+  written = λ done. record { document = document; viewed = viewed; writes = leaves.written done };
+  cut = elim leaves.cut [
+    | inl same ↦ inl same
+    | inr stays ↦ inr (record { document = document; viewed = viewed; stays = stays })
+  ];
+}
 
--- a page that was printed is that of the document whose pictures were written
-pub shown_writes : {K : Type 0} (sink : Sink K) (view : View) (force : Bool) (folder name file : List ℕ) (status : ℕ)
-    (before after : Option Files) (out left : K) →
-    ((document : Document) → IsViewed view.strict file document → WritesOf force folder file document before after) →
-    RunEnds (ShowsFile view name file) sink out left status → status ≡ 0 →
-    WritesViewed view.strict force folder file before after
-shown_writes sink view force folder name file status before after out left writes ends done =
+-- nothing was written
+pub same_leaves : (strict force : Bool) (folder file : List ℕ) (status : ℕ) (held : Option Files) → status ≢ 0 →
+    LeavesTaken strict force folder file status held held
+same_leaves strict force folder file status held other_status = record {
+  others = λ other apart. StaysAt-refl other held;
+  written = λ done. absurd (other_status done);
+  cut = inl refl;
+}
+
+pub none_leaves : (force : Bool) (folder file : List ℕ) (document : Document) (status : ℕ) (held : Option Files) →
+    status ≢ 0 → LeavesHeld force folder file document status held held
+none_leaves force folder file document status held other_status = record {
+  others = λ other apart. StaysAt-refl other held;
+  written = λ done. absurd (other_status done);
+  cut = inl refl;
+}
+
+not_shown : (view : View) (name file : List ℕ) (outcome : Outcome) →
+    ((document : Document) → IsViewed view.strict file document → ⊥) → ShowsFile view None name file outcome →
+    outcome.status ≡ 0 → ⊥
+not_shown view name file outcome none (inl not) done = not_viewed view name file outcome not done
+not_shown view name file outcome none (inr page) done = none page.document page.viewed
+
+-- a file without a document is not shown
+pub unviewed_leaves : {K : Type 0} (sink : Sink K) (out after : K) (view : View) (force : Bool)
+    (folder name file : List ℕ) (status : ℕ) (held : Option Files) →
+    ((document : Document) → IsViewed view.strict file document → ⊥) →
+    RunEnds (ShowsFile view None name file) sink out after status →
+    LeavesTaken view.strict force folder file status held held
+unviewed_leaves sink out after view force folder name file status held none ends =
+    same_leaves view.strict force folder file status held (λ done.
     let end = ends.ending (λ five. absurd (omega (arith, done, five))) (λ six. absurd (omega (arith, done, six))) in
-    let shown = page_shown view name file end.0 end.1.1.0 (end.1.0 ∙ done) in
-    record { document = shown.document; viewed = shown.viewed; writes = writes shown.document shown.viewed }
+    not_shown view name file end.0 none end.1.1.0 (end.1.0 ∙ done))
+
+-- all files of a document were written
+pub written_leaves : (force : Bool) (folder file : List ℕ) (document : Document) (pictures : List Picture) (status : ℕ)
+    (before after : Option Files) →
+    ((other : List ℕ) → ¬ (IsPictureName folder other) → StaysAt other before after) →
+    WritesOf force folder file document pictures before after →
+    LeavesHeld force folder file document status before after
+written_leaves force folder file document pictures status before after others writes = record {
+  others = others;
+  written = λ done. (pictures, writes);
+  cut = inr (inl (pictures, writes));
+}
+
+-- or not
+pub fault_leaves : (force : Bool) (folder file : List ℕ) (document : Document) (status : ℕ)
+    (before after : Option Files) → status ≢ 0 →
+    ((other : List ℕ) → ¬ (IsPictureName folder other) → StaysAt other before after) →
+    (after ≡ before) ⊎ CutsOf force folder file document before after →
+    LeavesHeld force folder file document status before after
+fault_leaves force folder file document status before after other_status others cut = record {
+  others = others;
+  written = λ done. absurd (other_status done);
+  cut = elim cut [ inl same ↦ inl same | inr cuts ↦ inr (inr cuts) ];
+}
+
+-- those that were written of a stream are those of its file
+pub cut_weaker : {A : Type 0} (force : Bool) (folder file stream : List ℕ) (document : Document)
+    (before after : Option Files) (result : Result A AlbumFault) → IsDataOf file stream →
+    OnErr result ((after ≡ before) ⊎ CutsIn force folder stream document before after) →
+    OnErr result ((after ≡ before) ⊎ CutsOf force folder file document before after)
+cut_weaker force folder file stream document before after (Ok value) is cut = tt
+cut_weaker force folder file stream document before after (Err fault) is cut = elim cut [
+  | inl same ↦ inl same
+  | inr cuts ↦ inr (record { stream = stream; is = is; cuts = cuts })
+]
 
 -- ---- ends
 
 -- a file that was read
-pub taken_ends : {K : Type 0} (sink : Sink K) (out after : K) (view : View) (force : Bool) (name : List ℕ)
-    (held : Option Files) (file : List ℕ) (status : ℕ) → IsFound name held file → AreBytes file →
-    RunEnds (ShowsTaken view force name file) sink out after status →
-    RunEnds (ShowsPictured view force name held) sink out after status
-taken_ends sink out after view force name held file status found are =
-    ends_weaker (ShowsTaken view force name file) (ShowsPictured view force name held) sink out after status
+pub taken_ends : {K : Type 0} (sink : Sink K) (out after : K) (view : View) (force : Bool) (folder name : List ℕ)
+    (held mid : Option Files) (file : List ℕ) (status : ℕ) → mid ≡ held → IsFound name held file → AreBytes file →
+    RunEnds (ShowsTaken view force folder name mid file) sink out after status →
+    RunEnds (ShowsPictured view force folder name held) sink out after status
+taken_ends sink out after view force folder name held mid file status kept found are ends =
+    ends_weaker (ShowsTaken view force folder name held file) (ShowsPictured view force folder name held) sink out after
+    status
     (λ outcome shown. elim shown [
       | inl page ↦
           inl (inr (inr (inr (record {
@@ -129,42 +206,90 @@ taken_ends sink out after view force name held file status found are =
       | inr (inl kept) ↦ inr kept
       | inr (inr fault) ↦ inl (inr (inl fault))
     ])
+    (subst (λ (h : Option Files). RunEnds (ShowsTaken view force folder name h file) sink out after status) kept ends)
 
 -- a name that was not read
-pub named_ends : {K : Type 0} (sink : Sink K) (out after : K) (view : View) (force : Bool) (name : List ℕ)
-    (held : Option Files) (status : ℕ) → RunEnds (ShowsName view name held) sink out after status →
-    RunEnds (ShowsPictured view force name held) sink out after status
-named_ends sink out after view force name held status ends =
-    ends_weaker (ShowsName view name held) (ShowsPictured view force name held) sink out after status
-    (λ outcome shown. inl shown) ends
+pub named_ends : {K : Type 0} (sink : Sink K) (out after : K) (view : View) (force : Bool) (folder name : List ℕ)
+    (held : Option Files) (status : ℕ) → RunEnds (ShowsName view (Some folder) name held) sink out after status →
+    RunEnds (ShowsPictured view force folder name held) sink out after status
+named_ends sink out after view force folder name held status ends =
+    ends_weaker (ShowsName view (Some folder) name held) (ShowsPictured view force folder name held) sink out after
+    status (λ outcome shown. inl shown) ends
+
+-- the document is the one that is shown
+pub viewed_ends : {K : Type 0} (sink : Sink K) (out after : K) (view : View) (force : Bool)
+    (folder name file : List ℕ) (document : Document) (held : Option Files) (status : ℕ) →
+    IsViewed view.strict file document →
+    RunEnds (ShowsHeld view force folder file document held) sink out after status →
+    RunEnds (ShowsTaken view force folder name held file) sink out after status
+viewed_ends sink out after view force folder name file document held status viewed =
+    ends_weaker (ShowsHeld view force folder file document held) (ShowsTaken view force folder name held file) sink out
+    after status
+    (λ outcome shown. elim shown [
+      | inl page ↦ inl (inr (record { document = document; viewed = viewed; shows = page }))
+      | inr other ↦ inr other
+    ])
+
+-- a file without a document
+pub unviewed_ends : {K : Type 0} (sink : Sink K) (out after : K) (view : View) (force : Bool)
+    (folder name file : List ℕ) (held : Option Files) (status : ℕ) →
+    ((document : Document) → IsViewed view.strict file document → ⊥) →
+    RunEnds (ShowsFile view None name file) sink out after status →
+    RunEnds (ShowsTaken view force folder name held file) sink out after status
+unviewed_ends sink out after view force folder name file held status none =
+    ends_weaker (ShowsFile view None name file) (ShowsTaken view force folder name held file) sink out after status
+    (λ outcome shown. elim shown [
+      | inl not ↦ inl (inl not)
+      | inr page ↦ absurd (none page.document page.viewed)
+    ])
+
+-- the pictures whose files were written are those of the document
+pub pictures_are : (force : Bool) (folder file : List ℕ) (document : Document) (pictures : List Picture)
+    (before after : Option Files) → WritesOf force folder file document pictures before after →
+    ArePicturesOf file document pictures
+pictures_are force folder file document pictures before after writes =
+    record { stream = writes.stream; is = writes.is; are = writes.writes.are }
 
 -- the page was shown
-pub page_ends : {K : Type 0} (sink : Sink K) (out after : K) (view : View) (force : Bool) (name file : List ℕ)
-    (status : ℕ) → RunEnds (ShowsFile view name file) sink out after status →
-    RunEnds (ShowsTaken view force name file) sink out after status
-page_ends sink out after view force name file status ends =
-    ends_weaker (ShowsFile view name file) (ShowsTaken view force name file) sink out after status
-    (λ outcome shown. inl shown) ends
+pub page_ends : {K : Type 0} (sink : Sink K) (out after : K) (view : View) (force : Bool) (folder file : List ℕ)
+    (document : Document) (pictures : List Picture) (held : Option Files) (status : ℕ) →
+    ArePicturesOf file document pictures →
+    RunEnds (PrintsPage view (pictured_source document folder pictures)) sink out after status →
+    RunEnds (ShowsHeld view force folder file document held) sink out after status
+page_ends sink out after view force folder file document pictures held status are =
+    ends_weaker (PrintsPage view (pictured_source document folder pictures))
+    (ShowsHeld view force folder file document held) sink out after status
+    (λ outcome shown. inl (record {
+      images = record { folder = folder; pictures = pictures };
+      names = (refl, are);
+      bytes = shown.0;
+      are = shown.1.0;
+      ends = shown.1.1;
+    }))
 
-kept_ends : {K : Type 0} (sink : Sink K) (out : K) (view : View) (force : Bool) (name file : List ℕ) →
-    force ≡ false → RunEnds (ShowsTaken view force name file) sink out out 8
-kept_ends sink out view force name file keeps = record {
+kept_ends : {K : Type 0} (sink : Sink K) (out : K) (view : View) (force : Bool) (folder file : List ℕ)
+    (document : Document) (held : Option Files) → IsFileThere force folder held →
+    RunEnds (ShowsHeld view force folder file document held) sink out out 8
+kept_ends sink out view force folder file document held there = record {
   ending = λ no no_memory.
-      (says 8 [], (refl, (inr (inl (record { keeps = keeps; ends = refl })), Appends-nil (sink.written out))));
+      (says 8 [], (refl, (inr (inl (record { file = there; ends = refl })), Appends-nil (sink.written out))));
   prefix = λ is. absurd (omega (arith, is));
   rose = λ is. absurd (omega (arith, is));
   nothing = λ is. refl;
 }
 
 -- pictures were not written
-pub fault_ends : {K : Type 0} (sink : Sink K) (out : K) (view : View) (force : Bool) (name file : List ℕ)
-    (fault : AlbumFault) → (fault ≡ There → force ≡ false) →
-    RunEnds (ShowsTaken view force name file) sink out out (fault_status fault)
-fault_ends sink out view force name file There keeps = kept_ends sink out view force name file (keeps refl)
-fault_ends sink out view force name file Failed keeps =
-    told_ends (ShowsTaken view force name file) sink out (says 4 shelf_fault_line) 4 refl (inr (inl (inr refl)))
-    (inr (inr refl))
-fault_ends sink out view force name file Memory keeps = memory_ends (ShowsTaken view force name file) sink out
+pub fault_ends : {K : Type 0} (sink : Sink K) (out : K) (view : View) (force : Bool) (folder file : List ℕ)
+    (document : Document) (held : Option Files) (fault : AlbumFault) →
+    (fault ≡ There → IsFileThere force folder held) →
+    RunEnds (ShowsHeld view force folder file document held) sink out out (fault_status fault)
+fault_ends sink out view force folder file document held There there =
+    kept_ends sink out view force folder file document held (there refl)
+fault_ends sink out view force folder file document held Failed there =
+    told_ends (ShowsHeld view force folder file document held) sink out (says 4 shelf_fault_line) 4 refl
+    (inr (inl (inr refl))) (inr (inr refl))
+fault_ends sink out view force folder file document held Memory there =
+    memory_ends (ShowsHeld view force folder file document held) sink out
 
 -- its status
 pub fault_after : (fault : AlbumFault) → (fault_status fault < 2) ⊎ (3 < fault_status fault)
@@ -219,14 +344,6 @@ taken_caused status missed_before missed_now before mid now after on rose = reco
 
 -- ---- the document of the pictures
 
--- it is the one that is shown
-pub writes_viewed : (strict force : Bool) (folder file : List ℕ) (document : Document) (before after : Option Files) →
-    AreBytes file → IsViewed strict file document → WritesOf force folder file document before after →
-    (other : Document) → IsViewed strict file other → WritesOf force folder file other before after
-writes_viewed strict force folder file document before after bytes viewed writes other is =
-    subst (λ (d : Document). WritesOf force folder file d before after)
-    (viewed_one strict strict file document other bytes viewed is) writes
-
 -- the document of a file that was opened is shown
 pub held_viewed : (strict : Bool) (file : List ℕ) (opened : OpenedFile) → IsOpened file opened →
     IsViewed strict file opened.document
@@ -261,6 +378,22 @@ none_lifted strict file document (Refused rule place offset) bytes refused other
     refused held.accepted
 none_lifted strict file document (Refused rule place offset) bytes refused other first (inr (lifts, lifted)) =
     hold_or_first Upto (fit_rules file) rule (place, offset) (fit_single file bytes) lifted.rules first
+
+-- the fault of an answer
+pub same_fault : {A : Type 0} (fault : AlbumFault) → IsErrOf {T = A} (Err fault) There → fault ≡ There
+same_fault fault is = cc (is)
+
+-- a path of a picture that holds a file is a name of one
+pub taken_there : (force : Bool) (folder : List ℕ) (pictures : List Picture) (held : Option Files) →
+    IsTaken force folder pictures held → IsFileThere force folder held
+taken_there force folder pictures held is =
+    let path = is.path in
+    record {
+      keeps = is.holds.keeps;
+      name = is.name;
+      is = record { number = path.k + 1; kind = path.picture.file.kind; path = path.path };
+      there = is.holds.there;
+    }
 
 -- the path of a picture is a name of one
 pub path_named : (folder : List ℕ) (pictures : List Picture) (name : List ℕ) → ¬ (IsPictureName folder name) →

@@ -1,5 +1,5 @@
 -- A file is shown, or it has no document.
-use Rattle.std.proofs.Common.{◌≡◌, ◌⊎◌, ℕ, List, true, false, not, refl, inl, inr, arith}
+use Rattle.std.proofs.Common.{◌≡◌, ◌⊎◌, ℕ, List, Option, None, true, false, not, refl, inl, inr, arith}
 use Rattle.doc_bits.specs.Number.{AreBytes}
 use Rattle.doc_bits.specs.Places.{Place, IsFirstPlace, Upto}
 use Rattle.doc_bits.proofs.RuleLemmas.{hold_or_first}
@@ -18,36 +18,37 @@ use Rattle.doc_fit.proofs.OpenLemmas.{opened_holds, opened_lifts}
 use Rattle.doc_fit.proofs.RefusalLemmas.{refused_by}
 use Rattle.docview_run.specs.declared.view.View.{View}
 use Rattle.docview_run.specs.Viewed.{IsViewed}
-use Rattle.docview_run.specs.Endings.{IsOfFile, PrintsPage, RunEnds, ShowsFile}
+use Rattle.doc_pictures.specs.Files.{no_files}
+use Rattle.docview_run.specs.Endings.{IsOfFile, PrintsPage, RunEnds, ShowsFile, bare}
 use Rattle.docview_run.specs.Laws.{ViewedDocumentIsOne}
 use Rattle.docview_run.proofs.EndLemmas.{IsTold, ends_weaker, told_ends}
 
 -- the page of the document of a file is shown
 viewed_ends : {K : Type 0} (sink : Ghosts K) (out after : K) (name file : List ℕ) (view : View) (document : Document)
-    (status : ℕ) → IsViewed view.strict file document → RunEnds (PrintsPage view document) sink out after status →
-    RunEnds (ShowsFile view name file) sink out after status
+    (status : ℕ) → IsViewed view.strict file document →
+    RunEnds (PrintsPage view (bare document)) sink out after status →
+    RunEnds (ShowsFile view None name file) sink out after status
 viewed_ends sink out after name file view document status is =
-    ends_weaker (PrintsPage view document) (ShowsFile view name file) sink out after status
+    ends_weaker (PrintsPage view (bare document)) (ShowsFile view None name file) sink out after status
     (λ outcome shown. inr (record {
       document = document;
       viewed = is;
-      bytes = shown.0;
-      are = shown.1.0;
-      ends = shown.1.1;
+      shows = record { images = no_files; names = refl; bytes = shown.0; are = shown.1.0; ends = shown.1.1 };
     }))
 
 -- a document was opened
 pub held_ends : {K : Type 0} (sink : Ghosts K) (out after : K) (name file : List ℕ) (view : View)
     (document : Document) (status : ℕ) → IsAccepted file → HoldsDocument file document →
-    RunEnds (PrintsPage view document) sink out after status → RunEnds (ShowsFile view name file) sink out after status
+    RunEnds (PrintsPage view (bare document)) sink out after status →
+    RunEnds (ShowsFile view None name file) sink out after status
 held_ends sink out after name file view document status accepted holds =
     viewed_ends sink out after name file view document status (inl (record { accepted = accepted; holds = holds }))
 
 -- it was lifted out of a file that breaks a rule
 pub lifted_ends : {K : Type 0} (sink : Ghosts K) (out after : K) (name file : List ℕ) (view : View)
     (opened : OpenedAny) (status : ℕ) → ¬ (IsAccepted file) → view.strict ≡ false → IsOpenedAny file opened →
-    RunEnds (PrintsPage view opened.lifted.document) sink out after status →
-    RunEnds (ShowsFile view name file) sink out after status
+    RunEnds (PrintsPage view (bare opened.lifted.document)) sink out after status →
+    RunEnds (ShowsFile view None name file) sink out after status
 lifted_ends sink out after name file view opened status refused lifts is =
     viewed_ends sink out after name file view opened.lifted.document status
     (inr (
@@ -64,9 +65,9 @@ not_accepted file rule place first accepted =
 -- a rule is broken, in a strict view
 pub refused_ends : {K : Type 0} (sink : Ghosts K) (out : K) (name file : List ℕ) (view : View) (rule : ℕ)
     (place : Place) → view.strict ≡ true → IsFirstPlace (all_rules file) rule place →
-    RunEnds (ShowsFile view name file) sink out out 1
+    RunEnds (ShowsFile view None name file) sink out out 1
 refused_ends sink out name file view rule place strict first =
-    told_ends (ShowsFile view name file) sink out (says 1 (rule_line name rule place)) 1 refl (inl (inl refl))
+    told_ends (ShowsFile view None name file) sink out (says 1 (rule_line name rule place)) 1 refl (inl (inl refl))
     (inl (inl (strict, record { rule = rule; place = place; first = first; ends = refl })))
 
 -- the status of a refusal
@@ -84,10 +85,10 @@ refusal_after rule status (inr (inr (other, is))) = inl (omega (arith, is))
 pub not_lifted_ends : {K : Type 0} (sink : Ghosts K) (out : K) (name file : List ℕ) (view : View) (rule : ℕ)
     (place : Place) (status : ℕ) → ¬ (IsAccepted file) → view.strict ≡ false →
     IsFirstPlace (fit_rules file) rule place → IsRefusalStatus rule status →
-    RunEnds (ShowsFile view name file) sink out out status
+    RunEnds (ShowsFile view None name file) sink out out status
 not_lifted_ends sink out name file view rule place status refused lifts first is =
     let ending = refused_by file name rule status place first is in
-    told_ends (ShowsFile view name file) sink out ending.0 status ending.1.1 (told_status rule status is)
+    told_ends (ShowsFile view None name file) sink out ending.0 status ending.1.1 (told_status rule status is)
     (inl (inr (lifts, record { refused = refused; ends = ending.1.0 })))
 
 -- ---- one document

@@ -17,52 +17,76 @@ use Rattle.docview_run.specs.declared.view.View.{View}
 use Rattle.docview_run.specs.declared.run.TheConstants.{HELP, VERSION}
 use Rattle.docview_run.specs.Requests.{Request, help, version, page, pictured, properties, requested}
 use Rattle.docview_run.specs.FileProperties.{ShowsProperties}
-use Rattle.docview_run.specs.Pictured.{IsKept}
+use Rattle.doc_pictures.specs.declared.pictures.Picture.{Picture}
+use Rattle.doc_pictures.specs.Files.{ImageFiles, no_files}
+use Rattle.html_page.specs.Sources.{PageSource}
+use Rattle.docview_run.specs.Pictured.{IsKept, NamesFiles}
 use Rattle.docview_run.specs.Viewed.{IsNotViewed, IsViewed}
 
--- the page of a document in a form
-abbrev pub IsPageIn : Form → Options → Document → List ℕ → Type 0
-IsPageIn Text options document bytes = IsPage options document bytes
-IsPageIn Html options document bytes = IsHtmlPage options document bytes
-IsPageIn Markdown options document bytes = IsMarkdownPage options document bytes
+-- a document whose page names no file of a picture, or those of pictures in a folder
+abbrev pub bare : Document → PageSource
+bare document = record { document = document; images = no_files }
+
+abbrev pub pictured_source : Document → (folder : List ℕ) → List Picture → PageSource
+pictured_source document folder pictures =
+    record { document = document; images = record { folder = folder; pictures = pictures } }
+
+-- the page of a document in a form; in HTML it names the files of its pictures
+abbrev pub IsPageIn : Form → Options → PageSource → List ℕ → Type 0
+IsPageIn Text options source bytes = IsPage options source.document bytes
+IsPageIn Html options source bytes = IsHtmlPage options source bytes
+IsPageIn Markdown options source bytes = IsMarkdownPage options source.document bytes
 
 -- the page of a document is printed
-abbrev pub PrintsPage : View → Document → Outcome → Type 0
-PrintsPage view document outcome =
-    (bytes : List ℕ) × (IsPageIn view.form view.options document bytes × (outcome ≡ says 0 bytes))
+abbrev pub PrintsPage : View → PageSource → Outcome → Type 0
+PrintsPage view source outcome =
+    (bytes : List ℕ) × (IsPageIn view.form view.options source bytes × (outcome ≡ says 0 bytes))
 
--- the page of the document of a file
-pub record ShowsPage (view : View) (file : List ℕ) (outcome : Outcome) : Type 0 where
-  pub document : Document
-  pub viewed : IsViewed view.strict file document
+-- the page of a document of a file, which names the files of its pictures in a folder, or none
+pub record ShowsDocument (view : View) (folder : Option (List ℕ)) (file : List ℕ) (document : Document)
+    (outcome : Outcome) : Type 0 where
+  pub images : ImageFiles
+  pub names : NamesFiles folder file document images
   pub bytes : List ℕ
-  pub are : IsPageIn view.form view.options document bytes
+  pub are : IsPageIn view.form view.options (record { document = document; images = images }) bytes
   pub ends : outcome ≡ says 0 bytes
 
+-- the page of the document of a file
+pub record ShowsPage (view : View) (folder : Option (List ℕ)) (file : List ℕ) (outcome : Outcome) : Type 0 where
+  pub document : Document
+  pub viewed : IsViewed view.strict file document
+  pub shows : ShowsDocument view folder file document outcome
+
 -- a file is shown, or it has no document
-abbrev pub ShowsFile : View → (name file : List ℕ) → Outcome → Type 0
-ShowsFile view name file outcome = IsNotViewed view.strict file name outcome ⊎ ShowsPage view file outcome
+abbrev pub ShowsFile : View → Option (List ℕ) → (name file : List ℕ) → Outcome → Type 0
+ShowsFile view folder name file outcome = IsNotViewed view.strict file name outcome ⊎ ShowsPage view folder file outcome
 
 -- a name is read whole, and its file shown
-abbrev pub ShowsName : View → (name : List ℕ) → Option Files → Outcome → Type 0
-ShowsName view name held outcome = Reads name held (BreaksLengthRule name) (ShowsFile view name) outcome
+abbrev pub ShowsName : View → Option (List ℕ) → (name : List ℕ) → Option Files → Outcome → Type 0
+ShowsName view folder name held outcome = Reads name held (BreaksLengthRule name) (ShowsFile view folder name) outcome
 
--- a file is shown behind the files of its pictures, or one of these is there, or is not written
-abbrev pub ShowsTaken : View → (force : Bool) → (name file : List ℕ) → Outcome → Type 0
-ShowsTaken view force name file outcome =
-    ShowsFile view name file outcome ⊎ (IsKept force outcome ⊎ IsShelfFault outcome)
+-- a document is shown behind the files of its pictures in a folder, or one of these is there before, or is not written
+abbrev pub ShowsHeld : View → (force : Bool) → (folder file : List ℕ) → Document → Option Files → Outcome → Type 0
+ShowsHeld view force folder file document held outcome =
+    ShowsDocument view (Some folder) file document outcome ⊎ (IsKept force folder held outcome ⊎ IsShelfFault outcome)
 
--- a name is shown behind the files of its pictures, or one of these is there
-abbrev pub ShowsPictured : View → (force : Bool) → (name : List ℕ) → Option Files → Outcome → Type 0
-ShowsPictured view force name held outcome = ShowsName view name held outcome ⊎ IsKept force outcome
+-- the same of a file
+abbrev pub ShowsTaken : View → (force : Bool) → (folder name : List ℕ) → Option Files → List ℕ → Outcome → Type 0
+ShowsTaken view force folder name held file outcome =
+    ShowsFile view (Some folder) name file outcome ⊎ (IsKept force folder held outcome ⊎ IsShelfFault outcome)
+
+-- a name is shown behind the files of its pictures in a folder, or one of these is there before
+abbrev pub ShowsPictured : View → (force : Bool) → (folder name : List ℕ) → Option Files → Outcome → Type 0
+ShowsPictured view force folder name held outcome =
+    ShowsName view (Some folder) name held outcome ⊎ IsKept force folder held outcome
 
 -- what a request comes to
 abbrev pub Shows : Option Files → Option Request → Outcome → Type 0
 Shows held None outcome = outcome ≡ says 2 []
 Shows held (Some help) outcome = outcome ≡ says 0 HELP.now
 Shows held (Some version) outcome = outcome ≡ says 0 VERSION.now
-Shows held (Some (page view file)) outcome = ShowsName view file held outcome
-Shows held (Some (pictured view folder force file)) outcome = ShowsPictured view force file held outcome
+Shows held (Some (page view file)) outcome = ShowsName view None file held outcome
+Shows held (Some (pictured view folder force file)) outcome = ShowsPictured view force folder file held outcome
 Shows held (Some (properties form file)) outcome = ShowsProperties file held outcome
 
 -- what a run over these words and this shelf may come to

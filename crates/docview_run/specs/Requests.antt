@@ -153,6 +153,15 @@ shown_view (Some (page view file)) = Some view
 shown_view (Some (pictured view folder force file)) = Some view
 shown_view (Some (properties form file)) = None
 
+-- the folder for the files of its pictures
+abbrev pub shown_folder : Option Request → Option (List ℕ)
+shown_folder None = None
+shown_folder (Some help) = None
+shown_folder (Some version) = None
+shown_folder (Some (page view file)) = None
+shown_folder (Some (pictured view folder force file)) = Some folder
+shown_folder (Some (properties form file)) = None
+
 -- what words ask for, where they ask for something
 abbrev pub requested : List (List ℕ) → Option Request
 requested [] = None

@@ -1,8 +1,8 @@
 // The page of a file that breaks a rule: its document is lifted out of it, and what is left out is told.
-ghost use Rattle.std.specs.Prelude.{◌≡◌, false};
+ghost use Rattle.std.specs.Prelude.{◌≡◌, false, None};
 ghost use Rattle.plain_doc.specs.Sound.{IsSound};
 ghost use Rattle.doc_read.specs.Holds.{IsAccepted};
-ghost use Rattle.docview_run.specs.Endings.{IsOfFile, PrintsPage, RunEnds, ShowsFile};
+ghost use Rattle.docview_run.specs.Endings.{IsOfFile, PrintsPage, RunEnds, ShowsFile, bare};
 
 use crate::View;
 use crate::run::{show_document, tell, tell_refusal};
@@ -26,7 +26,7 @@ pub(crate) fn show_lifted<K: Sink, E: Sink>(
 ) -> u8
     requires refused { ¬ (IsAccepted file.now) }
     requires lifts { view.strict ≡ false }
-    ensures ends { RunEnds (ShowsFile view name.now file.now) K.Sink out.old out.new result }
+    ensures ends { RunEnds (ShowsFile view None name.now file.now) K.Sink out.old out.new result }
     ensures after { IsOfFile result }
 {
     match open_any(alloc, file) {
@@ -62,24 +62,46 @@ fn show_opened<K: Sink, E: Sink>(
     reasons: &mut E,
 ) -> u8
     requires { IsSound opened.now.lifted.document }
-    ensures ends { RunEnds (PrintsPage view opened.now.lifted.document) K.Sink out.old out.new result }
+    ensures ends { RunEnds (PrintsPage view (bare opened.now.lifted.document)) K.Sink out.old out.new result }
     ensures after { IsOfFile result }
 {
-    let Ok(left_out) = reason_of_name(alloc, name, "left out: ") else {
-        return STATUS_MEMORY;
-    };
-    let Ok(mended) = reason_of_name(alloc, name, "mended: ") else {
-        return STATUS_MEMORY;
-    };
-    let Ok(mends) = mend_lines(alloc, &opened.mends) else {
+    let Ok(lines) = lines_of(alloc, name, opened) else {
         return STATUS_MEMORY;
     };
     let status = show_document(alloc, &opened.lifted.document, view, out);
     if status == STATUS_DONE {
-        tell_losses(reasons, left_out.as_str(), &opened.losses);
-        tell_lines(reasons, mended.as_str(), mends.as_str());
+        lines.tell(reasons, &opened.losses);
     }
     status
+}
+
+/// What is told of a document that was lifted out of a file: how lines begin, and mends.
+#[derive(Drop)]
+pub(crate) struct LiftedLines {
+    left_out: Text,
+    mended: Text,
+    mends: Text,
+}
+
+/// All memory for what is told.
+pub(crate) fn lines_of(
+    alloc: Global,
+    name: &str,
+    opened: &OpenedAny,
+) -> Result<LiftedLines, Memory> {
+    Ok(LiftedLines {
+        left_out: reason_of_name(alloc, name, "left out: ")?,
+        mended: reason_of_name(alloc, name, "mended: ")?,
+        mends: mend_lines(alloc, &opened.mends)?,
+    })
+}
+
+impl LiftedLines {
+    /// Tells what is left out, and the mends.
+    pub(crate) fn tell<E: Sink>(&self, reasons: &mut E, losses: &LossLines) {
+        tell_losses(reasons, self.left_out.as_str(), losses);
+        tell_lines(reasons, self.mended.as_str(), self.mends.as_str());
+    }
 }
 
 /// The lines of mends, in one text.

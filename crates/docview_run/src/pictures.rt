@@ -1,26 +1,29 @@
 // The page of a document, behind the files of its pictures.
-ghost use Rattle.std.specs.Prelude.{◌≡◌, ◌≢◌, ◌⊎◌, ◌<◌, List, ℕ, false, IsErrOf, OnOk};
+ghost use Rattle.std.specs.Prelude.{◌≡◌, ◌≢◌, ◌⊎◌, ◌<◌, List, ℕ, false, Some, IfOk, IsErrOf, OnErr};
 ghost use Rattle.doc_bits.specs.Number.{AreBytes};
 ghost use Rattle.doc_outer.specs.Counts.{Rose};
 ghost use Rattle.doc_outer.specs.Held.{StaysAt};
 ghost use Rattle.doc_read.specs.Holds.{IsAccepted};
-ghost use Rattle.plain_doc.specs.declared.document.Document.{Document};
+ghost use Rattle.html_page.specs.Sources.{source_of};
+ghost use Rattle.plain_doc.specs.Sound.{IsSound};
 ghost use Rattle.run_stages.specs.Leaves.{IsCaused};
-ghost use Rattle.docview_run.specs.Endings.{RunEnds, ShowsPictured, ShowsTaken};
-ghost use Rattle.docview_run.specs.Pictured.{IsDataIn, IsPictureName, LeavesPictures, WritesIn, WritesOf, WritesViewed};
-ghost use Rattle.docview_run.specs.Pictured.{fault_status};
-ghost use Rattle.docview_run.specs.Viewed.{IsViewed};
+ghost use Rattle.docview_run.specs.Endings.{IsOfFile, PrintsPage, RunEnds, ShowsHeld, ShowsPictured, ShowsTaken};
+ghost use Rattle.docview_run.specs.Endings.{pictured_source};
+ghost use Rattle.docview_run.specs.Pictured.{CutsIn, CutsOf, IsDataIn, IsFileThere, IsPictureName, LeavesHeld};
+ghost use Rattle.docview_run.specs.Pictured.{LeavesPictures, LeavesTaken, WritesIn, WritesOf, fault_status};
 
 use crate::View;
-use crate::run::{PROGRAM, show_file, tell};
+use crate::lifting::{lines_of, show_lifted};
+use crate::run::{PROGRAM, show_file, show_source, tell};
 use cfb_streams::Container;
 use doc_columns::ColumnDocument;
-use doc_fit::open_any;
+use doc_fit::{OpenedAny, open_any};
 use doc_outer::{Shelf, Sink};
-use doc_pictures::{Album, AlbumFault, pictures_of, write_pictures};
+use doc_pictures::{Album, AlbumFault, Images, Pictures, pictures_of, write_pictures};
 use doc_read::open;
 use file_rules::ReadFault;
-use run_stages::{STATUS_MEMORY, STATUS_SHELF_FAULT, Stage, take_file, tell_reason};
+use html_page::Source;
+use run_stages::{STATUS_DONE, STATUS_MEMORY, STATUS_SHELF_FAULT, Stage, take_file, tell_reason};
 use std::alloc::Global;
 
 /// A file of a picture is there, and files are not written over.
@@ -37,6 +40,13 @@ pub(crate) struct Pictured<'a> {
     pub(crate) album: Album<'a>,
 }
 
+/// The same, and the bytes of the file.
+#[derive(Clone, Copy)]
+struct Taken<'a> {
+    asked: Pictured<'a>,
+    file: &'a [u8],
+}
+
 /// Writes the files of the pictures of the document of the file of a name, and shows its page.
 pub(crate) fn show_pictured<S: Shelf, K: Sink, E: Sink>(
     alloc: Global,
@@ -45,8 +55,8 @@ pub(crate) fn show_pictured<S: Shelf, K: Sink, E: Sink>(
     out: &mut K,
     reasons: &mut E,
 ) -> u8
-    ensures ends { RunEnds (ShowsPictured asked.now.view asked.now.album.force asked.now.name.now (S.held shelf.old)) K.Sink
-        out.old out.new result }
+    ensures ends { RunEnds (ShowsPictured asked.now.view asked.now.album.force asked.now.album.folder.now asked.now.name.now
+        (S.held shelf.old)) K.Sink out.old out.new result }
     ensures leaves { LeavesPictures S.Shelf asked.now.view.strict asked.now.album.force asked.now.album.folder.now asked.now.name.now
         result shelf.old shelf.new }
     ensures cause { IsCaused S.Shelf shelf.old shelf.new result }
@@ -71,20 +81,136 @@ fn show_taken<S: Shelf, K: Sink, E: Sink>(
     out: &mut K,
     reasons: &mut E,
 ) -> u8
-    ensures ends { RunEnds (ShowsTaken asked.now.view asked.now.album.force asked.now.name.now file.now) K.Sink
-        out.old out.new result }
-    ensures others { (other : List ℕ) → ¬ (IsPictureName asked.now.album.folder.now other)
-        → StaysAt other (S.held shelf.old) (S.held shelf.new) }
-    ensures written { result ≡ 0 → WritesViewed asked.now.view.strict asked.now.album.force asked.now.album.folder.now file.now
+    ensures ends { RunEnds (ShowsTaken asked.now.view asked.now.album.force asked.now.album.folder.now asked.now.name.now
+        (S.held shelf.old) file.now) K.Sink out.old out.new result }
+    ensures leaves { LeavesTaken asked.now.view.strict asked.now.album.force asked.now.album.folder.now file.now result
         (S.held shelf.old) (S.held shelf.new) }
     ensures failed { result ≡ 4 → Rose (S.faults shelf.old) (S.faults shelf.new) }
     ensures after { (result < 2) ⊎ (3 < result) }
     ensures bytes { AreBytes file.now }
 {
-    match write_file_pictures(alloc, shelf, asked, file) {
-        Ok(()) => show_file(alloc, asked.name, file, asked.view, out, reasons),
-        Err(fault) => tell_fault(reasons, &asked.album, fault),
+    match open(alloc, file) {
+        Ok(opened) => {
+            let taken = Taken {
+                asked: *asked,
+                file,
+            };
+            let status = show_held(alloc, shelf, &taken, opened.document(), out, reasons);
+            let_go(opened, status)
+        }
+        Err(ReadFault::Memory) => STATUS_MEMORY,
+        Err(ReadFault::Refused { .. }) => show_refused(alloc, shelf, asked, file, out, reasons),
     }
+}
+
+/// The same of a file that breaks a rule.
+fn show_refused<S: Shelf, K: Sink, E: Sink>(
+    alloc: Global,
+    shelf: &mut S,
+    asked: &Pictured<'_>,
+    file: &[u8],
+    out: &mut K,
+    reasons: &mut E,
+) -> u8
+    requires { ¬ (IsAccepted file.now) }
+    ensures ends { RunEnds (ShowsTaken asked.now.view asked.now.album.force asked.now.album.folder.now asked.now.name.now
+        (S.held shelf.old) file.now) K.Sink out.old out.new result }
+    ensures leaves { LeavesTaken asked.now.view.strict asked.now.album.force asked.now.album.folder.now file.now result
+        (S.held shelf.old) (S.held shelf.new) }
+    ensures failed { result ≡ 4 → Rose (S.faults shelf.old) (S.faults shelf.new) }
+    ensures after { (result < 2) ⊎ (3 < result) }
+{
+    if asked.view.strict {
+        return show_file(alloc, asked.name, file, asked.view, out, reasons);
+    }
+    match open_any(alloc, file) {
+        Ok(opened) => {
+            let taken = Taken {
+                asked: *asked,
+                file,
+            };
+            let status = show_opened(alloc, shelf, &taken, &opened, out, reasons);
+            let_go(opened, status)
+        }
+        Err(ReadFault::Memory) => STATUS_MEMORY,
+        Err(ReadFault::Refused { .. }) => {
+            show_lifted(alloc, asked.name, file, asked.view, out, reasons)
+        }
+    }
+}
+
+/// The same of what was opened; what is left out of it is told.
+fn show_opened<S: Shelf, K: Sink, E: Sink>(
+    alloc: Global,
+    shelf: &mut S,
+    taken: &Taken<'_>,
+    opened: &OpenedAny,
+    out: &mut K,
+    reasons: &mut E,
+) -> u8
+    requires { IsSound opened.now.lifted.document }
+    ensures ends { RunEnds (ShowsHeld taken.now.asked.view taken.now.asked.album.force taken.now.asked.album.folder.now
+        taken.now.file.now opened.now.lifted.document (S.held shelf.old)) K.Sink out.old out.new result }
+    ensures leaves { LeavesHeld taken.now.asked.album.force taken.now.asked.album.folder.now taken.now.file.now
+        opened.now.lifted.document result (S.held shelf.old) (S.held shelf.new) }
+    ensures failed { result ≡ 4 → Rose (S.faults shelf.old) (S.faults shelf.new) }
+    ensures after { (result < 2) ⊎ (3 < result) }
+{
+    let Ok(lines) = lines_of(alloc, taken.asked.name, opened) else {
+        return STATUS_MEMORY;
+    };
+    let status = show_held(alloc, shelf, taken, &opened.lifted.document, out, reasons);
+    if status == STATUS_DONE {
+        lines.tell(reasons, &opened.losses);
+    }
+    status
+}
+
+/// Writes the files of the pictures of a document of a file, and shows its page.
+fn show_held<S: Shelf, K: Sink, E: Sink>(
+    alloc: Global,
+    shelf: &mut S,
+    taken: &Taken<'_>,
+    document: &ColumnDocument,
+    out: &mut K,
+    reasons: &mut E,
+) -> u8
+    requires { IsSound document.now }
+    ensures ends { RunEnds (ShowsHeld taken.now.asked.view taken.now.asked.album.force taken.now.asked.album.folder.now
+        taken.now.file.now document.now (S.held shelf.old)) K.Sink out.old out.new result }
+    ensures leaves { LeavesHeld taken.now.asked.album.force taken.now.asked.album.folder.now taken.now.file.now document.now
+        result (S.held shelf.old) (S.held shelf.new) }
+    ensures failed { result ≡ 4 → Rose (S.faults shelf.old) (S.faults shelf.new) }
+    ensures after { (result < 2) ⊎ (3 < result) }
+{
+    let album = &taken.asked.album;
+    match write_pictures_of(alloc, shelf, album, taken.file, document) {
+        Ok(pictures) => show_images(alloc, &taken.asked, document, &pictures, out),
+        Err(fault) => tell_fault(reasons, album, fault),
+    }
+}
+
+/// Shows the page of a document, which names the files of these pictures.
+fn show_images<K: Sink>(
+    alloc: Global,
+    asked: &Pictured<'_>,
+    document: &ColumnDocument,
+    pictures: &Pictures,
+    out: &mut K,
+) -> u8
+    requires { IsSound document.now }
+    ensures ends { RunEnds (PrintsPage asked.now.view
+        (pictured_source document.now asked.now.album.folder.now pictures.now)) K.Sink out.old out.new result }
+    ensures after { IsOfFile result }
+{
+    let source = Source {
+        document,
+        images: Images {
+            folder: asked.album.folder,
+            pictures,
+        },
+    };
+    show_source(alloc, &source, asked.view, out)
 }
 
 /// Tells why the files of pictures are not written, and answers the status.
@@ -106,61 +232,6 @@ fn tell_fault<E: Sink>(reasons: &mut E, album: &Album<'_>, fault: AlbumFault) ->
     }
 }
 
-/// Writes the files of the pictures of the document of a file that is shown, where it has one.
-fn write_file_pictures<S: Shelf>(
-    alloc: Global,
-    shelf: &mut S,
-    asked: &Pictured<'_>,
-    file: &[u8],
-) -> Result<(), AlbumFault>
-    ensures written { OnOk result ((document : Document) → IsViewed asked.now.view.strict file.now document
-        → WritesOf asked.now.album.force asked.now.album.folder.now file.now document (S.held shelf.old) (S.held shelf.new)) }
-    ensures others { (other : List ℕ) → ¬ (IsPictureName asked.now.album.folder.now other)
-        → StaysAt other (S.held shelf.old) (S.held shelf.new) }
-    ensures there { IsErrOf result AlbumFault.There → asked.now.album.force ≡ false }
-    ensures failed { IsErrOf result AlbumFault.Failed → Rose (S.faults shelf.old) (S.faults shelf.new) }
-    ensures bytes { AreBytes file.now }
-{
-    match open(alloc, file) {
-        Ok(opened) => {
-            let written = write_pictures_of(alloc, shelf, &asked.album, file, opened.document());
-            let_go(opened, written)
-        }
-        Err(ReadFault::Memory) => Err(AlbumFault::Memory),
-        Err(ReadFault::Refused { .. }) => {
-            if asked.view.strict {
-                return Ok(());
-            }
-            write_lifted_pictures(alloc, shelf, &asked.album, file)
-        }
-    }
-}
-
-/// Writes those of the document that is lifted out of a file which breaks a rule.
-fn write_lifted_pictures<S: Shelf>(
-    alloc: Global,
-    shelf: &mut S,
-    album: &Album<'_>,
-    file: &[u8],
-) -> Result<(), AlbumFault>
-    requires { ¬ (IsAccepted file.now) }
-    ensures written { OnOk result ((document : Document) → IsViewed false file.now document
-        → WritesOf album.now.force album.now.folder.now file.now document (S.held shelf.old) (S.held shelf.new)) }
-    ensures others { (other : List ℕ) → ¬ (IsPictureName album.now.folder.now other)
-        → StaysAt other (S.held shelf.old) (S.held shelf.new) }
-    ensures there { IsErrOf result AlbumFault.There → album.now.force ≡ false }
-    ensures failed { IsErrOf result AlbumFault.Failed → Rose (S.faults shelf.old) (S.faults shelf.new) }
-{
-    match open_any(alloc, file) {
-        Ok(opened) => {
-            let written = write_pictures_of(alloc, shelf, album, file, &opened.lifted.document);
-            let_go(opened, written)
-        }
-        Err(ReadFault::Memory) => Err(AlbumFault::Memory),
-        Err(ReadFault::Refused { .. }) => Ok(()),
-    }
-}
-
 /// An answer, once a value is let go.
 fn let_go<T: Drop, A>(value: T, answer: A) -> A
     ensures { result ≡ answer }
@@ -176,12 +247,15 @@ fn write_pictures_of<S: Shelf>(
     album: &Album<'_>,
     file: &[u8],
     document: &ColumnDocument,
-) -> Result<(), AlbumFault>
-    ensures written { OnOk result
-        (WritesOf album.now.force album.now.folder.now file.now document.now (S.held shelf.old) (S.held shelf.new)) }
+) -> Result<Pictures, AlbumFault>
+    ensures written { IfOk result (λ pictures. WritesOf album.now.force album.now.folder.now file.now document.now pictures
+        (S.held shelf.old) (S.held shelf.new)) }
+    ensures cut { OnErr result ((S.held shelf.new ≡ S.held shelf.old) ⊎ CutsOf album.now.force album.now.folder.now file.now
+        document.now (S.held shelf.old) (S.held shelf.new)) }
     ensures others { (other : List ℕ) → ¬ (IsPictureName album.now.folder.now other)
         → StaysAt other (S.held shelf.old) (S.held shelf.new) }
-    ensures there { IsErrOf result AlbumFault.There → album.now.force ≡ false }
+    ensures there { IsErrOf result AlbumFault.There
+        → IsFileThere album.now.force album.now.folder.now (S.held shelf.old) }
     ensures failed { IsErrOf result AlbumFault.Failed → Rose (S.faults shelf.old) (S.faults shelf.new) }
 {
     match Container::load_outer(alloc, file) {
@@ -201,16 +275,22 @@ fn write_pictures_in<S: Shelf>(
     album: &Album<'_>,
     stream: &[u8],
     document: &ColumnDocument,
-) -> Result<(), AlbumFault>
-    ensures written { OnOk result
-        (WritesIn album.now.force album.now.folder.now stream.now document.now (S.held shelf.old) (S.held shelf.new)) }
+) -> Result<Pictures, AlbumFault>
+    ensures written { IfOk result (λ pictures. WritesIn album.now.force album.now.folder.now stream.now document.now pictures
+        (S.held shelf.old) (S.held shelf.new)) }
+    ensures cut { OnErr result ((S.held shelf.new ≡ S.held shelf.old) ⊎ CutsIn album.now.force album.now.folder.now
+        stream.now document.now (S.held shelf.old) (S.held shelf.new)) }
     ensures others { (other : List ℕ) → ¬ (IsPictureName album.now.folder.now other)
         → StaysAt other (S.held shelf.old) (S.held shelf.new) }
-    ensures there { IsErrOf result AlbumFault.There → album.now.force ≡ false }
+    ensures there { IsErrOf result AlbumFault.There
+        → IsFileThere album.now.force album.now.folder.now (S.held shelf.old) }
     ensures failed { IsErrOf result AlbumFault.Failed → Rose (S.faults shelf.old) (S.faults shelf.new) }
 {
     match pictures_of(alloc, document, stream) {
-        Ok(pictures) => write_pictures(alloc, shelf, album, stream, &pictures),
+        Ok(pictures) => match write_pictures(alloc, shelf, album, stream, pictures.as_slice()) {
+            Ok(()) => Ok(pictures),
+            Err(fault) => Err(fault),
+        },
         Err(_) => Err(AlbumFault::Memory),
     }
 }

@@ -6,9 +6,10 @@ ghost use Rattle.plain_doc.specs.Sound.{IsSound};
 ghost use Rattle.run_stages.specs.Leaves.{IsCaused, IsOnlyRead};
 ghost use Rattle.run_stages.specs.Outcomes.{says};
 ghost use Rattle.docview_run.specs.Endings.{IsEnding, IsOfFile, IsPageIn, PrintsPage, RunEnds, ShowsFile};
-ghost use Rattle.docview_run.specs.Endings.{ShowsName};
+ghost use Rattle.docview_run.specs.Endings.{ShowsName, bare};
+ghost use Rattle.html_page.specs.Sources.{source_of};
 ghost use Rattle.docview_run.specs.Pictured.{Leaves};
-ghost use Rattle.docview_run.specs.Requests.{requested, shown_view};
+ghost use Rattle.docview_run.specs.Requests.{requested, shown_folder, shown_view};
 ghost use Rattle.docview_run.specs.Safe.{IsSafePage};
 ghost use Rattle.docview_run.specs.declared.view.View.{View as ViewOf};
 ghost use Rattle.doc_outer.specs.Counts.{Rose};
@@ -24,9 +25,11 @@ use doc_columns::ColumnDocument;
 use doc_html::write_html;
 use doc_markdown::write_markdown;
 use doc_outer::{Shelf, Sink, write_all};
+use doc_pictures::{Images, Pictures};
 use doc_read::open;
 use doc_view::{ViewFault, write_page};
 use file_rules::ReadFault;
+use html_page::Source;
 use run_stages::{
     STATUS_DONE, STATUS_MEMORY, STATUS_REFUSED, STATUS_SINK_FAULT, STATUS_USAGE, Stage, part_name,
     reason_of_name, take_file, tell_reason, why_refused,
@@ -54,8 +57,8 @@ pub fn docview_run<S: Shelf, K: Sink, E: Sink>(
     out: &mut K,
     reasons: &mut E,
 ) -> u8
-    // The shelf is read and nothing else, unless pictures are asked for: then their files are written, and all other names
-    // hold what they held.
+    // The shelf is read and nothing else, unless pictures are asked for: then their files are written, or those before one
+    // that cannot be, and all other names hold what they held.
     ensures leaves { Leaves S.Shelf (requested (map string_bytes words.now)) result shelf.old shelf.new }
 
     // A run ends as its words and the shelf decide, by its status: with the page printed where that is 0; where the sink
@@ -63,9 +66,9 @@ pub fn docview_run<S: Shelf, K: Sink, E: Sink>(
     ensures ends { RunEnds (IsEnding (map string_bytes words.now) (S.held shelf.old)) K.Sink out.old out.new result }
 
     // A page is safe, whatever document it is of: in text it has no control, in HTML and in Markdown the stated readers read
-    // it as the tokens that it was printed of.
+    // it as the tokens that it was printed of. Images of a page in HTML are files in the folder that is asked for.
     ensures safe { result ≡ 0 → (view : ViewOf) → shown_view (requested (map string_bytes words.now)) ≡ Some view
-        → (bytes : List ℕ) × (IsSafePage view bytes × Appends (K.written out.old) (K.written out.new) bytes) }
+        → (bytes : List ℕ) × (IsSafePage view (shown_folder (requested (map string_bytes words.now))) bytes × Appends (K.written out.old) (K.written out.new) bytes) }
 
     // The status of words that ask for nothing is theirs alone.
     ensures usage { result ≡ 2 ↔ requested (map string_bytes words.now) ≡ None }
@@ -116,7 +119,7 @@ fn show_name<S: Shelf, K: Sink, E: Sink>(
     reasons: &mut E,
 ) -> u8
     ensures read { IsOnlyRead S.Shelf shelf.old shelf.new }
-    ensures ends { RunEnds (ShowsName view name.now (S.held shelf.old)) K.Sink out.old out.new result }
+    ensures ends { RunEnds (ShowsName view None name.now (S.held shelf.old)) K.Sink out.old out.new result }
     ensures cause { IsCaused S.Shelf shelf.old shelf.new result }
     ensures asked { result ≢ 2 }
 {
@@ -139,7 +142,7 @@ pub(crate) fn show_file<K: Sink, E: Sink>(
     out: &mut K,
     reasons: &mut E,
 ) -> u8
-    ensures ends { RunEnds (ShowsFile view name.now file.now) K.Sink out.old out.new result }
+    ensures ends { RunEnds (ShowsFile view None name.now file.now) K.Sink out.old out.new result }
     ensures bytes { AreBytes file.now }
     ensures after { IsOfFile result }
 {
@@ -169,7 +172,7 @@ pub(crate) fn show_file<K: Sink, E: Sink>(
     }
 }
 
-/// Writes the page of a document.
+/// Writes the page of a document. It names no file of a picture.
 pub(crate) fn show_document<K: Sink>(
     alloc: Global,
     document: &ColumnDocument,
@@ -177,10 +180,32 @@ pub(crate) fn show_document<K: Sink>(
     out: &mut K,
 ) -> u8
     requires { IsSound document.now }
-    ensures ends { RunEnds (PrintsPage view document.now) K.Sink out.old out.new result }
+    ensures ends { RunEnds (PrintsPage view (bare document.now)) K.Sink out.old out.new result }
     ensures after { IsOfFile result }
 {
-    match write_view(alloc, document, view, out) {
+    let pictures = Pictures::none(alloc);
+    let source = Source {
+        document,
+        images: Images {
+            folder: "",
+            pictures: &pictures,
+        },
+    };
+    show_source(alloc, &source, view, out)
+}
+
+/// Writes the page of a document, which names the files of its pictures in HTML.
+pub(crate) fn show_source<K: Sink>(
+    alloc: Global,
+    source: &Source<'_>,
+    view: View,
+    out: &mut K,
+) -> u8
+    requires { IsSound source.now.document.now }
+    ensures ends { RunEnds (PrintsPage view (source_of source.now)) K.Sink out.old out.new result }
+    ensures after { IsOfFile result }
+{
+    match write_view(alloc, source, view, out) {
         Ok(()) => STATUS_DONE,
         Err(ViewFault::Sink) => STATUS_SINK_FAULT,
         Err(ViewFault::Memory) => STATUS_MEMORY,
@@ -190,23 +215,23 @@ pub(crate) fn show_document<K: Sink>(
 /// Writes the page of a document in its form.
 fn write_view<K: Sink>(
     alloc: Global,
-    document: &ColumnDocument,
+    source: &Source<'_>,
     view: View,
     out: &mut K,
 ) -> Result<(), ViewFault>
-    requires { IsSound document.now }
-    ensures ok { OnOk result ((bytes : List ℕ) × (IsPageIn view.form view.options document.now bytes
+    requires { IsSound source.now.document.now }
+    ensures ok { OnOk result ((bytes : List ℕ) × (IsPageIn view.form view.options (source_of source.now) bytes
         × Appends (K.written out.old) (K.written out.new) bytes)) }
     ensures prefix { IsErrOf result ViewFault.Sink → (bytes : List ℕ)
-        × (IsPageIn view.form view.options document.now bytes
+        × (IsPageIn view.form view.options (source_of source.now) bytes
         × AppendsPrefix (K.written out.old) (K.written out.new) bytes) }
     ensures failed { IsErrOf result ViewFault.Sink → Rose (K.faults out.old) (K.faults out.new) }
     ensures memory { IsErrOf result ViewFault.Memory → K.written out.new ≡ K.written out.old }
 {
     match view.form {
-        Form::Text => write_page(alloc, document, view.options, out),
-        Form::Html => write_html(alloc, document, view.options, out),
-        Form::Markdown => write_markdown(alloc, document, view.options, out),
+        Form::Text => write_page(alloc, source.document, view.options, out),
+        Form::Html => write_html(alloc, source, view.options, out),
+        Form::Markdown => write_markdown(alloc, source.document, view.options, out),
     }
 }
 

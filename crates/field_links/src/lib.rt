@@ -13,3 +13,4 @@ pub use instruction::{Link, link_of};
 pub use laws::{anchors_differ, links_are_allowed};
 pub use link_text::{LinkText, anchor_of};
 pub use places::{OpenField, OpenFieldPlaces};
+pub use waiting::{is_alphanumeric, upper_hex_digit};

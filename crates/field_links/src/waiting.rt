@@ -159,7 +159,7 @@ impl Waiting {
 }
 
 /// The upper-case hexadecimal digit of a number below 16.
-fn upper_hex_digit(number: u8) -> u8
+pub fn upper_hex_digit(number: u8) -> u8
     requires { number < 16 }
     ensures { result ≡ upper_hex_digit number }
 {
@@ -193,7 +193,7 @@ fn is_anchor_character(code: u32) -> bool
 }
 
 /// Whether a character is a letter or a digit of ASCII.
-fn is_alphanumeric(code: u32) -> bool
+pub fn is_alphanumeric(code: u32) -> bool
     ensures { result ≡ is_alphanumeric code }
 {
     (code >= 65 && code <= 90) || (code >= 97 && code <= 122) || (code >= 48 && code <= 57)

@@ -10,7 +10,7 @@ use Rattle.view_places.specs.declared.element.Element.{Element}
 use Rattle.view_places.specs.declared.glyph.Glyph.{Glyph}
 use Rattle.view_places.specs.Same.{same}
 use Rattle.glyph_units.specs.Units.{half_text}
-use Rattle.plain_doc.specs.declared.document.Document.{Document}
+use Rattle.html_page.specs.Sources.{PageSource, source_of}
 use Rattle.html_page.specs.Pages.{Head, back_tokens, characters, front_tokens, half_of, style_tokens, tokens_of}
 use Rattle.html_page.specs.Pages.{page_text as html_text}
 use Rattle.html_page.specs.Printed.{PutsPlaces as PutsHtml}
@@ -31,9 +31,9 @@ form_of (Html html) = form.Html
 form_of (Markdown markdown) = form.Markdown
 
 -- the characters of a page in a form, by what is said of it and the places of its text; of one in Markdown nothing is said
-abbrev pub form_text : PageForm → Document → Head → Places → List ℕ
-form_text form.Html document head places = html_text document head places
-form_text form.Markdown document head places = markdown_text document places
+abbrev pub form_text : PageForm → PageSource → Head → Places → List ℕ
+form_text form.Html source head places = html_text source head places
+form_text form.Markdown source head places = markdown_text source.document places
 
 -- what of it is on its way
 abbrev pub page_in : FormPage → Page
@@ -41,12 +41,13 @@ page_in (Html html) = html.page
 page_in (Markdown markdown) = markdown.pen.page
 
 -- nothing was put, and this waits
-abbrev pub IsFresh : FormPage → List ℕ → Document → Type 0
-IsFresh (Html html) block document =
-    (html.page ≡ record { block = block; failed = false }) × ((html.path ≡ []) × ((html.half ≡ None) × (html.document.now ≡ document)))
-IsFresh (Markdown markdown) block document =
+abbrev pub IsFresh : FormPage → List ℕ → PageSource → Type 0
+IsFresh (Html html) block source =
+    (html.page ≡ record { block = block; failed = false })
+    × ((html.path ≡ []) × ((html.half ≡ None) × (source_of html.source ≡ source)))
+IsFresh (Markdown markdown) block source =
     (markdown.pen.page ≡ record { block = block; failed = false })
-    × ((markdown.path ≡ []) × (state_in markdown ≡ start document))
+    × ((markdown.path ≡ []) × (state_in markdown ≡ start source.document))
 
 -- no half of a character waits
 abbrev pub HasNoHalf : FormPage → Type 0
@@ -57,7 +58,7 @@ HasNoHalf (Markdown markdown) = ⊤
 abbrev pub Begins : {K : Type 0} → Ghosts K → K → FormPage → K → FormPage → Head → Type 0
 Begins sink before (Html html) after (Html left) head =
     Prints sink before html.page after left.page (printed (front_tokens head.language ++ (characters head.title ++ style_tokens)))
-    × ((left.path ≡ html.path) × ((left.half ≡ None) × (left.document.now ≡ html.document.now)))
+    × ((left.path ≡ html.path) × ((left.half ≡ None) × (left.source ≡ html.source)))
 Begins sink before (Html html) after (Markdown left) head = ⊥
 Begins sink before (Markdown markdown) after (Html left) head = ⊥
 Begins sink before (Markdown markdown) after (Markdown left) head = (after ≡ before) × (left ≡ markdown)
@@ -74,7 +75,7 @@ PutsPlaces sink before (Markdown markdown) after (Markdown left) places =
 abbrev pub Ends : {K : Type 0} → Ghosts K → K → FormPage → K → FormPage → Type 0
 Ends sink before (Html html) after (Html left) =
     Prints sink before html.page after left.page
-    (printed (tokens_of html.document.now html.half (turns same html.path [])
+    (printed (tokens_of (source_of html.source) html.half (turns same html.path [])
     ++ (characters (half_text (half_of html.half (turns same html.path []))) ++ back_tokens)))
 Ends sink before (Html html) after (Markdown left) = ⊥
 Ends sink before (Markdown markdown) after (Html left) = ⊥

@@ -7,11 +7,11 @@ ghost use Rattle.glyph_units.specs.Units.{units_text};
 ghost use Rattle.doc_outer.specs.Counts.{GoesOn};
 ghost use Rattle.doc_outer.specs.Written.{Appends};
 ghost use Rattle.page_out.specs.Printed.{FailsIn};
+ghost use Rattle.html_page.specs.Sources.{source_of};
 ghost use Rattle.form_page.specs.Forms.{Begins, Ends, HasNoHalf, IsFresh, PutsPlaces, form_of, page_in};
 
-use doc_columns::ColumnDocument;
 use doc_outer::{OutBlock, Sink, SinkFailed};
-use html_page::HtmlPage;
+use html_page::{HtmlPage, Source};
 use markdown_page::MarkdownPage;
 use view_paths::Path;
 use view_places::{Element, Glyph};
@@ -31,14 +31,14 @@ pub enum FormPage<'a> {
 }
 
 impl<'a> FormPage<'a> {
-    /// A page of a document of which nothing was put.
-    pub fn new(form: PageForm, block: OutBlock, document: &'a ColumnDocument) -> FormPage<'a>
+    /// A page of which nothing was put. Pictures are named by their files in HTML alone.
+    pub fn new(form: PageForm, block: OutBlock, source: &Source<'a>) -> FormPage<'a>
         ensures form { form_of result ≡ form }
-        ensures fresh { IsFresh result block document.now }
+        ensures fresh { IsFresh result block (source_of source.now) }
     {
         match form {
-            PageForm::Html => FormPage::Html(HtmlPage::new(block, document)),
-            PageForm::Markdown => FormPage::Markdown(MarkdownPage::new(block, document)),
+            PageForm::Html => FormPage::Html(HtmlPage::new(block, source)),
+            PageForm::Markdown => FormPage::Markdown(MarkdownPage::new(block, source.document)),
         }
     }
 

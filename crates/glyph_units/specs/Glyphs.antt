@@ -14,7 +14,7 @@ unit_in Tab = None
 unit_in LineBreak = None
 unit_in PageBreak = None
 unit_in (NoteMark number) = None
-unit_in Picture = None
+unit_in (Picture place) = None
 unit_in Object = None
 
 -- the places of units on one path

@@ -14,7 +14,7 @@ pub fn unit_in(glyph: Glyph) -> Option<u16>
         Glyph::LineBreak => None,
         Glyph::PageBreak => None,
         Glyph::NoteMark(_) => None,
-        Glyph::Picture => None,
+        Glyph::Picture(_) => None,
         Glyph::Object => None,
     }
 }

@@ -3,8 +3,9 @@ use Rattle.std.proofs.Common.{◌≡◌, ℕ, ◌==◌, Bool, true, false, not, 
 use Rattle.std.proofs.Common.{refl, sym, ap, subst, ◌∙◌, append_assoc}
 use Rattle.std.specs.Prelude.{if◌then◌else◌, codes}
 use Rattle.std.specs.Fmt.{decimal}
-use Rattle.std.specs.List.{list_all}
-use Rattle.std.proofs.lemmas.List.{append-nil, map-append}
+use Rattle.std.specs.List.{flat_map, list_all}
+use Rattle.std.proofs.lemmas.List.{append-nil}
+use Rattle.std.proofs.lemmas.List.Concat.{flat_map-append}
 use Rattle.html_text.specs.Tokens.{Token, Character, Tag}
 use Rattle.html_text.specs.Reading.{read}
 use Rattle.view_paths.specs.Events.{Event, Turn, Leaf, Open, Close, events_from}
@@ -16,16 +17,20 @@ use Rattle.view_places.specs.declared.glyph.Glyph.TheVariants.{Unit, Tab, LineBr
 use Rattle.view_places.specs.declared.glyph.Glyph.TheVariants.{Object}
 use Rattle.view_places.specs.Same.{same}
 use Rattle.view_places.specs.SameLaws.{same_exact}
-use Rattle.html_page.specs.Tags.{attribute, attributes_of, attributes_text, ends_line, name_of, start_text}
+use Rattle.html_page.specs.Tags.{attribute, attributes_of, attributes_text, ends_line, has_tags, name_of, start_text}
 use Rattle.glyph_units.specs.Units.{half_text, unit_text}
 use Rattle.html_page.specs.Pages.{Events, Head, Places, characters, start, end, close_tokens, open_tokens, other_tokens}
+use Rattle.html_page.specs.Pages.{end_tokens, start_tokens}
 use Rattle.html_page.specs.Pages.{glyph_tokens, image, style_text}
 use Rattle.html_page.specs.Pages.{event_tokens, event_half, tokens_of, half_of, body_tokens, front_tokens, style_tokens}
-use Rattle.html_page.specs.Pages.{back_tokens, page_tokens, page_text}
+use Rattle.html_page.specs.Pages.{back_tokens, page_tokens, page_text, picture_tokens}
 use Rattle.html_page.specs.Brackets.{AreBrackets, IsBehind, End, Start, TagKind, Void, kind_of, kind_of_word, word_of}
 use Rattle.html_page.specs.Laws.{PagesNest}
 use Rattle.html_page.proofs.CloseLemmas.{by_name, page_read}
 use Rattle.plain_doc.specs.declared.document.Document.{Document}
+use Rattle.doc_pictures.specs.declared.names.PictureName.{PictureName}
+use Rattle.doc_pictures.specs.Files.{ImageFiles, name_at}
+use Rattle.html_page.specs.Sources.{PageSource}
 use Rattle.html_page.specs.Languages.{language_attributes}
 use Rattle.html_page.specs.Pages.{meta_tokens}
 use Rattle.doc_bits.proofs.TestLemmas.{and_first, and_second, not_true}
@@ -103,13 +108,30 @@ brackets-line : (a : Names) (line : Bool) → AreBrackets a (if line then Charac
 brackets-line a true = refl
 brackets-line a false = refl
 
-brackets-open : (document : Document) (a : Names) (e : Element) → AreBrackets a (open_tokens document e) (a ++ name_of e ∷ [])
-brackets-open document a e = brackets-start a (name_of e) (attributes_of document e) [] (a ++ name_of e ∷ []) (is_word e) (starts e) refl
+-- the names of elements, and of one
+abbrev own_names : Element → Names
+own_names e = if has_tags e then name_of e ∷ [] else []
 
-brackets-close : (a : Names) (e : Element) → AreBrackets (a ++ name_of e ∷ []) (close_tokens e) a
-brackets-close a e =
+abbrev names_of : List Element → Names
+names_of path = flat_map own_names path
+
+brackets-name : (document : Document) (a : Names) (e : Element) → AreBrackets a (start_tokens document e) (a ++ name_of e ∷ [])
+brackets-name document a e = brackets-start a (name_of e) (attributes_of document e) [] (a ++ name_of e ∷ []) (is_word e) (starts e) refl
+
+brackets-open : (document : Document) (a : Names) (e : Element) → AreBrackets a (open_tokens document e) (a ++ own_names e)
+brackets-open document a e =
+    elim (has_tags e) as (λ (b : Bool). AreBrackets a (if b then start_tokens document e else []) (a ++ (if b then
+    name_of e ∷ [] else []))) [ true ↦ brackets-name document a e | false ↦ sym (append-nil a) ]
+
+brackets-ended : (a : Names) (e : Element) → AreBrackets (a ++ name_of e ∷ []) (end_tokens e) a
+brackets-ended a e =
     brackets-end a (name_of e) (if ends_line e then Character 10 ∷ [] else []) a (is_word e) (brackets-line a
     (ends_line e))
+
+brackets-close : (a : Names) (e : Element) → AreBrackets (a ++ own_names e) (close_tokens e) a
+brackets-close a e =
+    elim (has_tags e) as (λ (b : Bool). AreBrackets (a ++ (if b then name_of e ∷ [] else [])) (if b then end_tokens e
+    else []) a) [ true ↦ brackets-ended a e | false ↦ append-nil a ]
 
 brackets-image : (a : Names) (name : List ℕ) → AreBrackets a (image name) a
 brackets-image a name =
@@ -120,14 +142,19 @@ brackets-image a name =
     (codes
     "span") ∷ []) (brackets-characters inside text) (brackets-end a (codes "span") [] a refl refl))
 
-brackets-other : (a : Names) (g : Glyph) → AreBrackets a (other_tokens g) a
-brackets-other a (Unit unit) = refl
-brackets-other a Tab = refl
-brackets-other a LineBreak = (a, (refl, refl))
-brackets-other a PageBreak = (a, (refl, refl))
-brackets-other a (NoteMark number) = brackets-characters a (decimal number)
-brackets-other a Picture = brackets-image a (codes "picture")
-brackets-other a Object = brackets-image a (codes "object")
+brackets-picture : (a : Names) (folder : List ℕ) (name : Option PictureName) → AreBrackets a (picture_tokens folder
+    name) a
+brackets-picture a folder None = brackets-image a (codes "picture")
+brackets-picture a folder (Some name) = (a, (refl, refl))
+
+brackets-other : (a : Names) (images : ImageFiles) (g : Glyph) → AreBrackets a (other_tokens images g) a
+brackets-other a images (Unit unit) = refl
+brackets-other a images Tab = refl
+brackets-other a images LineBreak = (a, (refl, refl))
+brackets-other a images PageBreak = (a, (refl, refl))
+brackets-other a images (NoteMark number) = brackets-characters a (decimal number)
+brackets-other a images (Picture place) = brackets-picture a images.folder (name_at images.pictures place)
+brackets-other a images Object = brackets-image a (codes "object")
 
 brackets-behind : (a b : Names) (half : Option ℕ) (tokens : List Token) → AreBrackets a tokens b → AreBrackets a
     (characters
@@ -135,53 +162,57 @@ brackets-behind : (a b : Names) (half : Option ℕ) (tokens : List Token) → Ar
 brackets-behind a b half tokens h =
     brackets-append a a b (characters (half_text half)) tokens (brackets-characters a (half_text half)) h
 
-brackets-glyph : (a : Names) (half : Option ℕ) (g : Glyph) → AreBrackets a (glyph_tokens half g) a
-brackets-glyph a half (Unit unit) = brackets-characters a (unit_text half unit)
-brackets-glyph a half Tab = brackets-behind a a half (other_tokens Tab) (brackets-other a Tab)
-brackets-glyph a half LineBreak = brackets-behind a a half (other_tokens LineBreak) (brackets-other a LineBreak)
-brackets-glyph a half PageBreak = brackets-behind a a half (other_tokens PageBreak) (brackets-other a PageBreak)
-brackets-glyph a half (NoteMark number) =
-    brackets-behind a a half (other_tokens (NoteMark number)) (brackets-other a (NoteMark number))
-brackets-glyph a half Picture = brackets-behind a a half (other_tokens Picture) (brackets-other a Picture)
-brackets-glyph a half Object = brackets-behind a a half (other_tokens Object) (brackets-other a Object)
+brackets-glyph : (a : Names) (images : ImageFiles) (half : Option ℕ) (g : Glyph) → AreBrackets a (glyph_tokens images
+    half g) a
+brackets-glyph a images half (Unit unit) = brackets-characters a (unit_text half unit)
+brackets-glyph a images half Tab = brackets-behind a a half (other_tokens images Tab) (brackets-other a images Tab)
+brackets-glyph a images half LineBreak =
+    brackets-behind a a half (other_tokens images LineBreak) (brackets-other a images LineBreak)
+brackets-glyph a images half PageBreak =
+    brackets-behind a a half (other_tokens images PageBreak) (brackets-other a images PageBreak)
+brackets-glyph a images half (NoteMark number) =
+    brackets-behind a a half (other_tokens images (NoteMark number)) (brackets-other a images (NoteMark number))
+brackets-glyph a images half (Picture place) =
+    brackets-behind a a half (other_tokens images (Picture place)) (brackets-other a images (Picture place))
+brackets-glyph a images half Object =
+    brackets-behind a a half (other_tokens images Object) (brackets-other a images Object)
 
-names-push : (outer : Names) (path : List Element) (e : Element) → outer ++ map name_of (path ++ e ∷ []) ≡ (outer ++ map
-    name_of path) ++ name_of e ∷ []
+names-push : (outer : Names) (path : List Element) (e : Element) → outer ++ names_of (path ++ e ∷ []) ≡ (outer ++
+    names_of path) ++ own_names e
 names-push outer path e =
-    ap (λ (names : Names). outer ++ names) (map-append name_of path (e ∷ [])) ∙ sym (append_assoc outer (map name_of
-    path)
-    (name_of e ∷ []))
+    ap (λ (names : Names). outer ++ names) (flat_map-append own_names path (e ∷ []) ∙ ap (λ (names : Names). names_of
+    path ++ names) (append-nil (own_names e))) ∙ sym (append_assoc outer (names_of path) (own_names e))
 
 -- the tags of events that nest
-brackets-events : (document : Document) (outer : Names) (half : Option ℕ) (around behind : List Element) (events : Events) → AreNested
+brackets-events : (source : PageSource) (outer : Names) (half : Option ℕ) (around behind : List Element) (events : Events) → AreNested
     around events
-    behind → AreBrackets (outer ++ map name_of around) (tokens_of document half events) (outer ++ map name_of behind)
+    behind → AreBrackets (outer ++ names_of around) (tokens_of source half events) (outer ++ names_of behind)
 unfolding tokens_of
-brackets-events document outer half around behind [] nested = ap (λ (path : List Element). outer ++ map name_of path) nested
-brackets-events document outer half around behind (Turn (Open front e) ∷ events) nested =
-    let a = outer ++ map name_of around in
-    let b = outer ++ map name_of (around ++ e ∷ []) in
-    let here : AreBrackets a (open_tokens document e) b =
-    subst (λ (names : Names). AreBrackets a (open_tokens document e) names) (sym (names-push outer around e)) (brackets-open document a
+brackets-events source outer half around behind [] nested = ap (λ (path : List Element). outer ++ names_of path) nested
+brackets-events source outer half around behind (Turn (Open front e) ∷ events) nested =
+    let a = outer ++ names_of around in
+    let b = outer ++ names_of (around ++ e ∷ []) in
+    let here : AreBrackets a (open_tokens source.document e) b =
+    subst (λ (names : Names). AreBrackets a (open_tokens source.document e) names) (sym (names-push outer around e)) (brackets-open source.document a
     e) in
-    brackets-append a b (outer ++ map name_of behind) (characters (half_text half) ++ open_tokens document e) (tokens_of document None
+    brackets-append a b (outer ++ names_of behind) (characters (half_text half) ++ open_tokens source.document e) (tokens_of source None
     events)
-    (brackets-behind a b half (open_tokens document e) here) (brackets-events document outer None (around ++ e ∷ []) behind events
+    (brackets-behind a b half (open_tokens source.document e) here) (brackets-events source outer None (around ++ e ∷ []) behind events
     nested.1)
-brackets-events document outer half around behind (Turn (Close front e) ∷ events) nested =
-    let a = outer ++ map name_of around in
-    let b = outer ++ map name_of front in
-    let is : a ≡ b ++ name_of e ∷ [] =
-    ap (λ (path : List Element). outer ++ map name_of path) nested.0 ∙ names-push outer front e in
+brackets-events source outer half around behind (Turn (Close front e) ∷ events) nested =
+    let a = outer ++ names_of around in
+    let b = outer ++ names_of front in
+    let is : a ≡ b ++ own_names e =
+    ap (λ (path : List Element). outer ++ names_of path) nested.0 ∙ names-push outer front e in
     let here : AreBrackets a (close_tokens e) b =
     subst (λ (names : Names). AreBrackets names (close_tokens e) b) (sym is) (brackets-close b e) in
-    brackets-append a b (outer ++ map name_of behind) (characters (half_text half) ++ close_tokens e) (tokens_of document None
+    brackets-append a b (outer ++ names_of behind) (characters (half_text half) ++ close_tokens e) (tokens_of source None
     events)
-    (brackets-behind a b half (close_tokens e) here) (brackets-events document outer None front behind events nested.1)
-brackets-events document outer half around behind (Leaf path g ∷ events) nested =
-    let a = outer ++ map name_of around in
-    brackets-append a a (outer ++ map name_of behind) (glyph_tokens half g) (tokens_of document (event_half half (Leaf path g))
-    events) (brackets-glyph a half g) (brackets-events document outer (event_half half (Leaf path g)) around behind events
+    (brackets-behind a b half (close_tokens e) here) (brackets-events source outer None front behind events nested.1)
+brackets-events source outer half around behind (Leaf path g ∷ events) nested =
+    let a = outer ++ names_of around in
+    brackets-append a a (outer ++ names_of behind) (glyph_tokens source.images half g) (tokens_of source (event_half half (Leaf path g))
+    events) (brackets-glyph a source.images half g) (brackets-events source outer (event_half half (Leaf path g)) around behind events
     nested.1)
 
 -- ---- the page
@@ -234,28 +265,28 @@ brackets-style = (
   ),
 )
 
-brackets-body : (document : Document) (places : Places) → AreBrackets in_body (body_tokens document places) in_body
-brackets-body document places =
+brackets-body : (source : PageSource) (places : Places) → AreBrackets in_body (body_tokens source places) in_body
+brackets-body source places =
     let events = events_from same [] places in
-    brackets-append in_body in_body in_body (tokens_of document None events) (characters (half_text (half_of None events)))
-    (brackets-events document in_body None [] [] events (nested-events_from same same_exact [] places)) (brackets-characters
+    brackets-append in_body in_body in_body (tokens_of source None events) (characters (half_text (half_of None events)))
+    (brackets-events source in_body None [] [] events (nested-events_from same same_exact [] places)) (brackets-characters
     in_body
     (half_text (half_of None events)))
 
 brackets-back : AreBrackets in_body back_tokens []
 brackets-back = (in_page, (refl, ([], (refl, refl))))
 
-brackets-page : (document : Document) (head : Head) (places : Places) → AreBrackets [] (page_tokens document head places)
+brackets-page : (source : PageSource) (head : Head) (places : Places) → AreBrackets [] (page_tokens source head places)
     []
-brackets-page document head places =
+brackets-page source head places =
     brackets-append [] in_title [] (front_tokens head.language) (characters head.title ++ (style_tokens ++ (body_tokens
-    document places ++ back_tokens)))
+    source places ++ back_tokens)))
     (brackets-front head.language) (brackets-append in_title in_title [] (characters head.title) (style_tokens ++
-    (body_tokens document places ++ back_tokens)) (brackets-characters in_title head.title) (brackets-append in_title
-    in_body [] style_tokens (body_tokens document places ++ back_tokens) brackets-style (brackets-append in_body in_body
-    [] (body_tokens document places) back_tokens (brackets-body document places) brackets-back)))
+    (body_tokens source places ++ back_tokens)) (brackets-characters in_title head.title) (brackets-append in_title
+    in_body [] style_tokens (body_tokens source places ++ back_tokens) brackets-style (brackets-append in_body in_body
+    [] (body_tokens source places) back_tokens (brackets-body source places) brackets-back)))
 
 pub page_nests : PagesNest
-page_nests document head places =
-    subst (λ (tokens : List Token). AreBrackets [] tokens []) (sym (page_read document head places)) (brackets-page
-    document head places)
+page_nests source head places =
+    subst (λ (tokens : List Token). AreBrackets [] tokens []) (sym (page_read source head places)) (brackets-page
+    source head places)

@@ -20,12 +20,15 @@ use Rattle.view_places.specs.declared.glyph.Glyph.{Glyph}
 use Rattle.view_places.specs.declared.glyph.Glyph.TheVariants.{Unit, Tab, LineBreak, PageBreak, NoteMark, Picture}
 use Rattle.view_places.specs.declared.glyph.Glyph.TheVariants.{Object}
 use Rattle.view_places.specs.Same.{same}
-use Rattle.html_page.specs.Tags.{attribute, attributes_of, attributes_text, ends_line, name_of, optional}
+use Rattle.html_page.specs.Tags.{attribute, attributes_of, attributes_text, ends_line, has_tags, name_of, optional}
+use Rattle.html_page.specs.Tags.{reach_attributes, span_attributes}
+use Rattle.view_places.specs.declared.element.Span.{Span}
 use Rattle.html_page.specs.Tags.{paragraph_attributes, paragraph_name, start_text}
 use Rattle.glyph_units.specs.Units.{half_text, unit_text}
 use Rattle.html_page.specs.Pages.{Events, Head, Places, characters, close_tokens, open_tokens, other_tokens, glyph_tokens}
+use Rattle.html_page.specs.Pages.{end_tokens, start_tokens}
 use Rattle.html_page.specs.Pages.{event_tokens, event_half, tokens_of, half_of, body_tokens, front_tokens, style_tokens}
-use Rattle.html_page.specs.Pages.{back_tokens, page_tokens, page_text}
+use Rattle.html_page.specs.Pages.{back_tokens, page_tokens, page_text, picture_tokens}
 use Rattle.html_page.specs.Laws.{PagesAreReadBack}
 use Rattle.std.specs.Prelude.{◌||◌, ◌*◌, ◌+◌, ◌-◌, ◌&&◌, slice_range}
 use Rattle.html_page.proofs.PutLemmas.{all-slice}
@@ -33,6 +36,10 @@ use Rattle.html_text.specs.Tokens.{escaped_text}
 use Rattle.html_text.specs.Safe.{is_safe}
 use Rattle.html_text.proofs.ReadLemmas.{no_markup}
 use Rattle.plain_doc.specs.declared.document.Document.{Document}
+use Rattle.doc_pictures.specs.declared.names.PictureName.{PictureName}
+use Rattle.doc_pictures.specs.Files.{ImageFiles, name_at}
+use Rattle.html_page.specs.Images.{image_attributes, image_url}
+use Rattle.html_page.specs.Sources.{PageSource}
 use Rattle.field_links.specs.Urls.{anchor_name}
 use Rattle.link_targets.specs.Links.{bookmark_name, instruction_of, url_in}
 use Rattle.html_page.specs.Languages.{language_attributes, language_code, language_codes}
@@ -115,6 +122,22 @@ numbered_attribute name front number one other =
     no_end-attribute name (front ++ decimal number) one (no_end-append front (decimal number) other (no_end-decimal
     number))
 
+no_end-reach : (span : Span) → HaveNoEnd (reach_attributes span)
+no_end-reach span =
+    let rows = attribute (codes "rowspan") (decimal span.rows) in
+    have_no_end-optional (nat_le 2 span.columns) (attribute (codes "colspan") (decimal span.columns)) (optional (nat_le
+    2 span.rows) rows) (no_end-attribute (codes "colspan") (decimal span.columns) refl (no_end-decimal span.columns))
+    (one_optional (nat_le 2 span.rows) rows (no_end-attribute (codes "rowspan") (decimal span.rows) refl
+    (no_end-decimal span.rows)))
+  where
+    one_optional : (there : Bool) (text : List ℕ) → HasNoEnd text → HaveNoEnd (optional there text)
+    one_optional true text one = have_no_end-cons text [] one refl
+    one_optional false text one = refl
+
+no_end-span : (span : Option Span) → HaveNoEnd (span_attributes span)
+no_end-span None = refl
+no_end-span (Some span) = no_end-reach span
+
 no_end-plain : (e : Element) → HaveNoEnd (plain_attributes e)
 no_end-plain Notes = refl
 no_end-plain (Note number) =
@@ -124,8 +147,9 @@ no_end-plain (Table first) = refl
 no_end-plain TableHead = refl
 no_end-plain TableBody = refl
 no_end-plain (Row first) = refl
-no_end-plain (Cell number) = refl
-no_end-plain (HeadCell number) = refl
+no_end-plain (Cell cell) = no_end-span cell.span
+no_end-plain (HeadCell cell) =
+    have_no_end-cons (attribute (codes "scope") (codes "col")) (span_attributes cell.span) refl (no_end-span cell.span)
 no_end-plain (AList list) = no_end-list list.is_ordered
 no_end-plain (Item number) = refl
 no_end-plain (Paragraph paragraph) = no_end-paragraph paragraph
@@ -187,8 +211,8 @@ no_end-attributes document (Table first) = no_end-plain (Table first)
 no_end-attributes document TableHead = no_end-plain TableHead
 no_end-attributes document TableBody = no_end-plain TableBody
 no_end-attributes document (Row first) = no_end-plain (Row first)
-no_end-attributes document (Cell number) = no_end-plain (Cell number)
-no_end-attributes document (HeadCell number) = no_end-plain (HeadCell number)
+no_end-attributes document (Cell cell) = no_end-plain (Cell cell)
+no_end-attributes document (HeadCell cell) = no_end-plain (HeadCell cell)
 no_end-attributes document (AList list) = no_end-plain (AList list)
 no_end-attributes document (Item number) = no_end-plain (Item number)
 no_end-attributes document (Paragraph paragraph) = no_end-plain (Paragraph paragraph)
@@ -260,9 +284,9 @@ by_name (Table first) P section aside table thead tbody tr td th ol ul li p h1 h
 by_name TableHead P section aside table thead tbody tr td th ol ul li p h1 h2 h3 h4 h5 h6 span a b i u s sup sub = thead
 by_name TableBody P section aside table thead tbody tr td th ol ul li p h1 h2 h3 h4 h5 h6 span a b i u s sup sub = tbody
 by_name (Row first) P section aside table thead tbody tr td th ol ul li p h1 h2 h3 h4 h5 h6 span a b i u s sup sub = tr
-by_name (Cell number) P section aside table thead tbody tr td th ol ul li p h1 h2 h3 h4 h5 h6 span a b i u s sup sub =
+by_name (Cell cell) P section aside table thead tbody tr td th ol ul li p h1 h2 h3 h4 h5 h6 span a b i u s sup sub =
     td
-by_name (HeadCell number) P section aside table thead tbody tr td th ol ul li p h1 h2 h3 h4 h5 h6 span a b i u s sup
+by_name (HeadCell cell) P section aside table thead tbody tr td th ol ul li p h1 h2 h3 h4 h5 h6 span a b i u s sup
     sub = th
 by_name (AList list) P section aside table thead tbody tr td th ol ul li p h1 h2 h3 h4 h5 h6 span a b i u s sup sub =
     by_order list.is_ordered P ol ul
@@ -307,63 +331,83 @@ closed-characters : (text : List ℕ) → AreClosed (characters text)
 closed-characters [] = refl
 closed-characters (code ∷ text) = closed-characters text
 
-closed-open : (document : Document) (e : Element) → AreClosed (open_tokens document e)
-closed-open document e =
+closed-start : (document : Document) (e : Element) → AreClosed (start_tokens document e)
+closed-start document e =
     and_true (list_all (λ code. not (code == 62)) (start_text (name_of e) (attributes_of document e))) true
     (no_end-append (name_of
     e)
     (attributes_text (attributes_of document e)) (no_end-name e) (no_end-attributes document e)) refl
 
+closed-where : (there : Bool) (tokens : List Token) → AreClosed tokens → AreClosed (if there then tokens else [])
+closed-where true tokens is = is
+closed-where false tokens is = refl
+
+closed-open : (document : Document) (e : Element) → AreClosed (open_tokens document e)
+closed-open document e = closed-where (has_tags e) (start_tokens document e) (closed-start document e)
+
 closed-line : (line : Bool) → AreClosed (if line then Character 10 ∷ [] else [])
 closed-line true = refl
 closed-line false = refl
 
-closed-close : (e : Element) → AreClosed (close_tokens e)
-closed-close e =
+closed-end : (e : Element) → AreClosed (end_tokens e)
+closed-end e =
     and_true (list_all (λ code. not (code == 62)) (name_of e)) (list_all is_closed (if ends_line e then Character 10 ∷
     []
     else
     [])) (no_end-name e) (closed-line (ends_line e))
 
-closed-other : (g : Glyph) → AreClosed (other_tokens g)
-closed-other (Unit unit) = refl
-closed-other Tab = refl
-closed-other LineBreak = refl
-closed-other PageBreak = refl
-closed-other (NoteMark number) = closed-characters (decimal number)
-closed-other Picture = refl
-closed-other Object = refl
+closed-close : (e : Element) → AreClosed (close_tokens e)
+closed-close e = closed-where (has_tags e) (end_tokens e) (closed-end e)
+
+closed-image : (folder : List ℕ) (name : Option PictureName) → AreClosed (picture_tokens folder name)
+closed-image folder None = refl
+closed-image folder (Some name) =
+    let url = image_url folder name in
+    and_true (list_all (λ code. not (code == 62)) (start_text (codes "img") (image_attributes folder name))) true
+    (no_end-append (codes "img") (attributes_text (image_attributes folder name)) refl (have_no_end-cons (attribute
+    (codes "src") (escaped_text url)) (attribute (codes "alt") [] ∷ []) (no_end-attribute (codes "src") (escaped_text
+    url) refl (no_end-escaped url)) refl)) refl
+
+closed-other : (images : ImageFiles) (g : Glyph) → AreClosed (other_tokens images g)
+closed-other images (Unit unit) = refl
+closed-other images Tab = refl
+closed-other images LineBreak = refl
+closed-other images PageBreak = refl
+closed-other images (NoteMark number) = closed-characters (decimal number)
+closed-other images (Picture place) = closed-image images.folder (name_at images.pictures place)
+closed-other images Object = refl
 
 closed-behind : (half : Option ℕ) (tokens : List Token) → AreClosed tokens → AreClosed (characters (half_text half) ++
     tokens)
 closed-behind half tokens h = closed-append (characters (half_text half)) tokens (closed-characters (half_text half)) h
 
-closed-glyph : (half : Option ℕ) (g : Glyph) → AreClosed (glyph_tokens half g)
-closed-glyph half (Unit unit) = closed-characters (unit_text half unit)
-closed-glyph half Tab = closed-behind half (other_tokens Tab) (closed-other Tab)
-closed-glyph half LineBreak = closed-behind half (other_tokens LineBreak) (closed-other LineBreak)
-closed-glyph half PageBreak = closed-behind half (other_tokens PageBreak) (closed-other PageBreak)
-closed-glyph half (NoteMark number) = closed-behind half (other_tokens (NoteMark number)) (closed-other (NoteMark
-    number))
-closed-glyph half Picture = closed-behind half (other_tokens Picture) (closed-other Picture)
-closed-glyph half Object = closed-behind half (other_tokens Object) (closed-other Object)
+closed-glyph : (images : ImageFiles) (half : Option ℕ) (g : Glyph) → AreClosed (glyph_tokens images half g)
+closed-glyph images half (Unit unit) = closed-characters (unit_text half unit)
+closed-glyph images half Tab = closed-behind half (other_tokens images Tab) (closed-other images Tab)
+closed-glyph images half LineBreak = closed-behind half (other_tokens images LineBreak) (closed-other images LineBreak)
+closed-glyph images half PageBreak = closed-behind half (other_tokens images PageBreak) (closed-other images PageBreak)
+closed-glyph images half (NoteMark number) =
+    closed-behind half (other_tokens images (NoteMark number)) (closed-other images (NoteMark number))
+closed-glyph images half (Picture place) =
+    closed-behind half (other_tokens images (Picture place)) (closed-other images (Picture place))
+closed-glyph images half Object = closed-behind half (other_tokens images Object) (closed-other images Object)
 
-closed-event : (document : Document) (half : Option ℕ) (event : Event Element Glyph) → AreClosed (event_tokens document half event)
-closed-event document half (Turn (Open path e)) = closed-behind half (open_tokens document e) (closed-open document e)
-closed-event document half (Turn (Close path e)) = closed-behind half (close_tokens e) (closed-close e)
-closed-event document half (Leaf path g) = closed-glyph half g
+closed-event : (source : PageSource) (half : Option ℕ) (event : Event Element Glyph) → AreClosed (event_tokens source half event)
+closed-event source half (Turn (Open path e)) = closed-behind half (open_tokens source.document e) (closed-open source.document e)
+closed-event source half (Turn (Close path e)) = closed-behind half (close_tokens e) (closed-close e)
+closed-event source half (Leaf path g) = closed-glyph source.images half g
 
-closed-events : (document : Document) (half : Option ℕ) (events : Events) → AreClosed (tokens_of document half events)
+closed-events : (source : PageSource) (half : Option ℕ) (events : Events) → AreClosed (tokens_of source half events)
 unfolding tokens_of
-closed-events document half [] = refl
-closed-events document half (event ∷ events) =
-    closed-append (event_tokens document half event) (tokens_of document (event_half half event) events) (closed-event document half event)
-    (closed-events document (event_half half event) events)
+closed-events source half [] = refl
+closed-events source half (event ∷ events) =
+    closed-append (event_tokens source half event) (tokens_of source (event_half half event) events) (closed-event source half event)
+    (closed-events source (event_half half event) events)
 
-closed-body : (document : Document) (places : Places) → AreClosed (body_tokens document places)
-closed-body document places =
+closed-body : (source : PageSource) (places : Places) → AreClosed (body_tokens source places)
+closed-body source places =
     let events = events_from same [] places in
-    closed-append (tokens_of document None events) (characters (half_text (half_of None events))) (closed-events document None events)
+    closed-append (tokens_of source None events) (characters (half_text (half_of None events))) (closed-events source None events)
     (closed-characters (half_text (half_of None events)))
 
 no_end-slice : (text : List ℕ) (from to : ℕ) → HasNoEnd text → HasNoEnd (slice_range text from to)
@@ -386,15 +430,15 @@ closed-front language =
     and_true (list_all (λ code. not (code == 62)) (start_text (codes "html") (language_attributes language))) true
     (no_end-append (codes "html") (attributes_text (language_attributes language)) refl (no_end-language language)) refl
 
-closed-page : (document : Document) (head : Head) (places : Places) → AreClosed (page_tokens document head places)
-closed-page document head places =
-    closed-append (front_tokens head.language) (characters head.title ++ (style_tokens ++ (body_tokens document places
+closed-page : (source : PageSource) (head : Head) (places : Places) → AreClosed (page_tokens source head places)
+closed-page source head places =
+    closed-append (front_tokens head.language) (characters head.title ++ (style_tokens ++ (body_tokens source places
     ++ back_tokens))) (closed-front head.language)
-    (closed-append (characters head.title) (style_tokens ++ (body_tokens document places ++ back_tokens))
+    (closed-append (characters head.title) (style_tokens ++ (body_tokens source places ++ back_tokens))
     (closed-characters head.title)
-    (closed-append style_tokens (body_tokens document places ++ back_tokens) refl (closed-append (body_tokens document
+    (closed-append style_tokens (body_tokens source places ++ back_tokens) refl (closed-append (body_tokens source
     places) back_tokens
-    (closed-body document places) refl)))
+    (closed-body source places) refl)))
 
 pub page_read : PagesAreReadBack
-page_read document head places = read_back (page_tokens document head places) (closed-page document head places)
+page_read source head places = read_back (page_tokens source head places) (closed-page source head places)

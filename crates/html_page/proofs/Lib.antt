@@ -3,3 +3,4 @@ pub mod KnownLemmas
 pub mod BracketLemmas
 pub mod PutLemmas
 pub mod UnitLemmas
+pub mod PathLemmas

@@ -30,12 +30,15 @@ use Rattle.view_places.specs.Same.{same}
 use Rattle.html_page.specs.declared.printer.HtmlPage.{HtmlPage}
 use Rattle.glyph_units.specs.Glyphs.{unit_in}
 use Rattle.view_places.specs.declared.element.Paragraph.{Paragraph}
-use Rattle.html_page.specs.Tags.{attribute, attributes_text, optional, paragraph_attributes}
+use Rattle.html_page.specs.Tags.{attribute, attributes_text, optional, paragraph_attributes, reach_attributes}
+use Rattle.view_places.specs.declared.element.Span.{Span}
 use Rattle.glyph_units.specs.Units.{half_text, unit_text, unit_half}
 use Rattle.html_page.specs.Pages.{Events, Places, characters, close_tokens, open_tokens, event_tokens, event_half}
 use Rattle.html_page.specs.Pages.{glyph_tokens, glyph_half, other_tokens, tokens_of, half_of}
 use Rattle.html_page.specs.Printed.{PutsEvents, PutsPlaces}
-use Rattle.plain_doc.specs.declared.document.Document.{Document}
+use Rattle.doc_pictures.specs.Files.{ImageFiles, files_of}
+use Rattle.html_page.specs.declared.source.Source.{Source}
+use Rattle.html_page.specs.Sources.{PageSource, source_of}
 use Rattle.doc_bits.proofs.TestLemmas.{and_true, and_first, and_second, not_true}
 
 -- ---- tokens one after another
@@ -43,25 +46,25 @@ use Rattle.doc_bits.proofs.TestLemmas.{and_true, and_first, and_second, not_true
 pub printed-append : (xs ys : List Token) → printed (xs ++ ys) ≡ printed xs ++ printed ys
 printed-append xs ys = flat_map-append printed_token xs ys
 
-pub tokens_of-append : (document : Document) (half : Option ℕ) (xs ys : Events) → tokens_of document half (xs ++ ys) ≡
-    tokens_of document half xs ++ tokens_of document (half_of half xs) ys
+pub tokens_of-append : (source : PageSource) (half : Option ℕ) (xs ys : Events) → tokens_of source half (xs ++ ys) ≡
+    tokens_of source half xs ++ tokens_of source (half_of half xs) ys
 unfolding tokens_of half_of
-tokens_of-append document half [] ys = refl
-tokens_of-append document half (event ∷ xs) ys =
-    ap (λ (more : List Token). event_tokens document half event ++ more) (tokens_of-append document (event_half half
+tokens_of-append source half [] ys = refl
+tokens_of-append source half (event ∷ xs) ys =
+    ap (λ (more : List Token). event_tokens source half event ++ more) (tokens_of-append source (event_half half
     event) xs ys)
-    ∙ sym (append_assoc (event_tokens document half event) (tokens_of document (event_half half event) xs) (tokens_of
-    document (half_of (event_half half event) xs) ys))
+    ∙ sym (append_assoc (event_tokens source half event) (tokens_of source (event_half half event) xs) (tokens_of
+    source (half_of (event_half half event) xs) ys))
 
 pub half_of-append : (half : Option ℕ) (xs ys : Events) → half_of half (xs ++ ys) ≡ half_of (half_of half xs) ys
 unfolding half_of
 half_of-append half [] ys = refl
 half_of-append half (event ∷ xs) ys = half_of-append (event_half half event) xs ys
 
-tokens_of-one : (document : Document) (half : Option ℕ) (event : Event Element Glyph) → tokens_of document half (event ∷
-    []) ≡ event_tokens document half event
+tokens_of-one : (source : PageSource) (half : Option ℕ) (event : Event Element Glyph) → tokens_of source half (event ∷
+    []) ≡ event_tokens source half event
 unfolding tokens_of
-tokens_of-one document half event = append-nil (event_tokens document half event)
+tokens_of-one source half event = append-nil (event_tokens source half event)
 
 half_of-one : (half : Option ℕ) (event : Event Element Glyph) → half_of half (event ∷ []) ≡ event_half half event
 unfolding half_of
@@ -88,16 +91,16 @@ tokens_none sink at page = put_none sink at page
 -- ---- events
 
 none_put : {K : Type 0} (sink : Ghosts K) (at : K) (html left : HtmlPage) → left.page ≡ html.page → left.half ≡
-    html.half → left.document.now ≡ html.document.now →
+    html.half → left.source ≡ html.source →
     PutsEvents sink at html at left [] left.path
 unfolding tokens_of half_of
-none_put sink at html left page half document = record {
+none_put sink at html left page half source = record {
   prints =
-      subst (λ (p : Page). Prints sink at html.page at p (printed (tokens_of html.document.now html.half []))) (sym
+      subst (λ (p : Page). Prints sink at html.page at p (printed (tokens_of (source_of html.source) html.half []))) (sym
       page) (put_none sink at html.page);
   half = half;
   path = refl;
-  document = document;
+  source = source;
 }
 
 pub events_then : {K : Type 0} (sink : Ghosts K) (a b c : K) (p q r : HtmlPage) (xs ys : Events) (first second : List
@@ -106,29 +109,29 @@ pub events_then : {K : Type 0} (sink : Ghosts K) (a b c : K) (p q r : HtmlPage) 
 events_then sink a b c p q r xs ys first second one other = record {
   prints =
       subst (λ (tokens : List Token). Prints sink a p.page c r.page (printed tokens)) (sym (tokens_of-append
-      p.document.now p.half xs ys))
-      (tokens_then sink a b c p.page q.page r.page (tokens_of p.document.now p.half xs) (tokens_of p.document.now
+      (source_of p.source) p.half xs ys))
+      (tokens_then sink a b c p.page q.page r.page (tokens_of (source_of p.source) p.half xs) (tokens_of (source_of p.source)
       (half_of p.half xs) ys) one.prints
-      (subst (λ (d : Document). Prints sink b q.page c r.page (printed (tokens_of d (half_of p.half xs) ys)))
-      one.document (subst (λ (h : Option ℕ). Prints sink b q.page c r.page (printed (tokens_of q.document.now h ys)))
+      (subst (λ (s : Source). Prints sink b q.page c r.page (printed (tokens_of (source_of s) (half_of p.half xs) ys)))
+      one.source (subst (λ (h : Option ℕ). Prints sink b q.page c r.page (printed (tokens_of (source_of q.source) h ys)))
       one.half other.prints)));
   half = other.half ∙ ap (λ (h : Option ℕ). half_of h ys) one.half ∙ sym (half_of-append p.half xs ys);
   path = other.path;
-  document = other.document ∙ one.document;
+  source = other.source ∙ one.source;
 }
 
 pub one_event : {K : Type 0} (sink : Ghosts K) (a b : K) (html left : HtmlPage) (event : Event Element Glyph) (path :
     List
-    Element) → Prints sink a html.page b left.page (printed (event_tokens html.document.now html.half event)) →
-    left.half ≡ event_half html.half event → left.path ≡ path → left.document.now ≡ html.document.now → PutsEvents sink
+    Element) → Prints sink a html.page b left.page (printed (event_tokens (source_of html.source) html.half event)) →
+    left.half ≡ event_half html.half event → left.path ≡ path → left.source ≡ html.source → PutsEvents sink
     a html b left (event ∷ []) path
-one_event sink a b html left event path prints half is document = record {
+one_event sink a b html left event path prints half is source = record {
   prints =
       subst (λ (tokens : List Token). Prints sink a html.page b left.page (printed tokens)) (sym (tokens_of-one
-      html.document.now html.half event)) prints;
+      (source_of html.source) html.half event)) prints;
   half = half ∙ sym (half_of-one html.half event);
   path = is;
-  document = document;
+  source = source;
 }
 
 -- the same events and the same path by other words
@@ -144,30 +147,30 @@ puts_as sink a b html left xs ys one other is path puts =
 
 pub close_done : {K : Type 0} (sink : Ghosts K) (at : K) (html left : HtmlPage) (count : ℕ) → left.page ≡ html.page →
     left.half
-    ≡ html.half → left.path ≡ html.path → left.document.now ≡ html.document.now → length html.path ≤ count → PutsEvents sink at html at left (map Turn (closes
+    ≡ html.half → left.path ≡ html.path → left.source ≡ html.source → length html.path ≤ count → PutsEvents sink at html at left (map Turn (closes
     (take
     count html.path) (drop count html.path))) (take count html.path)
-close_done sink at html left count page half path document short =
+close_done sink at html left count page half path source short =
     let no : Events = [] in
     puts_as sink at at html left no (map Turn (closes (take count html.path) (drop count html.path))) left.path (take
     count
     html.path) (ap (map Turn) (sym (closes-none html.path count short))) (path ∙ sym (take_all count html.path short))
-    (none_put sink at html left page half document)
+    (none_put sink at html left page half source)
 
 pub close_step : {K : Type 0} (sink : Ghosts K) (a b c : K) (html next left : HtmlPage) (new : List Element) (e :
     Element)
     (count : ℕ) → html.path ≡ new ++ e ∷ [] → count ≤ length new → Prints sink a html.page b next.page (printed
     (characters
-    (half_text html.half) ++ close_tokens e)) → next.path ≡ new → next.half ≡ None → next.document.now ≡
-    html.document.now → PutsEvents sink b next c left
+    (half_text html.half) ++ close_tokens e)) → next.path ≡ new → next.half ≡ None → next.source ≡
+    html.source → PutsEvents sink b next c left
     (map Turn
     (closes (take count next.path) (drop count next.path))) (take count next.path) → PutsEvents sink a html c left
     (map Turn
     (closes (take count html.path) (drop count html.path))) (take count html.path)
-close_step sink a b c html next left new e count is within prints path half document rest =
+close_step sink a b c html next left new e count is within prints path half source rest =
     let event : Event Element Glyph = Turn (Close new e) in
     let first : PutsEvents sink a html b next (event ∷ []) new = one_event sink a b html next event new prints half
-    path document in
+    path source in
     let more : Events = map Turn (closes (take count new) (drop count new)) in
     let second : PutsEvents sink b next c left more (take count new) =
     subst (λ (p : List Element). PutsEvents sink b next c left (map Turn (closes (take count p) (drop count p))) (take
@@ -184,28 +187,28 @@ close_step sink a b c html next left new e count is within prints path half docu
 
 pub open_done : {K : Type 0} (sink : Ghosts K) (at : K) (html left : HtmlPage) (to : List Element) → left.page ≡
     html.page →
-    left.half ≡ html.half → left.path ≡ html.path → left.document.now ≡ html.document.now → html.path ≡ to → PutsEvents sink at html at left (map Turn (opens
+    left.half ≡ html.half → left.path ≡ html.path → left.source ≡ html.source → html.path ≡ to → PutsEvents sink at html at left (map Turn (opens
     html.path
     (drop (length html.path) to))) to
-open_done sink at html left to page half path document is =
+open_done sink at html left to page half path source is =
     let no : Events = [] in
     puts_as sink at at html left no (map Turn (opens html.path (drop (length html.path) to))) left.path to (ap (map
     Turn) (sym
-    (opens-none html.path to is))) (path ∙ is) (none_put sink at html left page half document)
+    (opens-none html.path to is))) (path ∙ is) (none_put sink at html left page half source)
 
 pub open_step : {K : Type 0} (sink : Ghosts K) (a b c : K) (html next left : HtmlPage) (new to : List Element) (e :
     Element) →
     new ≡ html.path ++ e ∷ [] → IsFront new to → Prints sink a html.page b next.page (printed (characters (half_text
     html.half)
-    ++ open_tokens html.document.now e)) → next.path ≡ new → next.half ≡ None → next.document.now ≡ html.document.now →
+    ++ open_tokens html.source.document.now e)) → next.path ≡ new → next.half ≡ None → next.source ≡ html.source →
     PutsEvents sink b next c left (map Turn (opens next.path
     (drop
     (length next.path) to))) to → PutsEvents sink a html c left (map Turn (opens html.path (drop (length html.path)
     to))) to
-open_step sink a b c html next left new to e is front prints path half document rest =
+open_step sink a b c html next left new to e is front prints path half source rest =
     let event : Event Element Glyph = Turn (Open html.path e) in
     let first : PutsEvents sink a html b next (event ∷ []) new = one_event sink a b html next event new prints half
-    path document in
+    path source in
     let more : Events = map Turn (opens new (drop (length new) to)) in
     let second : PutsEvents sink b next c left more to =
     subst (λ (p : List Element). PutsEvents sink b next c left (map Turn (opens p (drop (length p) to))) to) path rest
@@ -261,15 +264,15 @@ place_bare sink a b html left to puts =
 pub place_shown : {K : Type 0} (sink : Ghosts K) (a b c : K) (html next left : HtmlPage) (to : List Element) (g :
     Glyph) →
     PutsEvents sink a html b next (turns same html.path to) to → Prints sink b next.page c left.page (printed
-    (glyph_tokens
-    next.half g)) → left.path ≡ next.path → left.half ≡ glyph_half next.half g → left.document.now ≡ next.document.now →
+    (glyph_tokens (files_of next.source.images)
+    next.half g)) → left.path ≡ next.path → left.half ≡ glyph_half next.half g → left.source ≡ next.source →
     PutsPlaces sink a html c left
     (place_of to
     (Some g))
-place_shown sink a b c html next left to g puts prints path half document =
+place_shown sink a b c html next left to g puts prints path half source =
     let event : Event Element Glyph = Leaf to g in
     let shown : PutsEvents sink b next c left (event ∷ []) to =
-    one_event sink b c next left event to prints half (path ∙ puts.path) document in
+    one_event sink b c next left event to prints half (path ∙ puts.path) source in
     events_then sink a b c html next left (turns same html.path to) (event ∷ []) to to puts shown
 
 -- places one after another
@@ -345,6 +348,15 @@ paragraph_pieces p =
     (λ (text : List ℕ). attributes_text (optional (nat_le 7 p.level) level) ++ text) (attributes-append (optional
     p.right_to_left rtl) (optional p.breaks_page break))))
 
+pub reach_pieces : (span : Span) → (if nat_le 2 span.columns then 32 ∷ attribute (codes "colspan") (decimal
+    span.columns) else []) ++ (if nat_le 2 span.rows then 32 ∷ attribute (codes "rowspan") (decimal span.rows) else [])
+    ≡ attributes_text (reach_attributes span)
+reach_pieces span =
+    let columns = attribute (codes "colspan") (decimal span.columns) in
+    let rows = attribute (codes "rowspan") (decimal span.rows) in
+    rw (optional_text (nat_le 2 span.columns) columns, optional_text (nat_le 2 span.rows) rows) (sym (attributes-append
+    (optional (nat_le 2 span.columns) columns) (optional (nat_le 2 span.rows) rows)))
+
 -- ---- texts of ASCII
 
 all-drop : (p : ℕ → Bool) (count : ℕ) (text : List ℕ) → list_all p text ≡ true → list_all p (drop count text) ≡ true
@@ -376,7 +388,7 @@ ascii_slice text from to is = ascii_all (slice_range text from to) (all-slice is
 
 -- ---- digits stand for themselves
 
-abbrev is_plain : ℕ → Bool
+abbrev pub is_plain : ℕ → Bool
 is_plain code = not (code == 38) && (not (code == 60) && (not (code == 62) && not (code == 34)))
 
 escaped-plain : (code : ℕ) → is_plain code ≡ true → escaped code ≡ code ∷ []
@@ -394,7 +406,7 @@ escaped-plain code is =
           (code == 62)) (not (code == 34)) last),
     ) refl
 
-printed-plain : (text : List ℕ) → list_all is_plain text ≡ true → printed (characters text) ≡ text
+pub printed-plain : (text : List ℕ) → list_all is_plain text ≡ true → printed (characters text) ≡ text
 printed-plain [] is = refl
 printed-plain (code ∷ text) is =
     ap (λ (front : List ℕ). front ++ printed (characters text)) (escaped-plain code (and_first (is_plain code)
@@ -425,16 +437,15 @@ printed-decimal n = printed-plain (decimal n) (plain-digits_onto 64 n [] refl)
 
 -- ---- glyphs
 
-pub other_glyph : (half : Option ℕ) (g : Glyph) → unit_in g ≡ None → glyph_tokens half g ≡ characters (half_text half)
-    ++
-    other_tokens g
-other_glyph half (Unit unit) is = absurd (cc (is))
-other_glyph half Tab is = refl
-other_glyph half LineBreak is = refl
-other_glyph half PageBreak is = refl
-other_glyph half (NoteMark number) is = refl
-other_glyph half Picture is = refl
-other_glyph half Object is = refl
+pub other_glyph : (images : ImageFiles) (half : Option ℕ) (g : Glyph) → unit_in g ≡ None →
+    glyph_tokens images half g ≡ characters (half_text half) ++ other_tokens images g
+other_glyph images half (Unit unit) is = absurd (cc (is))
+other_glyph images half Tab is = refl
+other_glyph images half LineBreak is = refl
+other_glyph images half PageBreak is = refl
+other_glyph images half (NoteMark number) is = refl
+other_glyph images half (Picture place) is = refl
+other_glyph images half Object is = refl
 
 pub other_half : (half : Option ℕ) (g : Glyph) → unit_in g ≡ None → glyph_half half g ≡ None
 other_half half (Unit unit) is = absurd (cc (is))
@@ -442,19 +453,21 @@ other_half half Tab is = refl
 other_half half LineBreak is = refl
 other_half half PageBreak is = refl
 other_half half (NoteMark number) is = refl
-other_half half Picture is = refl
+other_half half (Picture place) is = refl
 other_half half Object is = refl
 
-pub unit_glyph : (half : Option ℕ) (g : Glyph) (unit : ℕ) → unit_in g ≡ Some unit → glyph_tokens half g ≡ characters
+pub unit_glyph : (images : ImageFiles) (half : Option ℕ) (g : Glyph) (unit : ℕ) → unit_in g ≡ Some unit →
+    glyph_tokens images half g ≡ characters
     (unit_text
     half unit)
-unit_glyph half (Unit other) unit is = let e : other ≡ unit = cc (is) in ap (λ (u : ℕ). characters (unit_text half u)) e
-unit_glyph half Tab unit is = absurd (cc (is))
-unit_glyph half LineBreak unit is = absurd (cc (is))
-unit_glyph half PageBreak unit is = absurd (cc (is))
-unit_glyph half (NoteMark number) unit is = absurd (cc (is))
-unit_glyph half Picture unit is = absurd (cc (is))
-unit_glyph half Object unit is = absurd (cc (is))
+unit_glyph images half (Unit other) unit is =
+    let e : other ≡ unit = cc (is) in ap (λ (u : ℕ). characters (unit_text half u)) e
+unit_glyph images half Tab unit is = absurd (cc (is))
+unit_glyph images half LineBreak unit is = absurd (cc (is))
+unit_glyph images half PageBreak unit is = absurd (cc (is))
+unit_glyph images half (NoteMark number) unit is = absurd (cc (is))
+unit_glyph images half (Picture place) unit is = absurd (cc (is))
+unit_glyph images half Object unit is = absurd (cc (is))
 
 pub unit_glyph_half : (half : Option ℕ) (g : Glyph) (unit : ℕ) → unit_in g ≡ Some unit → glyph_half half g ≡ unit_half
     half unit
@@ -463,7 +476,7 @@ unit_glyph_half half Tab unit is = absurd (cc (is))
 unit_glyph_half half LineBreak unit is = absurd (cc (is))
 unit_glyph_half half PageBreak unit is = absurd (cc (is))
 unit_glyph_half half (NoteMark number) unit is = absurd (cc (is))
-unit_glyph_half half Picture unit is = absurd (cc (is))
+unit_glyph_half half (Picture place) unit is = absurd (cc (is))
 unit_glyph_half half Object unit is = absurd (cc (is))
 
 -- ---- values of attributes

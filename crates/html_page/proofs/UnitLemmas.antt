@@ -9,7 +9,7 @@ use Rattle.std.proofs.lemmas.List.Elements.{All-drop, All-from_get_or, All-get_o
 use Rattle.doc_outer.specs.declared.sink.Sink.{Ghosts}
 use Rattle.page_out.specs.Printed.{Prints}
 use Rattle.html_text.specs.Tokens.{Character, Token, escaped, printed}
-use Rattle.plain_doc.specs.declared.document.Document.{Document}
+use Rattle.html_page.specs.Sources.{PageSource, source_of}
 use Rattle.view_paths.specs.Events.{turns}
 use Rattle.view_paths.specs.Paths.{last_path}
 use Rattle.view_paths.specs.Events.{events_up_to}
@@ -80,15 +80,15 @@ plain_range units from until within are =
 
 -- ---- units on one path
 
-whole_tokens : (document : Document) (path : List Element) (units : List ℕ) → All IsScalar units →
-    tokens_of document None (leaves path units) ≡ characters units
+whole_tokens : (source : PageSource) (path : List Element) (units : List ℕ) → All IsScalar units →
+    tokens_of source None (leaves path units) ≡ characters units
 unfolding tokens_of
-whole_tokens document path [] all = refl
-whole_tokens document path (unit ∷ units) all =
+whole_tokens source path [] all = refl
+whole_tokens source path (unit ∷ units) all =
     let scalar = All-head IsScalar unit units all in
-    (λ i. characters (scalar_text None unit scalar i) ++ tokens_of document (scalar_half None unit scalar i) (leaves path
+    (λ i. characters (scalar_text None unit scalar i) ++ tokens_of source (scalar_half None unit scalar i) (leaves path
     units))
-    ∙ ap (λ (more : List Token). Character unit ∷ more) (whole_tokens document path units (All-tail IsScalar unit units
+    ∙ ap (λ (more : List Token). Character unit ∷ more) (whole_tokens source path units (All-tail IsScalar unit units
     all))
 
 whole_half : (path : List Element) (units : List ℕ) → All IsScalar units → half_of None (leaves path units) ≡ None
@@ -107,15 +107,15 @@ run_pieces : (front : List ℕ) (unit : ℕ) (units : List ℕ) → (characters 
 run_pieces [] unit units = refl
 run_pieces (x ∷ front) unit units = ap (λ (more : List Token). Character x ∷ more) (run_pieces front unit units)
 
-run_tokens : (document : Document) (path : List Element) (half : Option ℕ) (unit : ℕ) (units : List ℕ) → All IsScalar
-    (unit ∷ units) → characters (half_text half ++ (unit ∷ units)) ≡ tokens_of document half (leaves path (unit ∷ units))
+run_tokens : (source : PageSource) (path : List Element) (half : Option ℕ) (unit : ℕ) (units : List ℕ) → All IsScalar
+    (unit ∷ units) → characters (half_text half ++ (unit ∷ units)) ≡ tokens_of source half (leaves path (unit ∷ units))
 unfolding tokens_of
-run_tokens document path half unit units all =
+run_tokens source path half unit units all =
     let scalar = All-head IsScalar unit units all in
     let front = half_text half in
-    sym ((λ i. characters (scalar_text half unit scalar i) ++ tokens_of document (scalar_half half unit scalar i) (leaves
+    sym ((λ i. characters (scalar_text half unit scalar i) ++ tokens_of source (scalar_half half unit scalar i) (leaves
     path units))
-    ∙ (λ i. characters-append front (unit ∷ []) i ++ whole_tokens document path units (All-tail IsScalar unit units all) i)
+    ∙ (λ i. characters-append front (unit ∷ []) i ++ whole_tokens source path units (All-tail IsScalar unit units all) i)
     ∙ run_pieces front unit units)
 
 run_half : (path : List Element) (half : Option ℕ) (unit : ℕ) (units : List ℕ) → All IsScalar (unit ∷ units) →
@@ -130,19 +130,19 @@ pub run_put : {K : Type 0} (sink : Ghosts K) (a b c d : K) (html next mid left :
     List ℕ) → All IsScalar units → 0 < length units → PutsEvents sink a html b next (turns same html.path to) to →
     Prints sink b next.page c mid.page (printed (characters (half_text next.half))) →
     Prints sink c mid.page d left.page (printed (characters units)) → left.path ≡ next.path → left.half ≡ None →
-    left.document.now ≡ next.document.now → PutsPlaces sink a html d left (unit_places to units)
-run_put sink a b c d html next mid left to [] all some puts before after path half document = absurd (omega (arith, some))
-run_put sink a b c d html next mid left to (unit ∷ units) all some puts before after path half document =
+    left.source ≡ next.source → PutsPlaces sink a html d left (unit_places to units)
+run_put sink a b c d html next mid left to [] all some puts before after path half source = absurd (omega (arith, some))
+run_put sink a b c d html next mid left to (unit ∷ units) all some puts before after path half source =
     let run = unit ∷ units in
     let turned : Events = turns same html.path to in
     let shown : PutsEvents sink b next d left (leaves to run) to = record {
       prints =
           subst (λ (tokens : List Token). Prints sink b next.page d left.page (printed tokens)) (run_tokens
-          next.document.now to next.half unit units all)
+          (source_of next.source) to next.half unit units all)
           (characters_then sink b c d next.page mid.page left.page (half_text next.half) run before after);
       half = half ∙ sym (run_half to next.half unit units all);
       path = path ∙ puts.path;
-      document = document;
+      source = source;
     } in
     puts_as sink a d html left (turned ++ leaves to run) (events_up_to same html.path (unit_places to run)) to (last_path
     html.path (unit_places to run)) (sym (events-units html.path to unit units)) (sym (last-units html.path to unit

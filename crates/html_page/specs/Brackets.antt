@@ -15,7 +15,9 @@ word_of [] = []
 word_of (code ∷ rest) = if code == 32 then [] else code ∷ word_of rest
 
 abbrev pub is_void : List ℕ → Bool
-is_void name = bytes_eq name (codes "br") || (bytes_eq name (codes "meta") || bytes_eq name (codes "!DOCTYPE"))
+is_void name =
+    bytes_eq name (codes "br") || (bytes_eq name (codes "img")
+    || (bytes_eq name (codes "meta") || bytes_eq name (codes "!DOCTYPE")))
 
 abbrev pub kind_of_word : List ℕ → TagKind
 kind_of_word [] = Start []

@@ -1,5 +1,5 @@
 -- The tags that a page may have.
-use Rattle.std.specs.Prelude.{◌≡◌, ℕ, List, [], ◌∷◌, ◌++◌, codes, slice_get, Some, ⊤, ◌⊎◌}
+use Rattle.std.specs.Prelude.{◌≡◌, ℕ, List, [], ◌∷◌, ◌++◌, codes, slice_get, Option, Some, ⊤, ◌⊎◌}
 use Rattle.std.specs.Fmt.{decimal}
 use Rattle.std.specs.List.{All}
 use Rattle.html_text.specs.Tokens.{Token, Character, Tag, escaped_text}
@@ -7,6 +7,9 @@ use Rattle.field_links.specs.Urls.{anchor_name}
 use Rattle.field_links.specs.Laws.{IsSchemeUrl, IsLocalUrl}
 use Rattle.html_page.specs.Tags.{attribute, start_text}
 use Rattle.html_page.specs.Languages.{language_code}
+use Rattle.doc_pictures.specs.declared.names.PictureName.{PictureName}
+use Rattle.doc_pictures.specs.Files.{ImageFiles, name_at}
+use Rattle.html_page.specs.Images.{image_url}
 
 -- the names of elements
 abbrev pub known_names : List (List ℕ)
@@ -16,9 +19,9 @@ known_names =
     codes "th"
     ∷ codes "ol" ∷ codes "ul" ∷ codes "li" ∷ codes "p" ∷ codes "h1" ∷ codes "h2" ∷ codes "h3" ∷ codes "h4" ∷ codes "h5"
     ∷ codes "h6" ∷ codes "span" ∷ codes "a" ∷ codes "b" ∷ codes "i" ∷ codes "u" ∷ codes "s" ∷ codes "sup" ∷ codes "sub"
-    ∷ codes "br" ∷ []
+    ∷ codes "br" ∷ codes "img" ∷ []
 
--- the attributes of elements, some with a number, but those of links and bookmarks
+-- the attributes of elements, some with a number, but those of links, bookmarks and images
 abbrev pub known_attributes : ℕ → List (List ℕ)
 known_attributes number =
     codes "html"
@@ -46,6 +49,9 @@ known_attributes number =
     ∷ attribute (codes "aria-label") (codes "object")
     ∷ attribute (codes "style") (codes "break-after:page")
     ∷ attribute (codes "lang") (language_code number)
+    ∷ attribute (codes "colspan") (decimal number)
+    ∷ attribute (codes "rowspan") (decimal number)
+    ∷ attribute (codes "alt") []
     ∷ []
 
 abbrev pub IsKnownName : List ℕ → Type 0
@@ -65,16 +71,24 @@ pub record IsAnchorAttribute (text : List ℕ) : Type 0 where
   pub name : List ℕ
   pub value : text ≡ attribute (codes "id") (escaped_text (anchor_name name))
 
-abbrev pub IsKnownAttribute : List ℕ → Type 0
-IsKnownAttribute text = IsListedAttribute text ⊎ (IsLinkAttribute text ⊎ IsAnchorAttribute text)
+-- the attribute of an image: the address of the file of one of the pictures, and nothing of the document
+pub record IsSourceAttribute (images : ImageFiles) (text : List ℕ) : Type 0 where
+  pub place : Option ℕ
+  pub name : PictureName
+  pub file : name_at images.pictures place ≡ Some name
+  pub value : text ≡ attribute (codes "src") (escaped_text (image_url images.folder name))
+
+abbrev pub IsKnownAttribute : ImageFiles → List ℕ → Type 0
+IsKnownAttribute images text =
+    IsListedAttribute text ⊎ (IsLinkAttribute text ⊎ (IsAnchorAttribute text ⊎ IsSourceAttribute images text))
 
 -- a start tag of these
-pub record IsKnownStart (inner : List ℕ) : Type 0 where
+pub record IsKnownStart (images : ImageFiles) (inner : List ℕ) : Type 0 where
   pub name : List ℕ
   pub attributes : List (List ℕ)
   pub text : inner ≡ start_text name attributes
   pub known : IsKnownName name
-  pub all : All IsKnownAttribute attributes
+  pub all : All (IsKnownAttribute images) attributes
 
 -- an end tag of these
 pub record IsKnownEnd (inner : List ℕ) : Type 0 where
@@ -83,6 +97,6 @@ pub record IsKnownEnd (inner : List ℕ) : Type 0 where
   pub known : IsKnownName name
 
 -- a character, or a tag of these
-abbrev pub IsKnown : Token → Type 0
-IsKnown (Character code) = ⊤
-IsKnown (Tag inner) = IsKnownStart inner ⊎ IsKnownEnd inner
+abbrev pub IsKnown : ImageFiles → Token → Type 0
+IsKnown images (Character code) = ⊤
+IsKnown images (Tag inner) = IsKnownStart images inner ⊎ IsKnownEnd inner

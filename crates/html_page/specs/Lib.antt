@@ -1,4 +1,6 @@
 pub mod Tags
+pub mod Sources
+pub mod Images
 pub mod Languages
 pub mod Pages
 pub mod Known

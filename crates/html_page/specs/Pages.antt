@@ -2,6 +2,8 @@
 use Rattle.std.specs.Prelude.{ℕ, Bool, ◌==◌, ◌||◌, List, [], ◌∷◌, ◌++◌, map, codes, Option, None, Some, if◌then◌else◌}
 use Rattle.std.specs.Fmt.{decimal}
 use Rattle.plain_doc.specs.declared.document.Document.{Document}
+use Rattle.doc_pictures.specs.declared.names.PictureName.{PictureName}
+use Rattle.doc_pictures.specs.Files.{ImageFiles, name_at}
 use Rattle.html_text.specs.Tokens.{Token, Character, Tag, printed}
 use Rattle.view_paths.specs.Paths.{Place}
 use Rattle.view_paths.specs.Events.{Event, Turn, Leaf, Open, Close, events_from}
@@ -11,8 +13,10 @@ use Rattle.view_places.specs.declared.glyph.Glyph.{Glyph}
 use Rattle.view_places.specs.declared.glyph.Glyph.TheVariants.{Unit, Tab, LineBreak, PageBreak, NoteMark, Picture}
 use Rattle.view_places.specs.declared.glyph.Glyph.TheVariants.{Object}
 use Rattle.view_places.specs.Same.{same}
-use Rattle.html_page.specs.Tags.{name_of, attributes_of, attribute, start_text, ends_line}
+use Rattle.html_page.specs.Tags.{name_of, attributes_of, attribute, start_text, ends_line, has_tags}
 use Rattle.html_page.specs.Languages.{language_attributes}
+use Rattle.html_page.specs.Sources.{PageSource}
+use Rattle.html_page.specs.Images.{image_attributes}
 use Rattle.glyph_units.specs.Units.{half_text, unit_text, unit_half}
 
 abbrev pub Places : Type 0
@@ -36,11 +40,17 @@ abbrev pub end : List ℕ → Token
 end name = Tag (47 ∷ name)
 
 -- an element is opened or closed
+abbrev pub start_tokens : Document → Element → List Token
+start_tokens document element = start (name_of element) (attributes_of document element) ∷ []
+
+abbrev pub end_tokens : Element → List Token
+end_tokens element = end (name_of element) ∷ (if ends_line element then Character 10 ∷ [] else [])
+
 abbrev pub open_tokens : Document → Element → List Token
-open_tokens document element = start (name_of element) (attributes_of document element) ∷ []
+open_tokens document element = if has_tags element then start_tokens document element else []
 
 abbrev pub close_tokens : Element → List Token
-close_tokens element = end (name_of element) ∷ (if ends_line element then Character 10 ∷ [] else [])
+close_tokens element = if has_tags element then end_tokens element else []
 
 abbrev pub tag_tokens : Document → PathTag Element → List Token
 tag_tokens document (Open path element) = open_tokens document element
@@ -52,25 +62,33 @@ image name =
     start (codes "span") (attribute (codes "role") (codes "img") ∷ attribute (codes "aria-label") name ∷ [])
     ∷ (characters (91 ∷ (name ++ 93 ∷ [])) ++ end (codes "span") ∷ [])
 
+-- a picture by its file in a folder; one without a file is not shown
+abbrev pub picture_tokens : List ℕ → Option PictureName → List Token
+picture_tokens folder None = image (codes "picture")
+picture_tokens folder (Some name) = start (codes "img") (image_attributes folder name) ∷ []
+
+abbrev pub page_break_tokens : List Token
+page_break_tokens = start (codes "br") (attribute (codes "style") (codes "break-after:page") ∷ []) ∷ []
+
 -- a glyph that is no unit; the number of a note stands in the link to it
-abbrev pub other_tokens : Glyph → List Token
-other_tokens (Unit unit) = []
-other_tokens Tab = Character 9 ∷ []
-other_tokens LineBreak = start (codes "br") [] ∷ []
-other_tokens PageBreak = start (codes "br") (attribute (codes "style") (codes "break-after:page") ∷ []) ∷ []
-other_tokens (NoteMark number) = characters (decimal number)
-other_tokens Picture = image (codes "picture")
-other_tokens Object = image (codes "object")
+abbrev pub other_tokens : ImageFiles → Glyph → List Token
+other_tokens images (Unit unit) = []
+other_tokens images Tab = Character 9 ∷ []
+other_tokens images LineBreak = start (codes "br") [] ∷ []
+other_tokens images PageBreak = page_break_tokens
+other_tokens images (NoteMark number) = characters (decimal number)
+other_tokens images (Picture place) = picture_tokens images.folder (name_at images.pictures place)
+other_tokens images Object = image (codes "object")
 
 -- a glyph where a half of a character waits or none
-abbrev pub glyph_tokens : Option ℕ → Glyph → List Token
-glyph_tokens half (Unit unit) = characters (unit_text half unit)
-glyph_tokens half Tab = characters (half_text half) ++ other_tokens Tab
-glyph_tokens half LineBreak = characters (half_text half) ++ other_tokens LineBreak
-glyph_tokens half PageBreak = characters (half_text half) ++ other_tokens PageBreak
-glyph_tokens half (NoteMark number) = characters (half_text half) ++ other_tokens (NoteMark number)
-glyph_tokens half Picture = characters (half_text half) ++ other_tokens Picture
-glyph_tokens half Object = characters (half_text half) ++ other_tokens Object
+abbrev pub glyph_tokens : ImageFiles → Option ℕ → Glyph → List Token
+glyph_tokens images half (Unit unit) = characters (unit_text half unit)
+glyph_tokens images half Tab = characters (half_text half) ++ other_tokens images Tab
+glyph_tokens images half LineBreak = characters (half_text half) ++ other_tokens images LineBreak
+glyph_tokens images half PageBreak = characters (half_text half) ++ other_tokens images PageBreak
+glyph_tokens images half (NoteMark number) = characters (half_text half) ++ other_tokens images (NoteMark number)
+glyph_tokens images half (Picture place) = characters (half_text half) ++ other_tokens images (Picture place)
+glyph_tokens images half Object = characters (half_text half) ++ other_tokens images Object
 
 -- what waits behind it
 abbrev pub glyph_half : Option ℕ → Glyph → Option ℕ
@@ -79,22 +97,22 @@ glyph_half half Tab = None
 glyph_half half LineBreak = None
 glyph_half half PageBreak = None
 glyph_half half (NoteMark number) = None
-glyph_half half Picture = None
+glyph_half half (Picture place) = None
 glyph_half half Object = None
 
-abbrev pub event_tokens : Document → Option ℕ → Event Element Glyph → List Token
-event_tokens document half (Turn tag) = characters (half_text half) ++ tag_tokens document tag
-event_tokens document half (Leaf path glyph) = glyph_tokens half glyph
+abbrev pub event_tokens : PageSource → Option ℕ → Event Element Glyph → List Token
+event_tokens source half (Turn tag) = characters (half_text half) ++ tag_tokens source.document tag
+event_tokens source half (Leaf path glyph) = glyph_tokens source.images half glyph
 
 abbrev pub event_half : Option ℕ → Event Element Glyph → Option ℕ
 event_half half (Turn tag) = None
 event_half half (Leaf path glyph) = glyph_half half glyph
 
 -- events where a half waits or none: so the halves of a character are one where nothing stands between them
-unfoldable pub tokens_of : Document → Option ℕ → Events → List Token
-tokens_of document half [] = []
-tokens_of document half (event ∷ events) =
-    event_tokens document half event ++ tokens_of document (event_half half event) events
+unfoldable pub tokens_of : PageSource → Option ℕ → Events → List Token
+tokens_of source half [] = []
+tokens_of source half (event ∷ events) =
+    event_tokens source half event ++ tokens_of source (event_half half event) events
 
 -- what waits behind them
 unfoldable pub half_of : Option ℕ → Events → Option ℕ
@@ -102,10 +120,10 @@ half_of half [] = half
 half_of half (event ∷ events) = half_of (event_half half event) events
 
 -- the text of places, from the first to the end of the last
-abbrev pub body_tokens : Document → Places → List Token
-body_tokens document places =
+abbrev pub body_tokens : PageSource → Places → List Token
+body_tokens source places =
     let events = events_from same [] places in
-    tokens_of document None events ++ characters (half_text (half_of None events))
+    tokens_of source None events ++ characters (half_text (half_of None events))
 
 -- how a page looks
 abbrev pub style_text : List ℕ
@@ -159,12 +177,12 @@ style_tokens =
 abbrev pub back_tokens : List Token
 back_tokens = end (codes "body") ∷ Character 10 ∷ end (codes "html") ∷ Character 10 ∷ []
 
--- a page of a document, by its head and the places of its text
-abbrev pub page_tokens : Document → Head → Places → List Token
-page_tokens document head places =
+-- a page, by its head and the places of its text
+abbrev pub page_tokens : PageSource → Head → Places → List Token
+page_tokens source head places =
     front_tokens head.language
-    ++ (characters head.title ++ (style_tokens ++ (body_tokens document places ++ back_tokens)))
+    ++ (characters head.title ++ (style_tokens ++ (body_tokens source places ++ back_tokens)))
 
 -- the characters of a page
-abbrev pub page_text : Document → Head → Places → List ℕ
-page_text document head places = printed (page_tokens document head places)
+abbrev pub page_text : PageSource → Head → Places → List ℕ
+page_text source head places = printed (page_tokens source head places)

@@ -1,7 +1,7 @@
 -- The tags of elements: a name, and attributes, each after a space. Their values are of this file, with the number of a note,
 -- the URL of a link or the name of a bookmark.
 use Rattle.std.specs.Prelude.{ℕ, ◌==◌, nat_le, Bool, true, false, List, [], ◌∷◌, ◌++◌, codes, if◌then◌else◌}
-use Rattle.std.specs.Prelude.{Option, None, Some}
+use Rattle.std.specs.Prelude.{Option, None, Some, is_some}
 use Rattle.std.specs.Fmt.{decimal}
 use Rattle.std.specs.List.{flat_map}
 use Rattle.html_text.specs.Tokens.{escaped_text}
@@ -13,6 +13,7 @@ use Rattle.view_places.specs.declared.element.Element.TheVariants.{HeadCell, Lis
 use Rattle.view_places.specs.declared.element.Element.TheVariants.{Reference, BackLink, Bold, Italic, Underline, Strike}
 use Rattle.view_places.specs.declared.element.Element.TheVariants.{SmallCaps, Caps, Raised, Lowered, Link, Anchor}
 use Rattle.view_places.specs.declared.element.Paragraph.{Paragraph as ParagraphForm}
+use Rattle.view_places.specs.declared.element.Span.{Span}
 use Rattle.link_targets.specs.Links.{bookmark_name, instruction_of, url_in}
 
 -- a heading below the sixth level is one of the sixth, and says its level
@@ -32,8 +33,8 @@ name_of (Table first) = codes "table"
 name_of TableHead = codes "thead"
 name_of TableBody = codes "tbody"
 name_of (Row first) = codes "tr"
-name_of (Cell number) = codes "td"
-name_of (HeadCell number) = codes "th"
+name_of (Cell cell) = codes "td"
+name_of (HeadCell cell) = codes "th"
 name_of (AList list) = if list.is_ordered then codes "ol" else codes "ul"
 name_of (Item number) = codes "li"
 name_of (Paragraph paragraph) = paragraph_name paragraph.level
@@ -65,6 +66,16 @@ paragraph_attributes paragraph =
     ++ (optional paragraph.right_to_left (attribute (codes "dir") (codes "rtl"))
     ++ optional paragraph.breaks_page (attribute (codes "style") (codes "break-before:page")))
 
+-- how far a cell reaches
+abbrev pub reach_attributes : Span → List (List ℕ)
+reach_attributes span =
+    optional (nat_le 2 span.columns) (attribute (codes "colspan") (decimal span.columns))
+    ++ optional (nat_le 2 span.rows) (attribute (codes "rowspan") (decimal span.rows))
+
+abbrev pub span_attributes : Option Span → List (List ℕ)
+span_attributes None = []
+span_attributes (Some span) = reach_attributes span
+
 -- a link, where it leads somewhere
 abbrev pub link_attributes : Option (List ℕ) → List (List ℕ)
 link_attributes None = []
@@ -84,8 +95,8 @@ plain_attributes (Table first) = []
 plain_attributes TableHead = []
 plain_attributes TableBody = []
 plain_attributes (Row first) = []
-plain_attributes (Cell number) = []
-plain_attributes (HeadCell number) = attribute (codes "scope") (codes "col") ∷ []
+plain_attributes (Cell cell) = span_attributes cell.span
+plain_attributes (HeadCell cell) = attribute (codes "scope") (codes "col") ∷ span_attributes cell.span
 plain_attributes (AList list) = optional list.is_ordered (attribute (codes "style") (codes "list-style:none"))
 plain_attributes (Item number) = []
 plain_attributes (Paragraph paragraph) = paragraph_attributes paragraph
@@ -122,6 +133,12 @@ attributes_text attributes = flat_map (λ attribute. 32 ∷ attribute) attribute
 abbrev pub start_text : List ℕ → List (List ℕ) → List ℕ
 start_text name attributes = name ++ attributes_text attributes
 
+-- a cell that is a part of another one has no tags
+abbrev pub has_tags : Element → Bool
+has_tags (Cell cell) = is_some cell.span
+has_tags (HeadCell cell) = is_some cell.span
+has_tags element = true
+
 -- a line ends behind these
 abbrev pub ends_line : Element → Bool
 ends_line Notes = true
@@ -130,8 +147,8 @@ ends_line (Table first) = true
 ends_line TableHead = true
 ends_line TableBody = true
 ends_line (Row first) = true
-ends_line (Cell number) = true
-ends_line (HeadCell number) = true
+ends_line (Cell cell) = true
+ends_line (HeadCell cell) = true
 ends_line (AList list) = true
 ends_line (Item number) = true
 ends_line (Paragraph paragraph) = true

@@ -5,7 +5,7 @@ ghost use Rattle.std.specs.Str.{IsAscii};
 ghost use Rattle.view_places.specs.declared.element.Element.TheVariants.{Note, Reference, BackLink, SmallCaps, Caps};
 ghost use Rattle.view_places.specs.declared.element.Element.TheVariants.{List as ListElement};
 ghost use Rattle.html_page.specs.Tags.{anchor_attributes, attribute, attributes_of, attributes_text, link_attributes};
-ghost use Rattle.html_page.specs.Tags.{paragraph_attributes, plain_attributes};
+ghost use Rattle.html_page.specs.Tags.{paragraph_attributes, plain_attributes, reach_attributes, span_attributes};
 ghost use Rattle.html_text.specs.Tokens.{escaped_text};
 ghost use Rattle.page_out.specs.Printed.{Prints};
 
@@ -15,7 +15,7 @@ use doc_outer::Sink;
 use field_links::{LinkText, anchor_of};
 use link_targets::{bookmark_name, instruction_of, url_in};
 use page_out::Page;
-use view_places::{Element, List, Paragraph};
+use view_places::{Element, List, Paragraph, Span};
 
 /// Puts the attributes of an element of a page of the document, each after a space.
 pub(crate) fn push_attributes<K: Sink>(
@@ -29,7 +29,8 @@ pub(crate) fn push_attributes<K: Sink>(
     match element {
         Element::Notes => page.push_ascii(out, b" aria-label=\"notes\""),
         Element::Note(number) => push_note(page, out, number),
-        Element::HeadCell(_) => page.push_ascii(out, b" scope=\"col\""),
+        Element::Cell(cell) => push_span(page, out, cell.span),
+        Element::HeadCell(cell) => push_head_cell(page, out, cell.span),
         Element::List(list) => push_list(page, out, list),
         Element::Paragraph(paragraph) => push_paragraph(page, out, paragraph),
         Element::Label => page.push_ascii(out, b" class=\"n\""),
@@ -43,7 +44,6 @@ pub(crate) fn push_attributes<K: Sink>(
         | Element::TableHead
         | Element::TableBody
         | Element::Row(_)
-        | Element::Cell(_)
         | Element::Item(_)
         | Element::Bold
         | Element::Italic
@@ -52,6 +52,61 @@ pub(crate) fn push_attributes<K: Sink>(
         | Element::Raised
         | Element::Lowered => {}
     }
+}
+
+/// Puts those of a cell of the head of a table.
+fn push_head_cell<K: Sink>(page: &mut Page, out: &mut K, span: Option<Span>)
+    ensures { Prints K.Sink out.old page.old out.new page.new
+        (attributes_text (attribute (codes "scope") (codes "col") ∷ span_attributes span)) }
+{
+    page.push_ascii(out, b" scope=\"col\"");
+    push_span(page, out, span);
+}
+
+/// Puts those of a cell that is no part of another one.
+fn push_span<K: Sink>(page: &mut Page, out: &mut K, span: Option<Span>)
+    ensures { Prints K.Sink out.old page.old out.new page.new (attributes_text (span_attributes span)) }
+{
+    if let Some(span) = span {
+        push_reach(page, out, span);
+    }
+}
+
+/// Puts over how many columns and rows a cell reaches.
+fn push_reach<K: Sink>(page: &mut Page, out: &mut K, span: Span)
+    ensures { Prints K.Sink out.old page.old out.new page.new (attributes_text (reach_attributes span)) }
+{
+    push_columns(page, out, span.columns);
+    push_rows(page, out, span.rows);
+}
+
+/// Puts a number of columns that is more than 1.
+fn push_columns<K: Sink>(page: &mut Page, out: &mut K, columns: u16)
+    ensures { Prints K.Sink out.old page.old out.new page.new
+        (if nat_le 2 columns then 32 ∷ attribute (codes "colspan") (decimal columns) else []) }
+{
+    if columns >= 2 {
+        push_quoted(page, out, b" colspan=\"", columns);
+    }
+}
+
+/// Puts a number of rows that is more than 1.
+fn push_rows<K: Sink>(page: &mut Page, out: &mut K, rows: u16)
+    ensures { Prints K.Sink out.old page.old out.new page.new
+        (if nat_le 2 rows then 32 ∷ attribute (codes "rowspan") (decimal rows) else []) }
+{
+    if rows >= 2 {
+        push_quoted(page, out, b" rowspan=\"", rows);
+    }
+}
+
+/// Puts a number and a quote behind a text.
+fn push_quoted<K: Sink>(page: &mut Page, out: &mut K, front: &[u8], number: u16)
+    requires { IsAscii front.now }
+    ensures { Prints K.Sink out.old page.old out.new page.new (front.now ++ (decimal number ++ 34 ∷ [])) }
+{
+    push_numbered(page, out, front, number as usize);
+    page.push_ascii(out, b"\"");
 }
 
 /// Puts those of a link that leads somewhere.

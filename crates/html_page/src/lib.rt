@@ -2,12 +2,15 @@
 #![tactic(auto)]
 
 mod attributes;
+mod images;
 mod language;
 mod laws;
 mod names;
 mod printer;
+mod source;
 mod tokens;
 mod units;
 
 pub use laws::{pages_are_read_back, pages_nest, tags_are_known};
 pub use printer::HtmlPage;
+pub use source::Source;

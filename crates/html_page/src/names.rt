@@ -1,7 +1,7 @@
 // The names of elements.
 ghost use Rattle.std.specs.Prelude.{◌≡◌, codes, if◌then◌else◌};
 ghost use Rattle.std.specs.Str.{IsAscii};
-ghost use Rattle.html_page.specs.Tags.{ends_line, name_of, paragraph_name};
+ghost use Rattle.html_page.specs.Tags.{ends_line, has_tags, name_of, paragraph_name};
 
 use view_places::Element;
 
@@ -59,6 +59,37 @@ fn paragraph_name(level: u8) -> &'static [u8]
         4 => b"h4",
         5 => b"h5",
         _ => b"h6",
+    }
+}
+
+/// Whether an element has tags: a cell that is a part of another one has none.
+pub(crate) fn has_tags(element: Element) -> bool
+    ensures { result ≡ has_tags element }
+{
+    match element {
+        Element::Cell(cell) | Element::HeadCell(cell) => cell.span.is_some(),
+        Element::Notes
+        | Element::Note(_)
+        | Element::Table(_)
+        | Element::TableHead
+        | Element::TableBody
+        | Element::Row(_)
+        | Element::List(_)
+        | Element::Item(_)
+        | Element::Paragraph(_)
+        | Element::Label
+        | Element::Reference(_)
+        | Element::BackLink(_)
+        | Element::Bold
+        | Element::Italic
+        | Element::Underline
+        | Element::Strike
+        | Element::SmallCaps
+        | Element::Caps
+        | Element::Raised
+        | Element::Lowered
+        | Element::Link(_)
+        | Element::Anchor(_) => true,
     }
 }
 

@@ -12,14 +12,16 @@ ghost use Rattle.view_places.specs.Same.{same};
 ghost use Rattle.html_page.specs.Pages.{back_tokens, characters, close_tokens, front_tokens, glyph_half, glyph_tokens};
 ghost use Rattle.html_page.specs.Pages.{half_of, open_tokens, style_tokens, tokens_of};
 ghost use Rattle.html_page.specs.Printed.{PutsEvents, PutsPlaces};
+ghost use Rattle.html_page.specs.Sources.{source_of};
+ghost use Rattle.doc_pictures.specs.Files.{files_of};
 ghost use Rattle.glyph_units.specs.Glyphs.{unit_places};
 ghost use Rattle.glyph_units.specs.Units.{first_half, first_text, half_text, unit_half, unit_text, units_text};
 
+use crate::source::Source;
 use crate::tokens::{
     push_back, push_character, push_close, push_front, push_open, push_other, push_style,
 };
 use crate::units::push_units;
-use doc_columns::ColumnDocument;
 use doc_outer::{OutBlock, Sink, SinkFailed};
 use glyph_units::{REPLACEMENT, alone, is_high, pair, unit_in};
 use page_out::Page;
@@ -33,23 +35,22 @@ pub struct HtmlPage<'a> {
     pub page: Page,
     pub path: Path<Element>,
     pub half: Option<u16>,
-    /// The document that it is a page of.
-    pub document: &'a ColumnDocument,
+    pub source: Source<'a>,
 }
 
 impl<'a> HtmlPage<'a> {
-    /// A page of a document of which nothing was put.
-    pub fn new(block: OutBlock, document: &'a ColumnDocument) -> HtmlPage<'a>
+    /// A page of which nothing was put.
+    pub fn new(block: OutBlock, source: &Source<'a>) -> HtmlPage<'a>
         ensures page { result.page ≡ record { block = block; failed = false } }
         ensures path { result.path ≡ [] }
         ensures half { result.half ≡ None }
-        ensures document { result.document.now ≡ document.now }
+        ensures source { result.source ≡ source.now }
     {
         HtmlPage {
             page: Page::new(block),
             path: Path::new(Element::Notes),
             half: None,
-            document,
+            source: *source,
         }
     }
 
@@ -61,7 +62,7 @@ impl<'a> HtmlPage<'a> {
             (printed (front_tokens language ++ (characters (units_text None title.now) ++ style_tokens))) }
         ensures path { self.new.path ≡ self.old.path }
         ensures half { self.new.half ≡ None }
-        ensures document { self.new.document.now ≡ self.old.document.now }
+        ensures source { self.new.source ≡ self.old.source }
     {
         push_front(&mut self.page, out, language);
         self.put_units(out, title);
@@ -95,7 +96,7 @@ impl<'a> HtmlPage<'a> {
     /// Closes all that is open, and puts what stands behind the text.
     pub fn end<K: Sink>(&mut self, out: &mut K)
         ensures { Prints K.Sink out.old self.old.page out.new self.new.page
-            (printed (tokens_of self.old.document.now self.old.half (turns same self.old.path [])
+            (printed (tokens_of (source_of self.old.source) self.old.half (turns same self.old.path [])
             ++ (characters (half_text (half_of self.old.half (turns same self.old.path []))) ++ back_tokens))) }
     {
         self.go(out, &Path::new(Element::Notes));
@@ -158,7 +159,7 @@ impl<'a> HtmlPage<'a> {
             (printed (characters (half_text self.old.half) ++ close_tokens element)) }
         ensures path { self.new.path ≡ self.old.path }
         ensures half { self.new.half ≡ None }
-        ensures document { self.new.document.now ≡ self.old.document.now }
+        ensures source { self.new.source ≡ self.old.source }
     {
         self.put_half(out);
         push_close(&mut self.page, out, element);
@@ -167,13 +168,13 @@ impl<'a> HtmlPage<'a> {
     /// Puts the start of an element.
     fn put_open<K: Sink>(&mut self, out: &mut K, element: Element)
         ensures prints { Prints K.Sink out.old self.old.page out.new self.new.page
-            (printed (characters (half_text self.old.half) ++ open_tokens self.old.document.now element)) }
+            (printed (characters (half_text self.old.half) ++ open_tokens self.old.source.document.now element)) }
         ensures path { self.new.path ≡ self.old.path }
         ensures half { self.new.half ≡ None }
-        ensures document { self.new.document.now ≡ self.old.document.now }
+        ensures source { self.new.source ≡ self.old.source }
     {
         self.put_half(out);
-        push_open(&mut self.page, out, self.document, element);
+        push_open(&mut self.page, out, self.source.document, element);
     }
 
     /// Puts the half that waits, which no other one follows.
@@ -182,7 +183,7 @@ impl<'a> HtmlPage<'a> {
             (printed (characters (half_text self.old.half))) }
         ensures path { self.new.path ≡ self.old.path }
         ensures half { self.new.half ≡ None }
-        ensures document { self.new.document.now ≡ self.old.document.now }
+        ensures source { self.new.source ≡ self.old.source }
     {
         if self.half.is_some() {
             push_character(&mut self.page, out, REPLACEMENT);
@@ -193,16 +194,16 @@ impl<'a> HtmlPage<'a> {
     /// Puts a glyph.
     fn show<K: Sink>(&mut self, out: &mut K, glyph: Glyph)
         ensures prints { Prints K.Sink out.old self.old.page out.new self.new.page
-            (printed (glyph_tokens self.old.half glyph)) }
+            (printed (glyph_tokens (files_of self.old.source.images) self.old.half glyph)) }
         ensures path { self.new.path ≡ self.old.path }
         ensures half { self.new.half ≡ glyph_half self.old.half glyph }
-        ensures document { self.new.document.now ≡ self.old.document.now }
+        ensures source { self.new.source ≡ self.old.source }
     {
         match unit_in(glyph) {
             Some(unit) => self.put_unit(out, unit),
             None => {
                 self.put_half(out);
-                push_other(&mut self.page, out, glyph);
+                push_other(&mut self.page, out, &self.source.images, glyph);
             }
         }
     }
@@ -213,7 +214,7 @@ impl<'a> HtmlPage<'a> {
             (printed (characters (units_text self.old.half units.now))) }
         ensures path { self.new.path ≡ self.old.path }
         ensures half { self.new.half ≡ None }
-        ensures document { self.new.document.now ≡ self.old.document.now }
+        ensures source { self.new.source ≡ self.old.source }
     {
         for unit in units {
             self.put_unit(out, *unit);
@@ -227,7 +228,7 @@ impl<'a> HtmlPage<'a> {
             (printed (characters (unit_text self.old.half unit))) }
         ensures path { self.new.path ≡ self.old.path }
         ensures half { self.new.half ≡ unit_half self.old.half unit }
-        ensures document { self.new.document.now ≡ self.old.document.now }
+        ensures source { self.new.source ≡ self.old.source }
     {
         match self.half {
             None => self.put_first(out, unit),
@@ -241,7 +242,7 @@ impl<'a> HtmlPage<'a> {
             (printed (characters (first_text unit))) }
         ensures path { self.new.path ≡ self.old.path }
         ensures half { self.new.half ≡ first_half unit }
-        ensures document { self.new.document.now ≡ self.old.document.now }
+        ensures source { self.new.source ≡ self.old.source }
     {
         if is_high(unit) {
             self.half = Some(unit);
@@ -257,7 +258,7 @@ impl<'a> HtmlPage<'a> {
             (printed (characters (unit_text (Some first) unit))) }
         ensures path { self.new.path ≡ self.old.path }
         ensures half { self.new.half ≡ unit_half (Some first) unit }
-        ensures document { self.new.document.now ≡ self.old.document.now }
+        ensures source { self.new.source ≡ self.old.source }
     {
         match pair(first, unit) {
             Some(code) => {

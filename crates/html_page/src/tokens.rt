@@ -1,18 +1,22 @@
 // The tokens of a page, as they are printed.
-ghost use Rattle.std.specs.Prelude.{◌≡◌, [], ◌∷◌, if◌then◌else◌};
+ghost use Rattle.std.specs.Prelude.{◌≡◌, [], ◌∷◌, codes, if◌then◌else◌};
+ghost use Rattle.std.specs.Fmt.{decimal};
+ghost use Rattle.doc_pictures.specs.Files.{files_of};
 ghost use Rattle.std.specs.Char.{IsScalar};
 ghost use Rattle.std.specs.Str.{IsAscii};
 ghost use Rattle.page_out.specs.Printed.{Prints};
 ghost use Rattle.html_text.specs.Tokens.{printed, Character};
-ghost use Rattle.view_places.specs.declared.glyph.Glyph.TheVariants.{NoteMark, Object, PageBreak, Picture};
-ghost use Rattle.html_page.specs.Pages.{back_tokens, close_tokens, end, front_tokens, open_tokens};
-ghost use Rattle.html_page.specs.Pages.{meta_tokens, other_tokens, style_tokens};
+ghost use Rattle.html_page.specs.Pages.{back_tokens, characters, close_tokens, end, end_tokens, front_tokens, image};
+ghost use Rattle.html_page.specs.Pages.{meta_tokens, open_tokens, other_tokens, page_break_tokens, start_tokens};
+ghost use Rattle.html_page.specs.Pages.{style_tokens};
 
 use crate::attributes::push_attributes;
+use crate::images::push_picture;
 use crate::language::push_language;
-use crate::names::{ends_line, name_of};
+use crate::names::{ends_line, has_tags, name_of};
 use doc_columns::ColumnDocument;
 use doc_outer::Sink;
+use doc_pictures::{Images, name_at};
 use html_text::reference;
 use page_out::Page;
 use view_places::{Element, Glyph};
@@ -70,7 +74,7 @@ pub(crate) fn push_character<K: Sink>(page: &mut Page, out: &mut K, code: u32)
     }
 }
 
-/// Puts the start of an element of a page of the document.
+/// Puts the start of an element of a page of the document, where it has tags.
 pub(crate) fn push_open<K: Sink>(
     page: &mut Page,
     out: &mut K,
@@ -79,15 +83,33 @@ pub(crate) fn push_open<K: Sink>(
 )
     ensures { Prints K.Sink out.old page.old out.new page.new (printed (open_tokens document.now element)) }
 {
+    if has_tags(element) {
+        push_start(page, out, document, element);
+    }
+}
+
+/// Puts the start tag of an element.
+fn push_start<K: Sink>(page: &mut Page, out: &mut K, document: &ColumnDocument, element: Element)
+    ensures { Prints K.Sink out.old page.old out.new page.new (printed (start_tokens document.now element)) }
+{
     page.push_ascii(out, b"<");
     page.push_ascii(out, name_of(element));
     push_attributes(page, out, document, element);
     page.push_ascii(out, b">");
 }
 
-/// Puts the end of an element.
+/// Puts the end of an element, where it has tags.
 pub(crate) fn push_close<K: Sink>(page: &mut Page, out: &mut K, element: Element)
     ensures { Prints K.Sink out.old page.old out.new page.new (printed (close_tokens element)) }
+{
+    if has_tags(element) {
+        push_end_line(page, out, element);
+    }
+}
+
+/// Puts the end tag of an element, and the end of the line behind it.
+fn push_end_line<K: Sink>(page: &mut Page, out: &mut K, element: Element)
+    ensures { Prints K.Sink out.old page.old out.new page.new (printed (end_tokens element)) }
 {
     push_end(page, out, name_of(element));
     push_line(page, out, ends_line(element));
@@ -113,9 +135,9 @@ fn push_end<K: Sink>(page: &mut Page, out: &mut K, name: &[u8])
     page.push_ascii(out, b">");
 }
 
-/// Puts a glyph that is no unit.
-pub(crate) fn push_other<K: Sink>(page: &mut Page, out: &mut K, glyph: Glyph)
-    ensures { Prints K.Sink out.old page.old out.new page.new (printed (other_tokens glyph)) }
+/// Puts a glyph that is no unit. A picture is named by its file, where it has one.
+pub(crate) fn push_other<K: Sink>(page: &mut Page, out: &mut K, images: &Images<'_>, glyph: Glyph)
+    ensures { Prints K.Sink out.old page.old out.new page.new (printed (other_tokens (files_of images.now) glyph)) }
 {
     match glyph {
         Glyph::Unit(_) => {}
@@ -123,38 +145,30 @@ pub(crate) fn push_other<K: Sink>(page: &mut Page, out: &mut K, glyph: Glyph)
         Glyph::LineBreak => page.push_ascii(out, b"<br>"),
         Glyph::PageBreak => push_page_break(page, out),
         Glyph::NoteMark(number) => push_mark(page, out, number),
-        Glyph::Picture => push_picture(page, out),
+        Glyph::Picture(place) => {
+            push_picture(page, out, images.folder, name_at(images.pictures, place))
+        }
         Glyph::Object => push_object(page, out),
     }
 }
 
 /// Puts the break of a page.
 fn push_page_break<K: Sink>(page: &mut Page, out: &mut K)
-    ensures { Prints K.Sink out.old page.old out.new page.new (printed (other_tokens PageBreak)) }
+    ensures { Prints K.Sink out.old page.old out.new page.new (printed page_break_tokens) }
 {
     page.push_ascii(out, b"<br style=\"break-after:page\">");
 }
 
 /// Puts the number of a note.
 fn push_mark<K: Sink>(page: &mut Page, out: &mut K, number: u32)
-    ensures { Prints K.Sink out.old page.old out.new page.new (printed (other_tokens (NoteMark number))) }
+    ensures { Prints K.Sink out.old page.old out.new page.new (printed (characters (decimal number))) }
 {
     page.push_number(out, number as u64);
 }
 
-/// Puts what stands for a picture.
-fn push_picture<K: Sink>(page: &mut Page, out: &mut K)
-    ensures { Prints K.Sink out.old page.old out.new page.new (printed (other_tokens Picture)) }
-{
-    page.push_ascii(
-        out,
-        b"<span role=\"img\" aria-label=\"picture\">[picture]</span>",
-    );
-}
-
 /// Puts what stands for an object.
 fn push_object<K: Sink>(page: &mut Page, out: &mut K)
-    ensures { Prints K.Sink out.old page.old out.new page.new (printed (other_tokens Object)) }
+    ensures { Prints K.Sink out.old page.old out.new page.new (printed (image (codes "object"))) }
 {
     page.push_ascii(
         out,

@@ -205,5 +205,5 @@ other_pieces line Tab = one ATab
 other_pieces line LineBreak = break line
 other_pieces line PageBreak = break line
 other_pieces line (NoteMark number) = none
-other_pieces line APicture = one Picture
+other_pieces line (APicture place) = one Picture
 other_pieces line AnObject = one Object

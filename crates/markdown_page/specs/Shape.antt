@@ -66,7 +66,7 @@ is_space (Some Tab) = true
 is_space (Some LineBreak) = false
 is_space (Some PageBreak) = false
 is_space (Some (NoteMark number)) = false
-is_space (Some Picture) = false
+is_space (Some (Picture place)) = false
 is_space (Some Object) = false
 
 abbrev pub is_to_note : Kind → Bool
@@ -96,7 +96,7 @@ without_number Tab = Some Tab
 without_number LineBreak = Some LineBreak
 without_number PageBreak = Some PageBreak
 without_number (NoteMark number) = None
-without_number Picture = Some Picture
+without_number (Picture place) = Some (Picture place)
 without_number Object = Some Object
 
 abbrev pub shown_glyph : Option Glyph → Option Glyph

@@ -274,7 +274,7 @@ pub(crate) fn other_pieces(line: LineState, glyph: Glyph) -> Pieces
     match glyph {
         Glyph::Tab => Pieces::one(Piece::Tab),
         Glyph::LineBreak | Glyph::PageBreak => line_break(line),
-        Glyph::Picture => Pieces::one(Piece::Picture),
+        Glyph::Picture(_) => Pieces::one(Piece::Picture),
         Glyph::Object => Pieces::one(Piece::Object),
         Glyph::Unit(_) | Glyph::NoteMark(_) => Pieces::none(),
     }

@@ -196,7 +196,7 @@ fn without_number(glyph: Glyph) -> Option<Glyph>
         | Glyph::Tab
         | Glyph::LineBreak
         | Glyph::PageBreak
-        | Glyph::Picture
+        | Glyph::Picture(_)
         | Glyph::Object => Some(glyph),
     }
 }

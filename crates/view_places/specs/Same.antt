@@ -1,5 +1,7 @@
 -- Elements that are the same.
-use Rattle.std.specs.Prelude.{ℕ, ◌==◌, Bool, false, not, ◌&&◌, if◌then◌else◌}
+use Rattle.std.specs.Prelude.{ℕ, ◌==◌, Bool, false, not, ◌&&◌, is_some, Option, None, Some, if◌then◌else◌}
+use Rattle.view_places.specs.declared.element.Cell.{Cell as CellForm}
+use Rattle.view_places.specs.declared.element.Span.{Span}
 use Rattle.view_places.specs.declared.element.Code.{Code}
 use Rattle.view_places.specs.declared.element.Element.{Element}
 use Rattle.view_places.specs.declared.element.Element.TheVariants.{Notes, Note, Table, TableHead, TableBody, Row, Cell}
@@ -19,6 +21,18 @@ numbered kind number = record {
   other = false;
 }
 
+-- how far a cell reaches, or nothing
+abbrev pub reached : Option Span → Span
+reached None = record { columns = 0; rows = 0 }
+reached (Some span) = span
+
+abbrev pub cell_code : ℕ → CellForm → Code
+cell_code kind cell = record (numbered kind cell.number) {
+  begin = (reached cell.span).columns;
+  end = (reached cell.span).rows;
+  one = is_some cell.span;
+}
+
 -- an element by numbers
 abbrev pub code_of : Element → Code
 code_of Notes = numbered 0 0
@@ -27,8 +41,8 @@ code_of (Table first) = numbered 2 first
 code_of TableHead = numbered 3 0
 code_of TableBody = numbered 4 0
 code_of (Row first) = numbered 5 first
-code_of (Cell number) = numbered 6 number
-code_of (HeadCell number) = numbered 7 number
+code_of (Cell cell) = cell_code 6 cell
+code_of (HeadCell cell) = cell_code 7 cell
 code_of (List list) = record (numbered 8 list.first) { one = list.is_ordered }
 code_of (Item number) = numbered 9 number
 code_of (Paragraph paragraph) = record (numbered 10 paragraph.number) {

@@ -1,6 +1,6 @@
 -- Elements that are the same are one.
 use Rattle.std.proofs.Common.{◌≡◌, ◌↔◌, ℕ, ◌==◌, Bool, true, false, not, ◌&&◌, refl, ap, sym, ◌∙◌, true≢false}
-use Rattle.std.specs.Prelude.{if◌then◌else◌}
+use Rattle.std.specs.Prelude.{if◌then◌else◌, is_some, Option, None, Some}
 use Rattle.std.proofs.lemmas.Bool.{eqb-true, eq-eqb}
 use Rattle.view_places.specs.declared.element.Code.{Code}
 use Rattle.view_places.specs.declared.element.Element.{Element}
@@ -8,7 +8,19 @@ use Rattle.view_places.specs.declared.element.Element.TheVariants.{Notes, Note, 
 use Rattle.view_places.specs.declared.element.Element.TheVariants.{HeadCell, List, Item, Paragraph, Label, Reference}
 use Rattle.view_places.specs.declared.element.Element.TheVariants.{BackLink, Bold, Italic, Underline, Strike, SmallCaps}
 use Rattle.view_places.specs.declared.element.Element.TheVariants.{Caps, Raised, Lowered, Link, Anchor}
-use Rattle.view_places.specs.Same.{code_of, equal, same, same_code}
+use Rattle.view_places.specs.declared.element.Cell.{Cell as CellForm}
+use Rattle.view_places.specs.declared.element.Span.{Span}
+use Rattle.view_places.specs.Same.{code_of, equal, reached, same, same_code}
+
+-- how far the cell of a code reaches
+abbrev span_by : Bool → Span → Option Span
+span_by there span = if there then Some span else None
+
+abbrev cell_by : Code → CellForm
+cell_by code = record {
+  number = code.number;
+  span = span_by code.one (record { columns = code.begin; rows = code.end });
+}
 
 -- the element that a code is of
 abbrev element_of : Code → Element
@@ -19,8 +31,8 @@ element_of code =
     if code.kind == 3 then TableHead else
     if code.kind == 4 then TableBody else
     if code.kind == 5 then Row code.number else
-    if code.kind == 6 then Cell code.number else
-    if code.kind == 7 then HeadCell code.number else
+    if code.kind == 6 then Cell (cell_by code) else
+    if code.kind == 7 then HeadCell (cell_by code) else
     if code.kind == 8 then List (record { first = code.number; is_ordered = code.one }) else
     if code.kind == 9 then Item code.number else
     if code.kind == 10 then Paragraph (record {
@@ -43,6 +55,10 @@ element_of code =
     if code.kind == 22 then Link (record { note = code.number; begin = code.begin; end = code.end }) else
     Anchor code.number
 
+span_back : (span : Option Span) → span_by (is_some span) (reached span) ≡ span
+span_back None = refl
+span_back (Some span) = refl
+
 element_of-code_of : (e : Element) → element_of (code_of e) ≡ e
 element_of-code_of Notes = refl
 element_of-code_of (Note number) = refl
@@ -50,8 +66,10 @@ element_of-code_of (Table first) = refl
 element_of-code_of TableHead = refl
 element_of-code_of TableBody = refl
 element_of-code_of (Row first) = refl
-element_of-code_of (Cell number) = refl
-element_of-code_of (HeadCell number) = refl
+element_of-code_of (Cell cell) =
+    ap (λ (span : Option Span). Cell (record { number = cell.number; span = span })) (span_back cell.span)
+element_of-code_of (HeadCell cell) =
+    ap (λ (span : Option Span). HeadCell (record { number = cell.number; span = span })) (span_back cell.span)
 element_of-code_of (List list) = refl
 element_of-code_of (Item number) = refl
 element_of-code_of (Paragraph paragraph) = refl

@@ -1,6 +1,21 @@
 // The elements that the text of a document stands in.
 ghost use Rattle.std.specs.Prelude.{◌≡◌};
-ghost use Rattle.view_places.specs.Same.{code_of, numbered};
+ghost use Rattle.view_places.specs.Same.{cell_code, code_of, numbered, reached};
+
+/// Over how many columns and rows of its table a cell reaches.
+#[derive(Clone, Copy)]
+pub struct Span {
+    pub columns: u16,
+    pub rows: u16,
+}
+
+/// A cell, by its number in its row.
+#[derive(Clone, Copy)]
+pub struct Cell {
+    pub number: usize,
+    /// Nothing where the cell is a part of another one.
+    pub span: Option<Span>,
+}
 
 /// A list, by the number of its first paragraph.
 #[derive(Clone, Copy)]
@@ -45,10 +60,9 @@ pub enum Element {
     TableBody,
     /// A row, by the number of its first paragraph.
     Row(usize),
-    /// A cell, by its number in its row.
-    Cell(usize),
+    Cell(Cell),
     /// A cell of a row that is the head of its table.
-    HeadCell(usize),
+    HeadCell(Cell),
     List(List),
     /// An item of a list, by the number of its paragraph.
     Item(usize),
@@ -101,6 +115,35 @@ impl Code {
             other: false,
         }
     }
+
+    /// That of a cell.
+    fn of_cell(kind: u8, cell: Cell) -> Code
+        ensures { result ≡ cell_code kind cell }
+    {
+        let reach = reached(cell.span);
+        Code {
+            kind,
+            number: cell.number,
+            begin: reach.columns as usize,
+            end: reach.rows as usize,
+            level: 0,
+            one: cell.span.is_some(),
+            other: false,
+        }
+    }
+}
+
+/// How far a cell reaches, or nothing.
+fn reached(span: Option<Span>) -> Span
+    ensures { result ≡ reached span }
+{
+    match span {
+        None => Span {
+            columns: 0,
+            rows: 0,
+        },
+        Some(span) => span,
+    }
 }
 
 impl Element {
@@ -115,8 +158,8 @@ impl Element {
             Element::TableHead => Code::of(3, 0),
             Element::TableBody => Code::of(4, 0),
             Element::Row(first) => Code::of(5, first),
-            Element::Cell(number) => Code::of(6, number),
-            Element::HeadCell(number) => Code::of(7, number),
+            Element::Cell(cell) => Code::of_cell(6, cell),
+            Element::HeadCell(cell) => Code::of_cell(7, cell),
             Element::List(list) => Code {
                 kind: 8,
                 number: list.first,

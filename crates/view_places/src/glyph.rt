@@ -10,6 +10,7 @@ pub enum Glyph {
     PageBreak,
     /// The number of a note, where it is referred to.
     NoteMark(u32),
-    Picture,
+    /// A picture, by the place that its character names: an offset in the stream `Data`.
+    Picture(Option<u32>),
     Object,
 }

@@ -4,5 +4,5 @@
 mod element;
 mod glyph;
 
-pub use element::{Element, Link, List, Paragraph};
+pub use element::{Cell, Element, Link, List, Paragraph, Span};
 pub use glyph::Glyph;

@@ -1,7 +1,7 @@
 -- The paragraphs of the text, one by one.
 use Rattle.std.proofs.Common.{◌≡◌, ◌∙◌, ◌+◌, ◌-◌, ◌<◌, ◌≤◌, ◌∷◌, ◌++◌, [], ℕ, List, refl, sym, ap, subst, arith}
 use Rattle.std.proofs.Common.{length, drop}
-use Rattle.std.proofs.Common.{take, Some, None, Bool, true, false, length-append}
+use Rattle.std.proofs.Common.{take, Some, Bool, true, false, length-append}
 use Rattle.std.specs.Prelude.{slice_index, slice_get, ◌&&◌, nat_le, option_map}
 use Rattle.std.proofs.Math.Seq.{take-append_seam}
 use Rattle.std.proofs.lemmas.Option.{slice_get-get_or}
@@ -24,13 +24,13 @@ use Rattle.doc_places.specs.declared.lists.Lists.{Lists}
 use Rattle.doc_places.specs.declared.looks.Look.{Look}
 use Rattle.doc_places.specs.Lists.{lists_after}
 use Rattle.doc_places.specs.Looks.{label_units, look_of}
-use Rattle.doc_places.specs.Places.{anchor_places, block_of, hypertext_of, lead, numbers, up_to_reference}
+use Rattle.doc_places.specs.Places.{anchor_places, block_of, cell_at, hypertext_of, lead, numbers, up_to_reference}
 use Rattle.doc_places.proofs.AnchorLemmas.{lead_more, lead_none}
 use Rattle.form_page.specs.Forms.{Places}
 use Rattle.form_page.specs.Forms.{PutsPlaces}
-use Rattle.doc_html.specs.Writes.{At, Writes, at, at_front, head_by, paragraphs_left}
+use Rattle.doc_html.specs.Writes.{Writes, at, at_front, head_by, paragraphs_left}
 use Rattle.doc_html.proofs.HeadLemmas.{head_with, known_on}
-use Rattle.doc_html.proofs.TextLemmas.{TextAt, all_met, block_few, cell_few, text_on, text_start, text_written}
+use Rattle.doc_html.proofs.TextLemmas.{TextAt, all_met, block_few, cell_few, ended_few, text_on, text_start, text_written}
 use Rattle.doc_html.proofs.WriteLemmas.{writes_from, writes_in}
 use Rattle.doc_places.specs.declared.links.Origin.{Origin}
 use Rattle.doc_html.specs.Writes.{links_in}
@@ -65,6 +65,7 @@ loop-reading-init g c =
       path = refl;
       number = subst (λ (x : Grid). x.number ≤ reading.result.course.place) (sym grid) (omega arith);
       cell = subst (λ (x : Grid). x.cell ≤ x.number) (sym grid) (omega arith);
+      ended = subst (λ (x : Grid). x.ended ≤ x.number) (sym grid) (omega arith);
       next = sym (ap (lead bookmarks) place ∙ lead_none bookmarks);
       known = λ formats manner head here. absurd (cc (here));
       text = λ formats are.
@@ -72,8 +73,8 @@ loop-reading-init g c =
           let all = with_values values (paragraphs_of formats manner items) in
           let there : Grid → ℕ → List Paragraph = λ x n. with_values (drop x.number values) (paragraphs_left formats
           manner items n) in
-          let hypertext = hypertext_of bookmarks c.args.context.now.note items in
-          let start : Grid = record { number = 0; table = 0; row = 0; cell = 0; heads = true } in
+          let hypertext = hypertext_of bookmarks c.args.context.now.note items c.args.context.now.cells.now in
+          let start : Grid = record { number = 0; table = 0; row = 0; cell = 0; ended = 0; heads = true } in
           subst (λ (x : Grid). TextAt g.K.Sink c.args.out.now c.args.writer.now.page c.args.out.now
           c.args.writer.now.page hypertext outer all (there x reading.result.course.place) x c.none-lists.result
           reading.result.count reading.result.course.place c.args.references.list
@@ -128,10 +129,9 @@ pub write_paragraph-requires-clause-depth : goal.write_paragraph-requires-clause
 write_paragraph-requires-clause-depth g c =
     let depth = c.requires.depth in
     let old = c.loop-reading.writer.path in
-    let head = c.in_head-in_head.result in
-    let in_table = c.is_in_table-in_table.result in
-    let block = block_of c.loop-reading.grid in_table head c.of-look.result c.loop-reading.lists in
-    let few = block_few c.loop-reading.grid in_table head c.of-look.result c.loop-reading.lists in
+    let cell = c.cell_at-cell.result in
+    let block = block_of c.loop-reading.grid cell c.of-look.result c.loop-reading.lists in
+    let few = block_few c.loop-reading.grid cell c.of-look.result c.loop-reading.lists in
     let same : length old ≡ length c.args.writer.now.path = ap length c.loop-reading.invariant.path in
     subst (λ (path : List Element). length path + 8 ≤ 24) (sym (c.write_anchors-next.ensures.path ∙
     c.push_block.ensures))
@@ -141,10 +141,9 @@ pub write_anchors-next-requires-clause-room : goal.write_anchors-next-requires-c
 write_anchors-next-requires-clause-room g c =
     let depth = c.requires.depth in
     let old = c.loop-reading.writer.path in
-    let head = c.in_head-in_head.result in
-    let in_table = c.is_in_table-in_table.result in
-    let block = block_of c.loop-reading.grid in_table head c.of-look.result c.loop-reading.lists in
-    let few = block_few c.loop-reading.grid in_table head c.of-look.result c.loop-reading.lists in
+    let cell = c.cell_at-cell.result in
+    let block = block_of c.loop-reading.grid cell c.of-look.result c.loop-reading.lists in
+    let few = block_few c.loop-reading.grid cell c.of-look.result c.loop-reading.lists in
     let same : length old ≡ length c.args.writer.now.path = ap length c.loop-reading.invariant.path in
     subst (λ (path : List Element). length path < 24) (sym c.push_block.ensures)
     (omega (arith, depth, few, same, length-append old block))
@@ -185,14 +184,18 @@ loop-reading-preserved g c =
     c.behind-grid.ensures ∙ ap (grid_after old.grid) c.of-standing.ensures in
     let in_table : c.is_in_table-in_table.result ≡ is_in_table standing =
     c.is_in_table-in_table.ensures ∙ ap is_in_table c.of-standing.ensures in
-    let head = c.in_head-in_head.result in
+    let head = c.in_head.result in
+    let in_cell = c.cell_at-cell.result in
     let look = c.of-look.result in
-    let block : c.push_block.new.path ≡ outer ++ block_of old.grid (is_in_table standing) head look old.lists =
-    c.push_block.ensures ∙ (λ i. old.invariant.path i ++ block_of old.grid (in_table i) head look old.lists) in
+    let block : c.push_block.new.path ≡ outer ++ block_of old.grid in_cell look old.lists =
+    c.push_block.ensures ∙ ap (λ (path : List Element). path ++ block_of old.grid in_cell look old.lists)
+    old.invariant.path in
     let depth : c.len-depth.result ≡ length outer = c.len-depth.ensures.len in
     let number = old.invariant.number in
     let cell = old.invariant.cell in
     let next_cell = cell_few old.grid standing in
+    let ended = old.invariant.ended in
+    let next_ended = ended_few old.grid standing in
     record {
       within = omega (arith, place, inside);
       walk = subst (λ (n : ℕ). IsWalk parts put.new.reading.course.walk n) (sym place) put.ensures.walk;
@@ -201,7 +204,7 @@ loop-reading-preserved g c =
       reading = put.ensures.reading;
       path =
           c.truncate.ensures ∙ (λ i. take (depth i) ((put.ensures.path ∙ anchors.ensures.path ∙ block) i)) ∙ take-append_seam outer (block_of
-          old.grid (is_in_table standing) head look old.lists);
+          old.grid in_cell look old.lists);
       number =
           subst (λ (x : Grid). x.number ≤ put.new.reading.course.place) (sym grid_is) (omega (
             arith,
@@ -210,6 +213,7 @@ loop-reading-preserved g c =
             place,
           ));
       cell = subst (λ (x : Grid). x.cell ≤ x.number) (sym grid_is) (omega (arith, cell, next_cell));
+      ended = subst (λ (x : Grid). x.ended ≤ x.number) (sym grid_is) (omega (arith, ended, next_ended));
       next = c.write_anchors-next.ensures.next ∙ ap (lead c.args.context.now.bookmarks.now) (sym place);
       known = λ formats manner is here.
           subst (λ (n : ℕ). is ≡ is_head_row (paragraphs_left formats manner items n)) (sym place)
@@ -234,13 +238,13 @@ loop-reading-preserved g c =
           ∙ values_next values number standing seen (later end)
           ∙ (λ i. record { standing = standing; values = sym c.get-own.ensures i; items = seen } ∷ rest) in
           let right : head ≡ (old.grid.heads && head_by standing rest) =
-          c.in_head-in_head.ensures ∙ ap (λ (b : Bool). old.grid.heads && b) (c.is_head-head.ensures formats manner
+          c.in_head.ensures ∙ ap (λ (b : Bool). old.grid.heads && b) (c.is_head-head.ensures formats manner
           ∙ ap (λ (s : Standing). head_by s (later end)) c.of-standing.ensures
           ∙ sym (head_with standing (drop (number + 1) values) (later end))) in
           let a = at_front (at old.out old.writer old.reading) in
           let mid = at_front (at anchors.new.out anchors.new.writer old.reading) in
           let b = at put.new.out put.new.writer put.new.reading in
-          let hypertext = hypertext_of bookmarks c.args.context.now.note items in
+          let hypertext = hypertext_of bookmarks c.args.context.now.note items c.args.context.now.cells.now in
           let links = hypertext.links in
           let origin : Origin = record { note = c.args.context.now.note; begin = at_place } in
           let label = c.label_units-label.result.now in
@@ -258,10 +262,12 @@ loop-reading-preserved g c =
           let looks = look_of own (is_in_table standing) (nat_le 2 (length seen)) in
           let label_is : label ≡ label_units looks.item own =
           c.label_units-label.ensures ∙ ap (λ (l : Look). label_units l.item own) look_is in
-          let inner = outer ++ block_of old.grid (is_in_table standing) (old.grid.heads && head_by standing rest) looks
-          old.lists in
+          let cell_is : in_cell ≡ cell_at hypertext.cells old.grid standing (old.grid.heads && head_by standing rest) =
+          c.cell_at-cell.ensures ∙ (λ i. cell_at hypertext.cells old.grid (c.of-standing.ensures i) (right i)) in
+          let inner = outer ++ block_of old.grid (cell_at hypertext.cells old.grid standing (old.grid.heads && head_by
+          standing rest)) looks old.lists in
           let path_is : c.push_block.new.path ≡ inner =
-          block ∙ (λ i. outer ++ block_of old.grid (is_in_table standing) (right i) (look_is i) old.lists) in
+          block ∙ (λ i. outer ++ block_of old.grid (cell_is i) (look_is i) old.lists) in
           let anchored : PutsPlaces g.K.Sink a.out a.page mid.out mid.page (anchor_places inner (hypertext.anchors
           at_place (at_place + length seen))) =
           subst (λ (places : Places). PutsPlaces g.K.Sink a.out a.page mid.out mid.page places) (λ i. anchor_places
@@ -309,7 +315,7 @@ returns-clause-puts g c = λ formats are.
           c.requires.parts,
       done,
     ))) ∙ values_none (drop old.grid.number values) in
-    text_written g.K.Sink c.args.out.now c.args.writer.now.page old.out old.writer.page (hypertext_of c.args.context.now.bookmarks.now c.args.context.now.note items)
+    text_written g.K.Sink c.args.out.now c.args.writer.now.page old.out old.writer.page (hypertext_of c.args.context.now.bookmarks.now c.args.context.now.note items c.args.context.now.cells.now)
     c.args.writer.now.path (with_values values (paragraphs_of formats manner items)) (with_values (drop old.grid.number
     values) (paragraphs_left formats manner items place)) old.grid old.lists old.reading.count
     place c.args.references.list old.reading.course.references.list none
@@ -331,7 +337,7 @@ returns-clause-references g c = λ formats are.
           c.requires.parts,
       done,
     ))) ∙ values_none (drop old.grid.number values) in
-    all_met g.K.Sink c.args.out.now c.args.writer.now.page old.out old.writer.page (hypertext_of c.args.context.now.bookmarks.now c.args.context.now.note items)
+    all_met g.K.Sink c.args.out.now c.args.writer.now.page old.out old.writer.page (hypertext_of c.args.context.now.bookmarks.now c.args.context.now.note items c.args.context.now.cells.now)
     c.args.writer.now.path (with_values values (paragraphs_of formats manner items)) (with_values (drop old.grid.number
     values) (paragraphs_left formats manner items place)) old.grid old.lists old.reading.count
     place c.args.references.list old.reading.course.references.list none

@@ -21,11 +21,13 @@ invariant-loop-reading g l = record {
   path : l.writer.path ≡ l.fn.writer.path;
   number : l.grid.number ≤ l.reading.course.place;
   cell : l.grid.cell ≤ l.grid.number;
+  ended : l.grid.ended ≤ l.grid.number;
   next : l.next ≡ lead l.context.bookmarks.now l.reading.course.place;
   known : (formats : Formats) (manner : Manner) (head : Bool) → l.known ≡ Some head → head ≡ is_head_row
       (paragraphs_left formats manner (items_in l.text.parts) l.reading.course.place);
   text : (formats : Formats) → AreFormats l.text.formats.now formats → TextAt g.K.Sink l.fn.out l.fn.writer.page l.out
-      l.writer.page (hypertext_of l.context.bookmarks.now l.context.note (items_in l.text.parts)) l.fn.writer.path
+      l.writer.page (hypertext_of l.context.bookmarks.now l.context.note (items_in l.text.parts) l.context.cells.now)
+      l.fn.writer.path
       (with_values l.context.values.now (paragraphs_of formats l.text.manner (items_in l.text.parts)))
       (with_values (drop l.grid.number l.context.values.now)
       (paragraphs_left formats l.text.manner (items_in l.text.parts) l.reading.course.place))

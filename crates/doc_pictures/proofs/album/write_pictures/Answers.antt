@@ -1,12 +1,15 @@
 -- The pictures, one by one.
-use Rattle.std.proofs.Common.{List, subst, arith}
+use Rattle.std.proofs.Common.{◌+◌, ◌<◌, List, refl, subst, arith}
 use Rattle.std.proofs.lemmas.List.{take_all}
 use Rattle.doc_bits.proofs.ListLemmas.{All_at}
 use Rattle.doc_outer.proofs.CountLemmas.{Rose-after}
 use Rattle.doc_outer.proofs.HeldLemmas.{StaysAt-refl}
 use Rattle.doc_pictures.specs.declared.pictures.Picture.{Picture}
+use Rattle.doc_pictures.specs.Names.{picture_path}
 use Rattle.doc_pictures.specs.Album.{IsWithinStream, Writes}
-use Rattle.doc_pictures.proofs.AlbumLemmas.{counts-on, counts-same, none-written, stays-by, writes-on}
+use Rattle.doc_pictures.proofs.ApartLemmas.{paths-apart, there-before}
+use Rattle.doc_pictures.proofs.AlbumLemmas.{counts-on, counts-same, none-written, stays-by, stays-on}
+use Rattle.doc_pictures.proofs.AlbumLemmas.{within-length, writes-on}
 use Rattle.doc_pictures.proofs.album.write_pictures.Goals as goal
 
 pub loop-k-init : goal.loop-k-init
@@ -16,6 +19,8 @@ loop-k-init g c =
     record {
       written = none-written c.args.album.now.force c.args.album.now.folder.now c.args.stream.now 1 (shelf.held now);
       others = λ name apart. StaysAt-refl name (shelf.held now);
+      ahead = λ j picture from here.
+          StaysAt-refl (picture_path c.args.album.now.folder.now (j + 1) picture.file.kind) (shelf.held now);
       faults = counts-same (shelf.faults now);
       missed = counts-same (shelf.missed now);
     }
@@ -42,6 +47,14 @@ loop-k-preserved g c =
       others = λ name apart.
           stays-by c.args.album.now.folder.now pictures c.loop-k.k c.nth-picture.result (shelf.held first) (shelf.held mid)
           (shelf.held now) name c.nth-picture.ensures apart (old.others name apart) put.others;
+      ahead = λ j picture from here.
+          let folder = c.args.album.now.folder.now in
+          let few = within-length pictures j picture here in
+          let path = picture_path folder (j + 1) picture.file.kind in
+          stays-on path (shelf.held first) (shelf.held mid) (shelf.held now)
+          (old.ahead j picture (omega (arith, from)) here)
+          (put.others path (paths-apart folder (j + 1) (c.loop-k.k + 1) picture.file.kind c.nth-picture.result.file.kind
+          (omega (arith, few)) (omega arith) (λ same. absurd (omega (arith, from, same)))));
       faults = counts-on (shelf.faults first) (shelf.faults mid) (shelf.faults now) old.faults put.faults;
       missed = counts-on (shelf.missed first) (shelf.missed mid) (shelf.missed now) old.missed put.missed;
     }
@@ -55,6 +68,24 @@ returns-in-Err-clause-cut g c = record {
   written = c.loop-k.invariant.written;
   others = c.in-Err.ensures.others;
 }
+
+pub returns-in-Err-clause-there : goal.returns-in-Err-clause-there
+returns-in-Err-clause-there g c = λ there.
+    let held = g.S.Shelf.held in
+    let folder = c.args.album.now.folder.now in
+    let picture = c.nth-picture.result in
+    let path = picture_path folder (c.loop-k.k + 1) picture.file.kind in
+    let taken = c.in-Err.ensures.there there in
+    record {
+      name = path;
+      path = record { k = c.loop-k.k; picture = picture; there = c.nth-picture.ensures; path = refl };
+      holds = record {
+        keeps = taken.keeps;
+        there =
+            there-before path (held c.args.shelf.now) (held c.loop-k.shelf)
+            (c.loop-k.invariant.ahead c.loop-k.k picture (omega arith) c.nth-picture.ensures) taken.there;
+      };
+    }
 
 pub returns-in-Err-clause-others : goal.returns-in-Err-clause-others
 returns-in-Err-clause-others g c = λ name apart.

@@ -1,6 +1,8 @@
-use Rattle.std.proofs.Common.{ℕ, List, take}
+use Rattle.std.proofs.Common.{◌≡◌, ℕ, ◌+◌, ◌≤◌, List, take, Some, slice_get}
 use Rattle.doc_outer.specs.Counts.{GoesOn}
 use Rattle.doc_outer.specs.Held.{StaysAt}
+use Rattle.doc_pictures.specs.declared.pictures.Picture.{Picture}
+use Rattle.doc_pictures.specs.Names.{picture_path}
 use Rattle.doc_pictures.specs.Album.{IsPicturePath, Writes}
 use Rattle.doc_pictures.proofs.album.write_pictures.Given as goal
 
@@ -13,6 +15,8 @@ invariant-loop-k g l =
           l.shelf);
       others : (name : List ℕ) → ¬ (IsPicturePath l.album.folder.now l.pictures name) →
           StaysAt name (held l.fn.shelf) (held l.shelf);
+      ahead : (j : ℕ) (picture : Picture) → l.k ≤ j → slice_get l.pictures j ≡ Some picture →
+          StaysAt (picture_path l.album.folder.now (j + 1) picture.file.kind) (held l.fn.shelf) (held l.shelf);
       faults : GoesOn (g.S.Shelf.faults l.fn.shelf) (g.S.Shelf.faults l.shelf);
       missed : GoesOn (g.S.Shelf.missed l.fn.shelf) (g.S.Shelf.missed l.shelf);
     }

@@ -1,6 +1,6 @@
 use Rattle.std.proofs.Common.{◌∙◌, arith, sym, ap}
 use Rattle.std.specs.Prelude.{slice_index}
-use Rattle.doc_pictures.specs.Places.{location_in}
+use Rattle.char_formats.specs.Locations.{location_in}
 use Rattle.doc_pictures.proofs.PlaceLemmas.{its-place, no-place, unit-there}
 use Rattle.doc_pictures.proofs.places.place_at.Goals as goal
 

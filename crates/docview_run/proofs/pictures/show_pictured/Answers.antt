@@ -1,4 +1,4 @@
-use Rattle.std.proofs.Common.{◌≢◌, ◌∙◌, ℕ, List, arith, subst, sym}
+use Rattle.std.proofs.Common.{◌≢◌, ◌∙◌, ℕ, List, Some, arith, subst, sym}
 use Rattle.run_stages.specs.Leaves.{IsCaused}
 use Rattle.run_stages.specs.Reading.{IsFound}
 use Rattle.docview_run.specs.Endings.{RunEnds, ShowsFile, ShowsPictured}
@@ -12,8 +12,9 @@ returns-in-Ok-Go-clause-ends g c =
     let asked = c.args.asked.now in
     let held = g.S.Shelf.held c.args.shelf.now in
     let taken = rw c.in-Ok-Go.field-0-is at c.in-Ok-Go.ensures.is in
-    taken_ends g.K.Sink c.args.out.now c.show_taken.new.out asked.view asked.album.force asked.name.now held
-    c.as_slice.result.now c.show_taken.result
+    taken_ends g.K.Sink c.args.out.now c.show_taken.new.out asked.view asked.album.force asked.album.folder.now
+    asked.name.now held (g.S.Shelf.held c.take_file.new.shelf) c.as_slice.result.now c.show_taken.result
+    c.in-Ok-Go.ensures.read.kept
     (subst (λ (bytes : List ℕ). IsFound asked.name.now held bytes) (sym c.as_slice.ensures) taken)
     c.show_taken.ensures.bytes c.show_taken.ensures.ends
 
@@ -26,7 +27,7 @@ returns-in-Ok-Go-clause-leaves g c =
     c.as_slice.result.now c.show_taken.result c.args.shelf.now c.take_file.new.shelf c.show_taken.new.shelf
     c.in-Ok-Go.ensures.read
     (subst (λ (bytes : List ℕ). IsFound asked.name.now held bytes) (sym c.as_slice.ensures) taken)
-    c.show_taken.ensures.others c.show_taken.ensures.written
+    c.show_taken.ensures.leaves
 
 pub returns-in-Ok-Go-clause-cause : goal.returns-in-Ok-Go-clause-cause
 returns-in-Ok-Go-clause-cause g c =
@@ -46,10 +47,11 @@ returns-in-Ok-Stop-clause-ends g c =
     let name = asked.name.now in
     let held = g.S.Shelf.held c.args.shelf.now in
     let stopped = rw c.in-Ok-Stop.field-0-is at c.in-Ok-Stop.ensures.is in
-    subst (λ (status : ℕ). RunEnds (ShowsPictured asked.view asked.album.force name held) g.K.Sink c.args.out.now
+    subst (λ (status : ℕ). RunEnds (ShowsPictured asked.view asked.album.force asked.album.folder.now name held) g.K.Sink c.args.out.now
     c.args.out.now status) (sym c.status.ensures)
-    (named_ends g.K.Sink c.args.out.now c.args.out.now asked.view asked.album.force name held c.in-Ok-Stop.ending.status
-    (stopped_ends g.K.Sink c.args.out.now name held (ShowsFile asked.view name) c.in-Ok-Stop.ending stopped))
+    (named_ends g.K.Sink c.args.out.now c.args.out.now asked.view asked.album.force asked.album.folder.now name held
+    c.in-Ok-Stop.ending.status (stopped_ends g.K.Sink c.args.out.now name held
+    (ShowsFile asked.view (Some asked.album.folder.now) name) c.in-Ok-Stop.ending stopped))
 
 pub returns-in-Ok-Stop-clause-leaves : goal.returns-in-Ok-Stop-clause-leaves
 returns-in-Ok-Stop-clause-leaves g c =

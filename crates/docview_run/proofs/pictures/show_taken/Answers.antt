@@ -1,50 +1,61 @@
-use Rattle.std.proofs.Common.{◌≡◌, ◌≢◌, ◌⊎◌, ◌<◌, Err, ℕ, ap, subst, sym}
+use Rattle.std.proofs.Common.{◌≡◌, ◌≢◌, ◌⊎◌, ◌<◌, ℕ, subst, sym, arith}
+use Rattle.plain_doc.specs.declared.document.Document.{Document}
+use Rattle.plain_doc.specs.Sound.{IsSound}
 use Rattle.docview_run.specs.Endings.{RunEnds, ShowsTaken}
-use Rattle.docview_run.proofs.PictureLemmas.{fault_after, fault_ends, fault_not_shown, fault_rose, page_after, page_ends}
-use Rattle.docview_run.proofs.PictureLemmas.{shown_writes}
+use Rattle.docview_run.specs.Pictured.{LeavesTaken}
+use Rattle.docview_run.specs.Viewed.{IsViewed}
+use Rattle.docview_run.proofs.PictureLemmas.{held_viewed, refused_by, same_leaves, viewed_ends, viewed_leaves}
 use Rattle.docview_run.proofs.pictures.show_taken.Goals as goal
+
+pub show_held-status-requires : goal.show_held-status-requires
+show_held-status-requires g c = subst (λ (d : Document). IsSound d) (sym c.document.ensures) c.in-Ok.ensures.sound
 
 pub returns-in-Ok-clause-ends : goal.returns-in-Ok-clause-ends
 returns-in-Ok-clause-ends g c =
-    page_ends g.K.Sink c.args.out.now c.show_file.new.out c.args.asked.now.view c.args.asked.now.album.force
-    c.args.asked.now.name.now c.args.file.now c.show_file.result c.show_file.ensures.ends
+    let asked = c.args.asked.now in
+    let held = g.S.Shelf.held c.args.shelf.now in
+    let file = c.args.file.now in
+    let shown = c.show_held-status in
+    let document = c.document.result.now in
+    let viewed = subst (λ (d : Document). IsViewed asked.view.strict file d) (sym c.document.ensures)
+    (held_viewed asked.view.strict file c.in-Ok.opened c.in-Ok.ensures) in
+    subst (λ (status : ℕ). RunEnds (ShowsTaken asked.view asked.album.force asked.album.folder.now asked.name.now held file)
+    g.K.Sink c.args.out.now shown.new.out status) (sym c.let_go.ensures)
+    (viewed_ends g.K.Sink c.args.out.now shown.new.out asked.view asked.album.force asked.album.folder.now asked.name.now
+    file document held shown.result viewed shown.ensures.ends)
 
-pub returns-in-Ok-clause-others : goal.returns-in-Ok-clause-others
-returns-in-Ok-clause-others g c = c.in-Ok.ensures.others
-
-pub returns-in-Ok-clause-written : goal.returns-in-Ok-clause-written
-returns-in-Ok-clause-written g c =
-    let held = g.S.Shelf.held in
-    shown_writes g.K.Sink c.args.asked.now.view c.args.asked.now.album.force c.args.asked.now.album.folder.now
-    c.args.asked.now.name.now c.args.file.now c.show_file.result (held c.args.shelf.now)
-    (held c.write_file_pictures.new.shelf) c.args.out.now c.show_file.new.out c.in-Ok.ensures.written
-    c.show_file.ensures.ends
+pub returns-in-Ok-clause-leaves : goal.returns-in-Ok-clause-leaves
+returns-in-Ok-clause-leaves g c =
+    let asked = c.args.asked.now in
+    let before = g.S.Shelf.held c.args.shelf.now in
+    let after = g.S.Shelf.held c.show_held-status.new.shelf in
+    let file = c.args.file.now in
+    let shown = c.show_held-status in
+    let document = c.document.result.now in
+    let viewed = subst (λ (d : Document). IsViewed asked.view.strict file d) (sym c.document.ensures)
+    (held_viewed asked.view.strict file c.in-Ok.opened c.in-Ok.ensures) in
+    subst (λ (status : ℕ). LeavesTaken asked.view.strict asked.album.force asked.album.folder.now file status before after)
+    (sym c.let_go.ensures)
+    (viewed_leaves asked.view.strict asked.album.force asked.album.folder.now file document shown.result before after
+    viewed shown.ensures.leaves)
 
 pub returns-in-Ok-clause-failed : goal.returns-in-Ok-clause-failed
-returns-in-Ok-clause-failed g c = λ four. absurd ((page_after c.show_file.result c.show_file.ensures.after).1 four)
+returns-in-Ok-clause-failed g c = rw c.let_go.ensures c.show_held-status.ensures.failed
 
 pub returns-in-Ok-clause-after : goal.returns-in-Ok-clause-after
-returns-in-Ok-clause-after g c = (page_after c.show_file.result c.show_file.ensures.after).0
+returns-in-Ok-clause-after g c =
+    subst (λ (status : ℕ). (status < 2) ⊎ (3 < status)) (sym c.let_go.ensures) c.show_held-status.ensures.after
 
-pub returns-in-Err-clause-ends : goal.returns-in-Err-clause-ends
-returns-in-Err-clause-ends g c =
-    subst (λ (status : ℕ). RunEnds (ShowsTaken c.args.asked.now.view c.args.asked.now.album.force c.args.asked.now.name.now
-    c.args.file.now) g.K.Sink c.args.out.now c.args.out.now status) (sym c.tell_fault.ensures)
-    (fault_ends g.K.Sink c.args.out.now c.args.asked.now.view c.args.asked.now.album.force c.args.asked.now.name.now
-    c.args.file.now c.in-Err.fault (λ is. c.in-Err.ensures.there (ap Err is)))
+pub returns-in-Ok-clause-bytes : goal.returns-in-Ok-clause-bytes
+returns-in-Ok-clause-bytes g c = λ i. let byte = c.type_inv.file i in omega arith
 
-pub returns-in-Err-clause-others : goal.returns-in-Err-clause-others
-returns-in-Err-clause-others g c = c.in-Err.ensures.others
+pub returns-in-Err-Memory-clause-leaves : goal.returns-in-Err-Memory-clause-leaves
+returns-in-Err-Memory-clause-leaves g c =
+    let asked = c.args.asked.now in
+    same_leaves asked.view.strict asked.album.force asked.album.folder.now c.args.file.now 6
+    (g.S.Shelf.held c.args.shelf.now) (λ six. absurd (omega (arith, six)))
 
-pub returns-in-Err-clause-written : goal.returns-in-Err-clause-written
-returns-in-Err-clause-written g c = λ done.
-    absurd (subst (λ (status : ℕ). status ≢ 0) (sym c.tell_fault.ensures) (fault_not_shown c.in-Err.fault) done)
-
-pub returns-in-Err-clause-failed : goal.returns-in-Err-clause-failed
-returns-in-Err-clause-failed g c = λ four.
-    fault_rose c.in-Err.fault (g.S.Shelf.faults c.args.shelf.now) (g.S.Shelf.faults c.write_file_pictures.new.shelf)
-    (λ is. c.in-Err.ensures.failed (ap Err is)) (subst (λ (status : ℕ). status ≡ 4) c.tell_fault.ensures four)
-
-pub returns-in-Err-clause-after : goal.returns-in-Err-clause-after
-returns-in-Err-clause-after g c =
-    subst (λ (status : ℕ). (status < 2) ⊎ (3 < status)) (sym c.tell_fault.ensures) (fault_after c.in-Err.fault)
+pub show_refused-requires : goal.show_refused-requires
+show_refused-requires g c =
+    let refused = c.in-Err-Refused in
+    refused_by c.args.file.now refused.field-0 (λ memory. absurd (cc (refused.field-0-is, memory))) refused.ensures

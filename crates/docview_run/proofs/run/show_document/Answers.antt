@@ -1,16 +1,9 @@
-use Rattle.std.proofs.Common.{Err, ap, refl}
-use Rattle.docview_run.specs.Endings.{PrintsPage}
-use Rattle.docview_run.proofs.EndLemmas.{cut_ends, text_ends}
+use Rattle.std.proofs.Common.{List, [], subst}
+use Rattle.doc_pictures.specs.declared.pictures.Picture.{Picture}
+use Rattle.docview_run.specs.Endings.{PrintsPage, RunEnds, pictured_source}
 use Rattle.docview_run.proofs.run.show_document.Goals as goal
 
-pub returns-in-Ok-clause-ends : goal.returns-in-Ok-clause-ends
-returns-in-Ok-clause-ends g c =
-    let shown = c.in-Ok.ensures.ok in
-    text_ends (PrintsPage c.args.view c.args.document.now) g.K.Sink c.args.out.now c.write_view.new.out shown.0
-    (shown.0, (shown.1.0, refl)) shown.1.1
-
-pub returns-in-Err-Sink-clause-ends : goal.returns-in-Err-Sink-clause-ends
-returns-in-Err-Sink-clause-ends g c =
-    let shown = c.in-Err-Sink.ensures.prefix (ap Err c.in-Err-Sink.field-0-is) in
-    cut_ends (PrintsPage c.args.view c.args.document.now) g.K.Sink c.args.out.now c.write_view.new.out shown.0
-    (shown.0, (shown.1.0, refl)) shown.1.1 (c.in-Err-Sink.ensures.failed (ap Err c.in-Err-Sink.field-0-is))
+pub returns-clause-ends : goal.returns-clause-ends
+returns-clause-ends g c =
+    subst (λ (pictures : List Picture). RunEnds (PrintsPage c.args.view (pictured_source c.args.document.now [] pictures))
+    g.K.Sink c.args.out.now c.show_source.new.out c.show_source.result) c.none-pictures.ensures c.show_source.ensures.ends

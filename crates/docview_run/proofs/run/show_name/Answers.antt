@@ -1,4 +1,4 @@
-use Rattle.std.proofs.Common.{◌≡◌, ◌∙◌, ℕ, List, sym, subst}
+use Rattle.std.proofs.Common.{◌≡◌, ◌∙◌, ℕ, List, Option, None, sym, subst}
 use Rattle.run_stages.specs.Leaves.{IsCaused}
 use Rattle.run_stages.specs.Reading.{IsFound}
 use Rattle.docview_run.specs.Endings.{RunEnds, ShowsFile, ShowsName}
@@ -10,7 +10,7 @@ returns-in-Ok-Go-clause-ends g c =
     let name = c.args.name.now in
     let held = g.S.Shelf.held c.args.shelf.now in
     let taken = rw c.in-Ok-Go.field-0-is at c.in-Ok-Go.ensures.is in
-    file_ends g.K.Sink c.args.out.now c.show_file.new.out name held (ShowsFile c.args.view name) c.as_slice.result.now
+    file_ends g.K.Sink c.args.out.now c.show_file.new.out name held (ShowsFile c.args.view None name) c.as_slice.result.now
     c.show_file.result
     (subst (λ (bytes : List ℕ). IsFound name held bytes) (sym c.as_slice.ensures) taken) c.show_file.ensures.bytes
     c.show_file.ensures.ends
@@ -31,9 +31,9 @@ returns-in-Ok-Stop-clause-ends g c =
     let name = c.args.name.now in
     let held = g.S.Shelf.held c.args.shelf.now in
     let stopped = rw c.in-Ok-Stop.field-0-is at c.in-Ok-Stop.ensures.is in
-    subst (λ (status : ℕ). RunEnds (ShowsName c.args.view name held) g.K.Sink c.args.out.now c.args.out.now status)
+    subst (λ (status : ℕ). RunEnds (ShowsName c.args.view None name held) g.K.Sink c.args.out.now c.args.out.now status)
     (sym c.status.ensures)
-    (stopped_ends g.K.Sink c.args.out.now name held (ShowsFile c.args.view name) c.in-Ok-Stop.ending stopped)
+    (stopped_ends g.K.Sink c.args.out.now name held (ShowsFile c.args.view None name) c.in-Ok-Stop.ending stopped)
 
 pub returns-in-Ok-Stop-clause-cause : goal.returns-in-Ok-Stop-clause-cause
 returns-in-Ok-Stop-clause-cause g c =

@@ -2,8 +2,7 @@ use Rattle.std.proofs.Common.{refl, sym}
 use Rattle.std.specs.Prelude.{codes}
 use Rattle.std.specs.Fmt.{decimal}
 use Rattle.html_text.specs.Tokens.{printed}
-use Rattle.html_page.specs.Pages.{other_tokens}
-use Rattle.view_places.specs.declared.glyph.Glyph.TheVariants.{NoteMark}
+use Rattle.html_page.specs.Pages.{characters}
 use Rattle.html_page.proofs.PutLemmas.{ascii_all, printed-decimal, put_as}
 use Rattle.html_page.proofs.tokens.push_mark.Goals as goal
 
@@ -11,4 +10,4 @@ pub returns : goal.returns
 returns g c =
     put_as g.K.Sink c.args.out.now c.push_number.new.out c.args.page.now c.push_number.new.self (decimal
     c.args.number) (printed
-    (other_tokens (NoteMark c.args.number))) (sym (printed-decimal c.args.number)) c.push_number.ensures
+    (characters (decimal c.args.number))) (sym (printed-decimal c.args.number)) c.push_number.ensures

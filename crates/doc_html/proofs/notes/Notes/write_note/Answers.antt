@@ -1,4 +1,5 @@
-use Rattle.std.proofs.Common.{◌≡◌, ◌+◌, ◌∷◌, ◌++◌, [], ◌≤◌, List, ℕ, arith, subst, sym, ap, true, ◌∙◌, length, take}
+use Rattle.view_places.specs.declared.element.Span.{Span}
+use Rattle.std.proofs.Common.{◌≡◌, ◌+◌, ◌∷◌, ◌++◌, [], ◌≤◌, List, Option, ℕ, arith, subst, sym, ap, true, ◌∙◌, length, take}
 use Rattle.std.proofs.lemmas.Option.{same_Some}
 use Rattle.doc_columns.specs.Walks.{items_in}
 use Rattle.doc_parts.specs.declared.bookmark_order.Bookmark.{Bookmark}
@@ -51,14 +52,17 @@ returns-clause-puts g c = λ formats note are there.
     text.new.writer.page formats manner (c.args.k + 1) c.args.reference note (is_not_hidden c.args.reference.is_shown c.if-not-reference.false) label.ensures.puts
     (subst (λ (items : List Item). PutsPlaces g.K.Sink label.new.out label.new.writer.page text.new.out
     text.new.writer.page
-    (text_places (hypertext_of [] (c.args.k + 1) items) (note_path (c.args.k + 1)) (paragraphs_of formats manner items))) same
+    (text_places (hypertext_of [] (c.args.k + 1) items []) (note_path (c.args.k + 1)) (paragraphs_of formats manner items))) same
     (subst (λ (path : List Element). PutsPlaces g.K.Sink label.new.out label.new.writer.page text.new.out
     text.new.writer.page
-    (text_places (hypertext_of [] (c.args.k + 1) (items_in c.parts.result)) path (paragraphs_of formats manner (items_in
+    (text_places (hypertext_of [] (c.args.k + 1) (items_in c.parts.result) []) path (paragraphs_of formats manner (items_in
     c.parts.result)))) label.ensures.path (subst (λ (bookmarks : List Bookmark). PutsPlaces g.K.Sink label.new.out
     label.new.writer.page text.new.out text.new.writer.page (text_places (hypertext_of bookmarks (c.args.k + 1)
-    (items_in c.parts.result)) label.new.writer.path (paragraphs_of formats manner (items_in c.parts.result))))
-    c.new-bookmarks.ensures (subst (λ (all : List Paragraph). PutsPlaces g.K.Sink label.new.out label.new.writer.page
+    (items_in c.parts.result) []) label.new.writer.path (paragraphs_of formats manner (items_in c.parts.result))))
+    c.new-bookmarks.ensures (subst (λ (cells : List (Option Span)). PutsPlaces g.K.Sink label.new.out
+    label.new.writer.page text.new.out text.new.writer.page (text_places (hypertext_of c.new-bookmarks.result (c.args.k +
+    1) (items_in c.parts.result) cells) label.new.writer.path (paragraphs_of formats manner (items_in c.parts.result))))
+    c.new-cells.ensures (subst (λ (all : List Paragraph). PutsPlaces g.K.Sink label.new.out label.new.writer.page
     text.new.out text.new.writer.page (text_places (hypertext_of c.new-bookmarks.result (c.args.k + 1) (items_in
-    c.parts.result)) label.new.writer.path all)) (plain (paragraphs_of formats manner (items_in c.parts.result)))
-    (text.ensures.puts formats are)))))
+    c.parts.result) c.new-cells.result) label.new.writer.path all)) (plain (paragraphs_of formats manner (items_in
+    c.parts.result))) (text.ensures.puts formats are))))))

@@ -19,17 +19,17 @@ use Rattle.symbol_fonts.specs.declared.fonts.SymbolFonts.{SymbolFonts}
 use Rattle.doc_view.specs.Page.{AreFormats, fonts_of}
 use Rattle.doc_view.specs.Seen.{Paragraph, paragraphs_of, references_of, with_values}
 use Rattle.doc_view.proofs.PageLemmas.{sound_normal, sound_styles}
-use Rattle.doc_places.specs.Places.{hypertext_of, notes_places, text_places}
+use Rattle.doc_places.specs.Places.{cells_of, hypertext_of, notes_places, text_places}
 use Rattle.doc_view.specs.declared.reading.TextKind.TheVariants as text_kind
 use Rattle.doc_html.proofs.view.Shown.write_places.Goals as goal
 
 pub write_text-references-requires-clause-normal : goal.write_text-references-requires-clause-normal
 write_text-references-requires-clause-normal g c =
-    sound_normal c.args.self.now.document.now c.args.self.now.formats.now c.requires.sound c.requires.formats
+    sound_normal c.args.self.now.source.document.now c.args.self.now.formats.now c.requires.sound c.requires.formats
 
 pub write_text-references-requires-clause-styles : goal.write_text-references-requires-clause-styles
 write_text-references-requires-clause-styles g c =
-    let document = c.args.self.now.document.now in
+    let document = c.args.self.now.source.document.now in
     let sheet = c.args.self.now.formats.now in
     let same : items_in c.parts.result ≡ document.main =
     c.parts.ensures.items ∙ ap (λ (d : Document). d.main) c.document.view_is in
@@ -42,11 +42,11 @@ write_text-references-requires-clause-depth g c =
 
 pub write-requires-clause-normal : goal.write-requires-clause-normal
 write-requires-clause-normal g c =
-    sound_normal c.args.self.now.document.now c.args.self.now.formats.now c.requires.sound c.requires.formats
+    sound_normal c.args.self.now.source.document.now c.args.self.now.formats.now c.requires.sound c.requires.formats
 
 pub write-requires-clause-styles : goal.write-requires-clause-styles
 write-requires-clause-styles g c = λ k note there.
-    let document = c.args.self.now.document.now in
+    let document = c.args.self.now.source.document.now in
     let sheet = c.args.self.now.formats.now in
     let same : c.document.inside.notes ≡ document.notes = ap (λ (d : Document). d.notes) c.document.view_is in
     sound_styles document sheet (Note k) note c.requires.sound c.requires.formats
@@ -54,7 +54,7 @@ write-requires-clause-styles g c = λ k note there.
 
 pub returns : goal.returns
 returns g c = λ formats are.
-    let document = c.args.self.now.document.now in
+    let document = c.args.self.now.source.document.now in
     let right : AreFormats c.args.self.now.formats.now formats =
     subst (λ (s : Sheet). AreFormats s formats) (sym c.requires.formats) are in
     let main_manner : SymbolFonts → Manner = λ fonts.
@@ -78,11 +78,11 @@ returns g c = λ formats are.
     c.requires.references
     ∙ (λ i. references_of (all (known i) (same i))) in
     let before = c.args.writer.now.page in
-    let hypertext = hypertext_of document.bookmarks 0 document.main in
+    let hypertext = hypertext_of document.bookmarks 0 document.main (cells_of document.bookmarks values document.main) in
     let text : PutsPlaces g.K.Sink c.args.out.now before main.new.out main.new.writer.page (text_places hypertext [] (all
     fonts document.main)) =
     subst (λ (places : Places). PutsPlaces g.K.Sink c.args.out.now before main.new.out main.new.writer.page places) (λ
-    i. text_places (hypertext_of (same_bookmarks i) 0 (same i)) (c.requires.path i) (all (known i) (same i)))
+    i. text_places (hypertext_of (same_bookmarks i) 0 (same i) (c.requires.cells i)) (c.requires.path i) (all (known i) (same i)))
     (main.ensures.puts formats right) in
     let notes : PutsPlaces g.K.Sink main.new.out main.new.writer.page c.write.new.out c.write.new.writer.page
     (notes_places formats (note_manner fonts) 1 (references_of (all fonts document.main)) document.notes) =

@@ -22,4 +22,4 @@ pub returns-in-Some : goal.returns-in-Some
 returns-in-Some g t c =
     close_step g.K.Sink c.args.out.now c.put_close.new.out c.close_to.new.out c.args.self.now c.put_close.new.self
     c.close_to.new.self c.close_next.new.self c.in-Some.element c.args.shared c.in-Some.ensures.0 c.in-Some.ensures.1
-    c.put_close.ensures.prints c.put_close.ensures.path c.put_close.ensures.half c.put_close.ensures.document c.close_to.ensures
+    c.put_close.ensures.prints c.put_close.ensures.path c.put_close.ensures.half c.put_close.ensures.source c.close_to.ensures

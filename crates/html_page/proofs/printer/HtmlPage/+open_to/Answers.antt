@@ -24,4 +24,4 @@ returns-in-Some g t c =
     open_step g.K.Sink c.args.out.now c.put_open.new.out c.open_to.new.out c.args.self.now c.put_open.new.self
     c.open_to.new.self c.open_next.new.self c.args.to.now c.in-Some.element c.in-Some.ensures.opened
     c.in-Some.ensures.front
-    c.put_open.ensures.prints c.put_open.ensures.path c.put_open.ensures.half c.put_open.ensures.document c.open_to.ensures
+    c.put_open.ensures.prints c.put_open.ensures.path c.put_open.ensures.half c.put_open.ensures.source c.open_to.ensures

@@ -35,4 +35,4 @@ returns-in-Some g c =
     } ∷ [])) (sym c.in-Some.is) (place_shown g.K.Sink c.args.out.now c.go.new.out c.show.new.out c.args.self.now
     c.go.new.self
     c.show.new.self to c.in-Some.glyph c.go.ensures c.show.ensures.prints c.show.ensures.path c.show.ensures.half
-    c.show.ensures.document)
+    c.show.ensures.source)

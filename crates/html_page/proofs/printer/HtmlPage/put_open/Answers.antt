@@ -4,7 +4,7 @@ use Rattle.view_places.specs.Same.{same}
 use Rattle.html_page.specs.Pages.{back_tokens, characters, close_tokens, front_tokens, glyph_tokens, half_of}
 use Rattle.html_page.specs.Pages.{open_tokens}
 use Rattle.html_page.specs.Pages.{other_tokens, style_tokens, tokens_of}
-use Rattle.plain_doc.specs.declared.document.Document.{Document}
+use Rattle.html_page.specs.declared.source.Source.{Source}
 use Rattle.glyph_units.specs.Units.{half_text, unit_text, first_text, unit_half}
 use Rattle.html_page.specs.declared.printer.HtmlPage.{HtmlPage}
 use Rattle.page_out.specs.Printed.{Prints}
@@ -18,7 +18,7 @@ pub returns-clause-prints : goal.returns-clause-prints
 returns-clause-prints g c =
     tokens_then g.K.Sink c.args.out.now c.put_half.new.out c.push_open.new.out c.args.self.now.page
     c.put_half.new.self.page
-    c.push_open.new.page (characters (half_text c.args.self.now.half)) (open_tokens c.args.self.now.document.now c.args.element)
+    c.push_open.new.page (characters (half_text c.args.self.now.half)) (open_tokens c.args.self.now.source.document.now c.args.element)
     c.put_half.ensures.prints
-    (subst (λ (d : Document). Prints g.K.Sink c.put_half.new.out c.put_half.new.self.page c.push_open.new.out
-    c.push_open.new.page (printed (open_tokens d c.args.element))) c.put_half.ensures.document c.push_open.ensures)
+    (subst (λ (s : Source). Prints g.K.Sink c.put_half.new.out c.put_half.new.self.page c.push_open.new.out
+    c.push_open.new.page (printed (open_tokens s.document.now c.args.element))) c.put_half.ensures.source c.push_open.ensures)

@@ -18,4 +18,4 @@ returns g c =
     run_put g.K.Sink c.args.out.now c.go.new.out c.put_half.new.out c.push_units.new.out c.args.self.now c.go.new.self
     c.put_half.new.self (record c.put_half.new.self { page = c.push_units.new.page }) c.args.to.now c.args.units.now
     c.requires (omega (arith, some)) c.go.ensures c.put_half.ensures.prints c.push_units.ensures c.put_half.ensures.path
-    c.put_half.ensures.half c.put_half.ensures.document
+    c.put_half.ensures.half c.put_half.ensures.source

@@ -13,7 +13,7 @@ pub loop-unit-init : goal.loop-unit-init
 loop-unit-init g c = record {
   units = units_start g.K.Sink c.args.out.now c.args.self.now.page (units_text c.args.self.now.half c.args.units.now);
   path = refl;
-  document = refl;
+  source = refl;
 }
 
 pub loop-unit-preserved : goal.loop-unit-preserved
@@ -34,7 +34,7 @@ loop-unit-preserved g c =
           (units_text c.args.self.now.half units) (units_text old.self.half (drop i units)) (unit_text old.self.half unit)
           (units_text (unit_half old.self.half unit) (drop (i + 1) units)) next old.invariant.units put.ensures.prints);
       path = put.ensures.path ∙ old.invariant.path;
-      document = put.ensures.document ∙ old.invariant.document;
+      source = put.ensures.source ∙ old.invariant.source;
     }
 
 pub returns-clause-prints : goal.returns-clause-prints
@@ -54,5 +54,5 @@ returns-clause-prints g c =
 pub returns-clause-path : goal.returns-clause-path
 returns-clause-path g c = c.put_half.ensures.path ∙ c.loop-unit.invariant.path
 
-pub returns-clause-document : goal.returns-clause-document
-returns-clause-document g c = c.put_half.ensures.document ∙ c.loop-unit.invariant.document
+pub returns-clause-source : goal.returns-clause-source
+returns-clause-source g c = c.put_half.ensures.source ∙ c.loop-unit.invariant.source

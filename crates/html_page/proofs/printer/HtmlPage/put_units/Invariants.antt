@@ -9,5 +9,5 @@ invariant-loop-unit g l = record {
   units : UnitsAt g.K.Sink l.fn.out l.fn.self.page l.out l.self.page (units_text l.fn.self.half l.units)
       (units_text l.self.half (drop l.unit-index l.units));
   path : l.self.path ≡ l.fn.self.path;
-  document : l.self.document.now ≡ l.fn.self.document.now;
+  source : l.self.source ≡ l.fn.self.source;
 }

@@ -1,0 +1,4 @@
+pub mod Definition
+pub mod Rows
+pub mod Spans
+pub mod Tables

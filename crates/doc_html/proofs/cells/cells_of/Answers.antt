@@ -1,0 +1,99 @@
+-- The paragraphs of the text, one by one.
+use Rattle.std.proofs.Common.{◌≡◌, ◌∙◌, ◌+◌, ◌-◌, ◌&&◌, not, Some, List, Option, sym, ap, subst, arith}
+use Rattle.std.specs.Prelude.{◌==◌, slice_index, slice_get, IfOk}
+use Rattle.std.proofs.lemmas.Option.{slice_get-get_or}
+use Rattle.plain_doc.specs.Settings.{is_inside}
+use Rattle.plain_doc.specs.Stretches.{stretches}
+use Rattle.doc_columns.specs.Walks.{items_in}
+use Rattle.doc_columns.proofs.WalkLemmas.{items_long}
+use Rattle.doc_columns.proofs.CollectLemmas.{start_at}
+use Rattle.doc_columns.proofs.EqualityLemmas.{begins_at_start}
+use Rattle.cell_spans.specs.declared.tables.Tables.{Tables}
+use Rattle.cell_spans.specs.Tables.{behind_outside}
+use Rattle.view_places.specs.declared.element.Span.{Span}
+use Rattle.doc_view.specs.declared.standing.Standing.{Standing}
+use Rattle.doc_view.proofs.TextLemmas.{paragraph_begins}
+use Rattle.doc_places.specs.Cells.{definition_in, tables_by, tables_from}
+use Rattle.doc_places.specs.Places.{has_label, is_mark_alone, lead}
+use Rattle.doc_places.proofs.AnchorLemmas.{lead_more, lead_none}
+use Rattle.doc_html.proofs.CellLemmas.{tables_end, tables_on}
+use Rattle.doc_html.proofs.cells.cells_of.Goals as goal
+
+pub loop-place-init : goal.loop-place-init
+loop-place-init c =
+    let parts = c.args.parts.now in
+    let is_mark = is_mark_alone c.args.bookmarks.now c.args.values.now in
+    record {
+      within = omega arith;
+      marks = start_at parts.attachments.now c.new-marks.result c.new-marks.ensures;
+      ahead = begins_at_start c.new-marks.result c.new-marks.ensures;
+      number = omega arith;
+      next = sym (lead_none c.args.bookmarks.now);
+      tables =
+          ap (λ (tables : Tables). tables_from is_mark 0 0 tables (stretches is_inside (items_in parts)))
+          c.new-tables.ensures;
+    }
+
+pub next_anchor-behind-requires : goal.next_anchor-behind-requires
+next_anchor-behind-requires c =
+    let some = c.paragraph_end-end.ensures.some in
+    let next = c.loop-place.invariant.next in
+    let more = lead_more c.args.bookmarks.now c.loop-place.place c.paragraph_end-end.result (omega (arith, some)) in
+    omega (arith, next, more)
+
+pub loop-place-preserved : goal.loop-place-preserved
+loop-place-preserved c =
+    let parts = c.args.parts.now in
+    let old = c.loop-place in
+    let bookmarks = c.args.bookmarks.now in
+    let values = c.args.values.now in
+    let is_mark = is_mark_alone bookmarks values in
+    let found = c.paragraph_end-end.ensures in
+    let end = c.paragraph_end-end.result in
+    let last = c.seek-last.result.now in
+    let ahead = c.seek-last.ensures.ahead in
+    let some = found.some in
+    let inside = found.within in
+    let number = old.invariant.number in
+    let unit = slice_index parts.units.now (end - 1) in
+    let unit_is : slice_get parts.units.now (end - 1) ≡ Some unit =
+    slice_get-get_or parts.units.now (end - 1) 0 (omega (arith, some, inside)) in
+    let behind : c.next_anchor-behind.result ≡ lead bookmarks end = c.next_anchor-behind.ensures in
+    let back : end ≡ old.place + (end - old.place) = omega (arith, some) in
+    let here : c.is_mark_alone-is_mark.result ≡ is_mark old.number old.place (end - old.place) =
+    c.is_mark_alone-is_mark.ensures
+    ∙ (λ i. end - old.place == 1 && (not (has_label (c.get.ensures i)) && old.invariant.next i == (behind ∙ ap (lead
+    bookmarks) back) i)) in
+    let passed =
+    c.in_ok-pass.ensures
+    ∙ ap (λ (s : Standing). tables_by old.tables s c.is_mark_alone-is_mark.result (definition_in last.mark))
+    c.of-standing.ensures in
+    record {
+      within = inside;
+      marks = c.seek-last.ensures.at;
+      ahead = omega (arith, ahead);
+      number = omega (arith, number, some);
+      next = behind;
+      tables =
+          tables_on is_mark old.number parts c.requires old.place end unit last some inside (paragraph_begins parts
+          c.requires old.place end some inside found.inside found.ends) unit_is c.seek-last.ensures.value old.tables
+          c.pass.new.tables c.is_mark_alone-is_mark.result here passed
+          ∙ old.invariant.tables;
+    }
+
+pub returns : goal.returns
+returns c =
+    let parts = c.args.parts.now in
+    let last = c.loop-place in
+    let done = c.loop-place-test.false in
+    let is_mark = is_mark_alone c.args.bookmarks.now c.args.values.now in
+    let all : last.tables ≡ tables_from is_mark 0 0 c.new-tables.result (stretches is_inside (items_in parts)) =
+    sym (tables_end is_mark last.number last.place last.tables (items_in parts) (omega (
+      arith,
+      items_long parts c.requires,
+      done,
+    ))) ∙ last.invariant.tables ∙ ap (λ (t : Tables). tables_from is_mark 0 0 t (stretches is_inside (items_in parts)))
+    (sym c.new-tables.ensures) in
+    let spans : Tables → List (Option Span) = λ t. (behind_outside t).spans in
+    subst (λ (x : List (Option Span)). IfOk c.finish.result (λ s. s ≡ x)) (ap spans (all ∙ ap (λ (t : Tables).
+    tables_from is_mark 0 0 t (stretches is_inside (items_in parts))) c.new-tables.ensures)) c.finish.ensures
