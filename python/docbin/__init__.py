@@ -209,10 +209,11 @@ def join(first: BytesLike, second: BytesLike) -> bytes:
     return _made("join", _bytes(first), _bytes(second))
 
 
-def fit(data: BytesLike) -> Fitted:
-    """A document of Word 97 to 2007 as a file that docbin accepts, with what of it is left out (docs/FIT.md). `NotWord97` or `Encrypted` where it is
-    no such file or cannot be read, `RuleBroken` where it breaks a rule that is left."""
-    status, report, made = _call("fit", _bytes(data))
+def fit(data: BytesLike, plain: bool = False) -> Fitted:
+    """A document of Word 97 to 2007 as a file that docbin accepts, with what of it is left out (docs/FIT.md). Endnotes are notes of it; with `plain`,
+    which the program alone can do, they are left out. `NotWord97` or `Encrypted` where it is no such file or cannot be read, `RuleBroken` where it
+    breaks a rule that is left."""
+    status, report, made = _call("fit", _bytes(data), flags=_flags(plain=plain))
     if status:
         raise _refused(status, report.rstrip("\n"))
     return _fitted(made, report)

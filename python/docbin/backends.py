@@ -29,8 +29,8 @@ CALLS["fit"] = Call("docbin_fit", "docfit", (), True)
 CALLS["plain"] = Call("docview_text", "docview", ("text",))
 CALLS["markdown"] = Call("docview_markdown", "docview", ("markdown",))
 CALLS["html"] = Call("docview_html", "docview", ("html",))
-# The options of docview, in the order of the flags of its calls.
-VIEW_OPTIONS = ("--hidden", "--headers")
+# The options of programs, in the order of flags. The call of docfit has none.
+OPTIONS: Dict[str, Tuple[str, ...]] = {"docview": ("--hidden", "--headers"), "docfit": ("--plain",)}
 # No file that is put is longer, and no JSON; a longer text is asked for once more.
 MOST_BYTES, MUCH_TEXT = 7_143_937, 1 << 26
 # The names of the files in the lines of both.
@@ -64,6 +64,8 @@ class Library:
 
     def call(self, name: str, given: Sequence[Given], flags: Sequence[bool] = ()) -> Answer:
         asked, words = CALLS[name], []  # type: Call, List[Any]
+        if name == "fit" and True in flags:
+            raise NotImplementedError("a plain fit needs the program docfit: the library always makes notes of endnotes")
         for it in given:
             if isinstance(it, int):
                 words.append(ctypes.c_uint32(it))
@@ -72,7 +74,7 @@ class Library:
                 words += [ctypes.c_char_p(data), ctypes.c_size_t(len(data))]
         if asked.program == "docview":
             words.append(ctypes.c_uint32(sum(1 << at for at, is_on in enumerate(flags) if is_on)))
-        else:
+        elif name != "fit":
             words += map(ctypes.c_bool, flags)
         size = MUCH_TEXT
         while True:
@@ -105,7 +107,7 @@ class Program:
         asked = CALLS[name]
         if name == "edit" and False in flags:
             raise NotImplementedError("edits without a guard need the library libdocbin.so: the program always has its guard")
-        options = [it for it, is_on in zip(VIEW_OPTIONS, flags) if is_on and asked.program == "docview"]
+        options = [it for it, is_on in zip(OPTIONS.get(asked.program, ()), flags) if is_on]
         program = self.place(asked.program)
         with tempfile.TemporaryDirectory(prefix="docbin-") as folder:
             words, files = [*options, *asked.command], iter(FILES)

@@ -30,7 +30,7 @@ _PLACE = r"(?P<place>main|(?:note|head) \d+)"
 _FORMS = {
     "stream": r"(?P<name>.*)",
     "storage": r"(?P<name>.*)",
-    "part": r"(?P<pair>\d+) (?P<name>\S+) (?P<bytes>\d+)",
+    "part": r"(?P<pair>\d+) (?P<name>[^\s:]+)(?: (?P<bytes>\d+)|: (?P<made>emptied))",
     "story": r"(?P<story>\S+) (?P<units>\d+) \| (?P<text>.*)",
     "autotext": r"page (?P<page>\d+)",
     "reference": rf"(?P<story>\S+) {_PLACE} (?P<at>\d+)(?:: (?P<made>.*))?",
@@ -40,6 +40,7 @@ _FORMS = {
     "deleted": rf"{_PLACE} (?P<begin>\d+) (?P<end>\d+)(?:: (?P<made>.*))?",
     "bookmark": r"(?P<name>.*) (?P<begin>\d+) (?P<end>\d+)",
     "sheet": r"(?P<bytes>\d+)",
+    "sector": r"(?P<bytes>\d+): (?P<made>.*)",
     "base": r"(?P<style>\d+)",
     "mark": rf"{_PLACE} (?P<at>\d+): style (?P<style>\d+)",
     "row": rf"{_PLACE} (?P<at>\d+): (?P<cells>\d+) cells",

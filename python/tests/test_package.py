@@ -121,6 +121,10 @@ class Calls:
         self.assertEqual((got.bytes, got.left_out), (docbin.full(letter), [docbin.Feature("autotext", {"page": 24})]))
         self.assertEqual(pickle.loads(pickle.dumps(got)), got)
         self.assertEqual(docbin.check(docbin.fit(changed(letter, b2=0xD9)).bytes), docbin.check(letter))
+        if isinstance(docbin._backend, backends.Program):
+            self.assertEqual(docbin.fit(letter, plain=True).bytes, docbin.full(letter))
+        else:
+            self.raised(NotImplementedError, docbin.fit, letter, True)
 
     def test_files_that_are_not_fitted(self):
         self.needs("docfit")
@@ -134,10 +138,10 @@ class Calls:
         self.raised(TypeError, docbin.fit, "hello")
 
     def test_the_lines_of_a_report(self):
-        report = ("fit: 8 bytes, left out 11, mended 7\nstream 1Table\nstorage Object Pool\npart 50 DggInfo 1234\n"
+        report = ("fit: 8 bytes, left out 11, mended 10\nstream 1Table\nstorage Object Pool\npart 50 DggInfo 1234\n"
                   "story comments 7 | a\\u005cb \u00e4\\u000d\nautotext page 24\nreference endnotes note 3 57\ncode style-char 0801 87\n"
-                  "repeat par d634 12\nbookmark a b 3 4\nsheet 12\nsomething new\ndeleted main 120 135: struck\n"
-                  "deleted head 6 1 2\n"
+                  "repeat par d634 12\nbookmark a b 3 4\nsheet 12\nsomething new\nsector 37: filled\npart 11 PlcfHdd: emptied\ndeleted main 120 135: struck\n"
+                  "deleted head 6 1 2\nendnote 3: note 5\n"
                   "base 7\nmark head 6 0: style 65535\nrow main 8: 3 cells\nreference comments main 9: cut\nend note 0\n")
         got = fitting.fitted(b"", report)
         self.assertEqual(got.left_out, [docbin.Feature(kind, fields) for kind, fields in (
@@ -147,8 +151,9 @@ class Calls:
             ("repeat", {"list": "par", "code": "d634", "count": 12}),
             ("bookmark", {"name": "a b", "begin": 3, "end": 4}), ("sheet", {"bytes": 12}), ("something", {"words": "new"}))])
         self.assertEqual(got.mended, [docbin.Feature(kind, fields) for kind, fields in (
+            ("sector", {"bytes": 37, "made": "filled"}), ("part", {"pair": 11, "name": "PlcfHdd", "made": "emptied"}),
             ("deleted", {"place": "main", "begin": 120, "end": 135, "made": "struck"}),
-            ("deleted", {"place": "head 6", "begin": 1, "end": 2}), ("base", {"style": 7}),
+            ("deleted", {"place": "head 6", "begin": 1, "end": 2}), ("endnote", {"endnote": 3, "note": 5}), ("base", {"style": 7}),
             ("mark", {"place": "head 6", "at": 0, "style": 65535}), ("row", {"place": "main", "at": 8, "cells": 3}),
             ("reference", {"story": "comments", "place": "main", "at": 9, "made": "cut"}),
             ("end", {"place": "note 0"}))])

@@ -44,7 +44,7 @@ use Rattle.deleted_text.specs.Deletions.{deleted_by, SaysDeleted}
 use Rattle.deleted_text.specs.Places.{IsDeletedAt}
 use Rattle.deleted_text.specs.Ranges.{is_deleted, run_end, range_at, text_ranges, text_flags, texts_ranges}
 use Rattle.deleted_text.specs.Ranges.{items_before, document_ranges, begins_of}
-use Rattle.deleted_text.specs.Strikes.{strike_mends}
+use Rattle.deleted_text.specs.Strikes.{strike_mends, most_struck}
 use Rattle.deleted_text.specs.Texts.{AreTextDeletions, IsStruckText}
 use Rattle.deleted_text.proofs.PlaceLemmas.{nothing_said}
 
@@ -216,6 +216,6 @@ struck_none r meant struck mends is =
     let none : is.ranges ≡ [] =
     is.deleted.are
     ∙ ranges_none (begins_of r.text.wd) is.deleted.flags meant (held_false r is.deleted.flags is.deleted.deletions) in (
-      is.is.document_is ∙ ap (λ (l : List DeletedRange). all_struck (struck_ranges meant l) meant) none,
+      is.is.document_is ∙ ap (λ (l : List DeletedRange). all_struck (struck_ranges meant (take most_struck l)) meant) none,
       is.is.mends_are ∙ ap (strike_mends meant) none,
     )

@@ -8,4 +8,4 @@ mod striking;
 
 pub use places::deleted_places;
 pub use ranges::{StoryBegins, deleted_ranges, story_begins};
-pub use striking::strike_text;
+pub use striking::{MOST_STRUCK, strike_text};

@@ -7,3 +7,4 @@ pub mod OneLemmas
 pub mod PieceLemmas
 pub mod AcceptedLemmas
 pub mod NotedLemmas
+pub mod ReadAsLemmas

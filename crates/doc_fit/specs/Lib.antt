@@ -5,3 +5,4 @@ pub mod Losses
 pub mod Opened
 pub mod Laws
 pub mod Noted
+pub mod ReadAs

@@ -2,6 +2,7 @@
 //! why there is none.
 #![tactic(auto)]
 
+mod file_opening;
 mod laws;
 mod lines;
 mod list_losses;
@@ -12,6 +13,7 @@ mod refusing;
 mod status;
 mod streams;
 
+pub use file_opening::{OpenedFile, open_file};
 pub use laws::accepted_files_break_few;
 pub use noting::open_fit;
 pub use opening::{OpenedAny, open_any};

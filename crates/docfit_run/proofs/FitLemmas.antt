@@ -1,18 +1,28 @@
 -- What is opened and saved is the fit of a file.
-use Rattle.std.proofs.Common.{refl, inr, subst, ℕ, Bool, true, false, List}
+use Rattle.std.proofs.Common.{◌≡◌, refl, sym, subst, inl, inr, ℕ, Bool, true, false, List, Result, Ok, Err, MatchResult}
+use Rattle.plain_doc.specs.Sound.{IsSound}
+use Rattle.file_rules.specs.declared.fault.ReadFault.{ReadFault}
+use Rattle.file_rules.specs.Faults.{IsReadFault}
+use Rattle.file_mends.specs.declared.mends.FileMend.{FileMend}
 use Rattle.run_stages.specs.Outcomes.{Outcome}
 use Rattle.doc_fit.specs.declared.opening.OpenedAny.{OpenedAny}
 use Rattle.doc_fit.specs.Opened.{IsOpenedAny}
+use Rattle.doc_fit.specs.Rules.{fit_rules}
+use Rattle.doc_fit.specs.Refusals.{IsFitRefused}
+use Rattle.doc_fit.specs.ReadAs.{IsReadAs}
 use Rattle.file_rules.specs.FileRules.{FileText}
 use Rattle.doc_fit.specs.Noted.{IsNotedText, IsOpenedNoted, IsOpenedWith, IsOpenedFit, AreNoted}
 use Rattle.doc_fit.proofs.LossLemmas.{inventory_of, lifted_inventory, lines_fit}
 use Rattle.doc_fit.proofs.OpenLemmas.{mended_by, text_meant}
-use Rattle.docfit_run.specs.Fitted.{IsFitted, IsSaved, JudgesFit}
+use Rattle.file_mends.specs.Mends.{bytes_read}
+use Rattle.doc_fit.specs.declared.file_opening.OpenedFile.{OpenedFile}
+use Rattle.docfit_run.specs.Fitted.{EndsOpened, IsReadFitted, IsSaved, JudgesFit}
 
-plain_fit : (plain : Bool) (out file : List ℕ) (opened : OpenedAny) (outcome : Outcome) → AreNoted plain file false →
-    IsOpenedAny file opened → IsSaved out opened.lifted.document opened.losses opened.mends.items outcome →
-    IsFitted plain out file outcome
-plain_fit plain out file opened outcome are is saved =
+plain_fit : (plain : Bool) (out file : List ℕ) (mends : List FileMend) (opened : OpenedAny) (outcome : Outcome) → AreNoted plain file false →
+    IsOpenedAny file opened → IsSaved out opened.lifted.document opened.losses
+    (record { of_file = mends; of_document = opened.mends.items }) outcome →
+    IsReadFitted plain out file mends outcome
+plain_fit plain out file mends opened outcome are is saved =
     let lifts = is.lifts in
     record {
       noted = false;
@@ -39,10 +49,11 @@ plain_fit plain out file opened outcome are is saved =
       saved = saved;
     }
 
-noted_fit : (plain : Bool) (out file : List ℕ) (opened : OpenedAny) (outcome : Outcome) → AreNoted plain file true →
-    IsOpenedNoted file opened → IsSaved out opened.lifted.document opened.losses opened.mends.items outcome →
-    IsFitted plain out file outcome
-noted_fit plain out file opened outcome are is saved =
+noted_fit : (plain : Bool) (out file : List ℕ) (mends : List FileMend) (opened : OpenedAny) (outcome : Outcome) → AreNoted plain file true →
+    IsOpenedNoted file opened → IsSaved out opened.lifted.document opened.losses
+    (record { of_file = mends; of_document = opened.mends.items }) outcome →
+    IsReadFitted plain out file mends outcome
+noted_fit plain out file mends opened outcome are is saved =
     let by = is.by in
     let lifts = by.lifts in
     record {
@@ -73,15 +84,61 @@ noted_fit plain out file opened outcome are is saved =
       saved = saved;
     }
 
-saves_fit : (plain : Bool) (out file : List ℕ) (opened : OpenedAny) (outcome : Outcome) (noted : Bool) →
+saves_fit : (plain : Bool) (out file : List ℕ) (mends : List FileMend) (opened : OpenedAny) (outcome : Outcome) (noted : Bool) →
     AreNoted plain file noted → IsOpenedWith noted file opened →
-    IsSaved out opened.lifted.document opened.losses opened.mends.items outcome → IsFitted plain out file outcome
-saves_fit plain out file opened outcome true are is saved = noted_fit plain out file opened outcome are is saved
-saves_fit plain out file opened outcome false are is saved = plain_fit plain out file opened outcome are is saved
+    IsSaved out opened.lifted.document opened.losses
+    (record { of_file = mends; of_document = opened.mends.items }) outcome → IsReadFitted plain out file mends outcome
+saves_fit plain out file mends opened outcome true are is saved = noted_fit plain out file mends opened outcome are is saved
+saves_fit plain out file mends opened outcome false are is saved = plain_fit plain out file mends opened outcome are is saved
 
--- what is opened is fitted as it is saved
-pub opened_fits : (plain : Bool) (name out file : List ℕ) (opened : OpenedAny) (outcome : Outcome) →
-    IsOpenedFit plain file opened → IsSaved out opened.lifted.document opened.losses opened.mends.items outcome →
+-- what is opened is fitted as it is saved, and what is refused ends so
+pub opened_fits : (plain : Bool) (name out file read : List ℕ) (mends : List FileMend)
+    (found : Result OpenedAny ReadFault) (outcome : Outcome) → IsReadAs file mends read →
+    MatchResult found (IsOpenedFit plain read) (IsReadFault (fit_rules read)) →
+    MatchResult found
+    (λ opened. IsSaved out opened.lifted.document opened.losses
+    (record { of_file = mends; of_document = opened.mends.items }) outcome)
+    (λ fault. IsFitRefused read name outcome) →
     JudgesFit plain name out file outcome
-opened_fits plain name out file opened outcome is saved =
-    inr (is.holds, saves_fit plain out file opened outcome is.noted is.are is.by saved)
+opened_fits plain name out file read mends (Ok opened) outcome read_as is saved = record {
+  mends = mends;
+  read = read;
+  read_as = read_as;
+  judged = inr (is.holds, saves_fit plain out read mends opened outcome is.noted is.are is.by saved);
+}
+opened_fits plain name out file read mends (Err fault) outcome read_as is refused =
+    record { mends = mends; read = read; read_as = read_as; judged = inl refused }
+
+-- a file that is opened or refused can end
+pub can_end : (plain : Bool) (read : List ℕ) (found : Result OpenedAny ReadFault) →
+    MatchResult found (IsOpenedFit plain read) (IsReadFault (fit_rules read)) →
+    MatchResult found (λ opened. IsSound opened.lifted.document) (IsReadFault (fit_rules read))
+can_end plain read (Ok opened) is = is.sound
+can_end plain read (Err fault) is = is
+
+-- what was opened is saved
+pub ends_saved : (name out file : List ℕ) (found : OpenedFile) (opened : OpenedAny) (mends : List FileMend)
+    (outcome : Outcome) → found.opened ≡ Ok opened → mends ≡ found.mended.mends →
+    IsSaved out opened.lifted.document opened.losses
+    (record { of_file = mends; of_document = opened.mends.items }) outcome → EndsOpened name out file found outcome
+ends_saved name out file found opened mends outcome is same saved =
+    subst
+    (λ (r : Result OpenedAny ReadFault). MatchResult r
+    (λ opened. IsSaved out opened.lifted.document opened.losses
+    (record { of_file = found.mended.mends; of_document = opened.mends.items }) outcome)
+    (λ fault. IsFitRefused (bytes_read file found.mended) name outcome)) (sym is)
+    (subst
+    (λ (m : List FileMend). IsSaved out opened.lifted.document opened.losses
+    (record { of_file = m; of_document = opened.mends.items }) outcome) same saved)
+
+-- what was refused names its rule
+pub ends_refused : (name out file read : List ℕ) (found : OpenedFile) (fault : ReadFault) (outcome : Outcome) →
+    found.opened ≡ Err fault → read ≡ bytes_read file found.mended → IsFitRefused read name outcome →
+    EndsOpened name out file found outcome
+ends_refused name out file read found fault outcome is same refused =
+    subst
+    (λ (r : Result OpenedAny ReadFault). MatchResult r
+    (λ opened. IsSaved out opened.lifted.document opened.losses
+    (record { of_file = found.mended.mends; of_document = opened.mends.items }) outcome)
+    (λ fault. IsFitRefused (bytes_read file found.mended) name outcome)) (sym is)
+    (subst (λ b. IsFitRefused b name outcome) same refused)

@@ -17,17 +17,19 @@ use Rattle.doc_fit.specs.Noted.{IsDocumentWith, AreLinesWith}
 use Rattle.doc_mends.specs.declared.mends.Mend.{Mend}
 use Rattle.doc_fit.proofs.MeaningLemmas.{fit_single}
 use Rattle.doc_fit.proofs.OneLemmas.{refused_one, inventory_one, text_same}
+use Rattle.file_mends.specs.declared.mends.FileMend.{FileMend}
+use Rattle.doc_fit.proofs.ReadAsLemmas.{AreOneRead, read_one, read_bytes}
 use Rattle.doc_fit.proofs.NotedLemmas.{document_one, are_noted_one, lines_with_one}
 use Rattle.docfit_run.specs.Requests.{Request, help, version, fit, requested}
-use Rattle.docfit_run.specs.Fitted.{IsPut, IsSaved, IsFitted, JudgesFit, FitsFile, fit_report}
+use Rattle.docfit_run.specs.Fitted.{FitMends, IsPut, IsSaved, IsReadFitted, JudgesRead, JudgesFit, FitsFile, fit_report}
 use Rattle.docfit_run.specs.Endings.{Ends}
 use Rattle.docfit_run.specs.Laws.{FitIsOne}
 
-put_status : (out : List ℕ) (document : Document) (lines : List (List ℕ)) (mends : List Mend) (outcome : Outcome) →
+put_status : (out : List ℕ) (document : Document) (lines : List (List ℕ)) (mends : FitMends) (outcome : Outcome) →
     IsPut out document lines mends outcome → outcome.status ≡ 0
 put_status out document lines mends outcome put = ap (λ (o : Outcome). o.status) put.ends
 
-saved_one : (out : List ℕ) (document : Document) (lines others : List (List ℕ)) (mends : List Mend) (a b : Outcome) →
+saved_one : (out : List ℕ) (document : Document) (lines others : List (List ℕ)) (mends : FitMends) (a b : Outcome) →
     (a.status ≡ 0 → b.status ≡ 0 → lines ≡ others) → IsSaved out document lines mends a →
     IsSaved out document others mends b → a ≡ b
 saved_one out document lines others mends a b same (inl x) (inl y) =
@@ -42,9 +44,13 @@ saved_one out document lines others mends a b same (inr x) (inl y) =
     let fits = y.savable.fits in let over = x.over in absurd (omega (arith, fits, over))
 saved_one out document lines others mends a b same (inr x) (inr y) = x.ends ∙ sym y.ends
 
-fitted_one : (plain : Bool) (out file : List ℕ) (a b : Outcome) → AreBytes file → Hold (fit_rules file) →
-    IsFitted plain out file a → IsFitted plain out file b → a ≡ b
-fitted_one plain out file a b bytes hold x y =
+-- the mends of the bytes, and these of the document
+abbrev with_file : List FileMend → List Mend → FitMends
+with_file file_mends mends = record { of_file = file_mends; of_document = mends }
+
+fitted_one : (plain : Bool) (out file : List ℕ) (file_mends : List FileMend) (a b : Outcome) → AreBytes file →
+    Hold (fit_rules file) → IsReadFitted plain out file file_mends a → IsReadFitted plain out file file_mends b → a ≡ b
+fitted_one plain out file file_mends a b bytes hold x y =
     let noted : x.noted ≡ y.noted =
     are_noted_one plain x.noted y.noted file x.document y.document x.mends y.mends x.are_noted y.are_noted
     x.document_is y.document_is in
@@ -53,24 +59,33 @@ fitted_one plain out file a b bytes hold x y =
     (subst (λ (n : Bool). IsDocumentWith n file x.document x.mends) noted x.document_is) y.document_is in
     let inventory : x.inventory ≡ y.inventory = inventory_one file x.inventory y.inventory x.has y.has in
     let text : x.has.text ≡ y.has.text = text_same file x.inventory y.inventory x.has y.has in
-    saved_one out y.document x.lines y.lines y.mends a b
+    saved_one out y.document x.lines y.lines (with_file file_mends y.mends) a b
     (λ first other. lines_with_one y.noted y.has.text y.inventory x.lines y.lines
     (subst (λ (n : Bool). AreLinesWith n y.has.text y.inventory x.lines) noted
     (subst (λ (t : FileText). AreLinesWith x.noted t y.inventory x.lines) text
     (subst (λ (i : Inventory). AreLinesWith x.noted x.has.text i x.lines) inventory (x.lines_are first))))
     (y.lines_are other))
-    (subst (λ (m : List Mend). IsSaved out y.document x.lines m a) one.1
-    (subst (λ (d : Document). IsSaved out d x.lines x.mends a) one.0 x.saved)) y.saved
+    (subst (λ (m : List Mend). IsSaved out y.document x.lines (with_file file_mends m) a) one.1
+    (subst (λ (d : Document). IsSaved out d x.lines (with_file file_mends x.mends) a) one.0 x.saved)) y.saved
+
+read_judged_one : (plain : Bool) (name out read : List ℕ) (mends : List FileMend) (a b : Outcome) → AreBytes read →
+    JudgesRead plain name out read mends a → JudgesRead plain name out read mends b → a ≡ b
+read_judged_one plain name out read mends a b bytes (inl x) (inl y) = refused_one read name a b bytes x y
+read_judged_one plain name out read mends a b bytes (inl x) (inr y) =
+    absurd (hold_or_first Upto (fit_rules read) x.rule x.place (fit_single read bytes) y.0 x.first)
+read_judged_one plain name out read mends a b bytes (inr x) (inl y) =
+    absurd (hold_or_first Upto (fit_rules read) y.rule y.place (fit_single read bytes) x.0 y.first)
+read_judged_one plain name out read mends a b bytes (inr x) (inr y) =
+    fitted_one plain out read mends a b bytes x.0 x.1 y.1
 
 judged_one : (plain : Bool) (name out file : List ℕ) (a b : Outcome) → AreBytes file →
     JudgesFit plain name out file a → JudgesFit plain name out file b → a ≡ b
-judged_one plain name out file a b bytes (inl x) (inl y) = refused_one file name a b bytes x y
-judged_one plain name out file a b bytes (inl x) (inr y) =
-    absurd (hold_or_first Upto (fit_rules file) x.rule x.place (fit_single file bytes) y.0 x.first)
-judged_one plain name out file a b bytes (inr x) (inl y) =
-    absurd (hold_or_first Upto (fit_rules file) y.rule y.place (fit_single file bytes) x.0 y.first)
-judged_one plain name out file a b bytes (inr x) (inr y) =
-    fitted_one plain out file a b bytes x.0 x.1 y.1
+judged_one plain name out file a b bytes x y =
+    let one : AreOneRead x.mends y.mends x.read y.read =
+    read_one file x.mends y.mends x.read y.read bytes x.read_as y.read_as in
+    read_judged_one plain name out y.read y.mends a b (read_bytes file y.mends y.read bytes y.read_as)
+    (subst (λ m. JudgesRead plain name out y.read m a) one.mends_same
+    (subst (λ r. JudgesRead plain name out r x.mends a) one.read x.judged)) y.judged
 
 -- ---- runs
 
@@ -78,12 +93,12 @@ judged_one plain name out file a b bytes (inr x) (inr y) =
 abbrev pub JudgesBytes : Bool → (name out file : List ℕ) → Outcome → Type 0
 JudgesBytes plain name out file outcome = AreBytes file × JudgesFit plain name out file outcome
 
-pub read_bytes : (plain : Bool) (name out : List ℕ) (held : Option Files) (outcome : Outcome) →
+pub reads_bytes : (plain : Bool) (name out : List ℕ) (held : Option Files) (outcome : Outcome) →
     FitsFile plain name out held outcome → Reads name held (BreaksLengthRule name) (JudgesBytes plain name out) outcome
-read_bytes plain name out held outcome (inl x) = inl x
-read_bytes plain name out held outcome (inr (inl x)) = inr (inl x)
-read_bytes plain name out held outcome (inr (inr (inl x))) = inr (inr (inl x))
-read_bytes plain name out held outcome (inr (inr (inr x))) =
+reads_bytes plain name out held outcome (inl x) = inl x
+reads_bytes plain name out held outcome (inr (inl x)) = inr (inl x)
+reads_bytes plain name out held outcome (inr (inr (inl x))) = inr (inr (inl x))
+reads_bytes plain name out held outcome (inr (inr (inr x))) =
     inr (inr (inr (record {
       bytes = x.bytes;
       told = x.told;
@@ -100,7 +115,7 @@ ends_one files (Some version) a b x y ca cb = x ∙ sym y
 ends_one files (Some (fit plain name out)) a b x y ca cb =
     reads_one (a ≡ b) name files (BreaksLengthRule name) (JudgesBytes plain name out) a b ca cb (λ e. e)
     (λ s t. s ∙ sym t) (λ bytes there s t. judged_one plain name out bytes a b s.0 s.1 t.1)
-    (read_bytes plain name out (Some files) a x) (read_bytes plain name out (Some files) b y)
+    (reads_bytes plain name out (Some files) a x) (reads_bytes plain name out (Some files) b y)
 
 pub fit_is_one : FitIsOne
 fit_is_one words files a b x y ca cb = ends_one files (requested words) a b x y ca cb

@@ -5,14 +5,14 @@ use Rattle.std.proofs.lemmas.Option.{none-some, same_Some}
 use Rattle.doc_bits.specs.Places.{Place}
 use Rattle.plain_doc.specs.declared.document.Document.{Document}
 use Rattle.full_save.specs.Layout.{full_save_image}
-use Rattle.doc_mends.specs.declared.mends.Mend.{Mend}
+use Rattle.file_mends.specs.declared.mends.FileMend.{FileMend}
 use Rattle.doc_outer.specs.Held.{Files, StaysAt, OthersStay}
 use Rattle.run_stages.specs.Lines.{shelf_fault_line}
 use Rattle.run_stages.specs.Outcomes.{Outcome, PutFile, says, IsAfterReading}
 use Rattle.run_stages.proofs.OutcomeLemmas.{said_inside}
 use Rattle.doc_fit.specs.Refusals.{EndsAt}
 use Rattle.docfit_run.specs.Requests.{Request, help, version, fit, requested, PutsUnder}
-use Rattle.docfit_run.specs.Fitted.{JudgesFit, FitsFile, IsSaved}
+use Rattle.docfit_run.specs.Fitted.{FitMends, JudgesRead, JudgesFit, FitsFile, IsSaved}
 use Rattle.docfit_run.specs.Endings.{Ends, IsEnding}
 
 -- what is put has this name, and then the status is 0; the status is none of usage, a failing sink and want of memory
@@ -51,7 +51,7 @@ refused_fine name out file rule place outcome (inr (inl (is, ends))) =
 refused_fine name out file rule place outcome (inr (inr (is, ends))) =
     said_fine out 1 _ outcome ends (quiet 1 (inl (inl (omega arith))))
 
-saved_fine : (out : List ℕ) (document : Document) (lines : List (List ℕ)) (mends : List Mend) (outcome : Outcome) →
+saved_fine : (out : List ℕ) (document : Document) (lines : List (List ℕ)) (mends : FitMends) (outcome : Outcome) →
     IsSaved out document lines mends outcome → IsFine out outcome
 saved_fine out document lines mends outcome (inl put) =
     let same : outcome.status ≡ 0 = ap (λ (o : Outcome). o.status) put.ends in
@@ -67,12 +67,16 @@ saved_fine out document lines mends outcome (inl put) =
     }
 saved_fine out document lines mends outcome (inr many) = said_fine out 9 _ outcome many.ends (quiet 9 (inr (omega arith)))
 
+read_fine : (plain : Bool) (name out read : List ℕ) (mends : List FileMend) (outcome : Outcome) →
+    JudgesRead plain name out read mends outcome → IsFine out outcome
+read_fine plain name out read mends outcome (inl refused) =
+    refused_fine name out read refused.rule refused.place outcome refused.ends
+read_fine plain name out read mends outcome (inr (hold, fitted)) =
+    saved_fine out fitted.document _ _ outcome fitted.saved
+
 judged_fine : (plain : Bool) (name out file : List ℕ) (outcome : Outcome) → JudgesFit plain name out file outcome →
     IsFine out outcome
-judged_fine plain name out file outcome (inl refused) =
-    refused_fine name out file refused.rule refused.place outcome refused.ends
-judged_fine plain name out file outcome (inr (hold, fitted)) =
-    saved_fine out fitted.document _ _ outcome fitted.saved
+judged_fine plain name out file outcome is = read_fine plain name out is.read is.mends outcome is.judged
 
 pub file_fine : (plain : Bool) (name out : List ℕ) (held : Option Files) (outcome : Outcome) →
     FitsFile plain name out held outcome → IsFine out outcome
@@ -93,19 +97,23 @@ refused_inside name file rule place outcome (inl (is, other)) =
 refused_inside name file rule place outcome (inr (inl (is, ends))) = said_inside 16 _ outcome ends (inr (omega arith))
 refused_inside name file rule place outcome (inr (inr (is, ends))) = said_inside 1 _ outcome ends (inl (omega arith))
 
-saved_inside : (out : List ℕ) (document : Document) (lines : List (List ℕ)) (mends : List Mend) (outcome : Outcome) →
+saved_inside : (out : List ℕ) (document : Document) (lines : List (List ℕ)) (mends : FitMends) (outcome : Outcome) →
     IsSaved out document lines mends outcome → IsAfterReading outcome.status
 saved_inside out document lines mends outcome (inl put) =
     let same : outcome.status ≡ 0 = ap (λ (o : Outcome). o.status) put.ends in
     inl (omega (arith, same))
 saved_inside out document lines mends outcome (inr many) = said_inside 9 _ outcome many.ends (inr (omega arith))
 
+read_inside : (plain : Bool) (name out read : List ℕ) (mends : List FileMend) (outcome : Outcome) →
+    JudgesRead plain name out read mends outcome → IsAfterReading outcome.status
+read_inside plain name out read mends outcome (inl refused) =
+    refused_inside name read refused.rule refused.place outcome refused.ends
+read_inside plain name out read mends outcome (inr (hold, fitted)) =
+    saved_inside out fitted.document _ _ outcome fitted.saved
+
 pub judged_inside : (plain : Bool) (name out file : List ℕ) (outcome : Outcome) →
     JudgesFit plain name out file outcome → IsAfterReading outcome.status
-judged_inside plain name out file outcome (inl refused) =
-    refused_inside name file refused.rule refused.place outcome refused.ends
-judged_inside plain name out file outcome (inr (hold, fitted)) =
-    saved_inside out fitted.document _ _ outcome fitted.saved
+judged_inside plain name out file outcome is = read_inside plain name out is.read is.mends outcome is.judged
 
 -- an ending of a request
 said_nothing : (status : ℕ) (text : List ℕ) (outcome : Outcome) (file : PutFile) → outcome ≡ says status text →

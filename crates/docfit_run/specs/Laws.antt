@@ -7,20 +7,29 @@ use Rattle.full_save.specs.Layout.{full_save_image}
 use Rattle.doc_read.specs.Holds.{HoldsDocument, IsAccepted, all_rules}
 use Rattle.run_stages.specs.Outcomes.{Outcome, PutFile}
 use Rattle.doc_mends.specs.declared.mends.Mend.{Mend}
+use Rattle.file_mends.specs.declared.mends.FileMend.{FileMend}
 use Rattle.doc_fit.specs.Noted.{AreNoted, IsDocumentWith}
+use Rattle.doc_fit.specs.ReadAs.{IsReadAs}
 use Rattle.docfit_run.specs.Fitted.{IsFitted}
 use Rattle.docfit_run.specs.Endings.{IsEnding}
 
--- the bytes are accepted, and hold the mended document of what the file means, with its endnotes as notes where they can
--- be, unless it is to be plain
-pub record IsHeldFit (plain : Bool) (file bytes : List ℕ) : Type 0 where
+-- the bytes are accepted, and hold the mended document of what is read in place of a file, with its endnotes as notes
+-- where they can be, unless it is to be plain
+pub record IsHeldRead (plain : Bool) (read bytes : List ℕ) : Type 0 where
   pub noted : Bool
-  pub are_noted : AreNoted plain file noted
+  pub are_noted : AreNoted plain read noted
   pub document : Document
   pub mends : List Mend
-  pub document_is : IsDocumentWith noted file document mends
+  pub document_is : IsDocumentWith noted read document mends
   pub accepted : Hold (all_rules bytes)
   pub holds : HoldsDocument bytes document
+
+-- the same of the file
+pub record IsHeldFit (plain : Bool) (file bytes : List ℕ) : Type 0 where
+  pub mends : List FileMend
+  pub read : List ℕ
+  pub read_as : IsReadAs file mends read
+  pub held : IsHeldRead plain read bytes
 
 -- what is put under the name is so
 abbrev pub FitsAreHeld : Type 0

@@ -4,7 +4,7 @@ use Rattle.full_save.specs.Layout.{IsTooLarge}
 use Rattle.full_save.specs.declared.fault.SaveFault.{SaveFault}
 use Rattle.run_stages.specs.Outcomes.{puts, says}
 use Rattle.docfit_run.specs.Lines.{needs_line}
-use Rattle.docfit_run.specs.Fitted.{IsSaved, fit_report}
+use Rattle.docfit_run.specs.Fitted.{FitMends, IsSaved, fit_report}
 use Rattle.docfit_run.proofs.fitting.save.Goals as goal
 
 pub returns-in-Ok : goal.returns-in-Ok
@@ -13,7 +13,7 @@ returns-in-Ok c =
     let out = c.args.out.now in
     let bytes = c.in-Ok.bytes in
     let lines = opened.losses in
-    let mends = opened.mends.items in
+    let mends : FitMends = record { of_file = c.args.mends.now; of_document = opened.mends.items } in
     IfOk-weaker c.put_ending.result (λ e. e ≡ puts (fit_report (length bytes) lines mends) out bytes)
     (λ e. IsSaved out opened.lifted.document lines mends e)
     (λ e is. inl (record {
@@ -29,6 +29,7 @@ returns-in-Err-TooLarge c =
     let large = subst (λ (f : SaveFault). IsTooLarge opened.lifted.document f) c.in-Err-TooLarge.field-0-is
     c.in-Err-TooLarge.ensures in
     IfOk-weaker c.too_large.result (λ e. e ≡ says 9 (needs_line sectors))
-    (λ e. IsSaved out opened.lifted.document opened.losses opened.mends.items e)
+    (λ e. IsSaved out opened.lifted.document opened.losses
+    (record { of_file = c.args.mends.now; of_document = opened.mends.items }) e)
     (λ e is. inr (record { over = large.0; ends = is ∙ ap (λ (s : ℕ). says 9 (needs_line s)) large.1 }))
     c.too_large.ensures

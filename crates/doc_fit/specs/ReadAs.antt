@@ -1,0 +1,75 @@
+-- What is read in place of a file: the file with its last sector filled, where it is cut, and with the parts emptied
+-- that break their own rules.
+use Rattle.std.specs.Prelude.{◌≡◌, ◌⊎◌, ℕ, Bool, zero, suc, List, [], ◌∷◌, ◌++◌, MatchResult}
+use Rattle.doc_bits.specs.Places.{Place, IsFirstPlace}
+use Rattle.doc_read.specs.Holds.{IsAccepted}
+use Rattle.file_rules.specs.Faults.{IsReadFault}
+use Rattle.file_mends.specs.declared.mends.FileMend.{FileMend}
+use Rattle.file_mends.specs.Sectors.{FillsSector}
+use Rattle.file_mends.specs.Mends.{FileCopy, MendsRule, bytes_read}
+use Rattle.doc_fit.specs.declared.file_opening.OpenedFile.{OpenedFile}
+use Rattle.doc_fit.specs.Noted.{IsOpenedFit}
+use Rattle.doc_fit.specs.Rules.{fit_rules}
+
+-- the first broken rule of a file is mended in another one
+pub record MendsFirst (file : List ℕ) (mend : FileMend) (mended : List ℕ) : Type 0 where
+  pub rule : ℕ
+  pub place : Place
+  pub first : IsFirstPlace (fit_rules file) rule place
+  pub mends : MendsRule file rule place.1 mend mended
+
+-- there is none, or it is none that is mended
+abbrev pub HasNoMend : List ℕ → Type 0
+HasNoMend file = (mend : FileMend) (mended : List ℕ) → ¬ MendsFirst file mend mended
+
+-- each of these mends is that of the first broken rule of what those before it made; what they all make has none that
+-- is mended, or there are as many as there may be
+abbrev pub MendsInTurn : ℕ → List ℕ → List FileMend → List ℕ → Type 0
+MendsInTurn most file [] read = (read ≡ file) × ((most ≡ 0) ⊎ HasNoMend file)
+MendsInTurn zero file (mend ∷ mends) read = ⊥
+MendsInTurn (suc more) file (mend ∷ mends) read =
+    (mended : List ℕ) × (MendsFirst file mend mended × MendsInTurn more mended mends read)
+
+-- how many parts there are that a document goes without: each is emptied once
+abbrev pub part_count : ℕ
+part_count = 6
+
+-- a file that is accepted is read as it is, and so is one whose first broken rule is none that is mended
+abbrev pub MendsRules : (file whole : List ℕ) → List FileMend → List ℕ → Type 0
+MendsRules file whole mends read =
+    ((IsAccepted file ⊎ HasNoMend whole) × ((mends ≡ []) × (read ≡ whole)))
+    ⊎ ((¬ IsAccepted file) × MendsInTurn part_count whole mends read)
+
+-- the mends of a file, and what is read in place of it
+pub record IsReadAs (file : List ℕ) (mends : List FileMend) (read : List ℕ) : Type 0 where
+  pub whole : List ℕ
+  pub sector : List FileMend
+  pub fills : FillsSector file sector whole
+  pub parts : List FileMend
+  pub mends_are : mends ≡ sector ++ parts
+  pub emptied : MendsRules file whole parts read
+
+-- what is read is opened, or it breaks a rule first
+abbrev pub IsOpenedAs : Bool → List ℕ → OpenedFile → Type 0
+IsOpenedAs plain read found = MatchResult found.opened (IsOpenedFit plain read) (IsReadFault (fit_rules read))
+
+pub record IsOpenedFile (plain : Bool) (file : List ℕ) (found : OpenedFile) : Type 0 where
+  pub read_as : IsReadAs file found.mended.mends (bytes_read file found.mended)
+  pub opened : IsOpenedAs plain (bytes_read file found.mended) found
+
+-- the first broken rule of what is read is mended, and the mend stands behind the others
+pub record MendsCopyFirst (file : List ℕ) (old new : FileCopy) (mend : FileMend) : Type 0 where
+  pub mends : MendsFirst (bytes_read file old) mend (bytes_read file new)
+  pub list : new.mends ≡ old.mends ++ mend ∷ []
+
+-- there is none that is mended, and all stays
+pub record StaysFirst (file : List ℕ) (old new : FileCopy) : Type 0 where
+  pub same : new ≡ old
+  pub none : HasNoMend (bytes_read file old)
+
+-- a file is opened or refused behind mends that are made already
+pub record IsMendedOn (plain : Bool) (file : List ℕ) (most : ℕ) (before : FileCopy) (found : OpenedFile) : Type 0 where
+  pub more : List FileMend
+  pub mends_are : found.mended.mends ≡ before.mends ++ more
+  pub in_turn : MendsInTurn most (bytes_read file before) more (bytes_read file found.mended)
+  pub opened : IsOpenedAs plain (bytes_read file found.mended) found

@@ -1,0 +1,5 @@
+pub mod Sectors
+pub mod Parts
+pub mod Places
+pub mod Mends
+pub mod Lines

@@ -1,0 +1,18 @@
+-- The line of each mend of a file.
+use Rattle.std.specs.Prelude.{ℕ, List, [], ◌∷◌, ◌++◌, codes}
+use Rattle.std.specs.Fmt.{decimal}
+use Rattle.fib_versions.specs.PartNames.{name_of_part}
+use Rattle.file_mends.specs.declared.mends.FileMend.{FileMend}
+use Rattle.file_mends.specs.declared.mends.FileMend.TheVariants.{LastSectorFilled, PartEmptied}
+
+-- how many bytes were missing
+abbrev pub sector_line : ℕ → List ℕ
+sector_line missing = codes "sector " ++ (decimal missing ++ (codes ": filled" ++ 10 ∷ []))
+
+-- the part by its number and its name
+abbrev pub part_line : ℕ → List ℕ
+part_line n = codes "part " ++ (decimal n ++ (32 ∷ [] ++ (name_of_part n ++ (codes ": emptied" ++ 10 ∷ []))))
+
+abbrev pub file_mend_line : FileMend → List ℕ
+file_mend_line (LastSectorFilled missing) = sector_line missing
+file_mend_line (PartEmptied n) = part_line n
