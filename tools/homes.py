@@ -12,7 +12,9 @@ LEMMA_TEXT = r"(?:^--.*\n)*^(?:abbrev |unfoldable )?(?:pub )?{name} :.*\n(?:(?:[
 
 
 def words_in(text, pattern):
-    return {it.text for it in tokens_of(pattern, text) if it.kind != "comment"}
+    found = [it for it in tokens_of(pattern, text) if it.kind != "comment"]
+    pairs = zip(found, found[1:])
+    return {it.text for it in found} | {"[]" for it, behind in pairs if it.text + behind.text == "[]" and it.end == behind.start}
 
 
 def is_used(local, words):

@@ -50,4 +50,10 @@ class Layers(OverPages):
         self.changed("crates.txt", "\ndocview: ", "\nanother: doc_bits\ndocview: ")
         self.assertEqual(self.run_tool("--check")[0], 1)
         self.assertEqual(self.run_tool("--write")[0], 0)
-        self.assertEqual(self.run_tool("--check")[::2], (1, "tools/layers: docs/LAYERS.md has no row of another\n"))
+        self.assertEqual(self.run_tool("--check"), (0, "", ""))
+        self.assertIn("[another](../crates/another/README.md), [docview]", self.read("repository/docs/LAYERS.md").decode())
+
+    def test_a_layer_is_there_once(self):
+        self.changed("crates.txt", "\ndocview: ", "\n# Base\n# None\ndocview: ")
+        self.run_tool("--write")
+        self.assertEqual(self.run_tool("--check")[2], "tools/layers: crates.txt has the layer Base twice\n")

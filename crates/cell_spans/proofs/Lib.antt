@@ -1,1 +1,1 @@
-pub mod WalkLemmas
+mod WalkLemmas

@@ -3,20 +3,19 @@ use Rattle.std.proofs.Common.{◌≡◌, ◌∙◌, ◌<◌, ◌≤◌, ℕ, suc
 use Rattle.std.proofs.Common.{Option, Some, refl, sym, ap, subst, arith, append_assoc, zero, ◌&&◌, inl, inr}
 use Rattle.std.specs.Prelude.{slice_get, if◌then◌else◌}
 use Rattle.std.proofs.lemmas.Bool.{cases_lt}
-use Rattle.doc_bits.proofs.TestLemmas.{and_true}
+use Rattle.doc_bits.proofs.Public.{and_true, take_step}
 use Rattle.cell_spans.specs.Definition.{ascends, is_wide}
 use Rattle.std.proofs.Math.ListN.{drop_of_length-le}
 use Rattle.std.proofs.Math.Seq.{drop-cons}
 use Rattle.std.proofs.lemmas.List.{map-append, take_all}
 use Rattle.std.proofs.lemmas.Option.{get_or_from_slice_get, slice_get_within}
-use Rattle.doc_bits.proofs.ListLemmas.{take_step}
 use Rattle.view_places.specs.declared.element.Span.{Span}
 use Rattle.cell_spans.specs.declared.rows.RowCell.{RowCell}
 use Rattle.cell_spans.specs.Rows.{cells_of, joins_behind, row_cell}
 use Rattle.cell_spans.specs.Spans.{Row, before_at, cell_span, edges_of, edges_of_rows, edges_with, goes_on_in, known_row}
 use Rattle.cell_spans.specs.Spans.{row_at, rows_below, spans_from}
 
--- what stands from a place on
+-- what is from a place on
 pub rest_is : {A : Type 0} (xs : List A) (k : ℕ) (x : A) → slice_get xs k ≡ Some x → drop k xs ≡ x ∷ drop (k + 1) xs
 rest_is {A = A} xs k x is =
     let one : suc k ≡ k + 1 = omega arith in

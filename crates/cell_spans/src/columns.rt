@@ -9,10 +9,10 @@ use std::alloc::Global;
 use std::marker::Model;
 
 /// How many edges of a table are counted.
-const MOST_EDGES: usize = 256;
+const MAX_EDGES: usize = 256;
 
 /// How many columns a cell reaches over at most.
-const MOST_COLUMNS: usize = 999;
+const MAX_COLUMNS: usize = 999;
 
 /// The edges of the rows of a table, each once.
 #[derive(Drop)]
@@ -42,7 +42,7 @@ impl Edges {
     fn add(&mut self, edge: u16) -> Result<(), Memory>
         ensures { OnOk result (self.new ≡ edges_with self.old edge) }
     {
-        if has_edge(&self.items, edge) || self.items.len() >= MOST_EDGES {
+        if has_edge(&self.items, edge) || self.items.len() >= MAX_EDGES {
             return Ok(());
         }
         self.items.push(edge)?;
@@ -64,7 +64,7 @@ impl Edges {
     pub(crate) fn across(&self, cell: RowCell) -> u16
         ensures { result ≡ column_count self.now cell }
     {
-        count_between(&self.items, cell).max(1).min(MOST_COLUMNS) as u16
+        count_between(&self.items, cell).max(1).min(MAX_COLUMNS) as u16
     }
 }
 

@@ -6,7 +6,7 @@ ghost use Rattle.cell_spans.specs.Definition.{right_definition};
 use doc_bits::get16;
 
 /// How many cells a row may have.
-const MOST_CELLS: u8 = 63;
+const MAX_CELLS: u8 = 63;
 
 /// How many bytes a [MS-DOC] TC80 has.
 const CELL_LEN: usize = 20;
@@ -32,7 +32,7 @@ fn count_in(count: u8, len: usize) -> usize
     ensures few { result ≤ 63 }
 {
     let number = count as usize;
-    if count <= MOST_CELLS && 3 + 2 * number <= len {
+    if count <= MAX_CELLS && 3 + 2 * number <= len {
         number
     } else {
         0

@@ -12,7 +12,7 @@ use std::marker::Model;
 use view_places::Span;
 
 /// How many rows a cell reaches over at most, as HTML has it.
-const MOST_ROWS: usize = 65_534;
+const MAX_ROWS: usize = 65_534;
 
 /// How far a cell reaches that is one of its row and column.
 pub fn single() -> Span
@@ -183,7 +183,7 @@ fn row_count(rows: &[RowCells], next: usize, cell: RowCell) -> u16
     if !cell.is_vertical {
         return 1;
     }
-    (rows_below(rows, next, cell) + 1).min(MOST_ROWS) as u16
+    (rows_below(rows, next, cell) + 1).min(MAX_ROWS) as u16
 }
 
 /// In how many rows, from one on, a cell goes on.

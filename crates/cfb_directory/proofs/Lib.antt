@@ -1,5 +1,6 @@
-pub mod ReachLemmas
-pub mod LinkLemmas
-pub mod OrderLemmas
-pub mod NameLemmas
-pub mod EntryLemmas
+pub mod Public
+mod ReachLemmas
+mod LinkLemmas
+mod OrderLemmas
+mod NameLemmas
+mod EntryLemmas

@@ -1,14 +1,14 @@
--- The links that are judged, as a list of their places.
+-- The links that are checked, as a list of their places.
 use Rattle.std.proofs.Common.{◌≡◌, inl, inr, ℕ, ◌+◌, ◌<◌, ◌≤◌, Option, List, [], ◌∷◌, ◌++◌, length, slice_index, refl}
 use Rattle.std.proofs.Common.{sym, ap, ◌∙◌, subst, arith}
 use Rattle.std.proofs.lemmas.Bool.{cases_lt, cases_eq}
 use Rattle.doc_bits.specs.Number.{u32_at}
 use Rattle.doc_bits.specs.Rules.{Among, LeastOrNone}
-use Rattle.doc_bits.proofs.RuleLemmas.{least_same}
+use Rattle.doc_bits.proofs.Public.{least_same}
 use Rattle.cfb_sectors.specs.SectorChain.{HasSector}
 use Rattle.cfb_directory.specs.Reach.{entry_place, IsReachedEntry, IsLink, IsNamedBefore, BreaksLink}
 use Rattle.cfb_directory.specs.Links.{ListsLinks, IsFirstNamed, IsWrongAt}
-use Rattle.cfb_sectors.proofs.ChainLemmas.{pushed_before, pushed_last, length_pushed}
+use Rattle.cfb_sectors.proofs.Public.{pushed_before, pushed_last, length_pushed}
 
 -- the links of the root's child and of the first entries
 pub record IsLinkFront (file directory order : List ℕ) (count : ℕ) (links : List ℕ) : Type 0 where

@@ -137,7 +137,7 @@ before_other file a b not one = elim (cases_order (entry_name_length file a) (en
       ]
 ]
 
--- a list with one number more: what stands before it, the number, and what comes after it
+-- a list with one number more: what is before it, the number, and what comes after it
 pub record IsMoved (xs ys : List ℕ) (place i : ℕ) : Type 0 where
   pub from : ℕ
   pub after : place ≤ from
@@ -258,7 +258,7 @@ order_insert file directory entries entry place order first apart i j less low =
       ]
     ]
 
--- entries of a directory stand apart
+-- entries of a directory are apart
 pub place_apart : (directory : List ℕ) (a b : ℕ) →
     ((i j : ℕ) → i < j → j < length directory → slice_index directory i ≢ slice_index directory j) →
     a < entry_count directory → b < entry_count directory → entry_place directory a ≡ entry_place directory b → a ≡ b

@@ -9,8 +9,7 @@ use Rattle.cfb_directory.specs.Reach.{entry_place, entry_count, IsEntry, IsReach
 use Rattle.cfb_directory.specs.Reach.{ListsReached}
 use Rattle.cfb_directory.specs.Reach.{AmongReached}
 use Rattle.doc_bits.specs.Rules.{Among, LeastOrNone}
-use Rattle.doc_bits.proofs.RuleLemmas.{least_same}
-use Rattle.cfb_sectors.proofs.ChainLemmas.{length_below}
+use Rattle.doc_bits.proofs.Public.{least_same, length_below}
 
 -- what is in the old list is in the new one
 pub follows_has : (count link : ℕ) (old new : List ℕ) (k : ℕ) → Follows count link old new → HasSector old k →

@@ -1,4 +1,4 @@
--- [MS-CFB] Directory Entry: 128 bytes, whose fields are named here by the offset in the file at which the entry stands.
+-- [MS-CFB] Directory Entry: 128 bytes, whose fields are named here by the offset in the file at which the entry is.
 use Rattle.std.specs.Prelude.{◌≡◌, ◌⊎◌, ℕ, ◌+◌, ◌-◌, ◌*◌, ◌/◌, ◌<◌, List, length, slice_index, slice_range, nat_lt}
 use Rattle.std.specs.Prelude.{if◌then◌else◌}
 use Rattle.doc_bits.specs.Number.{u16_at, u32_at}

@@ -1,10 +1,10 @@
--- Lists that the judge of the links keeps: the places of all links, and for each entry the first link that names it.
+-- Lists that the check of the links keeps: the places of all links, and for each entry the first link that names it.
 use Rattle.std.specs.Prelude.{◌≡◌, ℕ, ◌<◌, ◌≤◌, ◌+◌, List, length, slice_index}
 use Rattle.doc_bits.specs.Number.{u32_at}
 use Rattle.cfb_sectors.specs.SectorChain.{HasSector}
 use Rattle.cfb_directory.specs.Reach.{IsLink, IsWrongLink}
 
--- the places of the links that are judged
+-- the places of the links that are checked
 pub record ListsLinks (file directory links : List ℕ) : Type 0 where
   pub sound : (i : ℕ) → i < length links → IsLink file directory (slice_index links i)
   pub complete : (place : ℕ) → IsLink file directory place → HasSector links place

@@ -28,7 +28,7 @@ pub record IsDirectory (file directory : List ℕ) : Type 0 where
   pub holds : HoldsChain (fat_table file) (directory_head file) directory
   pub short : length directory ≤ 256
 
--- entry k of a directory of these sectors stands here; there are four of them in each sector
+-- entry k of a directory of these sectors is here; there are four of them in each sector
 abbrev pub entry_place : List ℕ → ℕ → ℕ
 entry_place directory k = (slice_index directory (k / 4) + 1) * sector_len + 128 * (k % 4)
 
@@ -61,7 +61,7 @@ pub record IsSideLink (file directory : List ℕ) (place : ℕ) : Type 0 where
   pub reached : IsReachedEntry file directory entry
   pub here : (place ≡ entry_place directory entry + 68) ⊎ (place ≡ entry_place directory entry + 72)
 
--- the links that are judged stand at these places
+-- the links that are checked are at these places
 abbrev pub IsLink : List ℕ → List ℕ → ℕ → Type 0
 IsLink file directory place = (place ≡ entry_place directory 0 + 76) ⊎ IsSideLink file directory place
 
@@ -107,7 +107,7 @@ BreaksTree file directory place = BreaksLink file directory place ⊎ AmongReach
 abbrev pub IsWrongNameLength : ℕ → Type 0
 IsWrongNameLength len = (len % 2 ≢ 0) ⊎ ((len < 4) ⊎ (64 < len))
 
--- an entry that stands at a lower offset has the same name
+-- an entry that is at a lower offset has the same name
 pub record IsNameTaken (file directory : List ℕ) (at : ℕ) : Type 0 where
   pub earlier : ℕ
   pub reached : IsReachedEntry file directory earlier

@@ -4,7 +4,7 @@ use Rattle.cfb_sectors.specs.Chain.{Head}
 use Rattle.cfb_directory.specs.Directory.{entry_type, entry_start, entry_size}
 use Rattle.cfb_directory.specs.Reach.{entry_place, IsReachedEntry}
 
--- the chain of the stream whose entry stands at an offset, in sectors of so many bytes
+-- the chain of the stream whose entry is at an offset, in sectors of so many bytes
 abbrev pub stream_head : List ℕ → ℕ → ℕ → Head
 stream_head file unit at = record
     { field = at + 116; start = entry_start file at; unit = unit; size = entry_size file at }
@@ -19,7 +19,7 @@ pub record IsLargeStream (file directory : List ℕ) (entry : ℕ) : Type 0 wher
   pub is_entry : IsStreamEntry file directory entry
   pub large : 4096 ≤ entry_size file (entry_place directory entry)
 
--- a shorter one that is not empty stands in mini sectors
+-- a shorter one that is not empty is in mini sectors
 pub record IsSmallStream (file directory : List ℕ) (entry : ℕ) : Type 0 where
   pub is_entry : IsStreamEntry file directory entry
   pub some : 0 < entry_size file (entry_place directory entry)

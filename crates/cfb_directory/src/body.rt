@@ -36,7 +36,7 @@ pub(crate) fn body_of(file: &[u8], directory: &[u32], entry: u32) -> Body
     }
 }
 
-/// The claim of the stream whose entry stands at an offset, in sectors of so many bytes.
+/// The claim of the stream whose entry is at an offset, in sectors of so many bytes.
 pub fn stream_claim(file: &[u8], at: usize, unit: usize) -> Claim
     requires short { length file.now < 2 ^ 32 }
     requires inside { at + 128 ≤ length file.now }

@@ -1,4 +1,4 @@
-// [MS-CFB] Directory entries, by the offset in the file at which they stand, and those that the root reaches.
+// [MS-CFB] Directory entries, by the offset in the file at which they are, and those that the root reaches.
 ghost use Rattle.std.specs.Prelude.{◌≡◌, [], ◌+◌, ◌*◌, ◌<◌, ◌≤◌, IfOk, OnOk, length};
 ghost use Rattle.doc_bits.specs.Rules.{LeastOrNone};
 ghost use Rattle.cfb_sectors.specs.Chain.{AreSectorsOf};
@@ -43,7 +43,7 @@ pub const NOSTREAM: u32 = 0xFFFF_FFFF;
 /// The entries of one sector.
 const ENTRIES: usize = 4;
 
-/// Where entry `k` of a directory in these sectors stands.
+/// Where entry `k` of a directory in these sectors is.
 pub fn entry_place(file: &[u8], directory: &[u32], k: usize) -> usize
     requires sectors { AreSectorsOf file.now directory.now }
     requires there { k < entry_count directory.now }

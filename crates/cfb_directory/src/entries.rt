@@ -48,7 +48,7 @@ impl<'a> Model for Entries<'a> {
 }
 
 impl<'a> Entries<'a> {
-    /// Judges the rules 7 to 9 of the directory that has these sectors.
+    /// Checks the rules 7 to 9 of the directory that has these sectors.
     pub fn read(alloc: Global, file: &'a [u8], directory: Vec<u32>) -> Result<Entries<'a>, CfbFault>
         requires inside { AreSectorsOf file.now directory.items }
         requires directory_is { IsDirectory file.now directory.items }
@@ -70,7 +70,7 @@ impl<'a> Entries<'a> {
         })
     }
 
-    /// Judges rule 10.
+    /// Checks rule 10.
     pub fn check_storages(&self) -> Result<(), CfbFault>
         ensures { MatchResult result
             (λ _. Nowhere (BreaksStorage self.now.file self.now.directory))

@@ -13,7 +13,7 @@ use crate::directory::{
 use doc_bits::{Memory, get32, lesser};
 use std::alloc::Global;
 
-/// The places of the links that are judged: the root's child, and left and right of the entries
+/// The places of the links that are checked: the root's child, and left and right of the entries
 /// that are reached.
 fn list_links(
     alloc: Global,

@@ -2,7 +2,7 @@
 use Rattle.std.proofs.Common.{◌≡◌, ℕ, ◌<◌, List, length, slice_index, refl, sym, ap, ◌∙◌, arith}
 use Rattle.cfb_sectors.specs.Header.{fat_sectors}
 use Rattle.cfb_sectors.specs.Chain.{fat_table, IsTable}
-use Rattle.cfb_sectors.proofs.FatLemmas.{length-fat_sectors}
+use Rattle.cfb_sectors.proofs.Public.{length-fat_sectors}
 use Rattle.cfb_in_place.specs.Change.{StreamChange, OldChains, Added, added_for, added_sectors, grown_bytes}
 use Rattle.cfb_in_place.specs.Tables.{ChangesFat}
 use Rattle.cfb_in_place.proofs.FileAfter.{Before, added_of, sizes_of, entry_after}

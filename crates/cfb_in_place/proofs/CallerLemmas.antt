@@ -8,7 +8,7 @@ use Rattle.cfb_in_place.specs.Change.{StreamChange, grown_bytes}
 use Rattle.cfb_in_place.specs.InPlace.{StaysInPlace}
 use Rattle.cfb_in_place.specs.Contract.{IsNamed, CanBeAppended, IsSavedInPlace}
 use Rattle.cfb_in_place.proofs.InPlaceLemmas.{same_stream}
-use Rattle.cfb_streams.proofs.SameNameLemmas.{named_place}
+use Rattle.cfb_streams.proofs.Public.{named_place}
 use Rattle.cfb_in_place.proofs.ContentsAgain.{save_stays, grown_bytes_are}
 
 -- a stream by its name

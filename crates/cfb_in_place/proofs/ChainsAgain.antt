@@ -13,8 +13,7 @@ use Rattle.cfb_directory.specs.Reach.{entry_place, IsDirectory, directory_head}
 use Rattle.cfb_directory.specs.StreamEntries.{stream_head}
 use Rattle.cfb_streams.specs.StreamRules.{Owner, of_directory, of_stream, Owns}
 use Rattle.cfb_layout.specs.Sectors.{start_of}
-use Rattle.cfb_layout.proofs.SectorLemmas.{chains_chain}
-use Rattle.cfb_layout.proofs.HeldLemmas.{owners_apart}
+use Rattle.cfb_layout.proofs.Public.{chains_chain, owners_apart}
 use Rattle.cfb_in_place.specs.Change.{fresh_from}
 use Rattle.cfb_in_place.specs.Appended.{chain_after}
 use Rattle.cfb_in_place.specs.Save.{LeavesSectors, nothing, mini_sectors, sectors}

@@ -7,22 +7,22 @@ use Rattle.std.proofs.lemmas.Bool.{cases_lt, cases_eq}
 use Rattle.std.proofs.lemmas.List.{ext_get_or, get_or-take, get_or-drop, take-append-le, take_all, get_or_past}
 use Rattle.std.proofs.lemmas.Option.{slice_get_within}
 use Rattle.doc_bits.specs.Number.{zeros}
-use Rattle.doc_bits.proofs.ListLemmas.{length-range, there_is}
+use Rattle.doc_bits.proofs.Public.{length-range, there_is}
 use Rattle.cfb_sectors.specs.Header.{sector_count, sector_bytes, valid_below}
 use Rattle.cfb_sectors.specs.SectorChain.{HasSector}
 use Rattle.cfb_sectors.specs.Chain.{Head, fat_table, HoldsChain}
-use Rattle.cfb_sectors.proofs.JudgeLemmas.{holds_unique}
+use Rattle.cfb_sectors.proofs.Public.{holds_unique}
 use Rattle.cfb_directory.specs.Directory.{IsNameOf, EntryBefore, upper_case, entry_size, entry_clsid}
 use Rattle.cfb_directory.specs.Directory.{entry_name_units, AreSameNames}
 use Rattle.cfb_directory.specs.Reach.{entry_place, IsReachedEntry}
 use Rattle.cfb_directory.specs.Order.{ListsStreams}
 use Rattle.cfb_directory.specs.StreamEntries.{stream_head}
-use Rattle.cfb_directory.proofs.ReachLemmas.{reached_there}
+use Rattle.cfb_directory.proofs.Public.{reached_there}
 use Rattle.cfb_streams.specs.StreamRules.{Owner, of_fat, of_directory, of_mini_fat, of_mini_stream, of_stream, Owns}
 use Rattle.cfb_streams.specs.Contents.{Stream, Contents}
 use Rattle.cfb_streams.specs.Container.{mini_bytes, IsStreamOf, HasContents}
 use Rattle.cfb_layout.specs.Sectors.{padded}
-use Rattle.cfb_layout.proofs.HeldLemmas.{owners_apart, entries_apart}
+use Rattle.cfb_layout.proofs.Public.{owners_apart, entries_apart}
 use Rattle.cfb_in_place.specs.Change.{StreamChange, OldChains, grown_bytes, added_sectors, fresh_from}
 use Rattle.cfb_in_place.specs.Appended.{SameBytes, joined, chain_after, IsTouched, in_grown, in_fat, in_mini_fat}
 use Rattle.cfb_in_place.specs.Appended.{in_directory, in_added}

@@ -8,7 +8,7 @@ use Rattle.std.specs.List.{flat_map, range_with_len}
 use Rattle.std.proofs.lemmas.Bool.{cases_lt, cases_eq, eq-eqb, ne_eqb, cond-true, cond-false}
 use Rattle.std.proofs.lemmas.List.{get_or_append_left, get_or-append_right, get_or-take}
 use Rattle.doc_bits.specs.Number.{number_bytes}
-use Rattle.doc_bits.proofs.NumberLemmas.{length-number_bytes}
+use Rattle.doc_bits.proofs.Public.{length-number_bytes, range_index, length-range}
 use Rattle.cfb_sectors.specs.Header.{sector_count}
 use Rattle.cfb_directory.specs.Directory.{entry_start}
 use Rattle.cfb_directory.specs.Reach.{entry_place}
@@ -23,9 +23,8 @@ use Rattle.cfb_in_place.proofs.FileAfter.{Before, added_of}
 use Rattle.cfb_in_place.proofs.FileAfter.{size_byte, directory_byte}
 use Rattle.cfb_in_place.proofs.TablesThere.{entry_byte}
 use Rattle.cfb_in_place.proofs.TablesThere.{byte_front, byte_other, byte_grown, byte_table}
-use Rattle.cfb_in_place.proofs.SliceLemmas.{blocks_in, length_blocks, length_range, spelled_back}
+use Rattle.cfb_in_place.proofs.SliceLemmas.{blocks_in, length_blocks, spelled_back}
 use Rattle.cfb_in_place.proofs.TablesMade.{AreOf, parts_of, IsMade, moved}
-use Rattle.doc_bits.proofs.ListLemmas.{range_index}
 
 -- an entry of the directory with its new start and size
 pub headed_is : (head : NewHead) (xs : List ℕ) (o : ℕ) → length xs ≡ 128 → o < 128 →
@@ -182,13 +181,13 @@ directory_made b sources s index are low of =
     let inside = of.inside in
     let here = of.here in
     let bytes = old_sector b.old s in
-    let whole = length_range b.old ((s + 1) * 512) ((s + 1) * 512 + 512) (omega arith) in
+    let whole = length-range b.old ((s + 1) * 512) ((s + 1) * 512 + 512) (omega arith) in
     let f : ℕ → List ℕ = λ k. entry_with (grown_head_of b) (table_head_of b) (4 * index + k) (slice_range bytes (128 *
     k)
     (128 * k + 128)) in
     let old : (k : ℕ) → k < 4 → IsOldEntry b (4 * index + k) (slice_range bytes (128 * k) (128 * k + 128)) = λ k h.
     record {
-      len = (let len = length_range bytes (128 * k) (128 * k + 128) (omega arith) in omega arith);
+      len = (let len = length-range bytes (128 * k) (128 * k + 128) (omega arith) in omega arith);
       each = λ o less.
           let sector : slice_index directory ((4 * index + k) / 4) ≡ s = ap (λ n. slice_index directory n) (let e : (4 *
           index + k) / 4 ≡ index = omega arith in e) ∙ here in

@@ -5,7 +5,7 @@ use Rattle.std.proofs.Common.{arith}
 use Rattle.std.proofs.lemmas.Bool.{cases_lt}
 use Rattle.cfb_sectors.specs.SectorChain.{end_of_chain}
 use Rattle.cfb_layout.specs.Sectors.{chains_from, chain_entries, start_of}
-use Rattle.cfb_layout.proofs.SectorLemmas.{chains_at, chain_next, chain_last}
+use Rattle.cfb_layout.proofs.Public.{chains_at, chain_next, chain_last}
 use Rattle.cfb_in_place.specs.Change.{Added, fresh_from, fat_from}
 use Rattle.cfb_in_place.specs.Tables.{IsNewEntry}
 

@@ -10,11 +10,11 @@ use Rattle.doc_bits.specs.Number.{AreBytes, number_bytes, zeros}
 use Rattle.cfb_sectors.specs.Header.{fat_sector_count, fat_sectors, valid_below}
 use Rattle.cfb_sectors.specs.SectorChain.{last_of}
 use Rattle.cfb_sectors.specs.Chain.{fat_table}
-use Rattle.cfb_sectors.proofs.FatLemmas.{fat_few}
+use Rattle.cfb_sectors.proofs.Public.{fat_few}
 use Rattle.cfb_streams.specs.Contents.{Contents}
 use Rattle.cfb_streams.specs.Container.{container_rules, HasContents}
 use Rattle.cfb_layout.specs.Sectors.{chains_from, free_sector, fat_sector_mark, padded}
-use Rattle.cfb_layout.proofs.HeldLemmas.{IsAccepted, accepted}
+use Rattle.cfb_layout.proofs.Public.{IsAccepted, accepted}
 use Rattle.cfb_in_place.specs.Change.{StreamChange, OldChains, Added}
 use Rattle.cfb_in_place.specs.Change.{added_sectors, grown_count, fresh_count, grown_bytes}
 use Rattle.cfb_in_place.specs.Change.{fresh_from, fat_from, end_of, sectors_after}
@@ -86,7 +86,7 @@ mini_after b s = pick (place_in b.chains.freed_mini s) (length b.chains.freed_mi
 unfoldable pub fats_after : Before → List ℕ
 fats_after b = fat_sectors b.old ++ range_with_len (fat_from (added_of b)) (added_of b).fat
 
--- the bytes of the stream that grows with what stands behind it
+-- the bytes of the stream that grows with what is behind it
 unfoldable pub grown_joined : Before → List ℕ
 grown_joined b = grown_bytes b.change b.chains.bytes ++ drop (length (grown_bytes b.change b.chains.bytes))
     (joined b.old b.chains.grown ++ zeros (512 * (added_of b).grown))

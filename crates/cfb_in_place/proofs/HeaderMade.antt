@@ -8,16 +8,15 @@ use Rattle.std.proofs.lemmas.Bool.{cases_lt}
 use Rattle.std.proofs.lemmas.List.{get_or_append_left, get_or-append_right, get_or-take}
 use Rattle.std.proofs.lemmas.List.FromFn.{length-range_with_len, get_or-range_with_len}
 use Rattle.doc_bits.specs.Number.{number_bytes}
-use Rattle.doc_bits.proofs.NumberLemmas.{length-number_bytes}
+use Rattle.doc_bits.proofs.Public.{length-number_bytes, range_index, length-range}
 use Rattle.cfb_sectors.specs.Header.{fat_sector_count}
-use Rattle.cfb_layout.proofs.BytesLemmas.{length-table}
+use Rattle.cfb_layout.proofs.Public.{length-table}
 use Rattle.cfb_in_place.specs.Change.{fat_from}
 use Rattle.cfb_in_place.specs.Sources.{header_after}
 use Rattle.cfb_in_place.proofs.FileAfter.{Before, added_of, before_accepted, sizes_of}
 use Rattle.cfb_in_place.proofs.FileAfter.{header_byte}
 use Rattle.cfb_in_place.proofs.FileAfter.{header_front, header_count, header_middle, header_list, header_rest}
-use Rattle.cfb_in_place.proofs.SliceLemmas.{numbers_at, length_range}
-use Rattle.doc_bits.proofs.ListLemmas.{range_index}
+use Rattle.cfb_in_place.proofs.SliceLemmas.{numbers_at}
 
 -- the header
 pub length_header : (b : Before) → length (header_after b.old (added_of b)) ≡ 512
@@ -33,10 +32,10 @@ length_header b =
     let f = slice_range b.old (76 + 4 * (nf + (added_of b).fat)) 512 in
     let la = length-take 44 b.old in
     let lc = length-number_bytes 4 (nf + (added_of b).fat) in
-    let ld = length_range b.old 48 (76 + 4 * nf) (omega arith) in
+    let ld = length-range b.old 48 (76 + 4 * nf) (omega arith) in
     let le = length-table 4 (range_with_len (fat_from (added_of b)) (added_of b).fat) in
     let lr = length-range_with_len (fat_from (added_of b)) (added_of b).fat in
-    let lf = length_range b.old (76 + 4 * (nf + (added_of b).fat)) 512 (omega arith) in
+    let lf = length-range b.old (76 + 4 * (nf + (added_of b).fat)) 512 (omega arith) in
     let one = length-append a (c ++ (d ++ (e ++ f))) in
     let two = length-append c (d ++ (e ++ f)) in
     let three = length-append d (e ++ f) in
@@ -58,7 +57,7 @@ header_is b at h =
     let f = slice_range b.old (76 + 4 * (nf + more)) 512 in
     let la = length-take 44 b.old in
     let lc = length-number_bytes 4 (nf + more) in
-    let ld = length_range b.old 48 (76 + 4 * nf) (omega arith) in
+    let ld = length-range b.old 48 (76 + 4 * nf) (omega arith) in
     let le = length-table 4 row in
     let lr = length-range_with_len (fat_from (added_of b)) more in
     elim (cases_lt at 44) [

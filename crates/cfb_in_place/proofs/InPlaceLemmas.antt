@@ -24,7 +24,7 @@ use Rattle.cfb_in_place.proofs.WrittenLemmas.{parts_there, written_is}
 use Rattle.cfb_in_place.proofs.NamedLemmas.{there_parts, put_there}
 use Rattle.cfb_in_place.proofs.SavedHolds.{save_holds}
 use Rattle.cfb_in_place.proofs.ContentsAgain.{save_contents}
-use Rattle.doc_bits.proofs.ListLemmas.{set_here, set_other}
+use Rattle.doc_bits.proofs.Public.{set_here, set_other}
 
 -- the sources are those of the file before and of the change
 sources_of : (old : List ℕ) (parts : Parts) (chains : OldChains) (change : StreamChange) (added : Added) (ready :

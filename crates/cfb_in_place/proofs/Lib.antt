@@ -1,30 +1,31 @@
-pub mod CountLemmas
-pub mod PlaceLemmas
-pub mod Saved
-pub mod ChainsAgain
-pub mod TreeAgain
-pub mod StreamsAgain
-pub mod SharingAgain
-pub mod SavedHolds
-pub mod ContentsAgain
-pub mod PickLemmas
-pub mod FileAfter
-pub mod TablesThere
-pub mod SectorsThere
-pub mod FreeLemmas
-pub mod RoleLemmas
-pub mod EntryLemmas
-pub mod TableLemmas
-pub mod SourceLemmas
-pub mod NamedLemmas
-pub mod AfterLemmas
-pub mod ReadyLemmas
-pub mod SliceLemmas
-pub mod TablesMade
-pub mod DirectoryMade
-pub mod StreamsMade
-pub mod HeaderMade
-pub mod WrittenLemmas
-pub mod InPlaceLemmas
-pub mod AllowedLemmas
-pub mod CallerLemmas
+pub mod Public
+mod CountLemmas
+mod PlaceLemmas
+mod Saved
+mod ChainsAgain
+mod TreeAgain
+mod StreamsAgain
+mod SharingAgain
+mod SavedHolds
+mod ContentsAgain
+mod PickLemmas
+mod FileAfter
+mod TablesThere
+mod SectorsThere
+mod FreeLemmas
+mod RoleLemmas
+mod EntryLemmas
+mod TableLemmas
+mod SourceLemmas
+mod NamedLemmas
+mod AfterLemmas
+mod ReadyLemmas
+mod SliceLemmas
+mod TablesMade
+mod DirectoryMade
+mod StreamsMade
+mod HeaderMade
+mod WrittenLemmas
+mod InPlaceLemmas
+mod AllowedLemmas
+mod CallerLemmas

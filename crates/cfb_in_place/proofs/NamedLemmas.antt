@@ -14,10 +14,9 @@ use Rattle.cfb_streams.specs.StreamRules.{Parts, IsMiniFat, IsMiniStream}
 use Rattle.cfb_streams.specs.Contents.{Stream, Contents}
 use Rattle.cfb_streams.specs.Layout.{Places, IsLayout}
 use Rattle.cfb_streams.specs.Container.{HasContents, IsStreamOf, mini_bytes}
-use Rattle.cfb_streams.proofs.SingleLemmas.{directory_unique, mini_fat_unique, mini_stream_unique}
-use Rattle.cfb_streams.proofs.UniqueLemmas.{lists_unique}
+use Rattle.cfb_streams.proofs.Public.{directory_unique, mini_fat_unique, mini_stream_unique, lists_unique}
 use Rattle.cfb_streams.specs.Names.{wd_name}
-use Rattle.cfb_layout.proofs.HeldLemmas.{entries_apart}
+use Rattle.cfb_layout.proofs.Public.{entries_apart}
 use Rattle.cfb_in_place.specs.Change.{StreamChange, OldChains, grown_bytes}
 use Rattle.cfb_in_place.specs.Contract.{IsNamed, AreTwoStreams, CanBeAppended, AreNamedChains}
 use Rattle.cfb_in_place.specs.Save.{LeavesSectors, nothing, mini_sectors, sectors, AreOldChains, IsMiniChain}

@@ -3,7 +3,7 @@ use Rattle.std.proofs.Common.{◌≡◌, ◌≢◌, inl, inr, ℕ, zero, suc, �
 use Rattle.std.proofs.Common.{slice_index, refl, sym, ap, ◌∙◌, arith, append-nil, nat_lt, if◌then◌else◌}
 use Rattle.std.proofs.lemmas.Bool.{lt-ltb, le-ltb, cond-true, cond-false, cases_order, cases_eq, cases_lt}
 use Rattle.doc_bits.specs.Number.{number_at, number_bytes, u32_at}
-use Rattle.doc_bits.proofs.NumberLemmas.{number_at-same, number_at-number_bytes}
+use Rattle.doc_bits.proofs.Public.{number_at-same, number_at-number_bytes}
 use Rattle.cfb_sectors.specs.SectorChain.{HasSector}
 
 -- the first of two where a number is less than another, else the second
@@ -18,7 +18,7 @@ pub pick_high : (a b x y : ℕ) → b ≤ a → pick a b x y ≡ y
 unfolding pick
 pick_high a b x y h = cond-false (ltb a b) x y (le-ltb a b h)
 
--- where a number stands in a list, or the list's length
+-- where a number is in a list, or the list's length
 pub place_in : List ℕ → ℕ → ℕ
 place_in [] x = 0
 place_in (y ∷ ys) x = pick y x (suc (place_in ys x)) (pick x y (suc (place_in ys x)) 0)
@@ -65,7 +65,7 @@ place_none xs x none = elim (cases_lt (place_in xs x) (length xs)) [
   | inr high ↦ high
 ]
 
--- no number twice: each stands where it stands
+-- no number twice: each is where it is
 pub place_is : (xs : List ℕ) (i : ℕ) → ((i j : ℕ) → i < j → j < length xs → slice_index xs i ≢ slice_index xs j) →
     i < length xs → place_in xs (slice_index xs i) ≡ i
 place_is xs i distinct h =
@@ -80,7 +80,7 @@ place_is xs i distinct h =
       ]
     ]
 
--- a number whose bytes stand at a place
+-- a number whose bytes are at a place
 pub spelled : (file : List ℕ) (at x : ℕ) → x < 2 ^ 32 → ((i : ℕ) → i < 4 → slice_index file (at + i) ≡ slice_index
     (number_bytes 4 x) i) → u32_at file at ≡ x
 spelled file at x h each =

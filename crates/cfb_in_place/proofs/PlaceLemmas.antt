@@ -8,17 +8,16 @@ use Rattle.std.proofs.lemmas.List.{get_or-append_right}
 use Rattle.std.proofs.lemmas.List.Concat.{get_or-flat_map}
 use Rattle.cfb_sectors.specs.Header.{sector_bytes}
 use Rattle.cfb_sectors.specs.Chain.{AreSectorsOf}
-use Rattle.cfb_sectors.proofs.StreamLemmas.{length-sector, length-joined}
+use Rattle.cfb_sectors.proofs.Public.{length-sector, length-joined}
 use Rattle.cfb_directory.specs.Directory.{entry_size}
 use Rattle.cfb_directory.specs.Reach.{entry_place}
 use Rattle.cfb_directory.specs.StreamEntries.{stream_head}
 use Rattle.cfb_streams.specs.Contents.{Stream, Contents}
 use Rattle.cfb_streams.specs.Container.{IsLongBody}
-pub use Rattle.cfb_streams.proofs.SameNameLemmas.{named_once, named_place}
-use Rattle.cfb_streams.proofs.UniqueLemmas.{contents_unique}
-use Rattle.cfb_streams.proofs.ContentLemmas.{chain_inside}
+pub use Rattle.cfb_streams.proofs.Public.{named_once, named_place}
+use Rattle.cfb_streams.proofs.Public.{contents_unique, chain_inside}
 use Rattle.cfb_layout.specs.Sectors.{units_for}
-use Rattle.cfb_layout.proofs.HeldLemmas.{accepted}
+use Rattle.cfb_layout.proofs.Public.{accepted}
 use Rattle.cfb_in_place.specs.Change.{StreamChange, grown_bytes, OldChains, Added}
 use Rattle.cfb_in_place.specs.Appended.{joined, chain_after}
 use Rattle.cfb_in_place.specs.InPlace.{HasLongStream, StaysInPlace, byte_place}
@@ -81,7 +80,7 @@ bytes_short file bytes sectors h =
     let enough = h.body.holds.enough in
     omega arith
 
--- a byte of the stream stands at its place in the file
+-- a byte of the stream is at its place in the file
 pub stream_byte : (file bytes sectors : List ℕ) (x : ℕ) → HasBody file bytes sectors → x < length bytes →
     slice_index bytes x ≡ slice_index file (byte_place sectors x)
 stream_byte file bytes sectors x h low =

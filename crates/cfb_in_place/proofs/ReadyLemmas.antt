@@ -7,15 +7,13 @@ use Rattle.doc_bits.specs.Number.{AreBytes}
 use Rattle.cfb_sectors.specs.Header.{fat_sector_count, fat_sectors}
 use Rattle.cfb_sectors.specs.Chain.{AreSectorsOf}
 use Rattle.cfb_sectors.specs.Claims.{AreDistinctBelow}
-use Rattle.cfb_sectors.proofs.FatLemmas.{fat_inside}
+use Rattle.cfb_sectors.proofs.Public.{fat_inside}
 use Rattle.cfb_directory.specs.Directory.{entry_size}
 use Rattle.cfb_directory.specs.Reach.{entry_place, entry_count, directory_head}
 use Rattle.cfb_directory.specs.StreamEntries.{stream_head}
 use Rattle.cfb_streams.specs.StreamRules.{Parts}
-use Rattle.cfb_streams.proofs.ContentLemmas.{chain_inside, mini_fat_inside}
-use Rattle.cfb_streams.proofs.SharingLemmas.{mini_fat_apart}
-use Rattle.cfb_layout.proofs.HeldLemmas.{accepted}
-use Rattle.cfb_layout.proofs.RunLemmas.{IsRun}
+use Rattle.cfb_streams.proofs.Public.{chain_inside, mini_fat_inside, mini_fat_apart}
+use Rattle.cfb_layout.proofs.Public.{accepted, IsRun}
 use Rattle.cfb_in_place.specs.Change.{StreamChange, OldChains, Added, grown_bytes, added_sectors, sectors_after}
 use Rattle.cfb_in_place.specs.Change.{fresh_from, fat_from, end_of}
 use Rattle.cfb_in_place.specs.Tables.{CanChangeFat}

@@ -9,13 +9,13 @@ use Rattle.std.proofs.lemmas.List.{length-replicate}
 use Rattle.std.proofs.Math.Seq.{take-append_seam}
 use Rattle.std.proofs.lemmas.Option.{slice_get_within, get_or_from_slice_get}
 use Rattle.cfb_sectors.specs.SectorChain.{HasSector}
-use Rattle.cfb_layout.proofs.WritingLemmas.{range_more}
+use Rattle.cfb_layout.proofs.Public.{range_more}
 use Rattle.cfb_in_place.specs.declared.roles.Part.{Part}
 use Rattle.cfb_in_place.specs.declared.roles.Part.TheVariants.{Fat, MiniFat, Directory, Grown, Fresh}
 use Rattle.cfb_in_place.specs.declared.roles.Role.{Role}
 use Rattle.cfb_in_place.specs.Roles.{AreGiven, PartSectors, IsPlaced, IsOfPart, AreRoles, other_role}
 use Rattle.cfb_in_place.proofs.PickLemmas.{place_in, place_there, place_has}
-use Rattle.doc_bits.proofs.ListLemmas.{set_here, set_other}
+use Rattle.doc_bits.proofs.Public.{set_here, set_other}
 
 pub given_none : (old : List Role) (sectors : List ℕ) (part : Part) → AreGiven old old (take 0 sectors) part
 given_none old sectors part = record {

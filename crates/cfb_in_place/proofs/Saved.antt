@@ -5,15 +5,15 @@ use Rattle.std.proofs.lemmas.Bool.{cases_lt}
 use Rattle.std.proofs.lemmas.List.{ext_get_or, get_or-take}
 use Rattle.doc_bits.specs.Rules.{Hold, Nowhere}
 use Rattle.doc_bits.specs.Number.{number_at, u32_at}
-use Rattle.doc_bits.proofs.NumberLemmas.{number_at-same}
+use Rattle.doc_bits.proofs.Public.{number_at-same}
 use Rattle.cfb_sectors.specs.Header.{sector_count, fat_sector_count, fat_sector, valid_below}
 use Rattle.cfb_sectors.specs.Opening.{BreaksLength, BreaksSignature}
 use Rattle.cfb_sectors.specs.HeaderRules.{BreaksHeader, IsOther32, BreaksFat}
 use Rattle.cfb_sectors.specs.SectorChain.{end_of_chain}
-use Rattle.cfb_sectors.proofs.FatLemmas.{fat_few, fat_valid}
+use Rattle.cfb_sectors.proofs.Public.{fat_few, fat_valid}
 use Rattle.cfb_streams.specs.Contents.{Contents}
 use Rattle.cfb_streams.specs.Container.{container_rules, HasContents}
-use Rattle.cfb_layout.proofs.HeldLemmas.{IsAccepted, accepted}
+use Rattle.cfb_layout.proofs.Public.{IsAccepted, accepted}
 use Rattle.cfb_in_place.specs.Change.{StreamChange, OldChains, Added, added_sectors, grown_count, fresh_count}
 use Rattle.cfb_in_place.specs.Change.{fat_sectors_more, fat_from, end_of, sectors_after}
 use Rattle.cfb_in_place.specs.Appended.{SameBytes, IsSavedBehind}

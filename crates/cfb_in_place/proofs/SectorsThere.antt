@@ -7,23 +7,19 @@ use Rattle.std.proofs.lemmas.List.{ext_get_or, get_or_append_left, get_or-append
 use Rattle.std.proofs.lemmas.List.FromFn.{length-range_with_len, get_or-range_with_len}
 use Rattle.doc_bits.specs.Number.{zeros, AreBytes}
 use Rattle.doc_bits.specs.Rules.{Hold}
-use Rattle.doc_bits.proofs.ListLemmas.{length_below}
-use Rattle.doc_bits.proofs.NumberLemmas.{length-zeros}
+use Rattle.doc_bits.proofs.Public.{length_below, length-zeros}
 use Rattle.cfb_sectors.specs.Header.{sector_bytes, fat_sectors}
 use Rattle.cfb_sectors.specs.SectorChain.{HasSector}
 use Rattle.cfb_sectors.specs.Chain.{AreSectorsOf}
-use Rattle.cfb_sectors.proofs.FatLemmas.{fat_apart}
-use Rattle.cfb_sectors.proofs.StreamLemmas.{length-sector, length_all}
+use Rattle.cfb_sectors.proofs.Public.{fat_apart, length-sector, length_all}
 use Rattle.cfb_directory.specs.Reach.{entry_place}
 use Rattle.cfb_directory.specs.StreamEntries.{stream_head}
 use Rattle.cfb_streams.specs.StreamRules.{of_stream}
 use Rattle.cfb_streams.specs.Contents.{Contents}
 use Rattle.cfb_streams.specs.Container.{container_rules, HasContents}
-use Rattle.cfb_streams.proofs.ContentLemmas.{chain_inside}
+use Rattle.cfb_streams.proofs.Public.{chain_inside}
 use Rattle.cfb_layout.specs.Sectors.{padded}
-use Rattle.cfb_layout.proofs.BytesLemmas.{length-padded}
-use Rattle.cfb_layout.proofs.ImageChains.{run_sector}
-use Rattle.cfb_layout.proofs.RunLemmas.{IsRun, run_join, has_either}
+use Rattle.cfb_layout.proofs.Public.{length-padded, run_sector, IsRun, run_join, has_either}
 use Rattle.cfb_in_place.specs.Change.{StreamChange, OldChains, grown_bytes, added_sectors, fresh_from, fat_from}
 use Rattle.cfb_in_place.specs.Change.{sectors_after}
 use Rattle.cfb_in_place.specs.Appended.{joined, chain_after, IsTouched, in_grown, in_fat, in_mini_fat}

@@ -7,15 +7,12 @@ use Rattle.doc_bits.specs.Rules.{Nowhere}
 use Rattle.cfb_sectors.specs.Header.{fat_sector_count, fat_sectors}
 use Rattle.cfb_sectors.specs.SectorChain.{HasSector}
 use Rattle.cfb_sectors.specs.Chain.{Head, fat_table, HoldsChain}
-use Rattle.cfb_sectors.proofs.FatLemmas.{length-fat_sectors, fat_sectors-at, fat_valid}
-use Rattle.cfb_sectors.proofs.JudgeLemmas.{holds_unique}
+use Rattle.cfb_sectors.proofs.Public.{length-fat_sectors, fat_sectors-at, fat_valid, holds_unique}
 use Rattle.cfb_directory.specs.Reach.{entry_place}
 use Rattle.cfb_directory.specs.StreamEntries.{stream_head}
 use Rattle.cfb_streams.specs.StreamRules.{Owner, of_fat, of_directory, of_mini_fat, of_mini_stream, of_stream, Owns}
 use Rattle.cfb_streams.specs.StreamRules.{HasLargeSector, HasSmallSector, BreaksSharing, mini_table_of}
-use Rattle.cfb_layout.proofs.HeldLemmas.{owners_apart}
-use Rattle.cfb_layout.proofs.ImageChains.{run_sector}
-use Rattle.cfb_layout.proofs.RunLemmas.{has_either}
+use Rattle.cfb_layout.proofs.Public.{owners_apart, run_sector, has_either}
 use Rattle.cfb_in_place.specs.Change.{fresh_from, fat_from}
 use Rattle.cfb_in_place.specs.Appended.{chain_after}
 use Rattle.cfb_in_place.proofs.Saved.{Save, save_accepted, counts_of, old_fat_sector, new_fat_sector}

@@ -1,12 +1,12 @@
 -- Numbers in a row, blocks of one width, and parts of lists.
-use Rattle.std.proofs.Common.{◌≡◌, ℕ, zero, suc, ◌+◌, ◌-◌, ◌*◌, ◌/◌, ◌%◌, ◌<◌, ◌≤◌, List, [], ◌∷◌}
-use Rattle.std.proofs.Common.{length, drop, slice_index, slice_range, refl, sym}
+use Rattle.std.proofs.Common.{◌≡◌, ℕ, zero, suc, ◌+◌, ◌-◌, ◌*◌, ◌/◌, ◌%◌, ◌<◌, List, [], ◌∷◌}
+use Rattle.std.proofs.Common.{length, slice_index, refl, sym}
 use Rattle.std.proofs.Common.{ap}
-use Rattle.std.proofs.Common.{◌∙◌, arith, length-append, length-take, length-drop}
+use Rattle.std.proofs.Common.{◌∙◌, arith, length-append}
 use Rattle.std.specs.List.{flat_map, range_with_len}
 use Rattle.std.proofs.lemmas.List.{get_or_append_left, get_or-append_right}
 use Rattle.doc_bits.specs.Number.{AreBytes, number_at, number_bytes, u32_at}
-use Rattle.doc_bits.proofs.NumberLemmas.{length-number_bytes}
+use Rattle.doc_bits.proofs.Public.{length-number_bytes}
 
 -- a byte of numbers in a row
 pub numbers_at : (xs : List ℕ) (k i at : ℕ) → k < length xs → i < 4 → at ≡ 4 * k + i →
@@ -50,12 +50,6 @@ length_blocks f width start (suc n) len =
     let one = len start (omega arith) in
     let a = length-append (f start) (flat_map f (range_with_len (start + 1) n)) in
     let c = length_blocks f width (start + 1) n (λ j low. len j (omega arith)) in
-    omega arith
-
-pub length_range : (xs : List ℕ) (from to : ℕ) → to ≤ length xs → length (slice_range xs from to) ≡ to - from
-length_range xs from to h =
-    let a = length-take (to - from) (drop from xs) in
-    let c = length-drop from xs in
     omega arith
 
 -- the bytes of a number of the file are those of the file

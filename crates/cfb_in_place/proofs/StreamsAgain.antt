@@ -5,22 +5,20 @@ use Rattle.std.specs.List.{range_with_len}
 use Rattle.std.proofs.lemmas.Bool.{cases_eq}
 use Rattle.doc_bits.specs.Rules.{Nowhere}
 use Rattle.doc_bits.specs.Number.{u32_at}
-use Rattle.doc_bits.proofs.ListLemmas.{there_is}
+use Rattle.doc_bits.proofs.Public.{there_is}
 use Rattle.cfb_sectors.specs.SectorChain.{HasSector}
 use Rattle.cfb_sectors.specs.Chain.{Table, Head, fat_table, HoldsChain}
-use Rattle.cfb_sectors.proofs.JudgeLemmas.{holds_none}
-use Rattle.cfb_sectors.proofs.StreamLemmas.{length-cut}
+use Rattle.cfb_sectors.proofs.Public.{holds_none, length-cut, full_unique, chain_full}
 use Rattle.cfb_directory.specs.Directory.{entry_start, entry_size}
 use Rattle.cfb_directory.specs.Reach.{entry_place, entry_count, BreaksDirectory, directory_head}
 use Rattle.cfb_directory.specs.StreamEntries.{IsStreamEntry, IsLargeStream, IsSmallStream, stream_head}
-use Rattle.cfb_directory.proofs.ReachLemmas.{reached_there}
-use Rattle.cfb_sectors.proofs.ChainLemmas.{full_unique, chain_full}
+use Rattle.cfb_directory.proofs.Public.{reached_there}
 use Rattle.cfb_streams.specs.StreamRules.{of_mini_fat, of_mini_stream, of_stream, HasSmallSector}
 use Rattle.cfb_streams.specs.StreamRules.{IsMiniFat, IsMiniStream, BreaksMiniFat, BreaksMiniStream, BreaksStream}
 use Rattle.cfb_streams.specs.StreamRules.{mini_fat_head, mini_table_of}
 use Rattle.cfb_streams.specs.Contents.{Stream}
 use Rattle.cfb_streams.specs.Container.{IsStreamOf}
-use Rattle.cfb_streams.proofs.ContentLemmas.{chain_inside}
+use Rattle.cfb_streams.proofs.Public.{chain_inside}
 use Rattle.cfb_in_place.specs.Change.{grown_bytes, fresh_from}
 use Rattle.cfb_in_place.specs.Appended.{chain_after}
 use Rattle.cfb_in_place.specs.Save.{LeavesSectors, nothing, mini_sectors, sectors}

@@ -11,7 +11,7 @@ use Rattle.doc_bits.specs.Number.{zeros}
 use Rattle.cfb_sectors.specs.Header.{fat_sectors, sector_count}
 use Rattle.cfb_sectors.specs.SectorChain.{HasSector}
 use Rattle.cfb_layout.specs.Sectors.{padded}
-use Rattle.cfb_layout.proofs.BytesLemmas.{length-padded}
+use Rattle.cfb_layout.proofs.Public.{length-padded}
 use Rattle.cfb_in_place.specs.Change.{fresh_from, fat_from, end_of, sectors_after}
 use Rattle.cfb_in_place.specs.Appended.{chain_after, IsTouched, in_grown, in_fat, in_mini_fat, in_directory, in_added}
 use Rattle.cfb_in_place.specs.Roles.{IsPlaced, IsNoPart}
@@ -20,9 +20,8 @@ use Rattle.cfb_in_place.specs.Sources.{part_bytes}
 use Rattle.cfb_in_place.specs.declared.roles.Part.TheVariants.{Grown, Fresh, Other}
 use Rattle.cfb_in_place.proofs.FileAfter.{Before, added_of, sizes_of, grown_joined}
 use Rattle.cfb_in_place.proofs.SectorsThere.{grown_byte, fresh_byte, kept_byte, length_grown_joined}
-use Rattle.cfb_in_place.proofs.SliceLemmas.{length_range}
 use Rattle.cfb_in_place.proofs.TablesMade.{AreOf, parts_of, IsMade, moved}
-use Rattle.doc_bits.proofs.ListLemmas.{range_index}
+use Rattle.doc_bits.proofs.Public.{range_index, length-range}
 
 -- the two streams
 pub grown_same : (b : Before) (sources : Sources) → AreOf b sources → sources.grown ≡ grown_joined b
@@ -37,7 +36,7 @@ grown_made b sources s index are of =
     let len = ap (λ (xs : List ℕ). length xs) same in
     let all = length_grown_joined b in
     let inside = of.inside in
-    let whole = length_range sources.grown (512 * index) (512 * index + 512) (omega arith) in
+    let whole = length-range sources.grown (512 * index) (512 * index + 512) (omega arith) in
     record {
       len = omega arith;
       each = λ o h.
@@ -56,7 +55,7 @@ table_made b sources s index are of =
     let len = ap (λ (xs : List ℕ). length xs) are.table in
     let all = length-padded 512 0 b.change.table (omega arith) in
     let inside = of.inside in
-    let whole = length_range sources.table (512 * index) (512 * index + 512) (omega arith) in
+    let whole = length-range sources.table (512 * index) (512 * index + 512) (omega arith) in
     record {
       len = omega arith;
       each = λ o h.
@@ -127,7 +126,7 @@ pub other_made : (b : Before) (sources : Sources) (s index : ℕ) → s < sector
     s → IsMade b s (part_bytes b.old sources s index Other)
 other_made b sources s index h none =
     let low = other_low b s h none in
-    let len = length_range b.old ((s + 1) * 512) ((s + 1) * 512 + 512) (omega arith) in
+    let len = length-range b.old ((s + 1) * 512) ((s + 1) * 512 + 512) (omega arith) in
     record {
       len = omega arith;
       each = λ o less. range_index b.old ((s + 1) * 512) ((s + 1) * 512 + 512) o (omega arith) ∙ sym (kept_byte b s o

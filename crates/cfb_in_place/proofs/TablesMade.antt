@@ -7,7 +7,7 @@ use Rattle.std.proofs.lemmas.Bool.{cases_lt}
 use Rattle.doc_bits.specs.Number.{number_bytes}
 use Rattle.cfb_sectors.specs.Header.{fat_sector_count}
 use Rattle.cfb_sectors.specs.SectorChain.{HasSector}
-use Rattle.cfb_layout.proofs.BytesLemmas.{length-table}
+use Rattle.cfb_layout.proofs.Public.{length-table}
 use Rattle.cfb_in_place.specs.Roles.{PartSectors, sectors_of_parts, IsPlaced}
 use Rattle.cfb_in_place.specs.Sources.{Sources}
 use Rattle.cfb_in_place.specs.Sources.{cut_at, part_bytes, AreMinisAfter, AreSources}
@@ -17,8 +17,8 @@ use Rattle.cfb_in_place.proofs.FileAfter.{Before, added_of, fats_after, byte_in}
 use Rattle.cfb_in_place.proofs.FileAfter.{mini_after, entry_after}
 use Rattle.cfb_in_place.proofs.TablesThere.{length-fats_after, fat_byte, mini_byte, mini_free, mini_kept}
 use Rattle.cfb_in_place.proofs.AfterLemmas.{fat_is}
-use Rattle.cfb_in_place.proofs.SliceLemmas.{numbers_at, length_range}
-use Rattle.doc_bits.proofs.ListLemmas.{range_index}
+use Rattle.cfb_in_place.proofs.SliceLemmas.{numbers_at}
+use Rattle.doc_bits.proofs.Public.{range_index, length-range}
 
 -- the sources are those of the save
 abbrev pub AreOf : Before → Sources → Type 0
@@ -45,7 +45,7 @@ fat_made b sources s index are of =
     let all = are.fat.len in
     let inside = of.inside in
     let cut = cut_at sources.fat 128 index in
-    let len = length_range sources.fat (128 * index) (128 * index + 128) (omega arith) in
+    let len = length-range sources.fat (128 * index) (128 * index + 128) (omega arith) in
     let table = length-table 4 cut in
     record {
       len = omega arith;
@@ -93,7 +93,7 @@ mini_made b sources s index are of =
     let all = are.mini.table.len in
     let inside = of.inside in
     let cut = cut_at sources.mini 128 index in
-    let len = length_range sources.mini (128 * index) (128 * index + 128) (omega arith) in
+    let len = length-range sources.mini (128 * index) (128 * index + 128) (omega arith) in
     let table = length-table 4 cut in
     record {
       len = omega arith;

@@ -6,21 +6,18 @@ use Rattle.std.proofs.lemmas.Bool.{cases_lt, cases_order}
 use Rattle.std.proofs.lemmas.List.{get_or_append_left, get_or-append_right}
 use Rattle.std.proofs.lemmas.List.FromFn.{length-range_with_len, get_or-range_with_len}
 use Rattle.doc_bits.specs.Number.{number_bytes, u32_at}
-use Rattle.doc_bits.proofs.NumberLemmas.{number_at-same, number_at-bound}
+use Rattle.doc_bits.proofs.Public.{number_at-same, number_at-bound}
 use Rattle.cfb_sectors.specs.Header.{fat_sector_count, fat_sector, fat_sectors, valid_below, table_place}
 use Rattle.cfb_sectors.specs.SectorChain.{HasSector, last_of}
 use Rattle.cfb_sectors.specs.Chain.{fat_table}
-use Rattle.cfb_sectors.proofs.FatLemmas.{length-fat_sectors, fat_sectors-at, fat_apart}
+use Rattle.cfb_sectors.proofs.Public.{length-fat_sectors, fat_sectors-at, fat_apart}
 use Rattle.cfb_directory.specs.Directory.{entry_start}
 use Rattle.cfb_directory.specs.Reach.{entry_place, entry_count}
-use Rattle.cfb_directory.proofs.ReachLemmas.{reached_there}
+use Rattle.cfb_directory.proofs.Public.{reached_there}
 use Rattle.cfb_streams.specs.StreamRules.{Owner, of_fat, of_directory, of_mini_fat, of_stream, Owns}
-use Rattle.cfb_streams.proofs.SharingLemmas.{mini_fat_apart}
+use Rattle.cfb_streams.proofs.Public.{mini_fat_apart}
 use Rattle.cfb_layout.specs.Sectors.{chains_from, free_sector, fat_sector_mark}
-use Rattle.cfb_layout.proofs.SectorLemmas.{chains_below}
-use Rattle.cfb_layout.proofs.HeldLemmas.{owners_apart}
-use Rattle.cfb_layout.proofs.ImageChains.{run_sector}
-use Rattle.cfb_layout.proofs.RunLemmas.{IsRun, run_join, has_either}
+use Rattle.cfb_layout.proofs.Public.{chains_below, owners_apart, run_sector, IsRun, run_join, has_either}
 use Rattle.cfb_in_place.specs.Change.{grown_bytes, fresh_from, fat_from, end_of}
 use Rattle.cfb_in_place.specs.Tables.{ChangesFat, ChangesTables, mini_entry, CanChangeFat}
 use Rattle.cfb_in_place.specs.Appended.{HasStart, ChangesDirectory}

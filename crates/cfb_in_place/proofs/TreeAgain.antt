@@ -8,9 +8,8 @@ use Rattle.cfb_directory.specs.Directory.{HaveOneName}
 use Rattle.cfb_directory.specs.Reach.{entry_place, entry_count, IsEntry, IsReachedEntry, child, left, right, IsLink}
 use Rattle.cfb_directory.specs.Reach.{BreaksRoot, BreaksTree, BreaksName, BreaksStorage, IsWrongNameLength}
 use Rattle.cfb_directory.specs.StreamEntries.{IsStreamEntry}
-use Rattle.cfb_directory.proofs.ReachLemmas.{reached_there}
-use Rattle.cfb_directory.proofs.OrderLemmas.{name_length, name_short}
-use Rattle.cfb_streams.proofs.SingleLemmas.{directory_unique}
+use Rattle.cfb_directory.proofs.Public.{reached_there, name_length, name_short}
+use Rattle.cfb_streams.proofs.Public.{directory_unique}
 use Rattle.cfb_in_place.proofs.Saved.{Save, same_byte, same_number}
 
 -- what the rules 7 to 10 promise of a directory

@@ -8,7 +8,7 @@ use Rattle.std.proofs.lemmas.List.{get_or_append_left, get_or-append_right}
 use Rattle.std.proofs.lemmas.List.FromFn.{length-range_with_len}
 use Rattle.std.proofs.lemmas.Option.{slice_get-get_or, slice_get_within, get_or_from_slice_get}
 use Rattle.cfb_sectors.specs.Header.{sector_count}
-use Rattle.cfb_layout.proofs.BytesLemmas.{length-padded}
+use Rattle.cfb_layout.proofs.Public.{length-padded}
 use Rattle.cfb_in_place.specs.Change.{fresh_from, sectors_after}
 use Rattle.cfb_in_place.specs.Roles.{IsPlaced, IsOfPart, other_role}
 use Rattle.cfb_in_place.specs.Sources.{header_after, Sources}

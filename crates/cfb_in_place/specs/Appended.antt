@@ -59,7 +59,7 @@ pub data IsTouched (old : List ℕ) (parts : Parts) (chains : OldChains) (added 
   in_directory : HasSector parts.directory s → IsTouched old parts chains added s
   in_added : added.from ≤ s → s < end_of added → IsTouched old parts chains added s
 
--- the bytes of the two streams; what stands behind the one that grows in its last sectors stays, and is zero in added
+-- the bytes of the two streams; what is behind the one that grows in its last sectors stays, and is zero in added
 -- ones
 pub record ChangesSectors (old new : List ℕ) (parts : Parts) (chains : OldChains) (added : Added)
     (change : StreamChange) : Type 0 where

@@ -19,12 +19,12 @@ pub record HasLongStream (file name bytes sectors : List ℕ) : Type 0 where
   pub bytes_are : stream.bytes ≡ bytes
   pub chain_is : stream.chain ≡ Some sectors
 
--- where byte x of a stream with these sectors stands in the file
+-- where byte x of a stream with these sectors is in the file
 abbrev pub byte_place : List ℕ → ℕ → ℕ
 byte_place sectors x = (slice_index sectors (x / sector_len) + 1) * sector_len + x % sector_len
 
 -- the first sectors of the stream are those of the old one, as many as its bytes need, and from a byte on all of the
--- old bytes stand where they stood
+-- old bytes are where they stood
 pub record StaysInPlace (name : List ℕ) (from : ℕ) (old new bytes : List ℕ) : Type 0 where
   pub sectors : List ℕ
   pub was : HasLongStream old name bytes sectors

@@ -48,7 +48,7 @@ pub record ArePartsBelow (count : ℕ) (sectors : PartSectors) : Type 0 where
   pub grown : AreDistinctBelow count sectors.grown
   pub fresh : AreDistinctBelow count sectors.fresh
 
--- the sector stands there in the list
+-- the sector is there in the list
 pub record IsPlaced (sectors : List ℕ) (sector index : ℕ) : Type 0 where
   pub inside : index < length sectors
   pub here : slice_index sectors index ≡ sector

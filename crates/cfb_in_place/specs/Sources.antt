@@ -39,7 +39,7 @@ four_entries grown table first bytes =
     flat_map (λ k. entry_after grown table (first + k) (slice_range bytes (128 * k) (128 * k + 128)))
     (range_with_len 0 4)
 
--- what stands behind a stream in its sectors: the old bytes there, then zeros
+-- what is behind a stream in its sectors: the old bytes there, then zeros
 unfoldable pub rest_behind : ℕ → List ℕ → ℕ → List ℕ
 rest_behind len joined more = drop len (joined ++ replicate more 0)
 
@@ -111,7 +111,7 @@ pub record AreMinisAfter (old mini_fat freed mini : List ℕ) : Type 0 where
   pub table : IsTable old mini_fat entries
   pub are : AreFreed entries mini freed
 
--- the stream that grows, with what stands behind it
+-- the stream that grows, with what is behind it
 abbrev pub grown_sectors : List ℕ → OldChains → Added → StreamChange → List ℕ
 grown_sectors old chains added change =
     let bytes = grown_bytes change chains.bytes in

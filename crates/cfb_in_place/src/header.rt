@@ -8,7 +8,7 @@ use cfb_layout::push_row;
 use cfb_sectors::{FAT_COUNT, FAT_SECTORS, SECTOR_LEN};
 use doc_bits::{Bytes, Memory, get32};
 
-/// Appends the header, in which the added FAT sectors stand behind the others.
+/// Appends the header, in which the added FAT sectors are behind the others.
 pub(crate) fn push_header(out: &mut Bytes, old: &[u8], added: &Added) -> Result<(), Memory>
     requires header { sector_len ≤ length old.now }
     requires few { fat_sector_count old.now + added.now.fat ≤ 109 }

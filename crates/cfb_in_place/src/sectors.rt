@@ -1,12 +1,12 @@
 // The sectors of the file after, part by part.
-ghost use Rattle.std.specs.Prelude.{◌≡◌, ◌++◌, ◌+◌, ◌*◌, ◌^◌, ◌<◌, ◌≤◌, OnOk, length, replicate};
+ghost use Rattle.std.specs.Prelude.{◌≡◌, ◌++◌, ◌+◌, ◌*◌, ◌^◌, ◌<◌, ◌≤◌, OnOk, length};
 ghost use Rattle.std.specs.List.{flat_map};
 ghost use Rattle.doc_bits.specs.Number.{number_bytes};
 ghost use Rattle.cfb_in_place.specs.Sources.{headed, entry_after, four_entries, rest_behind};
 ghost use Rattle.cfb_sectors.specs.Header.{sector_len};
 
 use cfb_directory::{ENTRY_LEN, ENTRY_START};
-use doc_bits::{Bytes, Memory};
+use doc_bits::{Bytes, Memory, push_zeros};
 use std::marker::Model;
 
 /// A directory entry with its new start and size.
@@ -87,7 +87,7 @@ pub(crate) fn push_directory(
     Ok(())
 }
 
-/// Appends what stands behind a stream in its sectors: the old bytes there, then zeros in so many added bytes.
+/// Appends what is behind a stream in its sectors: the old bytes there, then zeros in so many added bytes.
 pub(crate) fn push_rest(out: &mut Bytes, joined: &[u8], more: usize) -> Result<(), Memory>
     requires within { length out.old ≤ length joined.now + more }
     requires room { length joined.now + more < 2 ^ 63 }
@@ -99,16 +99,6 @@ pub(crate) fn push_rest(out: &mut Bytes, joined: &[u8], more: usize) -> Result<(
         push_zeros(out, more)?;
     } else {
         push_zeros(out, joined.len() + more - len)?;
-    }
-    Ok(())
-}
-
-/// Appends zeros.
-pub(crate) fn push_zeros(out: &mut Bytes, count: usize) -> Result<(), Memory>
-    ensures { OnOk result (out.new ≡ out.old ++ replicate count 0) }
-{
-    for _turn in 0..count {
-        out.push_all(&[0])?;
     }
     Ok(())
 }

@@ -14,12 +14,12 @@ use crate::added::Added;
 use crate::chains::Chains;
 use crate::change::Change;
 use crate::roles::{Role, roles_of};
-use crate::sectors::{NewHead, push_rest, push_zeros};
+use crate::sectors::{NewHead, push_rest};
 use crate::tables::{fat_entries, mini_entries};
 use cfb_directory::{ENTRY_START, entry_place};
 use cfb_sectors::{SECTOR_LEN, TABLE_LEN, read_sectors};
 use cfb_streams::Layout;
-use doc_bits::{Bytes, Memory, get32};
+use doc_bits::{Bytes, Memory, get32, push_zeros};
 use std::alloc::Global;
 use std::marker::Model;
 
@@ -128,7 +128,7 @@ pub(crate) fn grown_len(chains: &Chains<'_>, change: &Change) -> usize
     chains.bytes.len() + change.tail.as_slice().len()
 }
 
-/// The stream that grows, with what stands behind it in its sectors.
+/// The stream that grows, with what is behind it in its sectors.
 fn grown_after(
     alloc: Global,
     old: &[u8],

@@ -1,7 +1,7 @@
 // The entries of the FAT and of the mini FAT after a save, and how many sectors are added.
 ghost use Rattle.std.specs.Prelude.{ℕ, ◌≡◌, ◌+◌, ◌*◌, ◌^◌, ◌<◌, ◌≤◌, IfOk, List, length, slice_index};
 ghost use Rattle.cfb_sectors.specs.Header.{sector_len, fat_sector_count, fat_sectors};
-ghost use Rattle.cfb_sectors.specs.Chain.{AreSectorsOf, IsTable};
+ghost use Rattle.cfb_sectors.specs.Chain.{AreSectorsOf};
 ghost use Rattle.cfb_in_place.specs.Change.{fat_sectors_more, end_of};
 ghost use Rattle.cfb_in_place.specs.Tables.{AreFreed};
 ghost use Rattle.cfb_in_place.specs.Tables.{ChangesFat, CanChangeFat, AreOldEntries, IsEntryAfter};
@@ -10,7 +10,7 @@ ghost use Rattle.cfb_in_place.specs.Sources.{AreFatsAfter, AreMinisAfter};
 use crate::added::Added;
 use crate::chains::Chains;
 use cfb_layout::FREESECT;
-use cfb_sectors::{FAT_COUNT, FAT_SECTORS, TABLE_LEN, table_place};
+use cfb_sectors::{FAT_COUNT, FAT_SECTORS, TABLE_LEN, read_table};
 use cfb_streams::Layout;
 use doc_bits::{Memory, get32};
 use std::alloc::Global;
@@ -97,20 +97,6 @@ pub(crate) fn old_fats(alloc: Global, old: &[u8]) -> Result<Vec<u32>, Memory>
     Ok(sectors)
 }
 
-/// The entries of the table that stands in these sectors.
-fn read_entries(alloc: Global, file: &[u8], sectors: &[u32]) -> Result<Vec<u32>, Memory>
-    requires { AreSectorsOf file.now sectors.now }
-    ensures { IfOk result (λ entries. IsTable file.now sectors.now entries.items) }
-{
-    let count = TABLE_LEN * sectors.len();
-    let mut entries = Vec::with_capacity(alloc, count)?;
-    for s in 0..count {
-        let place = table_place(sectors, s);
-        entries.push(get32(file, place))?;
-    }
-    Ok(entries)
-}
-
 /// The entries of the FAT after.
 pub(crate) fn fat_entries(
     alloc: Global,
@@ -126,7 +112,7 @@ pub(crate) fn fat_entries(
     ensures { IfOk result (λ fat. AreFatsAfter old.now chains.now added.now fat.items) }
 {
     let sectors = old_fats(alloc, old)?;
-    let mut entries = read_entries(alloc, old, &sectors)?;
+    let mut entries = read_table(alloc, old, &sectors)?;
     let covered = TABLE_LEN as u32 * (get32(old, FAT_COUNT) + added.fat);
     let fat = fat_after(alloc, &mut entries, chains, added, covered)?;
     Ok(fat)
@@ -145,7 +131,7 @@ pub(crate) fn mini_entries(
     ensures { IfOk result (λ mini.
         AreMinisAfter old.now layout.now.parts.mini_fat chains.now.freed_mini mini.items) }
 {
-    let mut entries = read_entries(alloc, old, layout.mini_fat())?;
+    let mut entries = read_table(alloc, old, layout.mini_fat())?;
     free_entries(&mut entries, &chains.freed_mini);
     Ok(entries)
 }

@@ -9,7 +9,7 @@ use Rattle.std.proofs.lemmas.List.{ext_get_or, take_all, length-replicate}
 use Rattle.std.proofs.lemmas.List.Concat.{get_or-flat_map, length-flat_map}
 use Rattle.std.proofs.lemmas.List.Sums.{sum_by-cons, sum_by_more}
 use Rattle.doc_bits.specs.Number.{number_at, number_bytes}
-use Rattle.doc_bits.proofs.NumberLemmas.{number_at-after, number_at-number_bytes, length-number_bytes}
+use Rattle.doc_bits.proofs.Public.{number_at-after, number_at-number_bytes, length-number_bytes}
 use Rattle.cfb_sectors.specs.Header.{sector_bytes}
 use Rattle.cfb_layout.specs.Sectors.{units_for, filled, padded, start_of}
 use Rattle.cfb_layout.specs.declared.fields.Field.{Field}

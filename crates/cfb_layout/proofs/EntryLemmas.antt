@@ -4,7 +4,7 @@ use Rattle.std.proofs.Common.{slice_index, refl, sym, ap, ◌∙◌, arith, leng
 use Rattle.std.specs.List.{flat_map}
 use Rattle.std.proofs.lemmas.List.{get_or_append_left, get_or-append_right}
 use Rattle.doc_bits.specs.Number.{number_at, number_bytes}
-use Rattle.doc_bits.proofs.NumberLemmas.{number_at-after, number_at-before, number_at-same}
+use Rattle.doc_bits.proofs.Public.{number_at-after, number_at-before, number_at-same}
 use Rattle.cfb_layout.specs.Sectors.{filled}
 use Rattle.cfb_layout.specs.Fields.{fields_bytes}
 use Rattle.cfb_layout.specs.Entries.{Entry, link_fields, place_fields, name_bytes, entry_bytes}
@@ -121,7 +121,7 @@ clsid_in entry i whole h =
     ∙ (ap (λ k. slice_index (entry.clsid ++ places) k) second ∙ get_or_append_left entry.clsid places 0 i
     (omega arith))))
 
--- the bytes of the entry stand at the offset
+-- the bytes of the entry are at the offset
 pub record HasEntry (file : List ℕ) (entry : Entry) (at : ℕ) : Type 0 where
   pub room : at + 128 ≤ length file
   pub bytes : (x : ℕ) → x < 128 → slice_index file (at + x) ≡ slice_index (entry_bytes entry) x

@@ -10,7 +10,7 @@ use Rattle.std.proofs.lemmas.List.Sums.{sum_by_push}
 use Rattle.std.proofs.lemmas.List.FromFn.{length-range_with_len}
 use Rattle.std.proofs.lemmas.Option.{slice_get-get_or}
 use Rattle.doc_bits.specs.Number.{number_at, number_bytes}
-use Rattle.doc_bits.proofs.NumberLemmas.{number_at-same}
+use Rattle.doc_bits.proofs.Public.{number_at-same}
 use Rattle.cfb_streams.specs.Contents.{NamedBytes, AreStreams}
 use Rattle.cfb_sectors.specs.Opening.{signature}
 use Rattle.cfb_layout.specs.Sectors.{units_for, padded, chains_from, start_of, table_bytes, free_sector}

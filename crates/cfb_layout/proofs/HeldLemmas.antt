@@ -18,15 +18,13 @@ use Rattle.cfb_streams.specs.StreamRules.{Parts, Owner, of_stream, Owns, HasLarg
 use Rattle.cfb_streams.specs.StreamRules.{IsMiniStream, mini_table_of}
 use Rattle.cfb_directory.specs.StreamEntries.{stream_head}
 use Rattle.cfb_streams.specs.Container.{container_rules, mini_bytes, IsStreamOf, HasContents}
-use Rattle.cfb_streams.proofs.ContentLemmas.{chain_inside}
-use Rattle.cfb_sectors.proofs.StreamLemmas.{length-cut}
-use Rattle.cfb_streams.proofs.SingleLemmas.{directory_unique, mini_fat_unique, mini_stream_unique}
+use Rattle.cfb_streams.proofs.Public.{chain_inside, directory_unique, mini_fat_unique, mini_stream_unique}
+use Rattle.cfb_sectors.proofs.Public.{length-cut, whole_length}
 use Rattle.cfb_layout.specs.Sectors.{units_for}
 use Rattle.cfb_layout.specs.Counts.{large_len, small_len, mini_counts, large_counts, sector_counts}
 use Rattle.cfb_layout.proofs.CountLemmas.{minis_at, length-mini_counts}
 use Rattle.cfb_layout.proofs.PartLemmas.{large_is, large_none, small_is, small_none}
 use Rattle.cfb_layout.proofs.RunLemmas.{IsRun, IsHeld, no_sectors, IsGathered, gather}
-use Rattle.cfb_sectors.proofs.OpeningLemmas.{whole_length}
 
 -- what is used of a file that breaks no rule
 pub record IsAccepted (file : List ℕ) (parts : Parts) : Type 0 where

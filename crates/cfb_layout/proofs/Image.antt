@@ -11,7 +11,7 @@ use Rattle.cfb_layout.specs.Counts.{mini_counts, sector_counts, fat_count, secto
 use Rattle.cfb_layout.specs.Entries.{Entry}
 use Rattle.cfb_layout.specs.Layout.{lengths_of, large_part, mini_stream, directory_entry, no_stream}
 
--- the entry stands at the offset
+-- the entry is at the offset
 pub record IsEntryAt (file : List ℕ) (entry : Entry) (at : ℕ) : Type 0 where
   pub units : (i : ℕ) → i < length entry.name → entry_unit file at i ≡ slice_index entry.name i
   pub long : entry_name_length file at ≡ entry.fields.name_length
@@ -23,7 +23,7 @@ pub record IsEntryAt (file : List ℕ) (entry : Entry) (at : ℕ) : Type 0 where
   pub start : entry_start file at ≡ entry.fields.start
   pub size : entry_size file at ≡ entry.fields.size
 
--- where the i-th part stands
+-- where the i-th part is
 abbrev pub part_place : List ℕ → ℕ → ℕ
 part_place counts i = 512 * (1 + start_of counts i)
 

@@ -9,7 +9,7 @@ use Rattle.cfb_sectors.specs.SectorChain.{end_of_chain, HasSector, IsSectorChain
 use Rattle.cfb_sectors.specs.Header.{sector_count, fat_sectors, table_place, valid_below}
 use Rattle.cfb_sectors.specs.Chain.{Table, Head, fat_table, mini_table, HoldsChain}
 use Rattle.cfb_directory.specs.Reach.{entry_place}
-use Rattle.cfb_sectors.proofs.FatLemmas.{fat_sectors-at}
+use Rattle.cfb_sectors.proofs.Public.{fat_sectors-at}
 use Rattle.cfb_layout.specs.Sectors.{chains_from, start_of}
 use Rattle.cfb_layout.specs.Counts.{mini_counts, sector_counts, fat_count, sectors_needed, Fits, first_sector}
 use Rattle.cfb_layout.proofs.SectorLemmas.{start_room, chains_chain, IsIn}
@@ -138,7 +138,7 @@ mini_holds file lengths i head t fits low some start size =
       enough = subst (λ n. head.size ≤ n * head.unit) (sym run) size;
     }
 
--- where an entry of the directory stands
+-- where an entry of the directory is
 pub entry_here : (lengths : List ℕ) (k : ℕ) → k < 4 * slice_index (sector_counts lengths) (length lengths + 2) →
     entry_place (sectors_of (sector_counts lengths) (length lengths + 2)) k ≡ part_place (sector_counts lengths)
     (length lengths + 2) + 128 * k

@@ -7,8 +7,7 @@ use Rattle.doc_bits.specs.Rules.{Nowhere}
 use Rattle.cfb_streams.specs.Contents.{NamedBytes, AreStreams}
 use Rattle.cfb_directory.specs.Directory.{IsNameOf, EntryBefore}
 use Rattle.cfb_directory.specs.Reach.{BreaksName}
-use Rattle.cfb_directory.proofs.NameLemmas.{EntryBefore-names, before_apart}
-use Rattle.cfb_directory.proofs.OrderLemmas.{one_name-sym}
+use Rattle.cfb_directory.proofs.Public.{EntryBefore-names, before_apart, one_name-sym}
 use Rattle.cfb_layout.specs.Layout.{no_stream}
 use Rattle.cfb_layout.proofs.Image.{IsImage}
 use Rattle.cfb_layout.proofs.ImageTree.{directory_of, place_in, image_stream, reached_only}
@@ -20,7 +19,7 @@ image_name file streams clsid i k im low is =
     let e = image_stream file streams clsid i k im low is in
     record { long = e.long; units = λ j h. sym (e.units j h) }
 
--- the entries stand in the order of their names
+-- the entries are in the order of their names
 pub image_order : (file : List ℕ) (streams : List NamedBytes) (clsid : List ℕ) (e k : ℕ) → IsImage file streams
     clsid → AreStreams streams → 1 ≤ e → e < k → k ≤ length streams → EntryBefore file (place_in streams e)
     (place_in streams k)

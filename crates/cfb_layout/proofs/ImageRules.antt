@@ -9,8 +9,7 @@ use Rattle.cfb_streams.specs.Contents.{NamedBytes}
 use Rattle.cfb_directory.specs.Reach.{BreaksDirectory, directory_head}
 use Rattle.cfb_streams.specs.StreamRules.{BreaksMiniFat, BreaksMiniStream, BreaksStream, mini_fat_head, mini_table_of}
 use Rattle.cfb_directory.specs.StreamEntries.{stream_head}
-use Rattle.cfb_sectors.proofs.JudgeLemmas.{holds_none}
-use Rattle.cfb_sectors.proofs.ChainLemmas.{full_unique, chain_full}
+use Rattle.cfb_sectors.proofs.Public.{holds_none, full_unique, chain_full}
 use Rattle.cfb_layout.specs.Counts.{mini_counts, sector_counts, Fits}
 use Rattle.cfb_layout.specs.Layout.{lengths_of}
 use Rattle.cfb_layout.specs.Laws.{IsLayout}

@@ -10,8 +10,7 @@ use Rattle.cfb_streams.specs.Contents.{NamedBytes}
 use Rattle.cfb_streams.specs.StreamRules.{BreaksSharing, IsShared, Owner, of_fat, of_directory, of_mini_fat}
 use Rattle.cfb_streams.specs.StreamRules.{of_mini_stream, of_stream, Owns, HasSmallSector, mini_table_of}
 use Rattle.cfb_directory.specs.StreamEntries.{stream_head}
-use Rattle.cfb_sectors.proofs.FatLemmas.{length-fat_sectors, fat_sectors-at}
-use Rattle.cfb_sectors.proofs.JudgeLemmas.{holds_unique}
+use Rattle.cfb_sectors.proofs.Public.{length-fat_sectors, fat_sectors-at, holds_unique}
 use Rattle.cfb_layout.specs.Counts.{mini_counts, sector_counts, fat_count}
 use Rattle.cfb_layout.specs.Layout.{lengths_of}
 use Rattle.cfb_layout.specs.Laws.{IsLayout}

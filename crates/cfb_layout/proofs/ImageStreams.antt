@@ -60,7 +60,7 @@ long_bytes file streams clsid i im low large =
     sym (ap (λ xs. take (length bytes) xs) run ∙ (take-take (length bytes) (512 * count) (drop at file) (omega arith)
     ∙ joined))
 
--- the mini stream stands in its sectors
+-- the mini stream is in its sectors
 stored_at : (file : List ℕ) (streams : List NamedBytes) (clsid : List ℕ) (x : ℕ) → IsImage file streams clsid →
     x < length (mini_stream streams) → slice_index (mini_bytes file (parts_of streams)) x ≡ slice_index (mini_stream
     streams) x

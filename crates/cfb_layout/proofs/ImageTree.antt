@@ -164,11 +164,11 @@ reached_each file streams clsid k im w =
     (middle all) (middle_within all some)))
     k w
 
--- where the link of a number stands
+-- where the link of a number is
 abbrev pub link_place : List NamedBytes → ℕ → ℕ
 link_place streams number = place_in streams (number / 3) + 68 + 4 * (number % 3)
 
--- a link that names an entry stands at its one place
+-- a link that names an entry is at its one place
 pub record IsTarget (streams : List NamedBytes) (place k : ℕ) : Type 0 where
   pub within : IsWithin (all_entries (length streams)) k
   pub here : place ≡ link_place streams (link_of (length streams) k (all_entries (length streams)) 2)

@@ -1,23 +1,24 @@
-pub mod SectorLemmas
-pub mod BytesLemmas
-pub mod CountLemmas
-pub mod TreeLemmas
-pub mod Image
-pub mod ImageChains
-pub mod ImageTree
-pub mod ImageNames
-pub mod PartLemmas
-pub mod ImageParts
-pub mod ImageStreams
-pub mod ImageRules
-pub mod ImageSharing
-pub mod ImageAccepted
-pub mod EntryLemmas
-pub mod FileLemmas
-pub mod WritableLemmas
-pub mod MadeLemmas
-pub mod WritingLemmas
-pub mod RunLemmas
-pub mod HeldLemmas
-pub mod ShorterLemmas
-pub mod JoinLemmas
+pub mod Public
+mod SectorLemmas
+mod BytesLemmas
+mod CountLemmas
+mod TreeLemmas
+mod Image
+mod ImageChains
+mod ImageTree
+mod ImageNames
+mod PartLemmas
+mod ImageParts
+mod ImageStreams
+mod ImageRules
+mod ImageSharing
+mod ImageAccepted
+mod EntryLemmas
+mod FileLemmas
+mod WritableLemmas
+mod MadeLemmas
+mod WritingLemmas
+mod RunLemmas
+mod HeldLemmas
+mod ShorterLemmas
+mod JoinLemmas

@@ -7,7 +7,7 @@ use Rattle.std.proofs.lemmas.List.{get_or_append_left}
 use Rattle.std.proofs.lemmas.List.FromFn.{length-range_with_len, get_or-range_with_len}
 use Rattle.doc_bits.specs.Number.{number_at, number_bytes, u32_at}
 use Rattle.doc_bits.specs.Rules.{Hold}
-use Rattle.doc_bits.proofs.NumberLemmas.{number_at-after, number_at-before}
+use Rattle.doc_bits.proofs.Public.{number_at-after, number_at-before}
 use Rattle.cfb_streams.specs.Contents.{NamedBytes, AreStreams}
 use Rattle.cfb_sectors.specs.Opening.{signature}
 use Rattle.cfb_streams.specs.Container.{container_rules, HasContents}

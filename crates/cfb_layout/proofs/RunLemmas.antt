@@ -4,7 +4,7 @@ use Rattle.std.proofs.Common.{slice_index, refl, sym, ap, ◌∙◌, arith, leng
 use Rattle.std.proofs.lemmas.Bool.{cases_lt}
 use Rattle.std.proofs.lemmas.List.{get_or_append_left, get_or-append_right}
 use Rattle.cfb_sectors.specs.SectorChain.{HasSector}
-use Rattle.cfb_sectors.proofs.ChainLemmas.{length_below}
+use Rattle.doc_bits.proofs.Public.{length_below}
 use Rattle.cfb_layout.specs.Sectors.{start_of}
 use Rattle.cfb_layout.proofs.SectorLemmas.{start_next}
 

@@ -1,4 +1,4 @@
--- Chains of sectors that stand in a row.
+-- Chains of sectors that are in a row.
 use Rattle.std.proofs.Common.{◌≡◌, inl, inr, ℕ, zero, suc, ◌+◌, ◌-◌, ◌^◌, ◌<◌, ◌≤◌, List, [], ◌∷◌, length}
 use Rattle.std.proofs.Common.{slice_index, take, sum, refl, ap, ◌∙◌, arith, length-append, length-take}
 use Rattle.std.specs.List.{range_with_len}
@@ -155,7 +155,7 @@ run_chain entry valid start count some room next last =
           (omega arith) in omega arith);
     }
 
--- each of the chains that stand one after another is a chain of the table
+-- each of the chains that are one after another is a chain of the table
 pub chains_chain : (entry : ℕ → ℕ) (valid base start : ℕ) (counts : List ℕ) (i : ℕ) → ((s t : ℕ) → s < sum counts →
     t ≡ base + s → entry t ≡ slice_index (chains_from base counts) s) → base + sum counts ≤ valid →
     i < length counts → 0 < slice_index counts i → start ≡ base + start_of counts i → IsSectorChain entry valid start

@@ -10,8 +10,8 @@ use Rattle.cfb_streams.specs.StreamRules.{of_fat, of_directory, of_mini_fat, of_
 use Rattle.cfb_streams.specs.StreamRules.{IsMiniStream, mini_table_of, mini_fat_head}
 use Rattle.cfb_directory.specs.StreamEntries.{stream_head}
 use Rattle.cfb_streams.specs.Container.{HasContents}
-use Rattle.cfb_sectors.proofs.FatLemmas.{length-fat_sectors, fat_apart}
-use Rattle.cfb_directory.proofs.ReachLemmas.{reached_there}
+use Rattle.cfb_sectors.proofs.Public.{length-fat_sectors, fat_apart}
+use Rattle.cfb_directory.proofs.Public.{reached_there}
 use Rattle.cfb_layout.specs.Sectors.{units_for}
 use Rattle.cfb_layout.specs.Counts.{mini_counts, large_counts, sector_counts}
 use Rattle.cfb_layout.specs.Laws.{NoFileIsShorter}
@@ -19,7 +19,7 @@ use Rattle.cfb_layout.proofs.CountLemmas.{length-mini_counts, sectors-needed}
 use Rattle.cfb_layout.proofs.RunLemmas.{IsRun, run_short, has_either, run_join, run_zero}
 use Rattle.cfb_layout.proofs.HeldLemmas.{IsAccepted, accepted, owners_apart, chain_run, entries_apart, lengths_in}
 use Rattle.cfb_layout.proofs.HeldLemmas.{length-large_counts, sum_counts, gathered_large, gathered_small}
-use Rattle.cfb_streams.proofs.ContentLemmas.{stored_room}
+use Rattle.cfb_streams.proofs.Public.{stored_room}
 
 -- the mini FAT's and the mini stream's sectors
 mini_fat_run : (file sectors : List ℕ) → IsMiniFat file sectors → IsRun (fat_table file).valid sectors

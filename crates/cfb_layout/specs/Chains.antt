@@ -1,4 +1,4 @@
--- What is kept of chains of sectors that stand in a row.
+-- What is kept of chains of sectors that are in a row.
 use Rattle.std.specs.Prelude.{◌≡◌, ℕ, ◌^◌, ◌<◌, List, length, sum, slice_index}
 use Rattle.cfb_layout.specs.Sectors.{start_of}
 

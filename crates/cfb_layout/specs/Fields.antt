@@ -5,7 +5,7 @@ use Rattle.doc_bits.specs.Number.{number_bytes}
 use Rattle.cfb_layout.specs.declared.fields.Field.{Field}
 use Rattle.cfb_layout.specs.declared.fields.Field.TheVariants.{Long, Word, Byte}
 
--- in how many bytes a field stands
+-- in how many bytes a field is
 abbrev pub width_of : Field → ℕ
 width_of (Long value) = 4
 width_of (Word value) = 2

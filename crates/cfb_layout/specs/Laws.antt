@@ -22,7 +22,7 @@ BreaksNoRule =
     (streams : List NamedBytes) (clsid : List ℕ) → AreStreams streams → IsLayout streams clsid →
     Hold (container_rules (compound_file streams clsid))
 
--- it is read as these streams, those of 4,096 bytes or more in sectors that stand in a row, and this CLSID
+-- it is read as these streams, those of 4,096 bytes or more in sectors that are in a row, and this CLSID
 abbrev pub HoldsItsStreams : Type 0
 HoldsItsStreams =
     (streams : List NamedBytes) (clsid : List ℕ) → AreStreams streams → IsLayout streams clsid →

@@ -22,7 +22,7 @@ use Rattle.cfb_layout.specs.Counts.{mini_counts, sector_counts, fat_count, first
 use Rattle.cfb_layout.specs.Entries.{Entry, entry_bytes, unused_entry, name_length, stream_kind, root_kind, black}
 use Rattle.cfb_layout.specs.Entries.{no_clsid, root_name}
 
--- the bytes that stand in sectors, and those that stand in mini sectors
+-- the bytes that are in sectors, and those that are in mini sectors
 abbrev pub large_part : List ℕ → List ℕ
 large_part bytes = if nat_lt (length bytes) 4096 then [] else bytes
 
@@ -125,7 +125,7 @@ header_bytes lengths = signature ++ (fields_bytes (header_fields lengths) ++ fla
 unfoldable pub compound_file : List NamedBytes → List ℕ → List ℕ
 compound_file streams clsid = header_bytes (lengths_of streams) ++ flat_map (λ part. part) (parts streams clsid)
 
--- what is read of it: the sectors of a large stream stand in a row
+-- what is read of it: the sectors of a large stream are in a row
 abbrev pub chain_of : List ℕ → ℕ → Option (List ℕ)
 chain_of lengths i =
     if nat_lt (slice_index lengths i) 4096 then None

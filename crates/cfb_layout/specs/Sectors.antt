@@ -1,4 +1,4 @@
--- Bytes in whole sectors, and chains of sectors that stand in a row: one word for the FAT and the mini FAT.
+-- Bytes in whole sectors, and chains of sectors that are in a row: one word for the FAT and the mini FAT.
 use Rattle.std.specs.Prelude.{ℕ, zero, suc, ◌+◌, ◌-◌, ◌*◌, ◌/◌, List, [], ◌∷◌, ◌++◌, length, take, replicate, sum}
 use Rattle.std.specs.List.{flat_map, range_with_len}
 use Rattle.doc_bits.specs.Number.{number_bytes}
@@ -24,7 +24,7 @@ filled len filler xs = xs ++ replicate (len - length xs) filler
 unfoldable pub padded : ℕ → ℕ → List ℕ → List ℕ
 padded unit filler xs = xs ++ replicate (units_for unit (length xs) * unit - length xs) filler
 
--- the entries of a chain of sectors that stand in a row from `start` on: each names the next, and the last ends the
+-- the entries of a chain of sectors that are in a row from `start` on: each names the next, and the last ends the
 -- chain
 abbrev pub chain_entries : ℕ → ℕ → List ℕ
 chain_entries start zero = []

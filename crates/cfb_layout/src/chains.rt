@@ -1,4 +1,4 @@
-// Chains of sectors that stand in a row, one chain after another.
+// Chains of sectors that are in a row, one chain after another.
 ghost use Rattle.std.specs.Prelude.{◌≡◌, ◌^◌, ◌<◌, IfOk, length, sum, slice_index};
 ghost use Rattle.cfb_layout.specs.Counts.{first_sector};
 

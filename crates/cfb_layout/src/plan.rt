@@ -1,4 +1,4 @@
-// Where all parts of the container stand.
+// Where all parts of the container are.
 ghost use Rattle.std.specs.Prelude.{◌≡◌, ◌+◌, ◌<◌, ◌≤◌, IfOk, length, sum};
 ghost use Rattle.cfb_layout.specs.Counts.{mini_counts, sector_counts, fat_count, Fits, stream_start};
 ghost use Rattle.cfb_layout.specs.Layout.{root_fields, stream_fields};

@@ -1,4 +1,4 @@
-// Whole sectors, and tables of sectors that stand in a row.
+// Whole sectors, and tables of sectors that are in a row.
 ghost use Rattle.std.specs.Prelude.{◌≡◌, ◌++◌, ◌+◌, ◌-◌, ◌*◌, ◌^◌};
 ghost use Rattle.std.specs.Prelude.{◌<◌, ◌≤◌, OnOk, length, replicate, sum};
 ghost use Rattle.std.specs.List.{flat_map, range_with_len};
@@ -80,7 +80,7 @@ pub(crate) fn push_repeated(out: &mut Bytes, number: u32, count: usize) -> Resul
     Ok(())
 }
 
-/// Appends the entries of a chain of sectors that stand in a row.
+/// Appends the entries of a chain of sectors that are in a row.
 fn push_chain(out: &mut Bytes, start: u32, count: u32) -> Result<(), Memory>
     requires { start + count < 2 ^ 32 }
     ensures { OnOk result (out.new ≡ out.old ++ flat_map (number_bytes 4) (chain_entries start count)) }

@@ -7,7 +7,7 @@ ghost use Rattle.cfb_sectors.specs.Header.{sector_len, mini_sector_len};
 use crate::sectors::units_for;
 use cfb_sectors::{MINI_SECTOR_LEN, SECTOR_LEN};
 
-/// Streams of so many bytes stand in sectors of their own.
+/// Streams of so many bytes are in sectors of their own.
 pub const CUTOFF: u64 = 4_096;
 
 /// The sectors that 109 FAT sectors can name at most.

@@ -122,7 +122,7 @@ fn push_header(out: &mut Bytes, plan: &Plan) -> Result<(), Memory>
     Ok(())
 }
 
-/// What of a stream stands in sectors of its own.
+/// What of a stream is in sectors of its own.
 fn large_part(bytes: &[u8]) -> &[u8]
     ensures { result.now ≡ large_part bytes.now }
 {
@@ -133,7 +133,7 @@ fn large_part(bytes: &[u8]) -> &[u8]
     }
 }
 
-/// What of a stream stands in mini sectors.
+/// What of a stream is in mini sectors.
 fn small_part(bytes: &[u8]) -> &[u8]
     ensures { result.now ≡ small_part bytes.now }
 {

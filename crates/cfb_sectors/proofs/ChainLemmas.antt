@@ -6,7 +6,7 @@ use Rattle.std.specs.Prelude.{slice_index_or}
 use Rattle.std.proofs.lemmas.Bool.{cases_lt, cases_eq, false≢true}
 use Rattle.std.proofs.lemmas.List.{get_or_append_left, get_or-set_same, get_or-set_other, ext_get_or}
 use Rattle.std.proofs.Math.Seq.{get_or-append_seam}
-pub use Rattle.doc_bits.proofs.ListLemmas.{length_below}
+pub use Rattle.doc_bits.proofs.Public.{length_below}
 use Rattle.cfb_sectors.specs.Marks.{IsMarked}
 pub use Rattle.cfb_sectors.specs.Walk.{IsWalk}
 use Rattle.cfb_sectors.specs.SectorChain.{HasSector, IsSectorPath, IsSectorChain, IsFullPath, last_of, end_of_chain}

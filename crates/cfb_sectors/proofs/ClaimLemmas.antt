@@ -6,7 +6,7 @@ use Rattle.std.specs.Prelude.{slice_index_or}
 use Rattle.std.proofs.lemmas.Bool.{cases_lt, cases_eq, false≢true}
 use Rattle.std.proofs.lemmas.List.{get_or-set_same, get_or-set_other, ext_get_or}
 use Rattle.doc_bits.specs.Rules.{Nowhere, LeastOrNone, Among}
-use Rattle.doc_bits.proofs.RuleLemmas.{least_same}
+use Rattle.doc_bits.proofs.Public.{least_same}
 use Rattle.cfb_sectors.specs.declared.chain.Walked.{Walked}
 use Rattle.cfb_sectors.specs.Marks.{IsMarked, IsVisitedSince}
 use Rattle.cfb_sectors.specs.Chain.{Table, Head, HoldsChain, BreaksChain}

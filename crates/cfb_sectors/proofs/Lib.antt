@@ -1,10 +1,11 @@
-pub mod ChainLemmas
-pub mod StreamLemmas
-pub mod JudgeLemmas
-pub mod FatLemmas
-pub mod MarkLemmas
-pub mod EndLemmas
-pub mod RingLemmas
-pub mod ClaimLemmas
-pub mod TableLemmas
-pub mod OpeningLemmas
+pub mod Public
+mod ChainLemmas
+mod StreamLemmas
+mod JudgeLemmas
+mod FatLemmas
+mod MarkLemmas
+mod EndLemmas
+mod RingLemmas
+mod ClaimLemmas
+mod TableLemmas
+mod OpeningLemmas

@@ -1,23 +1,23 @@
--- A chain that is judged: the table that it goes by, what says where it starts, and where it is broken.
+-- A chain that is checked: the table that it goes by, what says where it starts, and where it is broken.
 use Rattle.std.specs.Prelude.{◌≡◌, ◌≢◌, ◌⊎◌, ℕ, ◌+◌, ◌*◌, ◌^◌, ◌<◌, ◌≤◌, min, List, length, slice_index}
 use Rattle.doc_bits.specs.Number.{u32_at}
 use Rattle.cfb_sectors.specs.Header.{sector_len, mini_sectors_in, table_place, fat_sectors, valid_below}
 use Rattle.cfb_sectors.specs.SectorChain.{IsSectorChain, IsFullPath, last_of, end_of_chain}
 
--- the FAT or the mini FAT: the entry of a sector, where that entry stands, and the number below which sectors are valid
+-- the FAT or the mini FAT: the entry of a sector, where that entry is, and the number below which sectors are valid
 pub record Table : Type 0 where
   pub entry : ℕ → ℕ
   pub place : ℕ → ℕ
   pub valid : ℕ
 
--- where the field with the start stands, the start, the bytes of a sector, and the bytes that the chain must hold
+-- where the field with the start is, the start, the bytes of a sector, and the bytes that the chain must hold
 pub record Head : Type 0 where
   pub field : ℕ
   pub start : ℕ
   pub unit : ℕ
   pub size : ℕ
 
--- the table that stands in these sectors
+-- the table that is in these sectors
 abbrev pub table_of : List ℕ → List ℕ → ℕ → Table
 table_of file sectors valid = record {
   entry = λ s. u32_at file (table_place (λ k. slice_index sectors k) s);
@@ -38,7 +38,7 @@ pub record AreSectorsOf (file sectors : List ℕ) : Type 0 where
   pub few : length sectors < 2 ^ 24
   pub inside : (i : ℕ) → i < length sectors → (slice_index sectors i + 2) * sector_len ≤ length file
 
--- the entries of the table that stands in these sectors
+-- the entries of the table that is in these sectors
 pub record IsTable (file sectors entries : List ℕ) : Type 0 where
   pub len : length entries ≡ 128 * length sectors
   pub each : (s : ℕ) → s < length entries →

@@ -1,4 +1,4 @@
--- [MS-CFB] Compound File Header of version 3, by the offsets of its fields, and the FAT that it names. Sector n stands
+-- [MS-CFB] Compound File Header of version 3, by the offsets of its fields, and the FAT that it names. Sector n is
 -- at n + 1 times its length in the file.
 use Rattle.std.specs.Prelude.{ℕ, ◌+◌, ◌-◌, ◌*◌, ◌/◌, ◌%◌, min, map, List, length, slice_range}
 use Rattle.std.specs.List.{range_with_len}
@@ -16,7 +16,7 @@ mini_sector_len = 64
 abbrev pub mini_sectors_in : ℕ → ℕ
 mini_sectors_in size = (size + (mini_sector_len - 1)) / mini_sector_len
 
--- how many sectors stand after the header
+-- how many sectors are after the header
 abbrev pub sector_count : List ℕ → ℕ
 sector_count file = length file / sector_len - 1
 
@@ -28,7 +28,7 @@ fat_sector_count file = u32_at file 44
 abbrev pub fat_sector : List ℕ → ℕ → ℕ
 fat_sector file k = u32_at file (76 + 4 * k)
 
--- a table of 32-bit entries that stands in sectors, 128 of them in each: where entry s stands
+-- a table of 32-bit entries that is in sectors, 128 of them in each: where entry s is
 abbrev pub table_place : (ℕ → ℕ) → ℕ → ℕ
 table_place sector_of s = (sector_of (s / 128) + 1) * sector_len + 4 * (s % 128)
 
@@ -40,6 +40,6 @@ fat_sectors file = map (fat_sector file) (range_with_len 0 (fat_sector_count fil
 abbrev pub valid_below : List ℕ → ℕ
 valid_below file = min (sector_count file) (128 * fat_sector_count file)
 
--- sector n of sectors of `unit` bytes that stand from `base` on
+-- sector n of sectors of `unit` bytes that are from `base` on
 abbrev pub sector_bytes : ℕ → ℕ → List ℕ → ℕ → List ℕ
 sector_bytes base unit bytes sector = slice_range bytes (base + sector * unit) (base + sector * unit + unit)

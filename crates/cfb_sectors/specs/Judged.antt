@@ -1,4 +1,4 @@
--- What the judge of a chain answers, and why a file is refused.
+-- What the check of a chain answers, and why a file is refused.
 use Rattle.std.specs.Prelude.{◌≡◌, ℕ, ◌≤◌, Option, Some, None, MatchOption, List}
 use Rattle.doc_bits.specs.Rules.{Rules, Hold, IsLeast, IsFirst}
 use Rattle.cfb_sectors.specs.declared.faults.BrokenRule.{BrokenRule}
@@ -27,7 +27,7 @@ broken_place (Breaks place) = Some place
 abbrev pub IsRefused : ℕ → Option ℕ → CfbFault → Type 0
 IsRefused number wrong fault = (place : ℕ) × ((wrong ≡ Some place) × (fault ≡ Rule number place))
 
--- what a function that judges rules answers: the first that is broken, at its least place, or nothing where all hold
+-- what a function that checks rules answers: the first that is broken, at its least place, or nothing where all hold
 abbrev pub FirstOrNone : Rules ℕ → Option BrokenRule → Type 0
 FirstOrNone rules found = MatchOption found (Hold rules) (λ broken. IsFirst rules broken.rule broken.offset)
 

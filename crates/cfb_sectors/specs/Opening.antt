@@ -1,4 +1,4 @@
--- The rules that are judged before the header is read: the length of the file, and its signature.
+-- The rules that are checked before the header is read: the length of the file, and its signature.
 use Rattle.std.specs.Prelude.{◌≡◌, ◌≢◌, ◌⊎◌, ℕ, ◌%◌, ◌<◌, ◌≤◌, min, List, [], ◌∷◌, length, take}
 use Rattle.doc_bits.specs.Rules.{Rules, rule, ◌then◌}
 use Rattle.cfb_sectors.specs.Header.{sector_len}

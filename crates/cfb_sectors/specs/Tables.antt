@@ -4,13 +4,13 @@ use Rattle.cfb_sectors.specs.Header.{fat_sectors, valid_below}
 use Rattle.cfb_sectors.specs.Chain.{Table, table_of, AreSectorsOf, IsTable}
 use Rattle.cfb_sectors.specs.Ends.{KnownEnds, Remembers}
 
--- the sectors of a file in which a table stands, and the number below which the sectors are valid that it speaks of
+-- the sectors of a file in which a table is, and the number below which the sectors are valid that it speaks of
 pub record TablePlace : Type 0 where
   pub file : List ℕ
   pub sectors : List ℕ
   pub valid : ℕ
 
--- the table that stands there
+-- the table that is there
 abbrev pub table_at : TablePlace → Table
 table_at place = table_of place.file place.sectors place.valid
 

@@ -12,7 +12,7 @@ use std::marker::Model;
 /// An entry that ends a chain.
 pub const ENDOFCHAIN: u32 = 0xFFFF_FFFE;
 
-/// A chain that is to be there: where the field with its start stands, the start, the bytes of a sector, and the bytes
+/// A chain that is to be there: where the field with its start is, the start, the bytes of a sector, and the bytes
 /// that it must hold.
 #[derive(Drop)]
 pub struct Claim {

@@ -167,7 +167,7 @@ pub(crate) fn remember(entries: &[u32], ends: &mut Ends, path: &[u32])
     }
 }
 
-/// How many sectors of a path stand from a sector on.
+/// How many sectors of a path are from a sector on.
 fn count_from(path: &[u32], sector: u32) -> usize
     requires { HasSector path.now sector }
     ensures some { 0 < result }

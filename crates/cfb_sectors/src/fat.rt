@@ -1,4 +1,4 @@
-// [MS-CFB] The FAT and the mini FAT: tables of 32-bit entries that stand in sectors, 128 of them in each.
+// [MS-CFB] The FAT and the mini FAT: tables of 32-bit entries that are in sectors, 128 of them in each.
 ghost use Rattle.std.specs.Prelude.{◌≡◌, ◌+◌, ◌*◌, ◌/◌, ◌%◌, ◌<◌, ◌≤◌, ◌↔◌, IsTrue, length, slice_index, IfOk};
 ghost use Rattle.doc_bits.specs.Rules.{LeastOrNone};
 ghost use Rattle.cfb_sectors.specs.Header.{sector_len, fat_sector_count, fat_sectors};
@@ -78,7 +78,7 @@ pub(crate) fn read_fat_sectors(alloc: Global, file: &[u8]) -> Result<Vec<u32>, M
     Ok(sectors)
 }
 
-/// Where entry `s` of a table stands, in bytes from the start of the file.
+/// Where entry `s` of a table is, in bytes from the start of the file.
 pub fn table_place(sectors: &[u32], s: usize) -> usize
     requires { s < 128 * length sectors.now }
     ensures { result ≡ place_of (λ k. slice_index sectors.now k) s }
@@ -86,8 +86,8 @@ pub fn table_place(sectors: &[u32], s: usize) -> usize
     (sectors[s / TABLE_LEN] as usize + 1) * SECTOR_LEN + 4 * (s % TABLE_LEN)
 }
 
-/// The entries of the table that stands in these sectors.
-pub(crate) fn read_table(alloc: Global, file: &[u8], sectors: &[u32]) -> Result<Vec<u32>, Memory>
+/// The entries of the table that is in these sectors.
+pub fn read_table(alloc: Global, file: &[u8], sectors: &[u32]) -> Result<Vec<u32>, Memory>
     requires { AreSectorsOf file.now sectors.now }
     ensures { IfOk result (λ entries. IsTable file.now sectors.now entries.items) }
 {

@@ -1,4 +1,4 @@
-// Why a file is refused, and how a judge's answer becomes that.
+// Why a file is refused, and how a check's answer becomes that.
 ghost use Rattle.std.specs.Prelude.{◌≡◌, None, MatchResult};
 ghost use Rattle.cfb_sectors.specs.Judged.{IsRefused, broken_place};
 ghost use Rattle.cfb_sectors.specs.declared.chain.Chain.TheVariants.{Found};

@@ -1,4 +1,4 @@
-// What is judged by the header alone: the rules 3 to 5. And the FAT.
+// What is checked by the header alone: the rules 3 to 5. And the FAT.
 ghost use Rattle.std.specs.Prelude.{◌≡◌, ◌≤◌, IfOk, length};
 ghost use Rattle.doc_bits.specs.Rules.{Nowhere};
 ghost use Rattle.cfb_sectors.specs.Header.{sector_len};
@@ -20,7 +20,7 @@ const RULE_DIFAT: u8 = 4;
 
 const RULE_FAT: u8 = 5;
 
-/// Judges the rules 3 to 5.
+/// Checks the rules 3 to 5.
 pub fn check_header(file: &[u8]) -> Option<BrokenRule>
     requires { sector_len ≤ length file.now }
     ensures { FirstOrNone (header_rules file.now) result }

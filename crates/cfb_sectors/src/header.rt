@@ -25,7 +25,7 @@ pub const MINI_FAT_COUNT: usize = 64;
 
 pub const DIFAT_COUNT: usize = 72;
 
-/// Streams of so many bytes stand in sectors of their own.
+/// Streams of so many bytes are in sectors of their own.
 pub const CUTOFF: u32 = 4_096;
 
 /// The first field that is not that of version 3.

@@ -16,7 +16,7 @@ mod table;
 
 pub use chain::{Chain, Claim, ENDOFCHAIN, Walked};
 pub use claims::Claims;
-pub use fat::{FAT_COUNT, FAT_SECTORS, TABLE_LEN, table_place};
+pub use fat::{FAT_COUNT, FAT_SECTORS, TABLE_LEN, read_table, table_place};
 pub use faults::{BrokenRule, CfbFault, refuse, whole};
 pub use front::{check_header, read_fat};
 pub use header::{CUTOFF, DIRECTORY_START, MINI_FAT_COUNT, MINI_FAT_START};

@@ -23,7 +23,7 @@ const RULE_LENGTH: u8 = 1;
 
 const RULE_SIGNATURE: u8 = 2;
 
-/// Judges the rules 1 and 2.
+/// Checks the rules 1 and 2.
 pub fn check_opening(file: &[u8]) -> Option<BrokenRule>
     ensures { FirstOrNone (opening_rules file.now) result }
 {

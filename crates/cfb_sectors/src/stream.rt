@@ -8,7 +8,7 @@ use crate::opening::SECTOR_LEN;
 use doc_bits::Memory;
 use std::alloc::Global;
 
-/// The sectors of a chain joined and cut to `size`. A sector has `unit` bytes, and sector 0 stands
+/// The sectors of a chain joined and cut to `size`. A sector has `unit` bytes, and sector 0 is
 /// at `base`.
 pub fn join(
     alloc: Global,

@@ -1,4 +1,4 @@
-// The FAT and the mini FAT: a table that stands in sectors of the file, and the chains that go by it.
+// The FAT and the mini FAT: a table that is in sectors of the file, and the chains that go by it.
 ghost use Rattle.std.specs.Prelude.{◌≡◌, ◌⊎◌, ◌*◌, ◌^◌, ◌<◌, ◌≤◌, length, IfOk, IsTrue, ◌↔◌};
 ghost use Rattle.doc_bits.specs.Rules.{LeastOrNone};
 ghost use Rattle.cfb_sectors.specs.SectorChain.{IsFullPath};
@@ -39,7 +39,7 @@ impl<'a> Model for Table<'a> {
 }
 
 impl<'a> Table<'a> {
-    /// Reads the table that stands in these sectors. The sector numbers below `valid` are valid.
+    /// Reads the table that is in these sectors. The sector numbers below `valid` are valid.
     pub fn read(
         alloc: Global,
         file: &'a [u8],
@@ -62,7 +62,7 @@ impl<'a> Table<'a> {
         })
     }
 
-    /// The sectors in which it stands.
+    /// The sectors in which it is.
     pub fn sectors(&self) -> &[u32]
         ensures { result.now ≡ self.now.sectors }
     {
@@ -76,7 +76,7 @@ impl<'a> Table<'a> {
         self.marks.len()
     }
 
-    /// Where the entry of a sector stands, in bytes from the start of the file.
+    /// Where the entry of a sector is, in bytes from the start of the file.
     pub fn place(&self, sector: usize) -> u32
         requires { sector < self.now.valid }
         ensures { result ≡ (table_at self.now).place sector }

@@ -6,7 +6,7 @@ use Rattle.std.specs.List.{sum_by}
 use Rattle.std.proofs.lemmas.Bool.{cases_lt, cases_order}
 use Rattle.std.proofs.lemmas.List.Sums.{sum_by_push}
 use Rattle.std.proofs.lemmas.Option.{slice_get_within, same_Some}
-use Rattle.doc_bits.proofs.ListLemmas.{there_is, slice_get_push, slice_get_before}
+use Rattle.doc_bits.proofs.Public.{there_is, slice_get_push, slice_get_before}
 use Rattle.cfb_directory.specs.Directory.{upper_case, ComesBefore}
 use Rattle.cfb_streams.specs.Contents.{NamedBytes, AreStreams, IsStored, AreStored, EndsBefore}
 

@@ -16,8 +16,7 @@ use Rattle.cfb_sectors.specs.Tables.{TablePlace}
 use Rattle.cfb_streams.specs.FoundParts.{mini_place}
 use Rattle.cfb_streams.specs.Contents.{Stream}
 use Rattle.cfb_streams.specs.Container.{AreStreamsOf, IsStreamOf, AreNamesOf}
-use Rattle.cfb_sectors.proofs.ChainLemmas.{path_short}
-use Rattle.cfb_sectors.proofs.StreamLemmas.{length_all, length-sector}
+use Rattle.cfb_sectors.proofs.Public.{path_short, length_all, length-sector}
 
 -- what holds of each entry of a list, and of one more
 pub each_push : {A : Type 0} (P : ℕ → A → Type 0) (xs : List A) (x : A) (count : ℕ) → length xs ≡ count →
@@ -126,7 +125,7 @@ streams_none file parts entries streams e =
     record
     { len = len; each = λ i stream at. let inside = slice_get_within streams i stream at in absurd (omega arith) }
 
--- where the mini FAT stands
+-- where the mini FAT is
 pub mini_place_is : (file f directory d mini_fat m : List ℕ) (valid : ℕ) (place : TablePlace) → f ≡ file →
     d ≡ directory → m ≡ mini_fat → valid ≡ (mini_table_of f d m).valid →
     place ≡ record { file = f; sectors = mini_fat; valid = valid } → place ≡ mini_place file directory mini_fat

@@ -3,7 +3,7 @@ use Rattle.std.proofs.Common.{◌≡◌, ◌≢◌, inl, inr, ℕ, ◌<◌, ◌�
 use Rattle.std.proofs.lemmas.Bool.{cases_lt}
 use Rattle.doc_bits.specs.Number.{u32_at}
 use Rattle.doc_bits.specs.Rules.{LeastOrNone}
-use Rattle.doc_bits.proofs.RuleLemmas.{least_same}
+use Rattle.doc_bits.proofs.Public.{least_same}
 use Rattle.cfb_sectors.specs.declared.chain.Chain.{Chain}
 use Rattle.cfb_sectors.specs.declared.chain.Chain.TheVariants.{Found, Breaks}
 use Rattle.cfb_sectors.specs.Chain.{fat_table, BreaksChain}
@@ -16,7 +16,7 @@ use Rattle.cfb_directory.specs.StreamEntries.{stream_head, IsLargeStream, IsSmal
 use Rattle.cfb_streams.specs.StreamRules.{IsWrongStream}
 use Rattle.cfb_directory.specs.Reach.{entry_place, directory_head, IsLongDirectory}
 use Rattle.cfb_streams.specs.FoundParts.{IsFoundDirectory, IsFoundMiniFat, IsFoundMiniStream}
-use Rattle.cfb_sectors.proofs.ChainLemmas.{chain_full, full_unique}
+use Rattle.cfb_sectors.proofs.Public.{chain_full, full_unique}
 
 -- a path that begins at the directory's start and cannot go on is the only one
 pub long_directory : (file xs : List ℕ) (fat : TablePlace) (start : ℕ) → fat ≡ fat_place file → start ≡ u32_at file 48 →

@@ -3,7 +3,7 @@ use Rattle.std.proofs.Common.{◌≡◌, ◌⊎◌, inl, inr, ℕ, ◌+◌, ◌*
 use Rattle.std.proofs.Common.{List, length, slice_index, refl, sym, ap, ◌∙◌, subst, arith}
 use Rattle.std.specs.List.{flat_map}
 use Rattle.doc_bits.specs.Rules.{Nowhere, LeastOrNone, lesser_of, Among}
-use Rattle.doc_bits.proofs.RuleLemmas.{least_either, least_same}
+use Rattle.doc_bits.proofs.Public.{least_either, least_same}
 use Rattle.cfb_streams.specs.declared.gather.Taken.{Taken}
 use Rattle.cfb_sectors.specs.Header.{fat_sectors, sector_bytes}
 use Rattle.cfb_sectors.specs.Opening.{IsWhole}
@@ -30,9 +30,7 @@ use Rattle.cfb_streams.specs.Layout.{Places, IsLayout}
 use Rattle.cfb_streams.specs.Contents.{Stream}
 use Rattle.cfb_streams.specs.Container.{mini_bytes, IsStreamOf, AreStreamsOf, HasContents}
 use Rattle.cfb_streams.specs.Gathered.{IsRead, TakesChain, TakesStream, HasMarks, AreUnshared, with_some, IsTakenFront}
-use Rattle.cfb_sectors.proofs.JudgeLemmas.{holds_unique}
-use Rattle.cfb_sectors.proofs.ClaimLemmas.{takes_closed, closed_none, whole_chain}
-use Rattle.cfb_sectors.proofs.ClaimLemmas.{takes_same}
+use Rattle.cfb_sectors.proofs.Public.{holds_unique, takes_closed, closed_none, whole_chain, takes_same}
 use Rattle.cfb_streams.proofs.SharingLemmas.{takes_none, share_none, share_step, share_same, share_all}
 use Rattle.cfb_streams.proofs.SharingLemmas.{front_more, front_split, front_fresh, done_more, done_split, AreParts}
 use Rattle.cfb_streams.proofs.SharingLemmas.{parts_done, done_parts, all_done, minis_done, holds_closed}
@@ -312,13 +310,6 @@ before_unshared places entry old new takes un = (
   takes_unshared (HasSmallSector places.file places.parts.directory places.parts.mini_fat entry) old.minis new.minis
       takes.minis_taken un.1,
 )
-
--- where the lesser of two is none, neither is there
-pub lesser_both : (a b : Option ℕ) → lesser_of a b ≡ None → (a ≡ None) × (b ≡ None)
-lesser_both None None e = (refl, refl)
-lesser_both None (Some y) e = absurd (cc e)
-lesser_both (Some x) None e = absurd (cc e)
-lesser_both (Some x) (Some y) e = absurd (cc e)
 
 -- the chain of a claim, and what taking it does
 pub read_holds : (table : Table) (head : Head) (start : ℕ) (old new : Claimed) (walked : Walked) →

@@ -1,11 +1,12 @@
-pub mod FoundLemmas
-pub mod SharingLemmas
-pub mod ContentLemmas
-pub mod LoadLemmas
-pub mod GatherLemmas
-pub mod SingleLemmas
-pub mod UniqueLemmas
-pub mod SameNameLemmas
-pub mod AddLemmas
-pub mod StoredLemmas
-pub mod OuterLemmas
+pub mod Public
+mod FoundLemmas
+mod SharingLemmas
+mod ContentLemmas
+mod LoadLemmas
+mod GatherLemmas
+mod SingleLemmas
+mod UniqueLemmas
+mod SameNameLemmas
+mod AddLemmas
+mod StoredLemmas
+mod OuterLemmas

@@ -1,4 +1,4 @@
--- A fault of the rules that are judged later is one of all rules.
+-- A fault of the rules that are checked later is one of all rules.
 use Rattle.std.proofs.Common.{◌≡◌, inl, inr, ℕ, List, length, sym, ap, subst, arith}
 use Rattle.doc_bits.specs.Rules.{Rules, rule, ◌then◌, given, Nowhere, Hold, IsFirst}
 use Rattle.cfb_sectors.specs.declared.faults.CfbFault.{CfbFault}
@@ -7,8 +7,7 @@ use Rattle.cfb_sectors.specs.Opening.{opening_rules}
 use Rattle.cfb_sectors.specs.Chain.{fat_table}
 use Rattle.cfb_directory.specs.Entries.{EntryLists, AreEntries, tree_rules}
 use Rattle.cfb_streams.specs.Layout.{Places, places_of, entries_of, IsLayout}
-use Rattle.cfb_sectors.proofs.JudgeLemmas.{holds_none}
-use Rattle.cfb_sectors.proofs.ChainLemmas.{full_unique, chain_full}
+use Rattle.cfb_sectors.proofs.Public.{holds_none, full_unique, chain_full}
 use Rattle.cfb_sectors.specs.HeaderRules.{header_rules}
 use Rattle.cfb_directory.specs.Reach.{directory_head, entry_place, IsDirectory}
 use Rattle.cfb_directory.specs.Reach.{BreaksDirectory, BreaksRoot, BreaksTree, BreaksName, BreaksStorage}

@@ -2,13 +2,12 @@
 use Rattle.std.proofs.Common.{◌≡◌, ◌≤◌, inl, inr, ℕ, ◌+◌, List, [], length, slice_index, arith, refl, subst}
 use Rattle.std.proofs.lemmas.Bool.{cases_lt}
 use Rattle.doc_bits.specs.Rules.{Hold, IsFirst}
-use Rattle.doc_bits.proofs.RuleLemmas.{hold_or_first}
+use Rattle.doc_bits.proofs.Public.{hold_or_first, nil_from_length}
 use Rattle.cfb_directory.specs.Reach.{entry_place}
 use Rattle.cfb_directory.specs.Storages.{IsFilledStorage}
 use Rattle.cfb_streams.specs.Container.{container_rules, outer_rules, ListsStorages}
 use Rattle.cfb_streams.specs.Laws.{IsOuter}
 use Rattle.cfb_streams.proofs.SingleLemmas.{directory_unique, outer_single}
-use Rattle.doc_bits.proofs.ListLemmas.{nil_from_length}
 
 pub outer_hold : (file : List ℕ) → Hold (container_rules file) → Hold (outer_rules file)
 outer_hold file h =

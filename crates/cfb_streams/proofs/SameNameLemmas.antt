@@ -6,7 +6,7 @@ use Rattle.std.proofs.lemmas.Bool.{and_from, and_parts, false_from_ne_true, case
 use Rattle.std.proofs.lemmas.Option.{slice_get_within}
 use Rattle.cfb_directory.specs.Directory.{upper_case, AreSameNames}
 use Rattle.cfb_directory.specs.Reach.{entry_place}
-use Rattle.cfb_directory.proofs.NameLemmas.{ComesBefore-entries, same_not_before}
+use Rattle.cfb_directory.proofs.Public.{ComesBefore-entries, same_not_before}
 use Rattle.cfb_streams.specs.Names.{is_same_name}
 use Rattle.cfb_streams.specs.Contents.{Stream, Contents}
 use Rattle.cfb_streams.specs.Container.{HasContents}
@@ -77,7 +77,7 @@ named_once file contents has name i j s t less a b one other =
     (ComesBefore-entries file (entry_place has.parts.directory (slice_index has.entries i)) (entry_place
     has.parts.directory (slice_index has.entries j)) s.name t.name first.name second.name order)
 
--- so streams with one name stand at one place
+-- so streams with one name are at one place
 pub named_place : (file : List ℕ) (contents : Contents) (has : HasContents file contents) (name : List ℕ) (i j : ℕ)
     (s t : Stream) → slice_get contents.streams i ≡ Some s → slice_get contents.streams j ≡ Some t →
     AreSameNames s.name name → AreSameNames t.name name → i ≡ j

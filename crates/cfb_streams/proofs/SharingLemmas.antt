@@ -3,7 +3,7 @@ use Rattle.std.proofs.Common.{◌≡◌, ◌⊎◌, inl, inr, ℕ, [], ◌+◌, 
 use Rattle.std.proofs.Common.{slice_index, refl, sym, ap, ◌∙◌, subst, arith}
 use Rattle.std.proofs.lemmas.Bool.{cases_lt}
 use Rattle.doc_bits.specs.Rules.{LeastOrNone}
-use Rattle.doc_bits.proofs.RuleLemmas.{least_same}
+use Rattle.doc_bits.proofs.Public.{least_same}
 use Rattle.cfb_streams.specs.StreamRules.{Owner, of_fat, of_directory, of_mini_fat, of_mini_stream, of_stream, Owns}
 use Rattle.cfb_streams.specs.StreamRules.{Parts, IsShared, HasSmallSector, IsMiniFat, IsMiniStream}
 use Rattle.cfb_sectors.specs.Header.{valid_below}
@@ -13,8 +13,8 @@ use Rattle.cfb_directory.specs.Order.{ListsStreams}
 use Rattle.cfb_sectors.specs.Marks.{IsMarked}
 use Rattle.cfb_sectors.specs.Claims.{AreDistinctBelow, HasFront, Claimed, IsUnshared, Takes, IsSharedPlace}
 use Rattle.cfb_streams.specs.Sharing.{IsShareFront, IsDone}
-use Rattle.cfb_sectors.proofs.ClaimLemmas.{chain_closed}
-use Rattle.cfb_directory.proofs.OrderLemmas.{streams_apart}
+use Rattle.cfb_sectors.proofs.Public.{chain_closed}
+use Rattle.cfb_directory.proofs.Public.{streams_apart}
 
 -- an owner without sectors takes none
 pub takes_none : (owns : ℕ → Type 0) (claimed : Claimed) → ((s : ℕ) → ¬ owns s) → Takes owns claimed claimed

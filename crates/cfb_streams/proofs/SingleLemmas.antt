@@ -9,7 +9,7 @@ use Rattle.cfb_sectors.specs.Opening.{opening_rules}
 use Rattle.cfb_sectors.specs.HeaderRules.{header_rules}
 use Rattle.cfb_streams.specs.Container.{container_rules, outer_rules, directory_rules, entry_rules, chain_rules}
 use Rattle.cfb_streams.specs.Container.{stream_rules, sector_rules}
-use Rattle.cfb_sectors.proofs.JudgeLemmas.{holds_unique}
+use Rattle.cfb_sectors.proofs.Public.{holds_unique}
 
 pub directory_unique : (file x y : List ℕ) → IsDirectory file x → IsDirectory file y → x ≡ y
 directory_unique file x y a b = holds_unique (fat_table file) (directory_head file) x y a.holds b.holds

@@ -5,8 +5,7 @@ use Rattle.std.specs.List.{flat_map}
 use Rattle.std.proofs.lemmas.Bool.{cases_lt}
 use Rattle.std.proofs.lemmas.List.{get_or_past}
 use Rattle.doc_bits.specs.Number.{AreBytes}
-use Rattle.doc_bits.proofs.NumberLemmas.{number_at-bound}
-use Rattle.doc_bits.proofs.ByteListLemmas.{AreBytes-take, AreBytes-range, AreBytes-flat_map, no_bytes}
+use Rattle.doc_bits.proofs.Public.{number_at-bound, AreBytes-take, AreBytes-range, AreBytes-flat_map, no_bytes}
 use Rattle.cfb_sectors.specs.Header.{sector_bytes}
 use Rattle.cfb_directory.specs.Directory.{entry_size, IsNameOf}
 use Rattle.cfb_directory.specs.Reach.{entry_place}
@@ -15,7 +14,7 @@ use Rattle.cfb_streams.specs.Contents.{Stream, Contents, IsStored}
 use Rattle.cfb_streams.specs.Container.{mini_bytes, IsStreamOf, HasContents}
 
 -- bytes of sectors
-sectors_bytes : (base unit : ℕ) (bytes sectors : List ℕ) → AreBytes bytes →
+pub sectors_bytes : (base unit : ℕ) (bytes sectors : List ℕ) → AreBytes bytes →
     AreBytes (flat_map (sector_bytes base unit bytes) sectors)
 sectors_bytes base unit bytes sectors are =
     AreBytes-flat_map (sector_bytes base unit bytes) sectors

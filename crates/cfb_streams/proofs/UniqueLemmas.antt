@@ -14,8 +14,8 @@ use Rattle.cfb_directory.specs.Storages.{IsFilledStorage}
 use Rattle.cfb_directory.specs.Order.{ListsKind, ListsStreams, ListsFilled}
 use Rattle.cfb_streams.specs.Contents.{Stream, Contents}
 use Rattle.cfb_streams.specs.Container.{mini_bytes, IsStreamOf, HasContents, AreNamesOf, ListsStorages}
-use Rattle.cfb_sectors.proofs.JudgeLemmas.{holds_unique}
-use Rattle.cfb_directory.proofs.OrderLemmas.{before_trans, before_irreflexive}
+use Rattle.cfb_sectors.proofs.Public.{holds_unique}
+use Rattle.cfb_directory.proofs.Public.{before_trans, before_irreflexive}
 use Rattle.cfb_streams.proofs.SingleLemmas.{directory_unique, mini_fat_unique, mini_stream_unique}
 
 -- two lists of the entries of a kind in their order have the same entries, up to a place

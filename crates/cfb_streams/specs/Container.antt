@@ -70,7 +70,7 @@ pub record IsLongBody (file directory : List ℕ) (entry : ℕ) (bytes sectors :
   pub joined : bytes ≡ take (entry_size file (entry_place directory entry))
       (flat_map (sector_bytes sector_len sector_len file) sectors)
 
--- the bytes of a stream that stands in the mini stream, whose bytes are `stored`
+-- the bytes of a stream that is in the mini stream, whose bytes are `stored`
 pub record IsShortBody (file directory mini_fat stored : List ℕ) (entry : ℕ) (bytes : List ℕ) : Type 0 where
   pub is_small : IsSmallStream file directory entry
   pub sectors : List ℕ

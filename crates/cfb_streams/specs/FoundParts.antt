@@ -10,7 +10,7 @@ use Rattle.cfb_streams.specs.StreamRules.{IsMiniFat, BreaksMiniFat, IsMiniStream
 use Rattle.cfb_sectors.specs.Tables.{TablePlace}
 use Rattle.cfb_sectors.specs.Header.{mini_sectors_in}
 
--- where the mini FAT stands
+-- where the mini FAT is
 abbrev pub mini_place : List ℕ → List ℕ → List ℕ → TablePlace
 mini_place file directory mini_fat = record {
   file = file;

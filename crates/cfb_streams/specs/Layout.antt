@@ -1,4 +1,4 @@
--- Where the parts of a file stand that breaks none of the rules 1 to 9, 11 and 12.
+-- Where the parts of a file are that breaks none of the rules 1 to 9, 11 and 12.
 use Rattle.std.specs.Prelude.{◌≡◌, ℕ, List}
 use Rattle.std.specs.List.{flat_map}
 use Rattle.doc_bits.specs.Rules.{Hold}

@@ -59,7 +59,7 @@ impl<'a> Layout<'a> {
         }
     }
 
-    /// Judges rule 13.
+    /// Checks rule 13.
     pub(crate) fn check_streams(&mut self, alloc: Global) -> Result<(), CfbFault>
         ensures judged { MatchResult result
             (λ _. Nowhere (BreaksStream self.old.file self.old.parts.directory self.old.parts.mini_fat))
@@ -74,7 +74,7 @@ impl<'a> Layout<'a> {
         refuse(RULE_STREAM_CHAIN, least)
     }
 
-    /// Judges the rules 13 and 14, and reads the streams.
+    /// Checks the rules 13 and 14, and reads the streams.
     pub(crate) fn contents(&mut self, alloc: Global) -> Result<Container, CfbFault>
         ensures judged { MatchResult result
             (λ c. Hold (places_rules self.old) × HasContents self.old.file c)
@@ -246,7 +246,7 @@ impl<'a> Layout<'a> {
         )
     }
 
-    /// Judges rule 14, and reads the streams.
+    /// Checks rule 14, and reads the streams.
     pub(crate) fn gather(&self, alloc: Global) -> Result<Container, CfbFault>
         requires { Nowhere (BreaksStream self.now.file self.now.parts.directory self.now.parts.mini_fat) }
         ensures { MatchResult result
@@ -278,7 +278,7 @@ fn push_some(streams: &mut Vec<RootStream>, stream: Option<RootStream>) -> Resul
     Ok(())
 }
 
-/// Takes the sectors of a chain, and reads its bytes where none of them was taken: sector 0 of the table stands at
+/// Takes the sectors of a chain, and reads its bytes where none of them was taken: sector 0 of the table is at
 /// `base` of `stored`.
 fn read_chain(
     alloc: Global,

@@ -1,4 +1,4 @@
-// Where the parts of a file stand that breaks none of the rules 1 to 12, but maybe rule 10.
+// Where the parts of a file are that breaks none of the rules 1 to 12, but maybe rule 10.
 ghost use Rattle.std.specs.Prelude.{◌≡◌, ◌<◌, MatchResult, IfOk, length, slice_index};
 ghost use Rattle.doc_bits.specs.Rules.{Hold, Nowhere, ◌then◌};
 ghost use Rattle.cfb_sectors.specs.Opening.{opening_rules};
@@ -27,7 +27,7 @@ const RULE_MINI_FAT: u8 = 11;
 
 const RULE_MINI_STREAM: u8 = 12;
 
-/// Judges the rules 1 to 5.
+/// Checks the rules 1 to 5.
 fn check_front(file: &[u8]) -> Result<(), CfbFault>
     ensures { MatchResult result
         (λ _. Hold (opening_rules file.now) × Hold (header_rules file.now))
@@ -42,7 +42,7 @@ fn check_front(file: &[u8]) -> Result<(), CfbFault>
     Ok(())
 }
 
-/// Judges the rules 6 to 9.
+/// Checks the rules 6 to 9.
 fn check_entries<'a>(
     alloc: Global,
     file: &'a [u8],
@@ -96,7 +96,7 @@ impl<'a> Model for Layout<'a> {
 }
 
 impl<'a> Layout<'a> {
-    /// Judges the rules 1 to 12.
+    /// Checks the rules 1 to 12.
     pub(crate) fn check(alloc: Global, file: &'a [u8]) -> Result<Layout<'a>, CfbFault>
         ensures { MatchResult result
             (λ l. (l.file ≡ file.now) × (IsLayout l × Nowhere (BreaksStorage l.file l.parts.directory)))
@@ -110,7 +110,7 @@ impl<'a> Layout<'a> {
         Ok(layout)
     }
 
-    /// Judges the rules 1 to 9, 11 and 12: storages may have something.
+    /// Checks the rules 1 to 9, 11 and 12: storages may have something.
     pub(crate) fn check_outer(alloc: Global, file: &'a [u8]) -> Result<Layout<'a>, CfbFault>
         ensures { MatchResult result
             (λ layout. (layout.file ≡ file.now) × IsLayout layout)
@@ -123,7 +123,7 @@ impl<'a> Layout<'a> {
         Ok(layout)
     }
 
-    /// Judges the rules 11 and 12 of a file that has these entries and this FAT.
+    /// Checks the rules 11 and 12 of a file that has these entries and this FAT.
     fn of(alloc: Global, entries: Entries<'a>, mut fat: Table<'a>) -> Result<Layout<'a>, CfbFault>
         requires opening { Hold (opening_rules entries.file) }
         requires header { Hold (header_rules entries.file) }

@@ -19,7 +19,7 @@ use std::alloc::Global;
 /// The most sectors of a directory.
 const MAX_DIRECTORY: usize = 256;
 
-/// The claim of a chain whose start stands in the header.
+/// The claim of a chain whose start is in the header.
 fn header_claim(file: &[u8], field: usize) -> Claim
     requires header { sector_len ≤ length file.now }
     requires inside { field + 4 ≤ sector_len }

@@ -2,9 +2,9 @@
 use Rattle.std.proofs.Common.{◌≡◌, ◌≢◌, ℕ, ◌+◌, ◌-◌, ◌<◌, List, [], ◌∷◌, ◌++◌, length, take, Option, Some, None, refl}
 use Rattle.std.proofs.Common.{sym, ap, ◌∙◌, subst, arith, inl, inr, get_or, set, length-set, get_or-set_same}
 use Rattle.std.proofs.Common.{get_or-set_other, ◌≤◌, length-append}
-use Rattle.std.specs.Prelude.{slice_get, slice_index, option_map, MatchOption}
+use Rattle.std.specs.Prelude.{slice_get, option_map, MatchOption}
 use Rattle.std.proofs.lemmas.Bool.{cases_lt}
-use Rattle.std.proofs.lemmas.List.{get_or-take, length-take-le, get_or-replicate, length-replicate}
+use Rattle.std.proofs.lemmas.List.{get_or-replicate, length-replicate}
 use Rattle.std.specs.Ordering.{nat_cmp}
 use Rattle.std.proofs.Math.Seq.{take-length}
 use Rattle.std.proofs.Math.ListN.{get_or-eq_default}
@@ -13,45 +13,18 @@ use Rattle.std.specs.FinMap.{get, empty, get-empty}
 use Rattle.std.proofs.Common.{Bor, replicate}
 use Rattle.prop_map.specs.Settings.{Properties}
 use Rattle.style_sheet.specs.Sheet.{Sheet, style_at}
-use Rattle.style_sheet.specs.Chain.{base_at, kind_in, kind_at, AreOfOneKind, IsBaseChain}
-use Rattle.style_sheet.proofs.OneChainLemmas.{base_chains_agree}
+use Rattle.style_sheet.specs.Chain.{kind_in, kind_at, IsBaseChain}
+use Rattle.style_sheet.proofs.Public.{base_chains_agree, chain_front}
 use Rattle.effective_props.specs.Layers.{character_properties, properties_of_styles}
 use Rattle.effective_props.specs.ValueSteps.{layer_over}
-use Rattle.effective_props.proofs.LayerLemmas.{styles_more, match_now}
+use Rattle.effective_props.proofs.Public.{styles_more, match_now}
 use Rattle.style_sheet.specs.declared.styles.Style.{Style}
 use Rattle.char_formats.specs.declared.change.Change.{Change}
 use Rattle.char_formats.specs.Changes.{Act, with_layer, over_all, IsChangeOf}
 use Rattle.char_formats.specs.Styles.{IsStyleChange, IsSlotChange, IsBelowStyle, AreKnownChanges, AreStyleChanges}
-use Rattle.doc_bits.proofs.ListLemmas.{slice_get_push, slice_get_before}
+use Rattle.doc_bits.proofs.Public.{slice_get_push, slice_get_before}
 use Rattle.char_formats.proofs.ChangeLemmas.{same_act}
 use Rattle.char_formats.proofs.EffectLemmas.{over_all-append}
-
--- the front of a chain is the chain of its last style
-chain_front : (sheet : Sheet) (istd : ℕ) (chain : List ℕ) (i : ℕ) → IsBaseChain sheet istd chain → i < length chain →
-    IsBaseChain sheet (slice_index chain i) (take (i + 1) chain)
-chain_front sheet istd chain i is within =
-    let front : List ℕ = take (i + 1) chain in
-    let len : length front ≡ i + 1 = length-take-le (i + 1) chain (omega (arith, within)) in
-    let same : (k : ℕ) → k < i + 1 → slice_index front k ≡ slice_index chain k =
-    (λ k below. get_or-take (i + 1) chain k 0 below) in
-    let end : length front - 1 ≡ i = omega (arith, len) in
-    record {
-      some = omega (arith, len);
-      last = ap (slice_index front) end ∙ same i (omega arith);
-      root = ap (base_at sheet) (same 0 (omega arith)) ∙ is.root;
-      links = λ k below.
-          ap (base_at sheet) (same (k + 1) (omega (arith, below, len)))
-          ∙ is.links k (omega (arith, below, len, within))
-          ∙ ap Some (sym (same k (omega (arith, below, len))));
-      kind = λ k below.
-          let own = is.kind i within in
-          let other = is.kind k (omega (arith, below, len, within)) in
-          subst (AreOfOneKind sheet (slice_index chain i)) (sym (same k (omega (arith, below, len))))
-          (record { properties = rw own.same own.properties; same = other.same ∙ sym own.same });
-      once = λ j k less below both.
-          is.once j k less (omega (arith, below, len, within))
-          (sym (same j (omega (arith, less, below, len))) ∙ both ∙ same k (omega (arith, below, len)));
-    }
 
 -- the properties of the styles up to a place of a chain
 abbrev pub properties_upto : Sheet → List ℕ → ℕ → List Properties

@@ -7,7 +7,7 @@ use Rattle.sprm_table.specs.Codes.{class_of}
 use Rattle.prop_map.specs.Settings.{Properties}
 use Rattle.effective_props.specs.Values.{tabs_code, is_toggle, effective_value}
 use Rattle.effective_props.specs.ValueSteps.{layer_over}
-use Rattle.effective_props.proofs.ValueLemmas.{effective_more}
+use Rattle.effective_props.proofs.Public.{effective_more}
 use Rattle.char_formats.specs.Changes.{over_all}
 
 pub over_all-append : (xs ys : List Properties) (code : ℕ) (before : Option (List ℕ)) → over_all (xs ++ ys) code before

@@ -6,7 +6,7 @@ use Rattle.std.specs.FinMap.{get}
 use Rattle.prop_map.specs.Settings.{Properties}
 use Rattle.style_sheet.specs.Sheet.{Sheet}
 use Rattle.style_sheet.specs.Chain.{kind_at, HasSoundBases}
-use Rattle.style_sheet.proofs.OneChainLemmas.{base_chains_agree}
+use Rattle.style_sheet.proofs.Public.{base_chains_agree}
 use Rattle.effective_props.specs.Values.{effective_value}
 use Rattle.effective_props.specs.ValueSteps.{layer_over}
 use Rattle.effective_props.specs.Layers.{character_properties, properties_of_styles, named_style, AreChainLayers}
@@ -20,7 +20,7 @@ use Rattle.char_formats.specs.Styles.{IsStyleChange, IsNamedChange, IsUnderChang
 use Rattle.char_formats.specs.Laws.{CharFormatIsOne, CharFormatIsThere}
 use Rattle.char_formats.proofs.ChangeLemmas.{format_in-same}
 use Rattle.char_formats.proofs.EffectLemmas.{over_all-append, over_all-effective}
-use Rattle.effective_props.proofs.OneLemmas.{named_layers_one}
+use Rattle.effective_props.proofs.Public.{named_layers_one}
 
 -- it is one
 pub named-style : (sheet : Sheet) (istd : ℕ) (change : Change) → kind_at sheet istd ≡ 2 →

@@ -9,11 +9,11 @@ use Rattle.std.specs.FinMap.{find, is_sorted, entries, get-entries}
 use Rattle.prop_map.specs.Settings.{Properties}
 use Rattle.prop_map.specs.Entries.{Entries}
 use Rattle.effective_props.specs.ValueSteps.{layer_over}
-use Rattle.effective_props.proofs.ValueLemmas.{find-more}
+use Rattle.effective_props.proofs.Public.{find-more}
 use Rattle.char_formats.specs.declared.change.Change.{Change}
 use Rattle.char_formats.specs.Changes.{Act, with_layer, with_value, IsChangeOf}
 use Rattle.char_formats.proofs.ChangeLemmas.{same_act}
-use Rattle.prop_map.proofs.ChangeLemmas.{find-earlier}
+use Rattle.prop_map.proofs.Public.{find-earlier}
 
 -- what some entries make of the value so far, after another act
 abbrev pub with_entries : Entries → Act → Act

@@ -1,6 +1,7 @@
-pub mod FlagLemmas
-pub mod ChangeLemmas
-pub mod LaidLemmas
-pub mod EffectLemmas
-pub mod ChainLemmas
-pub mod FormatLemmas
+pub mod Public
+mod FlagLemmas
+mod ChangeLemmas
+mod LaidLemmas
+mod EffectLemmas
+mod ChainLemmas
+mod FormatLemmas

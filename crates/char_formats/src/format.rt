@@ -1,6 +1,6 @@
 // [MS-DOC] Sgc 2: what a reader sees of the properties of a character.
 
-/// Where a character stands beside its line.
+/// Where a character is beside its line.
 #[derive(Clone, Copy, PartialEq, Eq)]
 pub enum Position {
     Normal,
@@ -29,11 +29,11 @@ pub struct CharFormat {
     pub caps: bool,
     pub position: Position,
     pub hidden: bool,
-    /// Its unit stands for something else than a character.
+    /// Its unit represents something else than a character.
     pub special: bool,
-    /// It stands for the data of a field.
+    /// It represents the data of a field.
     pub of_field: bool,
-    /// It stands for an object.
+    /// It represents an object.
     pub object: bool,
     /// What is shown in its place.
     pub symbol: Option<Symbol>,

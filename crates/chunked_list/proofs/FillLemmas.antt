@@ -56,7 +56,7 @@ lent_more {T = T} old now new b i end x there so_far is read within put =
     ∙ ap (λ (t : List (List T)). set t b (block ++ take (i + 1) next)) so_far
     ∙ set-set old b (block ++ take i next) (block ++ take (i + 1) next)
 
--- what stands in the two blocks then
+-- what is in the two blocks then
 pub lent_here : {T : Type 0} (old now : List (List T)) (b : ℕ) (x : List T) → b + 1 < length old → now ≡ set old b x →
     block_at now b ≡ x
 lent_here {T = T} old now b x there is =

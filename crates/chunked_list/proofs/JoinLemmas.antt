@@ -1,4 +1,4 @@
--- The list that blocks stand for, part by part.
+-- The list that blocks represent, part by part.
 use Rattle.std.proofs.Common.{◌≡◌, ℕ, refl, sym, ap, ◌∙◌, ◌+◌, ◌<◌, ◌≤◌, List, [], ◌∷◌, ◌++◌, length, map}
 use Rattle.std.proofs.Common.{take, drop, set, get_or, arith, append_assoc, length-append, length-take-le, Some}
 use Rattle.std.specs.Prelude.{slice_get}
@@ -10,10 +10,9 @@ use Rattle.std.proofs.lemmas.List.{get_or_read}
 use Rattle.std.proofs.lemmas.List.Concat.{flat_map-cons}
 use Rattle.std.proofs.lemmas.Grind.{flat_map-append}
 use Rattle.std.proofs.lemmas.Option.{slice_get_within, get_or_from_slice_get}
-use Rattle.doc_bits.proofs.ListLemmas.{slice_get_before, same_front, from_map}
+use Rattle.doc_bits.proofs.Public.{slice_get_before, same_front, from_map, from_behind}
 use Rattle.chunked_list.specs.Blocks.{joined, units_of, block_at, IsSpotOf, IsFoundOf}
 use Rattle.chunked_list.proofs.UnitLemmas.{units-append}
-use Rattle.doc_bits.proofs.TogetherLemmas.{from_behind}
 
 pub joined-nil : {T : Type 0} → joined {T = T} [] ≡ []
 unfolding joined
@@ -34,7 +33,7 @@ joined-one {T = T} block = joined-cons block [] ∙ ap (λ (t : List T). block +
 pub joined-two : {T : Type 0} (first second : List T) → joined (first ∷ second ∷ []) ≡ first ++ second
 joined-two {T = T} first second = joined-cons first (second ∷ []) ∙ ap (λ (t : List T). first ++ t) (joined-one second)
 
--- a block that was read stands there
+-- a block that was read is there
 pub block_read : {T : Type 0} (blocks now : List (List T)) (b : ℕ) (block : List T) → blocks ≡ now → b < length now →
     block ≡ get_or blocks b block → (b < length blocks) × (block ≡ block_at now b)
 block_read {T = T} blocks now b block same there read =
@@ -218,7 +217,7 @@ found_here {T = T} units blocks b cp left item within before there counted here 
 
 -- ---- sums of blocks
 
--- a sum that is told is that of its block
+-- a sum that is known is that of its block
 pub sum_told : {T : Type 0} (units : T → ℕ) (blocks : List (List T)) (sums : List ℕ) (b u : ℕ) → sums
     ≡ map (units_of units) blocks →
     slice_get sums b ≡ Some u → u ≡ units_of units (block_at blocks b)

@@ -1,10 +1,11 @@
-pub mod UnitLemmas
-pub mod JoinLemmas
-pub mod SizeLemmas
-pub mod PutLemmas
-pub mod SetLemmas
-pub mod RangeLemmas
-pub mod ShortLemmas
-pub mod RemoveLemmas
-pub mod FillLemmas
-pub mod BuildLemmas
+pub mod Public
+mod UnitLemmas
+mod JoinLemmas
+mod SizeLemmas
+mod PutLemmas
+mod SetLemmas
+mod RangeLemmas
+mod ShortLemmas
+mod RemoveLemmas
+mod FillLemmas
+mod BuildLemmas

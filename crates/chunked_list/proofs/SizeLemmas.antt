@@ -20,7 +20,7 @@ length-splice xs ys b c order within =
       length-drop c xs,
     )
 
--- ---- what stands at a place of a spliced list
+-- ---- what is at a place of a spliced list
 
 pub splice_front : {A : Type 0} (xs ys : List A) (b c k : ℕ) (d : A) → b ≤ length xs → k < b →
     get_or (splice xs b c ys) k d ≡ get_or xs k d

@@ -8,7 +8,7 @@ use Rattle.std.proofs.lemmas.List.{map-append, take-map, take_all, take-take, ta
 use Rattle.std.proofs.lemmas.List.{set_split, get_or-drop, take-append-drop}
 use Rattle.std.proofs.lemmas.List.Sums.{sum_by-append, sum_by_more, sum_by-take-le, sum_by-cons}
 use Rattle.std.proofs.lemmas.Option.{slice_get_within, get_or_from_slice_get}
-use Rattle.doc_bits.proofs.ListLemmas.{from_map}
+use Rattle.doc_bits.proofs.Public.{from_map}
 use Rattle.chunked_list.specs.Blocks.{units_of, IsSpotOf}
 
 -- ---- sums
@@ -54,7 +54,7 @@ units_all units xs i all = ap (units_of units) (take_all i xs all)
 
 -- ---- a walk over lengths
 
--- what stands at a place of a front
+-- what is at a place of a front
 pub slice_get_front : {A : Type 0} (k : ℕ) (xs : List A) (i : ℕ) → i < k → slice_get (take k xs) i ≡ slice_get xs i
 slice_get_front zero xs i low = absurd (omega arith)
 slice_get_front (suc k) [] i low = refl

@@ -10,7 +10,7 @@ use Rattle.chunked_list.specs.declared.places.Place.{Place}
 use Rattle.chunked_list.specs.declared.places.Found.{Found}
 use Rattle.chunked_list.specs.declared.places.Mark.{Mark}
 
--- the list that blocks stand for
+-- the list that blocks represent
 unfoldable pub joined : {T : Type 0} → List (List T) → List T
 joined blocks = flat_map (λ block. block) blocks
 

@@ -82,7 +82,7 @@ impl<T: Measured> BlockList<T> {
         self.count
     }
 
-    /// The number of blocks that stand ready.
+    /// The number of blocks that are ready.
     pub fn spare(&self) -> usize
         ensures { result ≡ self.now.spare }
     {
@@ -101,7 +101,7 @@ impl<T: Measured> BlockList<T> {
         self.row.get(place.block, place.within)
     }
 
-    /// Makes blocks ready for so many insertions, less those that stand ready.
+    /// Makes blocks ready for so many insertions, less those that are ready.
     pub fn reserve(&mut self, n: usize) -> Result<(), Memory>
         ensures ok { OnOk result (n ≤ self.new.spare) }
         ensures items { self.new.items ≡ self.old.items }
@@ -135,7 +135,7 @@ impl<T: Measured> BlockList<T> {
         self.spot_with::<Brand>(cp, Blank::new(1))
     }
 
-    /// The item of a unit, where the blank stands for the account of the steps.
+    /// The item of a unit, where the blank represents the account of the steps.
     fn spot_with<A: Account>(&self, cp: u32, blank: Blank) -> Spot
         requires cp { cp < units_of T.units self.now.items }
         requires name { blank.name ≡ A.name }

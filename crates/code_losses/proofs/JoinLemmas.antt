@@ -1,15 +1,16 @@
 -- Lists of parts, one after the other.
 use Rattle.std.specs.Prelude.{slice_get}
-use Rattle.std.proofs.Common.{◌≡◌, ◌⊎◌, ◌∙◌, ◌+◌, refl, sym, ap, subst, inl, inr, ℕ, List, [], ◌∷◌, ◌++◌, length}
-use Rattle.std.proofs.Common.{Some, suc, zero, arith, length-append, append_assoc}
+use Rattle.std.proofs.Common.{◌≡◌, ◌∙◌, ◌+◌, refl, sym, ap, subst, inl, inr, ℕ, List, [], ◌∷◌, ◌++◌, length}
+use Rattle.std.proofs.Common.{Some, suc, arith, length-append, append_assoc}
 use Rattle.std.specs.List.{flat_map}
-use Rattle.std.proofs.lemmas.Option.{slice_get_within, none-some, same_Some}
+use Rattle.std.proofs.lemmas.Option.{slice_get_within}
 use Rattle.std.proofs.lemmas.List.{append-nil}
 use Rattle.std.proofs.lemmas.Grind.{flat_map-append}
 use Rattle.sprm_table.specs.Sprm.{Prl}
 use Rattle.code_losses.specs.declared.counts.CodeCounts.{CodeCounts}
 use Rattle.code_losses.specs.Counted.{AreCodeCounts, CountsPart}
 use Rattle.code_losses.specs.Pages.{AreJoined, CountsJoined}
+use Rattle.doc_bits.proofs.Public.{last_get}
 
 abbrev Lists : Type 0
 Lists = List (List Prl)
@@ -21,17 +22,6 @@ joined_none is = record {
   each = λ k part here. absurd (omega (arith, slice_get_within {A = Lists} [] k part here));
   joined = refl;
 }
-
--- a list with one entry more
-pub last_get : {A : Type 0} (xs : List A) (x y : A) (k : ℕ) → slice_get (xs ++ x ∷ []) k ≡ Some y →
-    (slice_get xs k ≡ Some y) ⊎ ((k ≡ length xs) × (x ≡ y))
-last_get [] x y zero here = inr (refl, same_Some x y here)
-last_get [] x y (suc k) here = absurd (none-some y here)
-last_get (z ∷ xs) x y zero here = inl here
-last_get (z ∷ xs) x y (suc k) here = elim (last_get xs x y k here) [
-  | inl there ↦ inl there
-  | inr last ↦ inr (ap suc last.0, last.1)
-]
 
 pub joined_more : (is : ℕ → Lists → Type 0) (count : ℕ) (lists part : Lists) → AreJoined is count lists →
     is count part → AreJoined is (count + 1) (lists ++ part)

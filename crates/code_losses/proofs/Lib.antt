@@ -1,9 +1,10 @@
-pub mod ResultLemmas
-pub mod TallyLemmas
-pub mod ListingLemmas
-pub mod JoinLemmas
-pub mod RunLemmas
-pub mod NamedLemmas
-pub mod OneLemmas
-pub mod PrcLemmas
-pub mod LawLemmas
+pub mod Public
+mod ResultLemmas
+mod TallyLemmas
+mod ListingLemmas
+mod JoinLemmas
+mod RunLemmas
+mod NamedLemmas
+mod OneLemmas
+mod PrcLemmas
+mod LawLemmas

@@ -13,7 +13,7 @@ use Rattle.code_losses.specs.declared.counts.CodeCounts.{CodeCounts}
 use Rattle.code_losses.specs.Tallies.{code_count}
 use Rattle.code_losses.specs.Counted.{AreCodeCounts}
 use Rattle.code_losses.specs.Losses.{skipped_of, repeated_of, named_by, codes_of}
-use Rattle.doc_bits.proofs.ListLemmas.{range_more}
+use Rattle.doc_bits.proofs.Public.{range_more}
 
 -- the features of the first codes
 abbrev pub named_below : (ℕ → List TextFeature) → ℕ → List TextFeature

@@ -1,9 +1,9 @@
 -- A file has one list of such codes.
 use Rattle.std.specs.Prelude.{slice_range}
 use Rattle.std.proofs.Common.{◌≡◌, ◌∙◌, ◌+◌, ◌/◌, sym, ap, subst, inl, inr, ℕ, List, [], ◌∷◌, length}
-use Rattle.prl_skips.proofs.OneLemmas.{spelt_accepted}
+use Rattle.prl_skips.proofs.Public.{spelt_accepted}
 use Rattle.sprm_table.specs.Sprm.{Prl}
-use Rattle.sprm_table.proofs.SprmLemmas.{spelt_unique}
+use Rattle.sprm_table.proofs.Public.{spelt_unique}
 use Rattle.fkp_pages.specs.declared.kind.PageKind.{PageKind}
 use Rattle.fkp_pages.specs.declared.kind.PageKind.TheVariants as pages
 use Rattle.fkp_pages.specs.Fkp.{least_list, page_count}

@@ -6,14 +6,14 @@ use Rattle.std.specs.List.{flat_map}
 use Rattle.std.proofs.lemmas.Option.{slice_get_within}
 use Rattle.std.proofs.lemmas.List.{append-nil}
 use Rattle.std.proofs.lemmas.Grind.{flat_map-append}
-use Rattle.doc_bits.proofs.ListLemmas.{there_is}
+use Rattle.doc_bits.proofs.Public.{there_is, last_get}
 use Rattle.sprm_table.specs.Sprm.{Prl}
 use Rattle.piece_table.specs.Front.{ArePrcs}
-use Rattle.piece_table.proofs.ClxLemmas.{prcs_unique, front_of_prc}
+use Rattle.piece_table.proofs.Public.{prcs_unique, front_of_prc}
 use Rattle.code_losses.specs.declared.counts.CodeCounts.{CodeCounts}
 use Rattle.code_losses.specs.Counted.{IsFound, AreCodeCounts}
 use Rattle.code_losses.specs.Prcs.{AreFoundIn, AreListsOfPrcs}
-use Rattle.code_losses.proofs.JoinLemmas.{last_get, parts_one}
+use Rattle.code_losses.proofs.JoinLemmas.{parts_one}
 use Rattle.code_losses.proofs.OneLemmas.{found_one}
 
 pub found_none : AreFoundIn [] []

@@ -35,7 +35,7 @@ abbrev pub list_kind : PageKind → ListKind
 list_kind pages.Chpx = Chpx
 list_kind pages.Papx = Papx
 
--- where the lists of a file stand: WordDocument, the bin tables of its characters and of its paragraphs, and its Clx
+-- where the lists of a file are: WordDocument, the bin tables of its characters and of its paragraphs, and its Clx
 pub record ListParts : Type 0 where
   pub wd : List ℕ
   pub characters : List ℕ

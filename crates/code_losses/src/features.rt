@@ -16,7 +16,7 @@ const TABLE: u8 = 5;
 
 const TABS: u16 = 0xC60D;
 
-/// Whether the standard may add what stands again of a code.
+/// Whether the standard may add what is again of a code.
 fn is_added(code: Code) -> bool
     ensures { result ≡ is_added_code code.0 }
 {

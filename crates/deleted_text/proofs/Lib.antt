@@ -1,6 +1,7 @@
-pub mod ListLemmas
-pub mod PlaceLemmas
-pub mod RangeLemmas
-pub mod StrikeLemmas
-pub mod NoneLemmas
-pub mod OneLemmas
+pub mod Public
+mod ListLemmas
+mod PlaceLemmas
+mod RangeLemmas
+mod StrikeLemmas
+mod NoneLemmas
+mod OneLemmas

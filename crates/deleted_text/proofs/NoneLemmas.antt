@@ -23,9 +23,9 @@ use Rattle.fkp_pages.specs.Bin.{page_at}
 use Rattle.fkp_pages.specs.Properties.{IsListAnswered}
 use Rattle.direct_props.specs.PageRules.{IsValidPlace}
 use Rattle.direct_props.specs.Stretches.{HasValidList}
-use Rattle.direct_props.proofs.RightLemmas.{right_places_have_lists}
+use Rattle.direct_props.proofs.Public.{right_places_have_lists}
 use Rattle.doc_parts.specs.Tabulated.{tabulate}
-use Rattle.doc_losses.proofs.ListingLemmas.{listed_more, joined_more}
+use Rattle.doc_losses.proofs.Public.{listed_more, joined_more}
 use Rattle.plain_doc.specs.declared.item.Item.{Item}
 use Rattle.plain_doc.specs.declared.document.Document.{Document}
 use Rattle.plain_doc.specs.declared.rules_texts.Side.{Side}
@@ -33,8 +33,8 @@ use Rattle.plain_doc.specs.declared.rules_texts.Side.TheVariants.{Notes, Heads}
 use Rattle.file_rules.specs.Source.{part_bytes}
 use Rattle.file_rules.specs.FormatRules.{judged_places}
 use Rattle.file_rules.specs.FileRules.{source_of}
-use Rattle.file_rules.proofs.RightPlaces.{right_characters}
-use Rattle.doc_read.proofs.GivenPlaces.{RightText}
+use Rattle.file_rules.proofs.Public.{right_characters}
+use Rattle.doc_read.proofs.Public.{RightText}
 use Rattle.doc_mends.specs.declared.mends.DeletedRange.{DeletedRange}
 use Rattle.doc_mends.specs.declared.mends.Mend.{Mend}
 use Rattle.doc_mends.specs.Mends.{all_struck, struck_ranges}

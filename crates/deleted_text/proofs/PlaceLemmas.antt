@@ -8,7 +8,7 @@ use Rattle.std.proofs.lemmas.List.{length-append, get_or_append_left}
 use Rattle.std.proofs.lemmas.List.Elements.{All-nil}
 use Rattle.doc_bits.specs.Plc.{plc_cp}
 use Rattle.sprm_table.specs.Sprm.{Prl, IsPrl, SpellsSprmList}
-use Rattle.sprm_table.proofs.SprmLemmas.{spelt_unique}
+use Rattle.sprm_table.proofs.Public.{spelt_unique}
 use Rattle.fkp_pages.specs.declared.kind.PageKind.TheVariants.{Chpx}
 use Rattle.fkp_pages.specs.declared.kind.RunAnswer.{RunAnswer}
 use Rattle.fkp_pages.specs.declared.kind.RunAnswer.TheVariants.{Found, Empty, NoRun, BadCount, Leaves}
@@ -18,8 +18,7 @@ use Rattle.fkp_pages.specs.Bin.{IsBinTable, IsBinPage, HasBinRange, HasNoBin, pa
 use Rattle.fkp_pages.specs.Fkp.{HasRunAnswer}
 use Rattle.fkp_pages.specs.Stretch.{HasStretch}
 use Rattle.fkp_pages.specs.Properties.{IsListAnswered}
-use Rattle.fkp_pages.proofs.BinLemmas.{bin_page_one}
-use Rattle.fkp_pages.proofs.PropertyLemmas.{run_answer_one}
+use Rattle.fkp_pages.proofs.Public.{bin_page_one, run_answer_one}
 use Rattle.deleted_text.specs.Deletions.{SaysDeleted, deleted_by}
 use Rattle.deleted_text.specs.Places.{IsDeletedAt, IsAround, IsInPage, AnswersDeleted}
 

@@ -12,7 +12,7 @@ use Rattle.std.proofs.lemmas.Option.{slice_get_within, get_or_from_slice_get, sl
 use Rattle.doc_bits.specs.declared.places.Story.{Story}
 use Rattle.doc_bits.specs.declared.places.Story.TheVariants.{Main}
 use Rattle.doc_parts.specs.Tabulated.{tabulate}
-use Rattle.doc_losses.proofs.ListingLemmas.{listed_more, joined_more}
+use Rattle.doc_losses.proofs.Public.{listed_more, joined_more}
 use Rattle.plain_doc.specs.declared.item.Item.{Item}
 use Rattle.plain_doc.specs.declared.document.Document.{Document}
 use Rattle.plain_doc.specs.declared.rules_texts.Side.{Side}
@@ -25,7 +25,7 @@ use Rattle.deleted_text.specs.declared.ranges.StoryBegins.{StoryBegins}
 use Rattle.deleted_text.specs.Ranges.{begins_at, run_end, range_at, text_ranges, items_before, text_flags}
 use Rattle.deleted_text.specs.Ranges.{texts_ranges, document_ranges}
 
--- ---- what stands behind a text
+-- ---- what is behind a text
 
 pub left_more : (flags : List Bool) (texts : List (List Item)) (number : ℕ) (text : List Item) →
     slice_get texts number ≡ Some text →

@@ -10,7 +10,7 @@ use Rattle.doc_patch.specs.Changes.{changed, modified_item}
 use Rattle.doc_patch.specs.Places.{HasText, HasRange}
 use Rattle.doc_mends.specs.declared.mends.DeletedRange.{DeletedRange}
 use Rattle.doc_mends.specs.Mends.{AreRanges, all_struck, can_strike, strike_of, striking, struck_ranges}
-use Rattle.doc_mends.proofs.MendLemmas.{ranges_stay, filtered, length-map_range}
+use Rattle.doc_mends.proofs.Public.{ranges_stay, filtered, length-map_range}
 use Rattle.file_rules.specs.FileRules.{FileText}
 use Rattle.doc_mends.specs.declared.mends.Mend.{Mend}
 use Rattle.deleted_text.specs.Ranges.{begins_of}

@@ -35,7 +35,7 @@ range_at story flags at =
 abbrev pub text_ranges : Story → List Bool → List DeletedRange
 text_ranges story flags = filter_map (λ range. range) (tabulate (range_at story flags) (length flags))
 
--- how many items stand before a text of a story
+-- how many items are before a text of a story
 abbrev pub items_before : List (List Item) → ℕ → ℕ
 items_before texts number = sum_by (λ text. length text) (take number texts)
 
@@ -57,6 +57,6 @@ document_ranges begins flags document =
     ++ (texts_ranges Notes (drop begins.notes flags) document.notes
     ++ texts_ranges Heads (drop begins.heads flags) document.heads)
 
--- [MS-DOC] ccpText, ccpFtn: the stories of the notes and of the header texts stand behind the main text
+-- [MS-DOC] ccpText, ccpFtn: the stories of the notes and of the header texts are behind the main text
 abbrev pub begins_of : List ℕ → StoryBegins
 begins_of wd = record { notes = fib_ccp_text wd; heads = fib_ccp_text wd + fib_ccp_ftn wd }

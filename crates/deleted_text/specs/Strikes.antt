@@ -1,7 +1,7 @@
 -- Ranges that a reviser deleted are struck through, where they can be, and the others are named.
 use Rattle.std.specs.Prelude.{◌≡◌, ℕ, List, ◌++◌, map, take, drop}
 use Rattle.plain_doc.specs.declared.document.Document.{Document}
-use Rattle.deleted_text.specs.declared.striking.TheConstants.{MOST_STRUCK}
+use Rattle.deleted_text.specs.declared.striking.TheConstants.{MAX_STRUCK}
 use Rattle.doc_mends.specs.declared.mends.DeletedRange.{DeletedRange}
 use Rattle.doc_mends.specs.declared.mends.Mend.{Mend}
 use Rattle.doc_mends.specs.declared.mends.Mend.TheVariants.{KeepDeleted}
@@ -9,7 +9,7 @@ use Rattle.doc_mends.specs.Mends.{all_struck, struck_ranges, strikes, kept_range
 
 -- Profile: so many ranges are struck at most, since the runs of a text are made anew for each
 abbrev pub most_struck : ℕ
-most_struck = MOST_STRUCK
+most_struck = MAX_STRUCK
 
 -- the strikes, the ranges that stay since an item has too many properties, and those that are too many
 abbrev pub strike_mends : Document → List DeletedRange → List Mend

@@ -8,4 +8,4 @@ mod striking;
 
 pub use places::deleted_places;
 pub use ranges::{StoryBegins, deleted_ranges, story_begins};
-pub use striking::{MOST_STRUCK, strike_text};
+pub use striking::{MAX_STRUCK, strike_text};

@@ -86,7 +86,7 @@ fn side_name(side: Side, number: usize) -> Story
     }
 }
 
-/// Appends the ranges of several texts, whose flags stand one behind the other.
+/// Appends the ranges of several texts, whose flags are one behind the other.
 fn add_texts(
     ranges: &mut Vec<DeletedRange>,
     side: Side,

@@ -11,7 +11,7 @@ use doc_mends::{DeletedRange, Mend, Mended, strike_deleted};
 use std::alloc::Global;
 
 /// How many ranges are struck at most.
-pub const MOST_STRUCK: usize = 2048;
+pub const MAX_STRUCK: usize = 2048;
 
 /// Strikes through what a reviser deleted of a document, by flags of its CPs. Where memory runs out the document may be
 /// any.
@@ -33,10 +33,10 @@ pub fn strike_text(
         document: struck,
         mut mends,
         kept,
-    } = strike_deleted(alloc, copy, first_ranges(&ranges, MOST_STRUCK))?;
+    } = strike_deleted(alloc, copy, first_ranges(&ranges, MAX_STRUCK))?;
     *document = struck;
     push_kept(&mut mends, &kept)?;
-    push_kept(&mut mends, other_ranges(&ranges, MOST_STRUCK))?;
+    push_kept(&mut mends, other_ranges(&ranges, MAX_STRUCK))?;
     Ok(mends)
 }
 

@@ -10,12 +10,12 @@ use Rattle.sprm_table.specs.declared.faults.SprmFault.{SprmFault}
 use Rattle.std.proofs.lemmas.Bool.{cases_lt}
 use Rattle.std.proofs.lemmas.List.{get_or_past}
 use Rattle.fkp_pages.specs.declared.kind.PageKind.TheVariants.{Chpx, Papx}
-use Rattle.doc_bits.proofs.RuleLemmas.{least_same, least_from}
+use Rattle.doc_bits.proofs.Public.{least_same, least_from}
 use Rattle.fkp_pages.specs.Runs.{run_groups}
 use Rattle.fkp_pages.specs.Fkp.{HasRunAnswer, HasRunCount, page_count, least_list}
 use Rattle.fkp_pages.specs.Bin.{IsBinTable, page_at}
 use Rattle.fkp_pages.specs.Laws.{RunAnswerIsOne}
-use Rattle.fkp_pages.proofs.BinLemmas.{bin_page_one}
+use Rattle.fkp_pages.proofs.Public.{bin_page_one}
 use Rattle.direct_props.specs.PageRules.{HasPageAnswer, HasBadPage, IsInNoRun, HasListOutside, HasListFault, LooksBad}
 use Rattle.direct_props.specs.PageRules.{HasRoom}
 

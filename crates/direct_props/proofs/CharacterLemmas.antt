@@ -17,8 +17,8 @@ use Rattle.prop_map.specs.Formed.{IsPropertyMap, StaysFormed, character_groups}
 use Rattle.prop_map.specs.Modifiers.{IsFormedModifier}
 use Rattle.direct_props.specs.Direct.{MakesProperties, IsDirectCharacter}
 use Rattle.direct_props.specs.Stretches.{AddsCharacters}
-use Rattle.doc_bits.proofs.ListLemmas.{rest_is}
-use Rattle.prop_map.proofs.ActingLemmas.{IsPropertyMap-empty}
+use Rattle.doc_bits.proofs.Public.{rest_is}
+use Rattle.prop_map.proofs.Public.{IsPropertyMap-empty}
 
 -- what follows the style number, as it is cut off
 pub sprms_of : (list : List ℕ) (start style least : ℕ) → style ≡ least → start ≡ min style (length list) →

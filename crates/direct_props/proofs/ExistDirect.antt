@@ -4,18 +4,15 @@ use Rattle.std.proofs.Common.{None, arith}
 use Rattle.std.specs.Option.{unwrap_or, ForSome}
 use Rattle.std.specs.FinMap.{empty}
 use Rattle.doc_bits.specs.Number.{u16_at, AreBytes}
-use Rattle.doc_bits.proofs.NumberLemmas.{number_at-bound}
-use Rattle.doc_bits.proofs.ByteListLemmas.{AreBytes-drop, AreBytes-range, no_bytes}
+use Rattle.doc_bits.proofs.Public.{number_at-bound, AreBytes-drop, AreBytes-range, no_bytes}
 use Rattle.sprm_table.specs.Sprm.{IsAcceptedList}
 use Rattle.prop_map.specs.declared.modifiers.Modifier.{Modifier}
 use Rattle.prop_map.specs.Settings.{Properties}
 use Rattle.prop_map.specs.Acting.{style_named}
 use Rattle.prop_map.specs.Formed.{character_groups, paragraph_groups, IsPropertyMap}
 use Rattle.prop_map.specs.Modifiers.{IsFormedModifier, mark_style}
-use Rattle.prop_map.proofs.ActingLemmas.{IsPropertyMap-after, IsPropertyMap-empty}
-use Rattle.prop_map.proofs.ByteLemmas.{list_bytes, style_small}
-use Rattle.prop_map.proofs.ModifierLemmas.{IsPropertyMap-over}
-use Rattle.prop_map.proofs.ExistMaps.{after_list, character_after, mark_after}
+use Rattle.prop_map.proofs.Public.{IsPropertyMap-after, IsPropertyMap-empty, list_bytes, style_small}
+use Rattle.prop_map.proofs.Public.{IsPropertyMap-over, after_list, character_after, mark_after}
 use Rattle.fkp_pages.specs.declared.kind.PageKind.{PageKind}
 use Rattle.fkp_pages.specs.declared.kind.PageKind.TheVariants.{Chpx, Papx}
 use Rattle.fkp_pages.specs.declared.kind.RunAnswer.{RunAnswer}

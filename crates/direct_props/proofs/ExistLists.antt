@@ -7,8 +7,8 @@ use Rattle.doc_bits.specs.Plc.{plc_cp}
 use Rattle.doc_bits.specs.Rules.{Nowhere, Hold}
 use Rattle.sprm_table.specs.Sprm.{IsAcceptedList}
 use Rattle.doc_bits.specs.Number.{AreBytes}
-use Rattle.sprm_table.proofs.OperandLemmas.{length-range}
-use Rattle.sprm_table.proofs.FaultLemmas.{passed_none, passed_end}
+use Rattle.doc_bits.proofs.Public.{length-range, AreBytes-range}
+use Rattle.sprm_table.proofs.Public.{passed_none, passed_end}
 use Rattle.fkp_pages.specs.declared.kind.PageKind.{PageKind}
 use Rattle.fkp_pages.specs.declared.kind.PageKind.TheVariants.{Chpx, Papx}
 use Rattle.fkp_pages.specs.declared.kind.RunAnswer.TheVariants.{Found, Empty}
@@ -21,8 +21,7 @@ use Rattle.direct_props.specs.PageRules.{page_rules, IsValidPlace, HasPageAnswer
 use Rattle.direct_props.specs.PageRules.{HasListOutside, HasListFault}
 use Rattle.direct_props.proofs.AnswerLemmas.{found_has_room}
 use Rattle.direct_props.proofs.StretchLemmas.{cut_rest}
-use Rattle.doc_bits.proofs.ByteListLemmas.{AreBytes-range}
-use Rattle.prop_map.proofs.AcceptedLemmas.{accepted_of}
+use Rattle.prop_map.proofs.Public.{accepted_of}
 use Rattle.direct_props.proofs.FirstOf.{first_or_none}
 use Rattle.direct_props.specs.declared.rules.PageRule.TheVariants as breaks
 

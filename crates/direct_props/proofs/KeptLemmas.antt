@@ -1,14 +1,13 @@
 -- What is kept of lists, and what it says of places.
-use Rattle.std.proofs.Common.{◌≡◌, ◌⊎◌, inl, inr, ◌<◌, ◌≤◌, ◌+◌, ◌-◌, ◌*◌, ◌∙◌, ℕ, List, [], ◌∷◌, ◌++◌, length, Some}
-use Rattle.std.proofs.Common.{slice_get, get_or, take, drop, refl, sym, ap, subst, arith, length-append, length-take}
+use Rattle.std.proofs.Common.{◌≡◌, inl, inr, ◌≤◌, ◌+◌, ◌-◌, ◌*◌, ◌∙◌, ℕ, List, [], ◌∷◌, ◌++◌, length, Some}
+use Rattle.std.proofs.Common.{slice_get, get_or, take, drop, refl, sym, ap, subst, arith, length-take}
 use Rattle.std.proofs.lemmas.List.{drop_all}
 use Rattle.std.specs.Prelude.{slice_range}
 use Rattle.std.proofs.lemmas.Bool.{cases_lt}
 use Rattle.std.proofs.lemmas.Option.{none-some, slice_get_within, slice_get_read}
 use Rattle.doc_bits.specs.Rules.{Nowhere}
-use Rattle.doc_bits.proofs.ListLemmas.{slice_get_push, slice_get_before}
+use Rattle.doc_bits.proofs.Public.{last_get, together_joined}
 use Rattle.doc_bits.specs.Together.{AreTogether}
-use Rattle.doc_bits.proofs.TogetherLemmas.{together_joined}
 use Rattle.sprm_table.specs.Sprm.{HasSprmFaultAt}
 use Rattle.prop_map.specs.declared.modifiers.Modifier.{Modifier}
 use Rattle.prop_map.specs.Formed.{IsPropertyMap, paragraph_groups}
@@ -31,24 +30,10 @@ use Rattle.direct_props.specs.GrpprlCache.{AreKept, HasMadeAround, IsMadeByAnswe
 use Rattle.direct_props.specs.PageRules.{IsValidBetween}
 use Rattle.direct_props.proofs.StretchLemmas.{in_page, cut_rest}
 
--- a value of a list with one more is one of the list, or the last
-pub got : {X : Type 0} (xs : List X) (x y : X) (k : ℕ) → slice_get (xs ++ x ∷ []) k ≡ Some y →
-    (slice_get xs k ≡ Some y) ⊎ ((k ≡ length xs) × (x ≡ y))
-got xs x y k e =
-    let within = slice_get_within (xs ++ x ∷ []) k y e in
-    let below : k < length xs + 1 = simp length-append at within in
-    elim (cases_lt k (length xs)) [
-      | inl lower ↦ inl (sym (slice_get_before xs (x ∷ []) k lower) ∙ e)
-      | inr upper ↦
-          let here : k ≡ length xs = omega arith in
-          let same : Some x ≡ Some y = sym (slice_get_push xs x) ∙ (ap (slice_get (xs ++ x ∷ [])) (sym here) ∙ e) in
-          inr (here, cc)
-    ]
-
 -- one list more has no fault
 pub one_faultless : (kind : PageKind) (wd : List ℕ) (places : List (ℕ × ℕ)) (from to : ℕ) → HaveNoFault kind wd
     places → HasNoFault kind wd from to → HaveNoFault kind wd (places ++ (from, to) ∷ [])
-one_faultless kind wd places from to have one k a b e = elim (got places (from, to) (a, b) k e) [
+one_faultless kind wd places from to have one k a b e = elim (last_get places (from, to) (a, b) k e) [
   | inl there ↦ have k a b there
   | inr last ↦ subst (λ (place : ℕ × ℕ). HasNoFault kind wd place.0 place.1) last.1 one
 ]
@@ -77,13 +62,13 @@ faultless_in_stream kind wd number from to right =
 pub no_places : (kind : PageKind) (wd : List ℕ) → HaveNoFault kind wd []
 no_places kind wd k from to e = absurd (none-some (from, to) e)
 
--- one and one stand together
+-- one and one are together
 pub together_one : {A B : Type 0} (P : A → B → Type 0) (x : A) (y : B) → P x y → AreTogether P (x ∷ []) (y ∷ [])
 together_one P x y is = record {
   len = refl;
-  each = λ k a b p q. elim (got [] x a k p) [
+  each = λ k a b p q. elim (last_get [] x a k p) [
     | inl none ↦ absurd (none-some a none)
-    | inr one ↦ elim (got [] y b k q) [
+    | inr one ↦ elim (last_get [] y b k q) [
       | inl none ↦ absurd (none-some b none)
       | inr other ↦ subst (λ v. P a v) other.1 (subst (λ u. P u y) one.1 is)
     ]

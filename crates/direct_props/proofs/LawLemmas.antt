@@ -4,16 +4,15 @@ use Rattle.std.specs.Option.{unwrap_or}
 use Rattle.std.specs.FinMap.{empty, get}
 use Rattle.doc_bits.specs.Number.{u16_at}
 use Rattle.doc_bits.specs.Rules.{IsSingle, Ascends}
-use Rattle.sprm_table.proofs.SprmLemmas.{spelt_unique}
+use Rattle.sprm_table.proofs.Public.{spelt_unique}
 use Rattle.prop_map.specs.Settings.{Properties}
 use Rattle.prop_map.specs.Formed.{character_groups, paragraph_groups}
 use Rattle.prop_map.specs.Acting.{ArePropertiesAfter, style_named}
 use Rattle.prop_map.specs.Modifiers.{character_value, mark_value, mark_style}
-use Rattle.prop_map.proofs.LawLemmas.{acting_one}
-use Rattle.prop_map.proofs.MapLemmas.{same_properties}
+use Rattle.prop_map.proofs.Public.{acting_one, same_properties}
 use Rattle.fkp_pages.specs.declared.kind.PageKind.{PageKind}
 use Rattle.fkp_pages.specs.declared.kind.PageKind.TheVariants.{Chpx, Papx}
-use Rattle.fkp_pages.proofs.PropertyLemmas.{list_at_one}
+use Rattle.fkp_pages.proofs.Public.{list_at_one}
 use Rattle.direct_props.specs.Direct.{MakesProperties}
 use Rattle.direct_props.specs.Laws.{DirectCharacterIsOne, DirectMarkIsOne}
 use Rattle.direct_props.specs.PageRules.{page_rules}

@@ -1,10 +1,11 @@
-pub mod AnswerLemmas
-pub mod StretchLemmas
-pub mod KeptLemmas
-pub mod CharacterLemmas
-pub mod LawLemmas
-pub mod RightLemmas
-pub mod FirstOf
-pub mod RowLemmas
-pub mod ExistLists
-pub mod ExistDirect
+pub mod Public
+mod AnswerLemmas
+mod StretchLemmas
+mod KeptLemmas
+mod CharacterLemmas
+mod LawLemmas
+mod RightLemmas
+mod FirstOf
+mod RowLemmas
+mod ExistLists
+mod ExistDirect

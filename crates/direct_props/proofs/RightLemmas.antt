@@ -4,7 +4,7 @@ use Rattle.std.proofs.lemmas.Bool.{cases_lt}
 use Rattle.doc_bits.specs.Rules.{Hold}
 use Rattle.fkp_pages.specs.declared.kind.PageKind.{PageKind}
 use Rattle.direct_props.specs.declared.rules.PageRule.TheVariants as breaks
-use Rattle.fkp_pages.proofs.PropertyLemmas.{run_answer_one}
+use Rattle.fkp_pages.proofs.Public.{run_answer_one}
 use Rattle.direct_props.specs.PageRules.{page_rules, IsValidPlace}
 use Rattle.direct_props.specs.RightLists.{RightListsAreValid, RightPlacesHaveLists, RightPlacesHold}
 use Rattle.direct_props.proofs.StretchLemmas.{right_here, right_list}

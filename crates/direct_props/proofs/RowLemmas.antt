@@ -1,4 +1,4 @@
--- What rows of places stand for, part by part.
+-- What rows of places represent, part by part.
 use Rattle.std.proofs.Common.{◌≡◌, inl, inr, ℕ, zero, suc, refl, sym, ap, subst, ◌∙◌, ◌+◌, ◌-◌, ◌*◌, ◌/◌}
 use Rattle.std.proofs.Common.{◌<◌, ◌≤◌, ◌^◌, List, [], ◌∷◌, ◌++◌, length, take, drop, get_or, Some, arith}
 use Rattle.std.proofs.Common.{append_assoc, length-append}
@@ -7,7 +7,7 @@ use Rattle.std.proofs.Math.Seq.{drop-append_seam}
 use Rattle.std.proofs.Math.Nat.{add-mul, mul-zero, mul-le-mul_right, div-mul-le_self}
 use Rattle.std.proofs.lemmas.Bool.{cases_lt}
 use Rattle.std.proofs.lemmas.Grind.{flat_map-append}
-use Rattle.std.proofs.lemmas.List.{append-nil, drop-drop, drop-take, get_or-drop, get_or-take, length-take-le}
+use Rattle.std.proofs.lemmas.List.{append-nil, drop-drop, drop-take, get_or-drop, get_or-take}
 use Rattle.std.proofs.lemmas.List.{length-drop, take-append-drop, take_all, take_at, take_more}
 use Rattle.std.proofs.lemmas.List.Concat.{flat_map-cons, get_or-flat_map}
 use Rattle.std.proofs.lemmas.List.Elements.{All-drop, All-nil, All-push}
@@ -16,6 +16,7 @@ use Rattle.std.proofs.lemmas.List.Sums.{sum_by-cons}
 use Rattle.std.proofs.lemmas.Option.{get_or_from_slice_get, slice_get-get_or, slice_get_within}
 use Rattle.direct_props.specs.declared.places.PlaceRow.{PlaceRow}
 use Rattle.direct_props.specs.Rows.{AreRows, IsCursor, IsInRow, places_of, row_places}
+use Rattle.doc_bits.proofs.Public.{length_part}
 
 -- ---- rows, part by part
 
@@ -24,7 +25,7 @@ pub places_of-nil : places_of [] ≡ []
 unfolding places_of
 places_of-nil = refl
 
--- the places of the first row stand first
+-- the places of the first row are first
 pub places_of-cons : (row : PlaceRow) (rows : List PlaceRow) → places_of (row ∷ rows) ≡ row_places row ++ places_of rows
 unfolding places_of
 places_of-cons row rows = flat_map-cons row_places row rows
@@ -160,14 +161,6 @@ head_of_rest (y ∷ ys) zero x is = is
 head_of_rest (y ∷ ys) (suc number) x is = head_of_rest ys number x is
 
 -- ---- a cursor
-
--- the number of places in a part of a list
-pub length_part : (xs : List ℕ) (from count : ℕ) → from + count ≤ length xs →
-    length (slice_range xs from (from + count)) ≡ count
-length_part xs from count within =
-    let width : from + count - from ≡ count = omega arith in
-    ap (λ (n : ℕ). length (take n (drop from xs))) width
-    ∙ length-take-le count (drop from xs) (omega (arith, length-drop from xs))
 
 -- a part that is all of a list
 pub whole_part : (xs : List ℕ) (count : ℕ) → count ≡ length xs → slice_range xs 0 (0 + count) ≡ xs
@@ -317,7 +310,7 @@ all_left places left is =
     let none : 0 ≡ length places - length left = omega (arith, long) in
     record { within = omega (arith, long); last = is ∙ ap (λ (n : ℕ). drop n places) none }
 
--- what stands at a place of the rest
+-- what is at a place of the rest
 pub index_rest : (places left : List ℕ) (k : ℕ) → IsRest places left →
     slice_index left k ≡ slice_index places (length places - length left + k)
 index_rest places left k rest =

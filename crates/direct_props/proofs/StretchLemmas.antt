@@ -10,7 +10,7 @@ use Rattle.fkp_pages.specs.declared.bin_table.BinRange.{BinRange}
 use Rattle.fkp_pages.specs.declared.reading.Met.{Met}
 use Rattle.fkp_pages.specs.Fkp.{HasRunAnswer, least_list}
 use Rattle.fkp_pages.specs.Stretch.{HasStretch, IsRunCursor}
-use Rattle.fkp_pages.proofs.PropertyLemmas.{run_answer_one}
+use Rattle.fkp_pages.proofs.Public.{run_answer_one}
 use Rattle.fkp_pages.specs.Bin.{IsBinTable, IsBinPage, HasBinRange, page_at}
 use Rattle.fkp_pages.specs.Laws.{RunAnswerIsOne}
 use Rattle.direct_props.specs.declared.rules.PageRule.TheVariants as breaks

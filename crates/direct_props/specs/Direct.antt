@@ -1,6 +1,6 @@
 -- The properties that a file gives to a unit and to a paragraph mark: those of the list that its page has for its place
 -- in
--- WordDocument, and then those of the modifier of its piece. Each place stands for itself: no page is gone through.
+-- WordDocument, and then those of the modifier of its piece. Each place represents itself: no page is gone through.
 use Rattle.std.specs.Prelude.{◌≡◌, ℕ, List, drop, Option}
 use Rattle.std.specs.Option.{unwrap_or}
 use Rattle.std.specs.FinMap.{empty}
@@ -30,7 +30,7 @@ pub record IsDirectCharacter (wd bin : List ℕ) (fc : ℕ) (modifier : Modifier
   pub makes : MakesProperties list character_groups made style
   pub modified : IsCharacterAfter modifier made properties
 
--- [MS-DOC] GrpPrlAndIstd, Prm: the style number, which stands before the sprms, and the direct properties of a
+-- [MS-DOC] GrpPrlAndIstd, Prm: the style number, which is before the sprms, and the direct properties of a
 -- paragraph mark
 pub record IsDirectMark (wd bin : List ℕ) (fc : ℕ) (modifier : Modifier) (istd : ℕ) (properties : Properties) : Type 0
   where

@@ -1,4 +1,4 @@
--- What is kept of lists by the places where they stand in a stream: that they have no fault, and what they make.
+-- What is kept of lists by the places where they are in a stream: that they have no fault, and what they make.
 use Rattle.std.specs.Prelude.{◌≡◌, ℕ, ◌+◌, ◌<◌, ◌≤◌, ◌^◌, List, length, drop, slice_get, slice_range, Some, Option}
 use Rattle.std.specs.Prelude.{MatchOption, ⊤}
 use Rattle.std.specs.Option.{unwrap_or}

@@ -33,7 +33,7 @@ FirstPageFaultIsLeast =
     IsFirst (page_rules kind wd bin places) r p → IsLeastOfAll (λ a b. a ≤ b) (Breaks (page_rules kind wd bin places))
     r p
 
--- a modifier that may stand at a place: its maps are well formed, and its style number has 16 bits
+-- a modifier that may be at a place: its maps are well formed, and its style number has 16 bits
 pub record IsValidModifier (modifier : Modifier) : Type 0 where
   pub formed : IsFormedModifier modifier
   pub small : ForSome modifier.istd (λ n. n < 65536)

@@ -1,5 +1,5 @@
 -- The rules on the pages of characters, 39 to 43, and of paragraphs, 44 to 48. A place is an offset in WordDocument.
--- Each place of the text is judged for itself, and the least offset counts.
+-- Each place of the text is checked for itself, and the least offset counts.
 use Rattle.std.specs.Prelude.{◌≡◌, ◌⊎◌, ℕ, ◌+◌, ◌*◌, ◌<◌, ◌≤◌, List, length, slice_index, slice_range}
 use Rattle.doc_bits.specs.Rules.{Rules, rule, ◌then◌, Among, From, Nowhere}
 use Rattle.sprm_table.specs.Sprm.{HasSprmFaultAt}

@@ -50,7 +50,7 @@ pub(crate) struct DecodedRun {
     pub(crate) made: Decoded,
 }
 
-/// Where lists of pages of a kind stand, and the modifier that is put over what they make.
+/// Where lists of pages of a kind are, and the modifier that is put over what they make.
 #[derive(Drop)]
 pub(crate) struct ListSource<'a> {
     pub(crate) kind: PageKind,
@@ -58,7 +58,7 @@ pub(crate) struct ListSource<'a> {
     pub(crate) modifier: &'a Modifier,
 }
 
-/// What lists make, each with a place where the list stands, and what runs without a list make.
+/// What lists make, each with a place where the list is, and what runs without a list make.
 #[derive(Drop)]
 pub(crate) struct GrpprlCache {
     pub(crate) places: SeenGrpprls,
@@ -130,7 +130,7 @@ impl GrpprlCache {
         Ok(copy)
     }
 
-    /// What the list makes that stands in a range of a page, where it is right. A list that is not kept is judged and
+    /// What the list makes that is in a range of a page, where it is right. A list that is not kept is checked and
     /// acted with, and kept.
     #[inline(always)]
     fn made_at(

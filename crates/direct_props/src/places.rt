@@ -138,7 +138,7 @@ impl<'a> Places<'a> {
     }
 }
 
-/// A row, and how many of its places stand before one.
+/// A row, and how many of its places are before one.
 #[derive(Clone, Copy)]
 struct RowSpot {
     row: usize,

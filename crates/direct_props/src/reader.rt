@@ -77,7 +77,7 @@ impl<'a> PlaceReader<'a> {
     }
 
     /// Appends the direct properties of the characters at these places, run by run, and answers whether each place is
-    /// right. Where one is not, and after want of memory, some of them may stand in the list.
+    /// right. Where one is not, and after want of memory, some of them may be in the list.
     pub fn push_character_runs(
         &mut self,
         alloc: Global,

@@ -59,7 +59,7 @@ pub(crate) enum PageRule {
     Sprm,
 }
 
-/// Judges the pages of these byte places: the first broken rule, if one is broken. A list is judged once.
+/// Checks the pages of these byte places: the first broken rule, if one is broken. A list is checked once.
 pub fn check_places(
     alloc: Global,
     kind: PageKind,
@@ -76,7 +76,7 @@ pub fn check_places(
     // The same of each place, as readers of properties ask for it.
     ensures right { IfOk result (λ fault. MatchOption fault (AreValidPlaces kind wd.now bin.now places.now) (λ _. ⊤)) }
 {
-    // Places of one run are judged at once. Only where one is wrong each place is looked at.
+    // Places of one run are checked at once. Only where one is wrong each place is looked at.
     if are_valid(alloc, kind, wd, bin, places)? {
         return Ok(None);
     }
@@ -487,7 +487,7 @@ fn fault_in(kind: PageKind, wd: &[u8], number: u32, from: usize, to: usize) -> O
     }
 }
 
-/// Where a fault stands in its list.
+/// Where a fault is in its list.
 fn place_of(fault: SprmFault) -> usize
     ensures { result ≡ fault_place fault }
 {

@@ -87,3 +87,13 @@ number_bytes-number_at k xs bytes long =
 pub small_byte : (i x : ℕ) → byte_at i x < 256
 small_byte zero x = omega arith
 small_byte (suc i) x = omega arith
+
+pub low_bytes : (i k x : ℕ) → AreBytes (bytes_low_first i k x)
+low_bytes i zero x = no_bytes
+low_bytes i (suc k) x =
+    joined_bytes (byte_at i x ∷ []) (bytes_low_first (suc i) k x) (one_byte (byte_at i x) (small_byte i x))
+    (low_bytes (suc i) k x)
+
+pub number_are_bytes : (x : ℕ) → AreBytes (number_bytes 2 x)
+unfolding number_bytes
+number_are_bytes x = low_bytes 0 2 x

@@ -1,8 +1,9 @@
-pub mod TestLemmas
-pub mod ListLemmas
-pub mod NumberLemmas
-pub mod ByteListLemmas
-pub mod PlcLemmas
-pub mod RuleLemmas
-pub mod PlaceLemmas
-pub mod TogetherLemmas
+pub mod Public
+mod TestLemmas
+mod ListLemmas
+mod NumberLemmas
+mod ByteListLemmas
+mod PlcLemmas
+mod RuleLemmas
+mod PlaceLemmas
+mod TogetherLemmas

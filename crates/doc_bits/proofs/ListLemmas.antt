@@ -1,7 +1,7 @@
--- Lists: fronts and parts, what stands at a place, and what holds of each element.
+-- Lists: fronts and parts, what is at a place, and what holds of each element.
 use Rattle.std.proofs.Common.{◌≡◌, ◌≢◌, ◌∙◌, inl, inr, refl, sym, ap, subst, ℕ, zero, suc, ◌+◌, ◌-◌, ◌<◌, ◌≤◌, Bool}
-use Rattle.std.proofs.Common.{true, false, cond, List, [], ◌∷◌, ◌++◌, length, map, take, drop, Option, Some, eqb}
-use Rattle.std.proofs.Common.{get_or, arith, length-take, length-drop, slice_set, length-set, filter}
+use Rattle.std.proofs.Common.{true, false, cond, List, [], ◌∷◌, ◌++◌, length, map, take, drop, Option, Some, eqb, ◌⊎◌}
+use Rattle.std.proofs.Common.{get_or, arith, length-take, length-drop, slice_set, length-set, filter, length-append}
 use Rattle.std.specs.Prelude.{slice_get, slice_index, slice_range}
 use Rattle.std.specs.List.{All, find, range_with_len}
 use Rattle.std.specs.Option.{option_map}
@@ -14,7 +14,7 @@ use Rattle.std.proofs.lemmas.Grind.{get_or_default_zero}
 use Rattle.std.proofs.lemmas.Map.Keys.{IsDistinct-from_apart}
 use Rattle.std.proofs.lemmas.Map.Steps.{length-le_from_distinct_below}
 use Rattle.std.proofs.lemmas.Option.{same_Some, slice_get-map, slice_get-get_or, slice_get_past, slice_get_within}
-use Rattle.std.proofs.lemmas.List.{get_or-drop, take_all, take_more}
+use Rattle.std.proofs.lemmas.List.{get_or-drop, take_all, take_more, drop_more, length-take-le}
 use Rattle.std.proofs.lemmas.List.FromFn.{map-range_with_len_more}
 use Rattle.std.proofs.lemmas.Option.{get_or_from_slice_get}
 
@@ -54,9 +54,9 @@ range_mid whole xs ys zs from to e at end =
     let width : to - from ≡ length ys = omega arith in
     rw (e, width, at, drop-append_seam xs (ys ++ zs)) (take-append_seam ys zs)
 
--- ---- what stands at a place
+-- ---- what is at a place
 
--- something stands at each place of a list
+-- something is at each place of a list
 pub there_is : {A : Type 0} (xs : List A) (k : ℕ) → k < length xs → (x : A) × (slice_get xs k ≡ Some x)
 there_is [] k h = absurd (omega arith)
 there_is (x ∷ xs) zero h = (x, refl)
@@ -84,14 +84,14 @@ pub All-from_slice_get : {A : Type 0} (P : A → Type 0) (xs : List A) → ((k :
     P x) → All P xs
 All-from_slice_get P xs each = λ k d low. each k (get_or xs k d) (slice_get-get_or xs k d low)
 
--- what stands in a map of a list comes from what stands in the list
+-- what is in a map of a list comes from what is in the list
 pub from_map : {A B : Type 0} (f : A → B) (xs : List A) (k : ℕ) (y : B) → slice_get (map f xs) k ≡ Some y →
     (x : A) × ((slice_get xs k ≡ Some x) × (f x ≡ y))
 from_map f [] k y e = absurd (cc (e))
 from_map f (x ∷ xs) zero y e = (x, (refl, same_Some (f x) y e))
 from_map f (x ∷ xs) (suc k) y e = from_map f xs k y e
 
--- what stands at a place of a map
+-- what is at a place of a map
 pub get-map : {A B : Type 0} (f : A → B) (xs : List A) (k : ℕ) (x : A) → slice_get xs k ≡ Some x →
     slice_get (map f xs) k ≡ Some (f x)
 get-map f xs k x e = slice_get-map f xs k ∙ ap (option_map f) e
@@ -126,7 +126,7 @@ length_below xs n within distinct =
 
 -- ---- the front of a list
 
--- what stands at a place of the front stands there in the list
+-- what is at a place of the front is there in the list
 pub slice_get-take : {X : Type 0} (k : ℕ) (xs : List X) (i : ℕ) (x : X) → slice_get (take k xs) i ≡ Some x →
     slice_get xs i ≡ Some x
 slice_get-take zero xs i x here = absurd (grind (arith, here))
@@ -199,3 +199,35 @@ pub take_step : {X : Type 0} (xs : List X) (i : ℕ) (x : X) → slice_get xs i 
 take_step xs i x there =
     take_more xs i x (slice_get_within xs i x there)
     ∙ ap (λ y. take i xs ++ y ∷ []) (get_or_from_slice_get xs i x x there)
+
+pub one_range : (units : List ℕ) (at : ℕ) → at < length units → slice_range units at (at + 1) ≡ slice_index units at ∷
+    []
+one_range units at within =
+    let one : at + 1 - at ≡ 1 = omega arith in
+    ap (λ (n : ℕ). take n (drop at units)) one ∙ ap (take 1) (drop_more units at 0 within)
+
+-- the number of places in a part of a list
+pub length_part : (xs : List ℕ) (from count : ℕ) → from + count ≤ length xs →
+    length (slice_range xs from (from + count)) ≡ count
+length_part xs from count within =
+    let width : from + count - from ≡ count = omega arith in
+    ap (λ (n : ℕ). length (take n (drop from xs))) width
+    ∙ length-take-le count (drop from xs) (omega (arith, length-drop from xs))
+
+pub same_entry : {A : Type 0} (xs : List A) (i : ℕ) (x y : A) → slice_get xs i ≡ Some x → slice_get xs i ≡ Some y → x ≡
+    y
+same_entry xs i x y a b = sym (get_or_from_slice_get xs i x x a) ∙ get_or_from_slice_get xs i y x b
+
+-- a value of a list with one more is one of the list, or the last
+pub last_get : {X : Type 0} (xs : List X) (x y : X) (k : ℕ) → slice_get (xs ++ x ∷ []) k ≡ Some y →
+    (slice_get xs k ≡ Some y) ⊎ ((k ≡ length xs) × (x ≡ y))
+last_get xs x y k e =
+    let within = slice_get_within (xs ++ x ∷ []) k y e in
+    let below : k < length xs + 1 = simp length-append at within in
+    elim (cases_lt k (length xs)) [
+      | inl lower ↦ inl (sym (slice_get_before xs (x ∷ []) k lower) ∙ e)
+      | inr upper ↦
+          let here : k ≡ length xs = omega arith in
+          let same : Some x ≡ Some y = sym (slice_get_push xs x) ∙ (ap (slice_get (xs ++ x ∷ [])) (sym here) ∙ e) in
+          inr (here, cc)
+    ]

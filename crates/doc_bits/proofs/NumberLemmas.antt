@@ -1,4 +1,4 @@
--- Numbers in bytes: where they stand in a longer list, and how their bytes spell them.
+-- Numbers in bytes: where they are in a longer list, and how their bytes spell them.
 use Rattle.std.proofs.Common.{◌≡◌, ℕ, zero, suc, ◌+◌, ◌-◌, ◌*◌, ◌^◌, ◌<◌, ◌≤◌, List, [], ◌∷◌, ◌++◌, length, take}
 use Rattle.std.proofs.Common.{drop, slice_index, refl, sym, ap, ◌∙◌, arith, add_assoc, append_assoc, add-zero}
 use Rattle.std.proofs.Common.{length-append, length-take}
@@ -103,7 +103,7 @@ unfolding number_bytes
 number_at-number_bytes k x rest h = sym (little_from-number_at k 0 (bytes_low_first 0 k x ++ rest)) ∙
     little_number-reads_back k x rest h
 
--- the same wherever they stand
+-- the same wherever they are
 pub number_at-read_back : (k x : ℕ) (before after : List ℕ) → x < 256 ^ k → number_at (before ++ (number_bytes k x ++
     after)) (length before) k ≡ x
 number_at-read_back k x before after h =
@@ -136,7 +136,7 @@ length-numbers (x ∷ xs) =
     let four = length-number_bytes 4 x in
     omega (arith, length-append (number_bytes 4 x) (numbers xs))
 
--- each number stands at four times its place
+-- each number is at four times its place
 pub number_at-numbers : (xs more : List ℕ) (k : ℕ) → k < length xs → slice_index xs k < 2 ^ 32 →
     number_at (numbers xs ++ more) (4 * k) 4 ≡ slice_index xs k
 number_at-numbers [] more k h small = absurd (omega arith)

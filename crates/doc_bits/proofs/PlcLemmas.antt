@@ -25,7 +25,7 @@ length-joined size (part ∷ parts) sized =
 pub drop-front : (front rest : List ℕ) (n k : ℕ) → length front ≡ n → drop (n + k) (front ++ rest) ≡ drop k rest
 drop-front front rest n k h = sym (drop-drop k n (front ++ rest)) ∙ ap (drop k) (drop_at front rest n h)
 
--- each part stands at its place times the size
+-- each part is at its place times the size
 pub slice_get-joined : (size : ℕ) (parts : List (List ℕ)) (k : ℕ) → All (λ part. length part ≡ size) parts →
     k < length parts → slice_get parts k ≡ Some (take size (drop (size * k) (joined parts)))
 slice_get-joined size [] k sized h = absurd (omega arith)

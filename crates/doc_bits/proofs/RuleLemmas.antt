@@ -242,3 +242,10 @@ least_of_all upto rules low high r p single up first = record {
   broken = first_breaks upto rules r p first;
   least = least_breaks upto rules low high r p single up first;
 }
+
+-- where the lesser of two is none, neither is there
+pub lesser_none : (a b : Option ℕ) → lesser_of a b ≡ None → (a ≡ None) × (b ≡ None)
+lesser_none None None e = (refl, refl)
+lesser_none None (Some y) e = absurd (cc e)
+lesser_none (Some x) None e = absurd (cc e)
+lesser_none (Some x) (Some y) e = absurd (cc e)

@@ -1,8 +1,10 @@
 -- Tests, and what is not not so.
-use Rattle.std.proofs.Common.{◌≡◌, inl, inr, ℕ, ◌≤◌, Bool, true, false, ◌&&◌, not, cond, Option, Some, refl, arith}
+use Rattle.std.proofs.Common.{◌≡◌, inl, inr, ℕ, ◌≤◌, Bool, true, false, ◌&&◌, not, cond, Option, Some, refl, arith, ◌<◌}
 use Rattle.std.specs.Option.{option_or}
-use Rattle.std.proofs.lemmas.Bool.{cases_lt, cases_eq}
-use Rattle.std.proofs.Common.{◌||◌}
+use Rattle.std.proofs.lemmas.Bool.{cases_lt, cases_eq, eqb-true}
+use Rattle.std.proofs.Common.{◌||◌, ◌==◌, None, is_some}
+use Rattle.std.specs.Prelude.{nat_lt}
+use Rattle.std.proofs.lemmas.Bool.Decides.{nat_tests}
 
 -- both tests pass
 pub both_true : (a b : Bool) → (a && b) ≡ true → (a ≡ true) × (b ≡ true)
@@ -71,3 +73,24 @@ or_false false = refl
 pub not_true : (a : Bool) → not a ≡ true → a ≡ false
 not_true true e = absurd (cc (e))
 not_true false e = refl
+
+pub not_zero : (n : ℕ) → 0 < n → (n == 0) ≡ false
+not_zero n some = elim (n == 0) as (λ b. (n == 0) ≡ b → b ≡ false) [
+  | true ↦ λ e. let none = eqb-true n 0 e in absurd (omega arith)
+  | false ↦ λ e. refl
+] refl
+
+pub both_are : (a b : Bool) → true ≡ (a && b) → (a ≡ true) × (b ≡ true)
+both_are true true is = (refl, refl)
+both_are true false is = absurd (cc)
+both_are false b is = absurd (cc)
+
+pub first_false : (held first : Bool) → held ≡ false → (held && first) ≡ false
+first_false held first e = rw e refl
+
+pub ltb_false : (a b : ℕ) → b ≤ a → nat_lt a b ≡ false
+ltb_false a b h = grind (arith, nat_tests)
+
+pub none_is : {A : Type 0} (o : Option A) → is_some o ≡ false → o ≡ None
+none_is None e = refl
+none_is (Some a) e = absurd (cc (e))

@@ -1,4 +1,4 @@
--- What stands at places of lists that stand together, or one behind the other, and parts of such lists.
+-- What is at places of lists that are together, or one behind the other, and parts of such lists.
 use Rattle.std.specs.Prelude.{slice_get}
 use Rattle.std.proofs.Common.{◌≡◌, ◌∙◌, inl, inr, sym, ap, ℕ, suc, ◌+◌, ◌-◌, ◌<◌, List, [], ◌∷◌, ◌++◌, length, take}
 use Rattle.std.proofs.Common.{drop, Some, arith}
@@ -8,12 +8,12 @@ use Rattle.std.proofs.lemmas.Option.{slice_get_within}
 use Rattle.doc_bits.proofs.ListLemmas.{there_is, slice_get_before, slice_get-take}
 use Rattle.doc_bits.specs.Together.{AreTogether}
 
--- what stands in the first list stands in the joined one
+-- what is in the first list is in the joined one
 pub in_front : {A : Type 0} (xs ys : List A) (k : ℕ) (x : A) → slice_get xs k ≡ Some x →
     slice_get (xs ++ ys) k ≡ Some x
 in_front xs ys k x here = slice_get_before xs ys k (slice_get_within xs k x here) ∙ here
 
--- what stands in the second one stands there behind the first
+-- what is in the second one is there behind the first
 pub from_behind : {A : Type 0} (xs ys : List A) (k : ℕ) → slice_get (xs ++ ys) (length xs + k) ≡ slice_get ys k
 from_behind [] ys k = let e : 0 + k ≡ k = omega arith in ap (slice_get ys) e
 from_behind (x ∷ xs) ys k =
@@ -24,7 +24,7 @@ pub in_back : {A : Type 0} (xs ys : List A) (k at : ℕ) (x : A) → slice_get y
     slice_get (xs ++ ys) at ≡ Some x
 in_back xs ys k at x here e = ap (slice_get (xs ++ ys)) e ∙ (from_behind xs ys k ∙ here)
 
--- what stands beside it in the other list
+-- what is beside it in the other list
 pub record Beside {A B : Type 0} (Belongs : A → B → Type 0) (xs : List A) (k : ℕ) (y : B) : Type 0 where
   pub other : A
   pub here : slice_get xs k ≡ Some other
@@ -37,7 +37,7 @@ beside Belongs xs ys k y together here =
     let found = there_is xs k below in
     record { other = found.0; here = found.1; is = together.each k found.0 y found.1 here }
 
--- ---- parts of lists that stand together, and lists that are joined of such
+-- ---- parts of lists that are together, and lists that are joined of such
 
 pub together_joined : {A B : Type 0} (P : A → B → Type 0) (xs : List A) (ys : List B) (us : List A) (vs : List B) →
     AreTogether P xs ys → AreTogether P us vs → AreTogether P (xs ++ us) (ys ++ vs)
@@ -63,7 +63,7 @@ together_take P n xs ys together = record {
   each = λ k x y here there. together.each k x y (slice_get-take n xs k x here) (slice_get-take n ys k y there);
 }
 
--- what stands behind the first entries
+-- what is behind the first entries
 pub got_drop : {A : Type 0} (n : ℕ) (xs : List A) (k : ℕ) (x : A) → slice_get (drop n xs) k ≡ Some x →
     slice_get xs (n + k) ≡ Some x
 got_drop n xs k x here = elim (cases_lt n (length xs)) [

@@ -16,7 +16,7 @@ u16_at bytes at = number_at bytes at 2
 abbrev pub u32_at : List ℕ → ℕ → ℕ
 u32_at bytes at = number_at bytes at 4
 
--- that many bytes stand at the place
+-- that many bytes are at the place
 abbrev pub HasBytes : List ℕ → ℕ → ℕ → Type 0
 HasBytes bytes at width = at + width ≤ length bytes
 
@@ -36,7 +36,7 @@ zeros n = replicate n 0
 abbrev pub AreBytes : List ℕ → Type 0
 AreBytes bytes = (i : ℕ) → slice_index bytes i < 256
 
--- the bytes of a number spell it, whatever stands before and after them
+-- the bytes of a number spell it, whatever is before and after them
 abbrev pub NumberIsReadBack : Type 0
 NumberIsReadBack =
     (width x : ℕ) (before after : List ℕ) → x < 256 ^ width → number_at (before ++ (number_bytes width x ++ after))

@@ -37,7 +37,7 @@ FirstBy upto (given {A = A} is rules) r p = (x : A) × (is x × FirstBy upto (ru
 abbrev pub IsFirst : Rules ℕ → ℕ → ℕ → Type 0
 IsFirst = FirstBy (λ a b. a ≤ b)
 
--- what a function that judges one rule answers: its least place, or nothing where it holds
+-- what a function that checks one rule answers: its least place, or nothing where it holds
 abbrev pub LeastOrNone : (ℕ → Type 0) → Option ℕ → Type 0
 LeastOrNone breaks found = MatchOption found (Nowhere breaks) (IsLeast (λ a b. a ≤ b) breaks)
 
@@ -47,7 +47,7 @@ pub record Among {P : Type 0} (n : ℕ) (each : ℕ → P → Type 0) (place : P
   pub below : entry < n
   pub broken : each entry place
 
--- a rule of a list that stands within a part, from `base` on
+-- a rule of a list that is within a part, from `base` on
 pub record From (base : ℕ) (breaks : ℕ → Type 0) (place : ℕ) : Type 0 where
   pub offset : ℕ
   pub here : place ≡ base + offset

@@ -2,7 +2,7 @@
 ghost use Rattle.doc_bits.specs.Number.{NumberIsReadBack};
 ghost use Rattle.doc_bits.specs.Plc.{PlcIsReadBack};
 
-/// The number that its bytes spell is the number, wherever they stand.
+/// The number that its bytes spell is the number, wherever they are.
 pub fn number_is_read_back()
     ensures { NumberIsReadBack }
 {}

@@ -12,7 +12,7 @@ mod steps;
 mod sums;
 
 pub use laws::{number_is_read_back, plc_is_read_back};
-pub use lists::{Bytes, Text, Units, splice_list};
+pub use lists::{Bytes, Text, Units, push_zeros, splice_list};
 pub use memory::Memory;
 pub use numbers::{get16, get32, put16, put32};
 pub use owned::{drop_then, keep_if_ok, with_result};

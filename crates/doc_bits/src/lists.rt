@@ -1,5 +1,5 @@
 // Lists that grow. After want of memory each is what it was.
-ghost use Rattle.std.specs.Prelude.{◌≡◌, ◌≤◌, List, ℕ, [], ◌∷◌, ◌++◌, length, IfOk, OnOk, OnErr};
+ghost use Rattle.std.specs.Prelude.{◌≡◌, ◌≤◌, List, ℕ, [], ◌∷◌, ◌++◌, length, IfOk, OnOk, OnErr, ◌+◌, ◌<◌, replicate};
 ghost use Rattle.std.specs.List.{splice};
 ghost use Rattle.std.specs.String.{string_bytes};
 ghost use Rattle.doc_bits.specs.Number.{number_bytes};
@@ -188,5 +188,15 @@ pub fn splice_list<T: Drop>(
     ensures err { OnErr result (list.new.items ≡ list.old.items) }
 {
     let _ = list.splice(from..to, fresh)?;
+    Ok(())
+}
+
+/// Appends zeros.
+pub fn push_zeros(out: &mut Bytes, count: usize) -> Result<(), Memory>
+    ensures { OnOk result (out.new ≡ out.old ++ replicate count 0) }
+{
+    for _turn in 0..count {
+        out.push_all(&[0])?;
+    }
     Ok(())
 }

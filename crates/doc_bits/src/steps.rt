@@ -27,7 +27,7 @@ impl<L: Ledger> Model for Steps<L> {
 }
 
 impl<L: Ledger> Steps<L> {
-    /// Steps that go on where the ledger stands.
+    /// Steps that go on where the ledger is.
     pub fn new(ledger: L) -> Steps<L>
         ensures { result ≡ L.count ledger }
     {
@@ -67,7 +67,7 @@ impl<A: Account> Model for NoLedger<A> {
 }
 
 impl<A: Account> NoLedger<A> {
-    /// A ledger that has counted nothing. The blank stands for the account of the type.
+    /// A ledger that has counted nothing. The blank represents the account of the type.
     pub fn new(blank: Blank) -> NoLedger<A>
         requires name { blank.name ≡ A.name }
         requires parts { blank.parts ≡ A.parts }

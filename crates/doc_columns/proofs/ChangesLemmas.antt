@@ -8,12 +8,12 @@ use Rattle.std.proofs.Math.Seq.{drop-append_seam, take-append_seam}
 use Rattle.std.proofs.lemmas.List.Edits.{length-between}
 use Rattle.std.proofs.lemmas.List.Elements.{All-nil, All-cons, All-head, All-tail, All-take, All-drop}
 use Rattle.doc_bits.specs.Together.{AreTogether}
-use Rattle.doc_bits.proofs.ListLemmas.{All_at}
+use Rattle.doc_bits.proofs.Public.{All_at, same_entry}
 use Rattle.prop_map.specs.Settings.{Properties}
 use Rattle.run_lists.specs.Changed.{IsChanged}
 use Rattle.plain_doc.specs.declared.item.Item.{Item}
 use Rattle.plain_doc.specs.Document.{IsFormedItem, IsFormedText}
-use Rattle.plain_doc.proofs.FormedLemmas.{length-splice, IsFormedList-splice}
+use Rattle.plain_doc.proofs.Public.{length-splice, IsFormedList-splice}
 use Rattle.doc_columns.specs.declared.attached.Attached.{Attached}
 use Rattle.doc_columns.specs.Attached.{attached_of, IsRanged}
 use Rattle.doc_columns.specs.Columns.{item_of, items_of, AreColumns}
@@ -48,14 +48,10 @@ has_parts (unit ∷ units) (chp ∷ chps) (attached ∷ attachments) (suc k) ite
     let rest = has_parts units chps attachments k item there in
     record { unit = rest.unit; chp = rest.chp; attached = rest.attached }
 
--- one place has one entry
-same_entry : {A : Type 0} (xs : List A) (k : ℕ) (x y : A) → slice_get xs k ≡ Some x → slice_get xs k ≡ Some y → x ≡ y
-same_entry xs k x y one other = some_same x y (sym one ∙ other)
-
 -- ---- ranges
 
 -- a range in its own place
-own_range : {A : Type 0} (xs : List A) (from to : ℕ) → from ≤ to → splice xs from to (slice_range xs from to) ≡ xs
+pub own_range : {A : Type 0} (xs : List A) (from to : ℕ) → from ≤ to → splice xs from to (slice_range xs from to) ≡ xs
 own_range {A = A} xs from to ordered =
     let end : from + (to - from) ≡ to = omega (arith, ordered) in
     let rest : drop (to - from) (drop from xs) ≡ drop to xs =
@@ -254,7 +250,7 @@ chps_changed becomes units chps new attachments text from to kept are is ordered
     (chps_together becomes us cs fresh bs (cs_long ∙ sym us_long) (bs_long ∙ sym us_long) changes.each))
     (λ k x y there. other_chp_formed becomes kept x y)
 
--- ---- what stands beside
+-- ---- what is beside
 
 -- the fresh entries are among the new ones
 fresh_in : {A : Type 0} (P : A → Type 0) (xs fresh new : List A) (from to : ℕ) → new ≡ splice xs from to fresh →
@@ -266,7 +262,7 @@ fresh_in P xs fresh new from to is all =
     subst (All P) (drop-append_seam front back) (All-drop P (length front) (front ++ back) (subst (All P) is all)) in
     subst (All P) (take-append_seam fresh (drop to xs)) (All-take P (length fresh) back behind)
 
--- the items of a range beside which something else stands
+-- the items of a range beside which something else is
 attachments_together : (becomes : Attached → Attached → Type 0) (units : List ℕ) (chps : List Properties)
     (attachments fresh : List Attached) → length chps ≡ length units → length attachments ≡ length units →
     AreTogether becomes attachments fresh
@@ -300,7 +296,7 @@ other_attached_formed becomes kept x y other ranged formed =
       field = ranged.field;
     })
 
--- what stands beside the items of a range is changed
+-- what is beside the items of a range is changed
 pub attachments_changed : (becomes : Attached → Attached → Type 0) (units : List ℕ) (chps : List Properties)
     (attachments new : List Attached) (text : List Item) (from to : ℕ) → KeepsMaps becomes → AreColumns units chps
     attachments →

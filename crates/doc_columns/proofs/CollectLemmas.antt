@@ -9,13 +9,12 @@ use Rattle.std.proofs.lemmas.List.{length-replicate, length-map}
 use Rattle.std.proofs.lemmas.List.Edits.{between_more, length-between}
 use Rattle.std.proofs.lemmas.Option.{slice_get_within, get_or_from_slice_get}
 use Rattle.prop_map.specs.Settings.{Properties}
-use Rattle.doc_bits.proofs.ListLemmas.{All_at}
+use Rattle.doc_bits.proofs.Public.{All_at}
 use Rattle.run_lists.specs.declared.runs.Run.{Run}
 use Rattle.run_lists.specs.declared.cursor.Cursor.{Cursor}
 use Rattle.run_lists.specs.Places.{IsAt}
 use Rattle.run_lists.specs.Spread.{expanded, total_len}
-use Rattle.run_lists.proofs.SpreadLemmas.{length-spread, extent-nil, count_within}
-use Rattle.run_lists.proofs.CutLemmas.{run_range as range_of_run, value_in_run}
+use Rattle.run_lists.proofs.Public.{length-spread, extent-nil, count_within, run_range as range_of_run, value_in_run}
 use Rattle.plain_doc.specs.declared.item.Item.{Item}
 use Rattle.plain_doc.specs.Document.{IsFormedItem}
 use Rattle.doc_columns.specs.declared.attached.Attached.{Attached}

@@ -1,11 +1,11 @@
--- Where a paragraph ends, by what stands beside its items.
+-- Where a paragraph ends, by what is beside its items.
 use Rattle.std.proofs.Common.{◌≡◌, ◌∙◌, inl, inr, ap, sym, subst, ℕ, ◌+◌, ◌-◌, ◌<◌, ◌≤◌, List, length, map}
 use Rattle.std.proofs.Common.{Option, Some, None, Bor, arith}
 use Rattle.std.specs.Prelude.{slice_get, is_some, IsSome}
 use Rattle.std.specs.Option.{option_copied, MatchOption}
 use Rattle.std.proofs.lemmas.Bool.{cases_lt, false≢true}
 use Rattle.std.proofs.lemmas.Option.{same_Some, slice_get_within}
-use Rattle.doc_bits.proofs.ListLemmas.{there_is, get-map}
+use Rattle.doc_bits.proofs.Public.{there_is, get-map}
 use Rattle.plain_doc.specs.declared.item.Item.{Item}
 use Rattle.plain_doc.specs.declared.item.Mark.{Mark}
 use Rattle.plain_doc.specs.Paragraphs.{EndsParagraph, IsParagraphEnd, HasNoParagraphEnd}
@@ -38,7 +38,7 @@ none_before text attachments pos end at is inside le low ends =
     ends))
     ends.marked
 
--- what stands beside the last item of a paragraph, or of the text, has the first mark or there is none
+-- what is beside the last item of a paragraph, or of the text, has the first mark or there is none
 pub end_attached : (text : List Item) (attachments : List Attached) (pos end : ℕ) (last : Attached) (found : Option (Bor
     Mark)) →
     attachments ≡ map attached_of text → pos < end → end ≤ length text →

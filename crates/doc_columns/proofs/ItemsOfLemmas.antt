@@ -10,8 +10,8 @@ use Rattle.prop_map.specs.Settings.{Properties}
 use Rattle.plain_doc.specs.declared.item.Item.{Item}
 use Rattle.plain_doc.specs.declared.item.Mark.{Mark}
 use Rattle.plain_doc.specs.Document.{HasPropertyMaps, IsFormedItem, IsFormedText}
-use Rattle.plain_doc.proofs.FormedLemmas.{length-splice, IsFormedList-splice, IsFormedList-add, ForSome-from_cases}
-use Rattle.plain_doc.proofs.FormedLemmas.{HasPropertyMaps-from_parts}
+use Rattle.plain_doc.proofs.Public.{length-splice, IsFormedList-splice, IsFormedList-add, ForSome-from_cases}
+use Rattle.plain_doc.proofs.Public.{HasPropertyMaps-from_parts}
 use Rattle.doc_columns.specs.declared.attached.Attached.{Attached}
 use Rattle.doc_columns.specs.Attached.{attached_of, nothing, IsRanged}
 use Rattle.doc_columns.specs.Columns.{item_of, items_of, bare_items, AreColumns}

@@ -7,23 +7,21 @@ use Rattle.std.proofs.lemmas.List.{length-map}
 use Rattle.std.proofs.lemmas.List.Edits.{length-between, get_or-between}
 use Rattle.std.proofs.lemmas.List.Elements.{All-get_or}
 use Rattle.std.proofs.lemmas.Option.{slice_get_within, get_or_from_slice_get, slice_get_cases, slice_get-map, same_Some}
-use Rattle.doc_bits.proofs.ListLemmas.{All_at}
+use Rattle.doc_bits.proofs.Public.{All_at}
 use Rattle.doc_bits.specs.declared.places.Where.{Where}
 use Rattle.prop_map.specs.Settings.{Properties}
 use Rattle.run_lists.specs.declared.runs.Run.{Run}
 use Rattle.run_lists.specs.Spread.{expanded, total_len}
-use Rattle.run_lists.proofs.SpreadLemmas.{length-spread, extent_all}
-use Rattle.run_lists.proofs.CutLemmas.{value_in_run}
+use Rattle.run_lists.proofs.Public.{length-spread, extent_all, value_in_run}
 use Rattle.text_codes.specs.Paragraph.{paragraph_mark}
 use Rattle.plain_doc.specs.declared.item.Item.{Item}
 use Rattle.plain_doc.specs.declared.text_walk.TextWalk.{TextWalk}
 use Rattle.plain_doc.specs.Document.{HasPropertyMaps}
 use Rattle.plain_doc.specs.RulesOfItems.{IsShortChp}
 use Rattle.plain_doc.specs.RulesOfTexts.{EndsRight, last_unit}
-use Rattle.plain_doc.proofs.MainLemmas.{maps_there}
-use Rattle.plain_doc.proofs.TextWalkLemmas.{one_passed}
-use Rattle.bare_items.specs.Specials.{IsPlainUnit}
-use Rattle.bare_items.proofs.SpecialLemmas.{bare_passes}
+use Rattle.plain_doc.proofs.Public.{maps_there, one_passed}
+use Rattle.doc_columns.specs.Specials.{IsPlainUnit}
+use Rattle.doc_columns.proofs.SpecialLemmas.{bare_passes}
 use Rattle.doc_columns.specs.declared.attached.Attached.{Attached}
 use Rattle.doc_columns.specs.declared.judge.JudgedText.{JudgedText}
 use Rattle.doc_columns.specs.Attached.{has_something, attached_of}
@@ -34,7 +32,7 @@ use Rattle.doc_columns.proofs.ItemsOfLemmas.{item_at}
 
 -- ---- the runs of a text
 
--- a run stands beside the items of its places
+-- a run is beside the items of its places
 pub run_at : (text : List Item) (runs : List (Run Attached)) (k place : ℕ) (run : Run Attached) →
     expanded runs ≡ map attached_of text → slice_get runs k ≡ Some run → place ≡ total_len (take k runs)
     → IsRunAt text place run
@@ -70,7 +68,7 @@ chps_long judged right =
     sym (length-spread judged.chps.now) ∙ ap length right.chps
     ∙ length-map judged.text.now (λ (item : Item). item.chp)
 
--- the item of the columns stands in the text
+-- the item of the columns is in the text
 pub made_there : (judged : JudgedText) (place at : ℕ) (run : Run Attached) (unit : ℕ) (chp : Properties) →
     IsJudgedText judged → IsRunAt judged.text.now place run → place ≤ at → at < place + run.count
     → slice_get judged.units.now at ≡ Some unit → slice_get (expanded judged.chps.now) at ≡ Some chp

@@ -1,10 +1,12 @@
-pub mod ItemsOfLemmas
-pub mod ChangesLemmas
-pub mod CollectLemmas
-pub mod JudgeLemmas
-pub mod RightLemmas
-pub mod EqualityLemmas
-pub mod WalkLemmas
-pub mod EndLemmas
-pub mod SeenLemmas
-pub mod WindowLemmas
+pub mod Public
+mod ItemsOfLemmas
+mod ChangesLemmas
+mod CollectLemmas
+mod JudgeLemmas
+mod RightLemmas
+mod EqualityLemmas
+mod WalkLemmas
+mod EndLemmas
+mod SeenLemmas
+mod WindowLemmas
+mod SpecialLemmas

@@ -19,7 +19,7 @@ use Rattle.plain_doc.specs.declared.item.Item.{Item}
 use Rattle.plain_doc.specs.Document.{IsFormedItem}
 use Rattle.plain_doc.specs.RulesOfTexts.{EndsRight, IsHead}
 use Rattle.plain_doc.specs.Marks.{most_bookmarks}
-use Rattle.bare_items.specs.Marks.{AreValidBookmarks}
+use Rattle.doc_columns.specs.Marks.{AreValidBookmarks}
 
 -- the properties of formed items are of characters
 pub chps_formed : (text : List Item) (chps : List Properties) → chps ≡ map (λ item. item.chp) text →

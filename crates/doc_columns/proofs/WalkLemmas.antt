@@ -4,10 +4,9 @@ use Rattle.std.proofs.Common.{Some, None, Bool, true, false, inl, inr, arith, le
 use Rattle.std.specs.Prelude.{slice_get, slice_range, option_map}
 use Rattle.std.proofs.lemmas.Bool.{cases_lt}
 use Rattle.std.proofs.lemmas.Option.{same_Some, slice_get-map, slice_get_past}
-use Rattle.doc_bits.proofs.ListLemmas.{there_is, get-map, slice_get-take}
-use Rattle.doc_bits.proofs.TogetherLemmas.{got_drop}
+use Rattle.doc_bits.proofs.Public.{there_is, get-map, slice_get-take, got_drop}
 use Rattle.run_lists.specs.Spread.{expanded}
-use Rattle.run_lists.proofs.SpreadLemmas.{length-spread}
+use Rattle.run_lists.proofs.Public.{length-spread}
 use Rattle.plain_doc.specs.declared.item.Item.{Item}
 use Rattle.plain_doc.specs.Stretches.{joins_at, joins_next, BeginsStretch}
 use Rattle.doc_columns.specs.declared.attached.Attached.{Attached}
@@ -49,7 +48,7 @@ attachments_are parts are =
     are)
     (long_attachments parts are)
 
--- what stands beside an item is in its column
+-- what is beside an item is in its column
 pub attached_there : (parts : Parts) → AreParts parts → (k : ℕ) (item : Item) → slice_get (items_in parts) k ≡ Some item
     →
     slice_get (expanded parts.attachments.now) k ≡ Some (attached_of item)
@@ -89,7 +88,7 @@ part_at {A = A} {B = B} f xs ys k x y is here there =
 
 -- ---- ranges
 
--- what stands at a place of a range stands in the list
+-- what is at a place of a range is in the list
 pub range_got : {A : Type 0} (xs : List A) (from to k : ℕ) (x : A) → slice_get (slice_range xs from to) k ≡ Some x →
     slice_get xs (from + k) ≡ Some x
 range_got xs from to k x is = got_drop from xs k x (slice_get-take (to - from) (drop from xs) k x is)

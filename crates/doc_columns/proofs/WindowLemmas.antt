@@ -8,8 +8,7 @@ use Rattle.prop_map.specs.Settings.{Properties}
 use Rattle.run_lists.specs.declared.runs.Run.{Run}
 use Rattle.run_lists.specs.Spread.{expanded, total_len}
 use Rattle.run_lists.specs.Places.{IsAt}
-use Rattle.run_lists.proofs.SpreadLemmas.{extent-take, length-spread, spread_push}
-use Rattle.run_lists.proofs.CutLemmas.{spread-take, spread-drop}
+use Rattle.run_lists.proofs.Public.{extent-take, length-spread, spread_push, spread-take, spread-drop}
 use Rattle.plain_doc.specs.declared.item.Item.{Item}
 use Rattle.doc_columns.specs.declared.attached.Attached.{Attached}
 use Rattle.doc_columns.specs.declared.window.Whole.{Whole}

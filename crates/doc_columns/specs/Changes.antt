@@ -13,7 +13,7 @@ pub record HasOtherChp (becomes : Properties → Properties → Type 0) (before 
   pub chp : becomes before.chp after.chp
   pub rest : after ≡ item_of before.unit after.chp (attached_of before)
 
--- what stands beside its unit became another
+-- what is beside its unit became another
 pub record HasOtherAttached (becomes : Attached → Attached → Type 0) (before after : Item) : Type 0 where
   pub attached : becomes (attached_of before) (attached_of after)
   pub rest : after ≡ item_of before.unit before.chp (attached_of after)

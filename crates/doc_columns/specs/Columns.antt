@@ -1,4 +1,4 @@
--- The items of a text by columns: its units, the properties of each, and what stands beside each.
+-- The items of a text by columns: its units, the properties of each, and what is beside each.
 use Rattle.std.specs.Prelude.{◌≡◌, ℕ, List, [], ◌∷◌, length, map}
 use Rattle.prop_map.specs.Settings.{Properties}
 use Rattle.plain_doc.specs.declared.item.Item.{Item}
@@ -6,7 +6,7 @@ use Rattle.plain_doc.specs.Document.{IsFormedText}
 use Rattle.doc_columns.specs.declared.attached.Attached.{Attached}
 use Rattle.doc_columns.specs.Attached.{nothing}
 
--- the item of a unit, its properties and what stands beside
+-- the item of a unit, its properties and what is beside
 abbrev pub item_of : ℕ → Properties → Attached → Item
 item_of unit chp attached = record {
   unit = unit;

@@ -1,4 +1,4 @@
--- How the texts of a document by columns are judged.
+-- How the texts of a document by columns are checked.
 use Rattle.std.specs.Prelude.{◌≡◌, ℕ, ◌+◌, ◌<◌, ◌≤◌, List, length, map, All, Some, slice_get}
 use Rattle.run_lists.specs.declared.runs.Run.{Run}
 use Rattle.run_lists.specs.Spread.{expanded}
@@ -24,7 +24,7 @@ pub record IsJudgedText (judged : JudgedText) : Type 0 where
 abbrev pub IsPassedTo : JudgedText → ℕ → TextWalk → Type 0
 IsPassedTo judged place walk = HasPassed judged.sheet.now judged.part judged.text.now place walk
 
--- the run is what stands beside the items of the text from a place on
+-- the run is what is beside the items of the text from a place on
 pub record IsRunAt (text : List Item) (place : ℕ) (run : Run Attached) : Type 0 where
   pub within : place + run.count ≤ length text
   pub values :

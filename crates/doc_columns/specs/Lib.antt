@@ -6,3 +6,7 @@ pub mod Walks
 pub mod RunItems
 pub mod Kept
 pub mod Windows
+pub mod Checking
+pub mod Specials
+pub mod Marks
+pub mod Laws

@@ -55,7 +55,7 @@ impl OwnColumns {
         })
     }
 
-    /// Changes what stands beside the items from `from` to before `to`, run by run.
+    /// Changes what is beside the items from `from` to before `to`, run by run.
     pub(crate) fn change_attachments<C: Change<Attached>>(
         self,
         alloc: Global,

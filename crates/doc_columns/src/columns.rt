@@ -130,7 +130,7 @@ impl Columns {
         }
     }
 
-    /// The runs of what stands beside them.
+    /// The runs of what is beside them.
     pub fn attachments(&self) -> &[Run<Attached>]
         ensures { expanded result.now ≡ map attached_of self.now }
     {
@@ -217,7 +217,7 @@ impl Columns {
         Ok(Columns::from_own(own.change_chps(alloc, from, to, by)?))
     }
 
-    /// Changes what stands beside the items from `from` to before `to`, run by run.
+    /// Changes what is beside the items from `from` to before `to`, run by run.
     pub fn change_attachments<C: Change<Attached>>(
         self,
         alloc: Global,
@@ -235,7 +235,7 @@ impl Columns {
     }
 }
 
-/// The item of a unit, its properties and what stands beside.
+/// The item of a unit, its properties and what is beside.
 pub(crate) fn item_with(unit: u16, chp: PropMap, attached: Attached) -> Item
     ensures { result ≡ item_of unit chp attached }
 {

@@ -52,7 +52,7 @@ impl ColumnDocument {
     }
 }
 
-/// Whether runs of `len` values each stand for the same ones.
+/// Whether runs of `len` values each represent the same ones.
 fn same_values<T: Shared>(one: &[Run<T>], other: &[Run<T>], len: usize) -> bool
     requires one { total_len one.now ≡ len }
     requires other { total_len other.now ≡ len }

@@ -8,7 +8,7 @@ ghost use Rattle.run_lists.specs.Places.{IsAt};
 ghost use Rattle.plain_doc.specs.RulesOfItems.{IsShortChp};
 ghost use Rattle.plain_doc.specs.RulesOfTexts.{IsHead};
 ghost use Rattle.plain_doc.specs.TextWalk.{KeepsTextRules, AreValidTexts, HasCounts};
-ghost use Rattle.bare_items.specs.Specials.{IsPlainUnit};
+ghost use Rattle.doc_columns.specs.Specials.{IsPlainUnit};
 ghost use Rattle.doc_columns.specs.Judging.{IsJudgedText, IsPassedTo, IsRunAt};
 
 use crate::columns::item_with;
@@ -21,7 +21,7 @@ use std::alloc::Global;
 use style_sheet::StyleSheet;
 use text_codes::{PARAGRAPH_MARK, bare_len};
 
-/// A text that is judged: its sheet, which text it is, and its units and the runs of their properties.
+/// A text that is checked: its sheet, which text it is, and its units and the runs of their properties.
 #[derive(Drop)]
 pub(crate) struct JudgedText<'a> {
     pub(crate) sheet: &'a StyleSheet,

@@ -1,8 +1,9 @@
-//! Texts and documents by columns: units, runs of properties, and runs of what stands beside.
+//! Texts and documents by columns: units, runs of properties, and runs of what is beside.
 #![tactic(auto)]
 
 mod attached;
 mod change;
+mod checking;
 mod collect;
 mod columns;
 mod copying;
@@ -11,6 +12,7 @@ mod equality;
 mod expand;
 mod formed;
 mod judge;
+mod laws;
 mod own;
 mod ranges;
 mod shared_text;
@@ -20,9 +22,11 @@ mod walk;
 mod window;
 
 pub use attached::Attached;
+pub use checking::{CheckFault, check};
 pub use columns::Columns;
 pub use document::ColumnDocument;
 pub use formed::columns_are_formed;
+pub use laws::special_items_decide;
 pub use shared_text::SharedText;
 pub use sound::{all_items, is_sound};
 pub use texts::ColumnTexts;

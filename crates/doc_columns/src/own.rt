@@ -17,7 +17,7 @@ use run_lists::{Run, Runs};
 use std::alloc::Global;
 use std::marker::Model;
 
-/// A text: its units, the properties of each as runs, and what stands beside each as runs.
+/// A text: its units, the properties of each as runs, and what is beside each as runs.
 #[derive(Drop)]
 pub(crate) struct OwnColumns {
     pub(crate) units: Vec<u16>,
@@ -96,7 +96,7 @@ impl OwnColumns {
         self.chps.as_runs()
     }
 
-    /// The runs of what stands beside them.
+    /// The runs of what is beside them.
     pub(crate) fn attachments(&self) -> &[Run<Attached>]
         ensures { expanded result.now ≡ map attached_of self.now }
     {

@@ -12,7 +12,7 @@ pub(crate) fn are_words(units: &[u16])
     ensures { All (λ unit. unit < 2 ^ 16) units.now }
 {}
 
-/// The numbers of what stands beside have their sizes.
+/// The numbers of what is beside have their sizes.
 pub(crate) fn are_ranged(runs: &[Run<Attached>])
     ensures { All IsRanged (expanded runs.now) }
 {

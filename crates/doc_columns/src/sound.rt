@@ -3,7 +3,7 @@ ghost use Rattle.std.specs.Prelude.{◌≡◌, ◌<◌, ◌^◌, IsTrue, IfOk, l
 ghost use Rattle.std.specs.List.{sum_by};
 ghost use Rattle.plain_doc.specs.RulesOfSheet.{heads_of_sections, item_count};
 ghost use Rattle.plain_doc.specs.Sound.{IsSound};
-ghost use Rattle.bare_items.specs.Marks.{AreValidBookmarks};
+ghost use Rattle.doc_columns.specs.Marks.{AreValidBookmarks};
 
 use crate::judge::{are_valid_texts, right_counts};
 use crate::{ColumnDocument, ColumnTexts};

@@ -53,7 +53,7 @@ impl Walk {
     }
 }
 
-/// What items of a text have in common: their properties and what stands beside them. They end at a place.
+/// What items of a text have in common: their properties and what is beside them. They end at a place.
 #[derive(Drop)]
 pub struct Alike<'a> {
     pub chp: &'a PropMap,

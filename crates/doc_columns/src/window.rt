@@ -99,7 +99,7 @@ impl Window {
         entries(&self.whole.chps, self.spans.chps)
     }
 
-    /// The runs of what stands beside them.
+    /// The runs of what is beside them.
     pub(crate) fn attachments(&self) -> &[Run<Attached>]
         ensures { expanded result.now ≡ map attached_of self.now }
     {

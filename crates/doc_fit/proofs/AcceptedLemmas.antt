@@ -8,12 +8,11 @@ use Rattle.doc_bits.specs.declared.places.Where.TheVariants.{File, Wd}
 use Rattle.doc_bits.specs.Number.{AreBytes, u16_at}
 use Rattle.doc_bits.specs.Rules.{Hold, Nowhere, Among}
 use Rattle.doc_bits.specs.Places.{Place, Upto, IsFirstPlace, rules_in}
-use Rattle.doc_bits.proofs.RuleLemmas.{hold_in, hold_or_first, first_breaks, breaks_within}
+use Rattle.doc_bits.proofs.Public.{hold_in, hold_or_first, first_breaks, breaks_within}
 use Rattle.cfb_streams.specs.Contents.{Contents, HasNamed}
 use Rattle.cfb_streams.specs.Container.{container_rules, outer_rules, HasContents}
 use Rattle.cfb_streams.specs.Names.{wd_name}
-use Rattle.cfb_streams.proofs.SingleLemmas.{outer_single}
-use Rattle.cfb_streams.proofs.UniqueLemmas.{contents_unique}
+use Rattle.cfb_streams.proofs.Public.{outer_single, contents_unique}
 use Rattle.fib_form.specs.declared.form.Form.{Form}
 use Rattle.fib_form.specs.declared.form.Form.TheVariants.{Early, Later}
 use Rattle.fib_form.specs.Fib.{FibField, CbRgFcLcb, LaterCswNew, CswNew, NFib, fib_number, field_offset, fib_form}
@@ -24,33 +23,29 @@ use Rattle.fib_versions.specs.declared.further.Further.{Further}
 use Rattle.fib_versions.specs.Versions.{pair_count, csw_new, version_size, early_ccp, all_text_length}
 use Rattle.fib_versions.specs.Early.{early_pairs, early_fields}
 use Rattle.fib_versions.specs.VersionRules.{IsShortFib, HasOtherForm, HasWrongLength, version_rules}
-use Rattle.fib_versions.proofs.VersionLemmas.{version_rules-IsSingle}
+use Rattle.fib_versions.proofs.Public.{version_rules-IsSingle}
 use Rattle.plain_doc.specs.declared.document.Document.{Document}
 use Rattle.plain_doc.specs.Sound.{IsSound, document_rules}
-use Rattle.plain_doc.proofs.SoundLemmas.{document_rules-IsSingle}
+use Rattle.plain_doc.proofs.Public.{document_rules-IsSingle}
 use Rattle.file_rules.specs.FileRules.{contents_rules, wd_rules, table_rules, rules_of_pieces, table_stream_name}
 use Rattle.file_rules.specs.PartRules.{part_rules}
-use Rattle.file_rules.proofs.FileLemmas.{part_ascends, pieces_single}
-use Rattle.file_rules.proofs.NameLemmas.{named_one}
-use Rattle.file_rules.proofs.RefusalLemmas.{single_in}
-use Rattle.file_rules.proofs.RightPlaces.{hold_out}
+use Rattle.file_rules.proofs.Public.{part_ascends, pieces_single, named_one, single_in, hold_out}
 use Rattle.doc_read.specs.Holds.{FileParts, HasFileParts, HoldsDocument, IsAccepted}
-use Rattle.doc_read.proofs.FormedBookmarks.{held_formed}
-use Rattle.doc_read.proofs.OneDocument.{held_parts}
+use Rattle.doc_read.proofs.Public.{held_formed, held_parts}
 use Rattle.doc_losses.specs.References.{names_of}
-use Rattle.doc_losses.proofs.NoneLemmas.{names_none, no_references}
+use Rattle.doc_losses.proofs.Public.{names_none, no_references}
 use Rattle.doc_meaning.specs.Apart.{ReadsClx}
-use Rattle.doc_meaning.proofs.MeaningLemmas.{held_is_meant, meant_is_held}
+use Rattle.doc_meaning.proofs.Public.{held_is_meant, meant_is_held}
 use Rattle.doc_mends.specs.declared.mends.Mend.{Mend}
 use Rattle.doc_mends.specs.Mending.{IsMended}
-use Rattle.doc_mends.proofs.SoundLemmas.{no_mends}
+use Rattle.doc_mends.proofs.Public.{no_mends}
 use Rattle.deleted_text.specs.Texts.{IsStruckText}
-use Rattle.deleted_text.proofs.NoneLemmas.{struck_none}
+use Rattle.deleted_text.proofs.Public.{struck_none}
 use Rattle.doc_lift.specs.LiftedRules.{lifted_wd, lifted_wd_rules, lifted_contents_rules, read_table_rules}
 use Rattle.doc_lift.specs.LiftedFiles.{lifted_rules}
 use Rattle.doc_fit.specs.Rules.{HasMended}
 use Rattle.doc_fit.specs.Laws.{AcceptedFilesBreakFew}
-use Rattle.further_notes.proofs.MeantLemmas.{front_fields}
+use Rattle.further_notes.proofs.Public.{front_fields}
 use Rattle.doc_fit.proofs.PieceLemmas.{no_further, pieces_hold}
 
 -- ---- the container

@@ -1,10 +1,11 @@
-pub mod MeaningLemmas
-pub mod RefusalLemmas
-pub mod OpenLemmas
-pub mod MendLemmas
-pub mod LossLemmas
-pub mod OneLemmas
-pub mod PieceLemmas
-pub mod AcceptedLemmas
-pub mod NotedLemmas
-pub mod ReadAsLemmas
+pub mod Public
+mod MeaningLemmas
+mod RefusalLemmas
+mod OpenLemmas
+mod MendLemmas
+mod LossLemmas
+mod OneLemmas
+mod PieceLemmas
+mod AcceptedLemmas
+mod NotedLemmas
+mod ReadAsLemmas

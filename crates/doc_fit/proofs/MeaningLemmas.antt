@@ -3,17 +3,17 @@ use Rattle.std.proofs.Common.{◌≡◌, ◌∙◌, ◌++◌, sym, ap, subst, �
 use Rattle.doc_bits.specs.Number.{AreBytes}
 use Rattle.doc_bits.specs.Rules.{Hold, IsSingle}
 use Rattle.plain_doc.specs.declared.document.Document.{Document}
-use Rattle.plain_doc.proofs.SoundLemmas.{document_rules-IsSingle}
+use Rattle.plain_doc.proofs.Public.{document_rules-IsSingle}
 use Rattle.file_rules.specs.FileRules.{FileText}
 use Rattle.doc_read.specs.Holds.{FileParts}
-use Rattle.doc_read.proofs.PartsOfOneFile.{file_parts_one}
+use Rattle.doc_read.proofs.Public.{file_parts_one}
 use Rattle.doc_losses.specs.References.{names_of}
 use Rattle.doc_mends.specs.Mending.{IsMended}
-use Rattle.doc_mends.proofs.OneLemmas.{one_way}
+use Rattle.doc_mends.proofs.Public.{one_way}
 use Rattle.doc_lift.specs.LiftedFiles.{lifted_rules}
-use Rattle.doc_lift.proofs.RuleLemmas.{lifted_single}
-use Rattle.deleted_text.proofs.OneLemmas.{struck_one}
-use Rattle.further_notes.proofs.MeantLemmas.{meant_one}
+use Rattle.doc_lift.proofs.Public.{lifted_single}
+use Rattle.deleted_text.proofs.Public.{struck_one}
+use Rattle.further_notes.proofs.Public.{meant_one}
 use Rattle.doc_mends.specs.declared.mends.Mend.{Mend}
 use Rattle.doc_fit.specs.Rules.{IsMendedText, HasMended, LiftsTo, fit_rules}
 

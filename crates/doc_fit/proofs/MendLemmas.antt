@@ -4,7 +4,7 @@ use Rattle.cfb_streams.specs.Contents.{HasNamed}
 use Rattle.cfb_streams.specs.Names.{wd_name}
 use Rattle.plain_doc.specs.declared.document.Document.{Document}
 use Rattle.file_rules.specs.FileRules.{table_stream_name}
-use Rattle.file_rules.proofs.NameLemmas.{named_one}
+use Rattle.file_rules.proofs.Public.{named_one}
 use Rattle.doc_lift.specs.declared.lifting.Lifted.{Lifted}
 use Rattle.doc_mends.specs.declared.mends.Mend.{Mend}
 use Rattle.deleted_text.specs.declared.ranges.StoryBegins.{StoryBegins}

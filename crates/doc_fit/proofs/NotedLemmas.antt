@@ -7,43 +7,38 @@ use Rattle.doc_bits.specs.declared.places.Where.TheVariants.{Wd}
 use Rattle.doc_bits.specs.Number.{AreBytes}
 use Rattle.doc_bits.specs.Rules.{Hold}
 use Rattle.doc_bits.specs.Places.{Place, Upto, IsFirstPlace}
-use Rattle.doc_bits.proofs.RuleLemmas.{hold_or_first}
+use Rattle.doc_bits.proofs.Public.{hold_or_first}
 use Rattle.cfb_streams.specs.Contents.{Contents, OuterContents, HasNamed}
 use Rattle.cfb_streams.specs.Container.{HasContents}
 use Rattle.cfb_streams.specs.Names.{wd_name}
-use Rattle.cfb_streams.proofs.UniqueLemmas.{contents_unique}
+use Rattle.cfb_streams.proofs.Public.{contents_unique}
 use Rattle.fib_form.specs.FibRules.{fib_rules}
 use Rattle.fib_versions.specs.declared.further.Further.TheVariants.{Endnotes}
 use Rattle.fib_versions.specs.Versions.{further_count}
 use Rattle.plain_doc.specs.declared.document.Document.{Document}
 use Rattle.plain_doc.specs.Marks.{HasFormedBookmarks}
 use Rattle.plain_doc.specs.Sound.{IsSound, document_rules}
-use Rattle.plain_doc.proofs.SoundLemmas.{document_rules-IsSingle}
+use Rattle.plain_doc.proofs.Public.{document_rules-IsSingle}
 use Rattle.file_rules.specs.FileRules.{FileText, contents_rules, table_stream_name}
-use Rattle.file_rules.proofs.NameLemmas.{named_one}
-use Rattle.file_rules.proofs.RightPlaces.{hold_out}
-use Rattle.file_rules.proofs.TextLemmas.{text_one}
+use Rattle.file_rules.proofs.Public.{named_one, hold_out, text_one}
 use Rattle.doc_read.specs.Holds.{FileParts, HoldsDocument, IsAccepted}
-use Rattle.doc_read.proofs.PartsOfOneFile.{file_parts_one}
+use Rattle.doc_read.proofs.Public.{file_parts_one}
 use Rattle.doc_meaning.specs.Meaning.{MeansDocument}
 use Rattle.doc_lift.specs.declared.lifting.Lifted.{Lifted}
 use Rattle.doc_lift.specs.LiftedFiles.{IsLifted, lifted_rules}
-use Rattle.doc_lift.proofs.RuleLemmas.{lifted_single}
+use Rattle.doc_lift.proofs.Public.{lifted_single}
 use Rattle.doc_losses.specs.References.{Names, names_of}
 use Rattle.doc_losses.specs.Marks.{named_by}
-use Rattle.doc_losses.proofs.ReferenceLemmas.{same_names}
+use Rattle.doc_losses.proofs.Public.{same_names}
 use Rattle.doc_mends.specs.declared.mends.Mend.{Mend}
 use Rattle.doc_mends.specs.declared.mends.Mend.TheVariants.{MakeNote}
 use Rattle.doc_mends.specs.Mending.{IsMended}
-use Rattle.doc_mends.proofs.BookmarkLemmas.{bookmarks_stay}
-use Rattle.doc_mends.proofs.OneLemmas.{one_way}
+use Rattle.doc_mends.proofs.Public.{bookmarks_stay, one_way}
 use Rattle.deleted_text.specs.Texts.{IsStruckText}
-use Rattle.deleted_text.proofs.OneLemmas.{struck_one}
-use Rattle.deleted_text.proofs.StrikeLemmas.{struck_formed}
+use Rattle.deleted_text.proofs.Public.{struck_one, struck_formed}
 use Rattle.further_notes.specs.declared.splicing.Spliced.{Spliced}
 use Rattle.further_notes.specs.Splices.{IsSpliced, HasNoSplice}
-use Rattle.further_notes.proofs.MeantLemmas.{meant_one}
-use Rattle.further_notes.proofs.SpliceLemmas.{splice_is_one, splice_formed}
+use Rattle.further_notes.proofs.Public.{meant_one, splice_is_one, splice_formed}
 use Rattle.loss_report.specs.Features.{Inventory}
 use Rattle.doc_fit.specs.declared.losses.Found.{Found}
 use Rattle.doc_fit.specs.declared.opening.OpenedAny.{OpenedAny}

@@ -2,18 +2,16 @@
 use Rattle.std.proofs.Common.{◌≡◌, ◌⊎◌, ◌∙◌, inl, inr, sym, ap, subst, ℕ, List, ◌++◌, arith}
 use Rattle.doc_bits.specs.Number.{AreBytes, u16_at}
 use Rattle.doc_bits.specs.Places.{Place, Upto}
-use Rattle.doc_bits.proofs.PlaceLemmas.{place_one}
-use Rattle.doc_bits.proofs.RuleLemmas.{first_agrees}
+use Rattle.doc_bits.proofs.Public.{place_one, first_agrees}
 use Rattle.cfb_streams.specs.Contents.{Contents, HasNamed}
 use Rattle.cfb_streams.specs.Names.{wd_name}
-use Rattle.cfb_streams.proofs.UniqueLemmas.{contents_unique, storages_unique}
+use Rattle.cfb_streams.proofs.Public.{contents_unique, storages_unique}
 use Rattle.file_rules.specs.Units.{text_units}
 use Rattle.file_rules.specs.FileRules.{FileText, HasText}
-use Rattle.file_rules.proofs.NameLemmas.{named_one}
-use Rattle.file_rules.proofs.TextLemmas.{text_one}
+use Rattle.file_rules.proofs.Public.{named_one, text_one}
 use Rattle.loss_report.specs.Features.{Inventory}
 use Rattle.text_losses.specs.declared.features.TextFeature.{TextFeature}
-use Rattle.code_losses.proofs.LawLemmas.{losses_one}
+use Rattle.code_losses.proofs.Public.{losses_one}
 use Rattle.run_stages.specs.Outcomes.{Outcome, says}
 use Rattle.doc_fit.specs.Lines.{not_word_line}
 use Rattle.doc_fit.specs.Rules.{fit_rules}

@@ -1,22 +1,21 @@
 -- What is lifted and sound is opened, and what is not is refused by the first rule of all.
 use Rattle.std.proofs.Common.{◌≡◌, ◌∙◌, subst, ℕ, List}
 use Rattle.cfb_streams.specs.Contents.{Contents}
-use Rattle.cfb_streams.proofs.UniqueLemmas.{contents_unique}
+use Rattle.cfb_streams.proofs.Public.{contents_unique}
 use Rattle.file_rules.specs.FileRules.{FileText, HasText}
-use Rattle.file_rules.proofs.TextLemmas.{text_one}
+use Rattle.file_rules.proofs.Public.{text_one, refused-first, refused-next, refused-given}
 use Rattle.doc_losses.specs.References.{names_of}
 use Rattle.plain_doc.specs.Marks.{HasFormedBookmarks}
 use Rattle.doc_bits.specs.Rules.{Hold, given}
 use Rattle.plain_doc.specs.Sound.{document_rules}
 use Rattle.file_rules.specs.declared.fault.ReadFault.{ReadFault}
 use Rattle.file_rules.specs.Faults.{IsReadFault}
-use Rattle.file_rules.proofs.RefusalLemmas.{refused-first, refused-next, refused-given}
 use Rattle.doc_lift.specs.declared.lifting.Lifted.{Lifted}
 use Rattle.doc_lift.specs.LiftedFiles.{IsLifted, lifted_rules}
 use Rattle.doc_mends.specs.declared.mends.Mend.{Mend}
-use Rattle.doc_mends.proofs.BookmarkLemmas.{bookmarks_stay}
+use Rattle.doc_mends.proofs.Public.{bookmarks_stay}
 use Rattle.doc_fit.specs.declared.opening.OpenedAny.{OpenedAny}
-use Rattle.deleted_text.proofs.StrikeLemmas.{struck_formed}
+use Rattle.deleted_text.proofs.Public.{struck_formed}
 use Rattle.doc_fit.specs.Rules.{IsMendedText, HasMended, LiftsTo, fit_rules}
 use Rattle.doc_fit.specs.Losses.{HasLiftedStreams}
 use Rattle.doc_fit.specs.Opened.{HasDeletions, IsReported, IsOpenedAny}

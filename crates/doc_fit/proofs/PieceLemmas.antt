@@ -8,18 +8,16 @@ use Rattle.std.proofs.lemmas.Option.{get_or_from_slice_get, slice_get_within}
 use Rattle.doc_bits.specs.declared.places.Where.TheVariants.{Wd, Table}
 use Rattle.doc_bits.specs.Rules.{Hold, Nowhere, Among, From, rule}
 use Rattle.doc_bits.specs.Plc.{PlcPart}
-use Rattle.doc_bits.proofs.ListLemmas.{there_is, get-map, All_at, All-from_slice_get}
-use Rattle.doc_bits.proofs.RuleLemmas.{hold_in}
+use Rattle.doc_bits.proofs.Public.{there_is, get-map, All_at, All-from_slice_get, hold_in}
 use Rattle.sprm_table.specs.Sprm.{SpellsSprmList, HasSprmFaultAt}
-use Rattle.sprm_table.proofs.SprmLemmas.{spelt_unique}
-use Rattle.sprm_table.proofs.FaultLemmas.{accepted_no_fault}
+use Rattle.sprm_table.proofs.Public.{spelt_unique, accepted_no_fault}
 use Rattle.prop_map.specs.declared.modifiers.Modifier.{Modifier}
 use Rattle.prop_map.specs.Modifiers.{IsModifierOf, IsSpeltModifier}
 use Rattle.prop_map.specs.Formed.{prc_groups}
 use Rattle.prl_skips.specs.Skips.{SkipsOrStays, skipped}
-use Rattle.prl_skips.proofs.SkipLemmas.{accepted_skips, modify_skips}
+use Rattle.prl_skips.proofs.Public.{accepted_skips, modify_skips}
 use Rattle.part_skips.specs.Prcs.{AreListsSkipped, SkipsPrcs}
-use Rattle.part_skips.proofs.OneLemmas.{prcs_length}
+use Rattle.part_skips.proofs.Public.{prcs_length}
 use Rattle.fib_form.specs.declared.form.Form.TheVariants.{Early}
 use Rattle.fib_form.specs.declared.table_parts.TablePart.{TablePart}
 use Rattle.fib_form.specs.declared.table_parts.TablePart.TheVariants.{Stshf, PlcffndRef, PlcffndTxt, PlcfSed, PlcfHdd}
@@ -41,15 +39,14 @@ use Rattle.piece_table.specs.declared.pieces.TextBounds.{TextBounds}
 use Rattle.piece_table.specs.ClxRules.{LeavesStream, IsFaultyPrc, IsLongPrc, piece_rules}
 use Rattle.piece_table.specs.ClxRules.{parts_rules, clx_rules, text_bounds}
 use Rattle.piece_table.specs.PrmLists.{IsPrmModifier}
-use Rattle.piece_table.proofs.ClxLemmas.{prcs_unique, pcdt_no_prc}
+use Rattle.piece_table.proofs.Public.{prcs_unique, pcdt_no_prc}
 use Rattle.file_rules.specs.PairRules.{BreaksPairs, IsWrongPart, read_pairs}
 use Rattle.file_rules.specs.FileRules.{clx_of, rules_of_pieces, table_rules}
-use Rattle.file_rules.proofs.RightPlaces.{hold_out}
+use Rattle.file_rules.proofs.Public.{hold_out}
 use Rattle.doc_meaning.specs.Apart.{ReadsClx, clx_from, clx_to}
-use Rattle.doc_meaning.proofs.ApartLemmas.{clx_there, clx_table_len}
-use Rattle.doc_meaning.proofs.EarlyLemmas.{pair_same, early_part}
+use Rattle.doc_meaning.proofs.Public.{clx_there, clx_table_len, pair_same, early_part}
 use Rattle.doc_lift.specs.LiftedRules.{lifted_wd}
-use Rattle.doc_lift.proofs.LiftLemmas.{length-lifted_wd}
+use Rattle.doc_lift.proofs.Public.{length-lifted_wd}
 
 -- ---- pairs
 

@@ -5,17 +5,16 @@ use Rattle.doc_bits.specs.declared.places.Where.TheVariants.{File}
 use Rattle.doc_bits.specs.Number.{AreBytes}
 use Rattle.doc_bits.specs.Rules.{Hold}
 use Rattle.doc_bits.specs.Places.{Place, Upto, IsFirstPlace}
-use Rattle.doc_bits.proofs.PlaceLemmas.{place_one}
-use Rattle.doc_bits.proofs.RuleLemmas.{first_agrees, hold_or_first}
+use Rattle.doc_bits.proofs.Public.{place_one, first_agrees, hold_or_first}
 use Rattle.cfb_streams.specs.Container.{outer_rules}
 use Rattle.doc_read.specs.Holds.{IsAccepted, all_rules}
-use Rattle.doc_read.proofs.OneDocument.{all_single}
+use Rattle.doc_read.proofs.Public.{all_single}
 use Rattle.file_mends.specs.declared.mends.FileMend.{FileMend}
 use Rattle.file_mends.specs.Sectors.{FillsSector, IsCut}
 use Rattle.file_rules.specs.declared.fault.ReadFault.{ReadFault}
 use Rattle.file_rules.specs.Faults.{IsReadFault}
 use Rattle.file_mends.specs.Mends.{FileCopy, IsMendedBy, MendsRule, StaysUnmended, bytes_read}
-use Rattle.file_mends.proofs.OneLemmas.{mend_one, mend_bytes, fill_one, fill_bytes}
+use Rattle.file_mends.proofs.Public.{mend_one, mend_bytes, fill_one, fill_bytes}
 use Rattle.doc_fit.specs.declared.opening.OpenedAny.{OpenedAny}
 use Rattle.doc_fit.specs.declared.file_opening.OpenedFile.{OpenedFile}
 use Rattle.doc_fit.specs.Noted.{IsOpenedFit}

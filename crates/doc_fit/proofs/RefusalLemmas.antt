@@ -5,16 +5,16 @@ use Rattle.doc_bits.specs.declared.places.Where.TheVariants.{File, Wd}
 use Rattle.doc_bits.specs.Number.{u16_at}
 use Rattle.doc_bits.specs.Rules.{rule, Hold}
 use Rattle.doc_bits.specs.Places.{Place, Upto, IsFirstPlace, rules_in}
-use Rattle.doc_bits.proofs.RuleLemmas.{breaks_within, first_breaks}
+use Rattle.doc_bits.proofs.Public.{breaks_within, first_breaks}
 use Rattle.cfb_streams.specs.Contents.{Contents, HasNamed}
 use Rattle.cfb_streams.specs.Container.{outer_rules, HasContents}
 use Rattle.cfb_streams.specs.Names.{wd_name}
-use Rattle.cfb_streams.proofs.UniqueLemmas.{contents_unique}
+use Rattle.cfb_streams.proofs.Public.{contents_unique}
 use Rattle.fib_versions.specs.VersionRules.{IsShortFib}
 use Rattle.doc_lift.specs.LiftedRules.{lifted_wd_rules}
 use Rattle.doc_lift.specs.LiftedFiles.{lifted_rules}
-use Rattle.file_rules.proofs.FileLemmas.{ascends_in}
-use Rattle.doc_lift.proofs.RuleLemmas.{outer_ascends}
+use Rattle.file_rules.proofs.Public.{ascends_in}
+use Rattle.doc_lift.proofs.Public.{outer_ascends}
 use Rattle.run_stages.specs.Lines.{rule_line}
 use Rattle.run_stages.specs.Outcomes.{Outcome, says}
 use Rattle.doc_fit.specs.declared.refusing.FibVersion.{FibVersion}

@@ -28,7 +28,7 @@ pub record HasInventory (file : List ℕ) (inventory : Inventory) : Type 0 where
   pub wd : inventory.wd ≡ text.wd
   pub units : inventory.units ≡ text_units text.wd text.pieces
 
--- where the lists of a file stand
+-- where the lists of a file are
 abbrev pub list_parts : (wd table : List ℕ) → ListParts
 list_parts wd table = record {
   wd = wd;

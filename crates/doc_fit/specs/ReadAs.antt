@@ -57,7 +57,7 @@ pub record IsOpenedFile (plain : Bool) (file : List ℕ) (found : OpenedFile) : 
   pub read_as : IsReadAs file found.mended.mends (bytes_read file found.mended)
   pub opened : IsOpenedAs plain (bytes_read file found.mended) found
 
--- the first broken rule of what is read is mended, and the mend stands behind the others
+-- the first broken rule of what is read is mended, and the mend is behind the others
 pub record MendsCopyFirst (file : List ℕ) (old new : FileCopy) (mend : FileMend) : Type 0 where
   pub mends : MendsFirst (bytes_read file old) mend (bytes_read file new)
   pub list : new.mends ≡ old.mends ++ mend ∷ []

@@ -1,4 +1,5 @@
-//! The document that a file of Word 97 to 2007 means, mended and judged; a line for each feature that it leaves out, or
+//! The document that a file of Word 97 to 2007 means, mended and checked; a line for each feature that it leaves out,
+//! or
 //! why there is none.
 #![tactic(auto)]
 

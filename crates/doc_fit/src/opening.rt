@@ -1,4 +1,4 @@
-// A file of any program is opened: its document is lifted out of it, mended and judged, and what is left out is named.
+// A file of any program is opened: its document is lifted out of it, mended and checked, and what is left out is named.
 ghost use Rattle.std.specs.Prelude.{◌≡◌, IfOk, MatchResult};
 ghost use Rattle.plain_doc.specs.Marks.{HasFormedBookmarks};
 ghost use Rattle.plain_doc.specs.Sound.{IsSound};

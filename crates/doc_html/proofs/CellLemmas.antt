@@ -4,17 +4,17 @@ use Rattle.std.proofs.Common.{ap, subst, arith}
 use Rattle.std.specs.Prelude.{slice_get, slice_range}
 use Rattle.std.proofs.Math.ListN.{drop_of_length-le}
 use Rattle.std.proofs.lemmas.Option.{same_Some}
-use Rattle.doc_bits.proofs.ListLemmas.{there_is}
+use Rattle.doc_bits.proofs.Public.{there_is}
 use Rattle.run_lists.specs.Spread.{expanded}
 use Rattle.plain_doc.specs.declared.item.Item.{Item}
 use Rattle.plain_doc.specs.Settings.{is_inside}
 use Rattle.plain_doc.specs.Stretches.{stretches}
-use Rattle.plain_doc.proofs.StretchLemmas.{stretches-nil}
+use Rattle.plain_doc.proofs.Public.{stretches-nil}
 use Rattle.doc_columns.specs.Attached.{attached_of}
 use Rattle.doc_columns.specs.declared.attached.Attached.{Attached}
 use Rattle.doc_columns.specs.declared.walk.Parts.{Parts}
 use Rattle.doc_columns.specs.Walks.{items_in, AreParts}
-use Rattle.doc_columns.proofs.WalkLemmas.{attached_there, items_long, part_at, range_got, range_long, units_are}
+use Rattle.doc_columns.proofs.Public.{attached_there, items_long, part_at, range_got, range_long, units_are}
 use Rattle.cell_spans.specs.declared.tables.Tables.{Tables}
 use Rattle.doc_view.specs.Seen.{standing_of}
 use Rattle.doc_places.specs.Cells.{definition_in, tables_behind, tables_by, tables_from}

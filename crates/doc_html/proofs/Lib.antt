@@ -1,9 +1,10 @@
-pub mod WriteLemmas
-pub mod CellLemmas
-pub mod LabelLemmas
-pub mod TitleLemmas
-pub mod HeadLemmas
-pub mod TextLemmas
-pub mod NoteLemmas
-pub mod PageLemmas
-pub mod RunLemmas
+pub mod Public
+mod WriteLemmas
+mod CellLemmas
+mod LabelLemmas
+mod TitleLemmas
+mod HeadLemmas
+mod TextLemmas
+mod NoteLemmas
+mod PageLemmas
+mod RunLemmas

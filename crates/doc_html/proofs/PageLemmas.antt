@@ -15,22 +15,19 @@ use Rattle.form_page.specs.Forms.{form_text}
 use Rattle.doc_pictures.specs.Files.{ImageFiles}
 use Rattle.html_page.specs.Sources.{PageSource}
 use Rattle.plain_doc.specs.Sound.{IsSound}
-use Rattle.plain_doc.proofs.RightLemmas.{sound_is_valid}
+use Rattle.plain_doc.proofs.Public.{sound_is_valid}
 use Rattle.list_numbers.specs.declared.paragraph_values.ParagraphValues.{ParagraphValues}
 use Rattle.list_numbers.specs.ParagraphValues.{AreParagraphValuesOf}
-use Rattle.list_numbers.proofs.OneLemmas.{paragraph_values_of_one}
+use Rattle.list_numbers.proofs.Public.{paragraph_values_of_one}
 use Rattle.doc_view.specs.declared.view.Options.{Options}
 use Rattle.doc_view.specs.Page.{AreFormats}
 use Rattle.doc_view.specs.Seen.{Formats}
-use Rattle.doc_view.proofs.LawLemmas.{same_formats}
-use Rattle.doc_view.proofs.PageLemmas.{failed_page, formats_there, prefix_page, whole_page}
+use Rattle.doc_view.proofs.Public.{same_formats, failed_page, formats_there, prefix_page, whole_page}
 use Rattle.doc_places.specs.Places.{places_of}
 use Rattle.doc_html.specs.Laws.{FormPagesAreOne, HtmlPagesAreReadBack, HtmlPagesAreSafe}
 use Rattle.doc_html.specs.Head.{head_of}
 use Rattle.doc_html.specs.Page.{IsFormPage, IsHtmlPage, IsSafe}
-use Rattle.html_page.proofs.CloseLemmas.{page_read}
-use Rattle.html_page.proofs.KnownLemmas.{tags_known}
-use Rattle.html_page.proofs.BracketLemmas.{page_nests}
+use Rattle.html_page.proofs.Public.{page_read, tags_known, page_nests}
 
 -- ---- the page of a document
 

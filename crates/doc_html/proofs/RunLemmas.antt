@@ -4,7 +4,7 @@ use Rattle.std.proofs.Common.{map, take, Option, Some, None, refl, sym, ap, subs
 use Rattle.std.specs.Prelude.{if◌then◌else◌, is_some, slice_get, slice_range}
 use Rattle.std.proofs.lemmas.List.{length-map, map-append}
 use Rattle.std.proofs.lemmas.Option.{slice_get_within}
-use Rattle.doc_bits.proofs.ListLemmas.{length-range, range_split}
+use Rattle.doc_bits.proofs.Public.{range_split, length_part}
 use Rattle.doc_outer.specs.declared.sink.Sink.{Ghosts}
 use Rattle.plain_doc.specs.declared.item.Item.{Item}
 use Rattle.plain_doc.specs.declared.item.NoteKind.{NoteKind}
@@ -18,7 +18,7 @@ use Rattle.view_places.specs.declared.glyph.Glyph.TheVariants.{Unit}
 use Rattle.glyph_units.specs.Glyphs.{unit_places}
 use Rattle.form_page.specs.declared.page.FormPage.{FormPage}
 use Rattle.form_page.specs.Forms.{Places, PutsPlaces}
-use Rattle.form_page.proofs.FormLemmas.{places_then}
+use Rattle.form_page.proofs.Public.{places_then}
 use Rattle.doc_view.specs.declared.reading.Manner.{Manner}
 use Rattle.doc_view.specs.declared.reading.Seen.{Seen}
 use Rattle.doc_view.specs.declared.references.Reference.{Reference}
@@ -26,9 +26,8 @@ use Rattle.doc_view.specs.declared.text.Course.{Course}
 use Rattle.doc_view.specs.Blocks.{shows_units}
 use Rattle.doc_view.specs.Course.{HasFormat, IsCourse}
 use Rattle.doc_view.specs.Seen.{Formats, references_in, seen_as, some_shown}
-use Rattle.doc_view.proofs.RangeLemmas.{one_range, seen_one, seen_range, seen_then}
-use Rattle.doc_view.proofs.UnitLemmas.{AreUnits, IsUnitAt, behind_units, course_behind, seen_itself, still_shows, unit_seen}
-use Rattle.doc_view.proofs.UnitLemmas.{units_course}
+use Rattle.doc_view.proofs.Public.{one_range, seen_one, seen_range, seen_then, AreUnits, IsUnitAt, behind_units}
+use Rattle.doc_view.proofs.Public.{course_behind, seen_itself, still_shows, unit_seen, units_course}
 use Rattle.doc_places.specs.Places.{count_of, format_elements, item_places, items_places, label_places, link_elements}
 use Rattle.doc_places.specs.Places.{link_to, up_to_reference}
 use Rattle.doc_places.specs.declared.links.Origin.{Origin}
@@ -210,11 +209,6 @@ places_written sink out mid next page said left begun count place references lin
       references = sym (append-nil references) ∙ ap (λ (r : List Reference). references ++ r) (sym no);
     }
 
-range_long : (units : List ℕ) (from count : ℕ) → from + count ≤ length units → length (slice_range units from (from +
-    count)) ≡ count
-range_long units from count within =
-    let long = length-range units from (from + count) within in omega (arith, long)
-
 pub run_written : {K : Type 0} (sink : Ghosts K) (out mid next : K) (page said left : FormPage) (reading : Reading)
     (link : Option Link) (block : List Element) (label : List ℕ) (formats : Formats) (manner : Manner) (istd : ℕ) (items :
     List Item) (units : List ℕ) (format : CharFormat) (attached : Attached) (count : ℕ) → 0 < count → IsReading manner
@@ -253,7 +247,7 @@ run_written sink out mid next page said left reading link block label formats ma
     let run = slice_range units from (from + suc n) in
     let last = are (from + n) (omega arith) (omega arith) in
     let within = slice_get_within units (from + n) last.item.unit last.unit in
-    let long : length run ≡ suc n = range_long units from (suc n) (omega (arith, within)) in
+    let long : length run ≡ suc n = length_part units from (suc n) (omega (arith, within)) in
     let links = links_in reading.origin items in
     let same : (k : ℕ) → k < length run → links (from + k) ≡ link =
     λ k small. link_along manner items units reading format attached (suc n) k (omega (arith, small, long)) is shows

@@ -12,7 +12,7 @@ use Rattle.view_places.specs.declared.element.Element.TheVariants.{Cell as Table
 use Rattle.list_numbers.specs.declared.paragraph_values.ParagraphValues.{ParagraphValues}
 use Rattle.form_page.specs.declared.page.FormPage.{FormPage}
 use Rattle.form_page.specs.Forms.{Places, PutsPlaces}
-use Rattle.form_page.proofs.FormLemmas.{places_none, places_then}
+use Rattle.form_page.proofs.Public.{places_none, places_then}
 use Rattle.doc_view.specs.declared.reading.Seen.{Seen}
 use Rattle.doc_view.specs.declared.references.Reference.{Reference}
 use Rattle.doc_view.specs.declared.standing.Standing.{Standing}
@@ -31,7 +31,7 @@ use Rattle.doc_places.specs.Looks.{label_units, look_of}
 use Rattle.doc_places.specs.Places.{Hypertext, anchor_places, around_of, block_of, cell_at, cell_form, cell_of, is_part}
 use Rattle.doc_places.specs.Places.{item_count, item_elements, items_places, label_places, own_elements}
 use Rattle.doc_places.specs.Places.{paragraph_places, paragraphs_places, text_places}
-use Rattle.doc_places.proofs.PlaceLemmas.{grid_of-cons}
+use Rattle.doc_places.proofs.Public.{grid_of-cons}
 use Rattle.doc_html.specs.Writes.{At, Writes, head_by, label_before}
 
 -- what was written of a text, where some paragraphs are left

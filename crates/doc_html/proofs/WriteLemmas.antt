@@ -17,7 +17,7 @@ use Rattle.view_places.specs.declared.element.Element.{Element}
 use Rattle.form_page.specs.declared.page.FormPage.{FormPage}
 use Rattle.form_page.specs.Forms.{Places}
 use Rattle.form_page.specs.Forms.{PutsPlaces}
-use Rattle.form_page.proofs.FormLemmas.{places_none, places_then}
+use Rattle.form_page.proofs.Public.{places_none, places_then}
 use Rattle.doc_view.specs.declared.reading.Manner.{Manner}
 use Rattle.doc_view.specs.declared.reading.Seen.{Seen}
 use Rattle.doc_view.specs.declared.references.Reference.{Reference}
@@ -25,21 +25,19 @@ use Rattle.doc_view.specs.declared.text.Course.{Course}
 use Rattle.doc_view.specs.Course.{IsCourse, with_reference}
 use Rattle.doc_view.specs.Kept.{KeptReferences}
 use Rattle.doc_view.specs.Seen.{Formats, front_of, references_in, seen_as, some_shown}
-use Rattle.doc_view.proofs.RangeLemmas.{seen_none, seen_one, seen_range, seen_then}
-use Rattle.doc_view.proofs.CourseLemmas.{course_walk, references_on}
+use Rattle.doc_view.proofs.Public.{seen_none, seen_one, seen_range, seen_then, course_walk, references_on}
 use Rattle.std.proofs.Math.Bool.{or_assoc}
 use Rattle.std.proofs.lemmas.List.Folds.{list_any-append}
 use Rattle.doc_places.specs.Places.{count_of, item_places, items_places, label_places, link_to, place_of}
 use Rattle.doc_places.specs.Places.{up_to_reference}
-use Rattle.doc_places.proofs.LinkLemmas.{up_to_reference-more}
+use Rattle.doc_places.proofs.Public.{up_to_reference-more, count_one, items_places-append, items_places-hidden}
+use Rattle.doc_places.proofs.Public.{items_places-none, items_places-one}
 use Rattle.view_places.specs.declared.element.Link.{Link}
 use Rattle.field_links.specs.OpenFields.{hyperlink_in}
 use Rattle.doc_places.specs.declared.links.Origin.{Origin}
-use Rattle.doc_places.proofs.PlaceLemmas.{count_one, items_places-append, items_places-hidden, items_places-none, items_places-one}
 use Rattle.doc_html.specs.declared.reading.Reading.{Reading}
 use Rattle.doc_html.specs.Writes.{At, IsReading, Writes, label_before, links_in}
-use Rattle.doc_bits.proofs.TestLemmas.{or_false}
-use Rattle.doc_bits.proofs.ListLemmas.{take_step}
+use Rattle.doc_bits.proofs.Public.{or_false, take_step}
 
 -- other places that are the same
 pub puts_same : {K : Type 0} (sink : Ghosts K) (a b : K) (page left : FormPage) (xs ys : Places) → xs ≡ ys →

@@ -54,7 +54,7 @@ language_of sheet = language_at (style_at sheet 0)
 
 -- ---- the title
 
--- what of a glyph stands in a title: a space for each tab and break, and nothing for pictures
+-- what of a glyph is in a title: a space for each tab and break, and nothing for pictures
 abbrev pub title_unit : Glyph → Option ℕ
 title_unit (Unit unit) = Some unit
 title_unit Tab = Some 0x20

@@ -65,7 +65,7 @@ at_front at = record at { begun = false }
 abbrev pub links_in : Origin → List Item → ℕ → Option Link
 links_in origin items = links_of origin.note items origin.begin
 
--- a label stands before the first item that is shown
+-- a label is before the first item that is shown
 abbrev pub label_before : Bool → List Element → List ℕ → List Seen → Places
 label_before begun block label seen = if some_shown seen && not begun then label_places block label else []
 

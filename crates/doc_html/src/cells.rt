@@ -50,7 +50,7 @@ pub(crate) fn cells_of(
     tables.finish(alloc)
 }
 
-/// Goes behind a paragraph that stands so, with this mark, which it has alone or not.
+/// Goes behind a paragraph that is so, with this mark, which it has alone or not.
 fn pass(
     tables: &mut Tables,
     alloc: Global,

@@ -19,6 +19,7 @@ use doc_view::{
 };
 use run_lists::{Cursor, seek};
 use std::alloc::Global;
+use text_codes::SPACE;
 use view_places::Glyph;
 
 /// How many units a title has at most.
@@ -26,8 +27,6 @@ const LONGEST_TITLE: usize = 80;
 
 /// The title of a text of which nothing is seen.
 const UNTITLED: [u16; 8] = [0x55, 0x6E, 0x74, 0x69, 0x74, 0x6C, 0x65, 0x64];
-
-const SPACE: u16 = 0x20;
 
 /// The title of a page of a document.
 pub(crate) fn title_of(
@@ -54,7 +53,7 @@ pub(crate) fn title_of(
     Ok(title)
 }
 
-/// The title of a text. It is linear in what stands before the paragraph that it is taken from, and in that one.
+/// The title of a text. It is linear in what is before the paragraph that it is taken from, and in that one.
 fn title_in(alloc: Global, text: &Text<'_>) -> Result<Units, Memory>
     requires parts { AreParts text.now.parts }
     requires normal { kind_at text.now.formats.now 0 ≡ 1 }

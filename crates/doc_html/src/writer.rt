@@ -14,12 +14,11 @@ use doc_outer::Sink;
 use doc_places::{push_inline, push_link};
 use doc_view::{Seen, label_glyph};
 use form_page::FormPage;
+use text_codes::SPACE;
 use view_paths::{MAX_DEPTH, Path};
 use view_places::{Element, Glyph, Link};
 
-const SPACE: u16 = 0x20;
-
-/// A page, and the elements that what is written next stands in.
+/// A page, and the elements that what is written next is in.
 #[derive(Drop)]
 pub(crate) struct Writer<'a> {
     pub(crate) page: FormPage<'a>,

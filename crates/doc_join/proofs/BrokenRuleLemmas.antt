@@ -2,7 +2,7 @@
 use Rattle.std.proofs.Common.{◌≡◌, ◌∙◌, inl, inr, ◌⊎◌, ap, ℕ, List, []}
 use Rattle.std.proofs.Common.{length, take, Some}
 use Rattle.std.proofs.Math.Seq.{take-length}
-use Rattle.doc_bits.proofs.RuleLemmas.{hold_or_first}
+use Rattle.doc_bits.proofs.Public.{hold_or_first}
 use Rattle.doc_bits.specs.Rules.{Nowhere, Hold, IsSingle}
 use Rattle.doc_bits.specs.Places.{Place, Upto, IsFirstPlace}
 use Rattle.doc_bits.specs.declared.places.Where.{Where}
@@ -14,23 +14,21 @@ use Rattle.plain_doc.specs.RulesOfItems.{IsWrongItem, IsPlacedRight, HasShortPro
 use Rattle.plain_doc.specs.RulesOfTexts.{InTexts, HasWrongEnd, HasParagraphStyle}
 use Rattle.plain_doc.specs.Sound.{document_rules, text_rules, base_rules, size_rules}
 use Rattle.plain_doc.specs.RightDocument.{IsValidText}
-use Rattle.plain_doc.proofs.WalkLemmas.{after_all}
-use Rattle.plain_doc.proofs.NestingLemmas.{nest_passes}
-use Rattle.plain_doc.proofs.FieldLemmas.{nothing_open}
+use Rattle.plain_doc.specs.OpenFields.{after_all}
+use Rattle.plain_doc.proofs.Public.{nest_passes, nothing_open, none_wrong}
 use Rattle.doc_join.specs.Join.{document_join}
 use Rattle.doc_join.specs.Laws.{JoinsBreakCountsAlone}
-use Rattle.doc_join.proofs.JoinedRightLemmas.{IsRightAttachedCounts, right_attached_counts}
-use Rattle.plain_doc.proofs.RightLemmas.{none_wrong}
+use Rattle.doc_join.proofs.JoinedRightLemmas.{IsValidAttachedCounts, right_attached_counts}
 
 -- ---- the rules that hold
 
-nowhere_in_texts : (document : Document) (breaks : Where → List Item → ℕ → Type 0) → IsRightAttachedCounts document →
+nowhere_in_texts : (document : Document) (breaks : Where → List Item → ℕ → Type 0) → IsValidAttachedCounts document →
     ((part : Where) (text : List Item) → IsValidText document.sheet part text → (i : ℕ) → ¬ (breaks part text i)) →
     Nowhere (InTexts document breaks)
 nowhere_in_texts document breaks right none place w =
     none place.0 w.text (right.texts place.0 w.text w.there) place.1 w.broken
 
-texts_hold : (document : Document) → IsRightAttachedCounts document → Hold (text_rules document)
+texts_hold : (document : Document) → IsValidAttachedCounts document → Hold (text_rules document)
 texts_hold document right =
     let sheet = document.sheet in (
       nowhere_in_texts document HasWrongEnd right (λ part text t i w. w.1 t.ends),
@@ -56,13 +54,13 @@ texts_hold document right =
       ),
     )
 
-bases_hold : (document : Document) → IsRightAttachedCounts document → Hold (base_rules document)
+bases_hold : (document : Document) → IsValidAttachedCounts document → Hold (base_rules document)
 bases_hold document right place w = elim w.1 [
   | inl normal ↦ normal.1 right.bases.normal
   | inr none ↦ let found = right.bases.chains place.1 none.properties in none.none found.0 found.1
 ]
 
-sizes_hold : (document : Document) → IsRightAttachedCounts document → Hold (size_rules document)
+sizes_hold : (document : Document) → IsValidAttachedCounts document → Hold (size_rules document)
 sizes_hold document right =
     let short =
     nowhere_in_texts document (λ part text. IsWrongItem (λ i item. HasShortProperties item) text) right
@@ -79,7 +77,7 @@ text_single document = (tt, (tt, (tt, (tt, tt))))
 size_single : (document : Document) → IsSingle (size_rules document)
 size_single document = (tt, tt)
 
-counts_alone : (document : Document) (number : ℕ) (place : Place) → IsRightAttachedCounts document →
+counts_alone : (document : Document) (number : ℕ) (place : Place) → IsValidAttachedCounts document →
     IsFirstPlace (document_rules document) number place → (number ≡ 68) ⊎ (number ≡ 69)
 counts_alone document number place right first = elim first [
   | inl text ↦

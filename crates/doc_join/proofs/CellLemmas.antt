@@ -1,30 +1,15 @@
 -- The open cells of texts that are joined, and of texts that are alike.
 use Rattle.std.proofs.Common.{◌≡◌, ◌∙◌, refl, sym, ap, ℕ, zero, suc, ◌+◌, ◌<◌, ◌≤◌, List, [], ◌∷◌, ◌++◌, length}
-use Rattle.std.proofs.Common.{take, get_or, Some, arith, append_assoc, length-append}
+use Rattle.std.proofs.Common.{take, Some, arith, append_assoc}
 use Rattle.std.proofs.Math.Seq.{take-length}
 use Rattle.std.specs.Prelude.{slice_get}
-use Rattle.std.proofs.lemmas.List.{append-nil, take_more, take-append-le, get_or-append-add}
+use Rattle.std.proofs.lemmas.List.{append-nil, take_more}
 use Rattle.std.proofs.lemmas.Option.{get_or_from_slice_get}
-use Rattle.doc_bits.proofs.ListLemmas.{there_is}
+use Rattle.doc_bits.proofs.Public.{there_is}
 use Rattle.plain_doc.specs.declared.item.Item.{Item}
 use Rattle.plain_doc.specs.Rows.{open_cells, cells_after}
-use Rattle.plain_doc.proofs.RowLemmas.{open_cells-nil, open_cells_more}
-
--- one item more
-pub cells_push : (text : List Item) (item : Item) → open_cells (text ++ item ∷ []) ≡ cells_after (open_cells text) item
-cells_push text item =
-    let all = text ++ item ∷ [] in
-    let long = length-append text (item ∷ []) in
-    let whole : open_cells (take (length text + 1) all) ≡ open_cells all =
-    ap (λ n. open_cells (take n all)) (sym long) ∙ ap open_cells (take-length all) in
-    let front : take (length text) all ≡ text =
-    take-append-le (length text) text (item ∷ []) (omega arith) ∙ take-length text in
-    let at : length text + 0 ≡ length text = omega arith in
-    let here : item ≡ get_or all (length text) item =
-    sym (ap (λ n. get_or all n item) (sym at) ∙ get_or-append-add text (item ∷ []) 0 item) in
-    sym whole
-    ∙ (open_cells_more all (length text) item (omega (arith, long)) here
-    ∙ ap (λ t. cells_after (open_cells t) item) front)
+use Rattle.plain_doc.proofs.Public.{open_cells-nil}
+use Rattle.doc_columns.proofs.Public.{cells_onto_last}
 
 -- a part of a text with its next item
 part_more : (text : List Item) (n : ℕ) (item : Item) → slice_get text n ≡ Some item → n < length text →
@@ -45,9 +30,9 @@ behind_upto front text (suc n) closed within =
     let more = part_more text n item found.1 (omega (arith, within)) in
     ap (λ t. open_cells (front ++ t)) more
     ∙ (ap open_cells (sym (append_assoc front (take n text) (item ∷ [])))
-    ∙ (cells_push (front ++ take n text) item
+    ∙ (cells_onto_last (front ++ take n text) item
     ∙ (ap (λ cells. cells_after cells item) (behind_upto front text n closed (omega (arith, within)))
-    ∙ (sym (cells_push (take n text) item) ∙ ap open_cells (sym more)))))
+    ∙ (sym (cells_onto_last (take n text) item) ∙ ap open_cells (sym more)))))
 
 pub cells_behind : (front text : List Item) → open_cells front ≡ 0 → open_cells (front ++ text) ≡ open_cells text
 cells_behind front text closed =
@@ -71,10 +56,10 @@ alike_upto one other (suc n) alike within =
     let more = part_more one n found.0 found.1 (omega (arith, within)) in
     let second_maps = part_more other n facing.0 facing.1 (omega (arith, within, same)) in
     ap open_cells more
-    ∙ (cells_push (take n one) found.0
+    ∙ (cells_onto_last (take n one) found.0
     ∙ (ap (λ cells. cells_after cells found.0) (alike_upto one other n alike (omega (arith, within)))
     ∙ (alike.each n found.0 facing.0 (open_cells (take n other)) found.1 facing.1
-    ∙ (sym (cells_push (take n other) facing.0) ∙ ap open_cells (sym second_maps)))))
+    ∙ (sym (cells_onto_last (take n other) facing.0) ∙ ap open_cells (sym second_maps)))))
 
 pub cells_alike : (one other : List Item) → CountAlike one other → open_cells one ≡ open_cells other
 cells_alike one other alike =

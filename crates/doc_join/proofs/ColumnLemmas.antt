@@ -7,18 +7,18 @@ use Rattle.std.specs.Prelude.{All, slice_get, replicate}
 use Rattle.std.specs.List.{splice}
 use Rattle.std.proofs.lemmas.List.{take_more, map-append, length-map, drop_all, take_all, append-nil}
 use Rattle.std.proofs.lemmas.List.Elements.{All-map, All-weaker}
-use Rattle.std.proofs.lemmas.Option.{get_or_from_slice_get, slice_get_within}
+use Rattle.std.proofs.lemmas.Option.{get_or_from_slice_get}
 use Rattle.prop_map.specs.Formed.{IsPropertyMap, character_groups}
 use Rattle.prop_map.specs.Settings.{Properties}
 use Rattle.run_lists.specs.declared.runs.Run.{Run}
 use Rattle.run_lists.specs.Spread.{expanded, total_len}
-use Rattle.run_lists.proofs.SpreadLemmas.{spread_push, length-spread, count_within}
+use Rattle.run_lists.proofs.Public.{spread_push, length-spread, count_within}
 use Rattle.plain_doc.specs.declared.item.Item.{Item}
-use Rattle.plain_doc.specs.Document.{HasPropertyMaps, IsFormedItem, IsFormedText}
+use Rattle.plain_doc.specs.Document.{IsFormedItem, IsFormedText}
 use Rattle.doc_columns.specs.declared.attached.Attached.{Attached}
 use Rattle.doc_columns.specs.Attached.{attached_of}
 use Rattle.doc_columns.specs.Columns.{item_of, items_of}
-use Rattle.doc_columns.proofs.ItemsOfLemmas.{items_of-maps}
+use Rattle.doc_columns.proofs.Public.{items_of-maps}
 use Rattle.doc_join.specs.declared.renumbering.Renumbering.{Renumbering}
 use Rattle.doc_join.specs.Settings.{renumbered}
 use Rattle.doc_join.specs.Texts.{renumbered_item, renumbered_text, ending_section, section_ended, HasOwnStyle}
@@ -70,12 +70,6 @@ character_maps text chps is formed =
     (All-map (IsPropertyMap character_groups) (λ (item : Item). item.chp) text
     (All-weaker IsFormedItem (λ item. IsPropertyMap character_groups item.chp) (λ item held. held.maps.chp) text
     formed.each))
-
-pub maps_at : (text : List Item) (k : ℕ) (item : Item) → IsFormedText text → slice_get text k ≡ Some item →
-    HasPropertyMaps item
-maps_at text k item formed here =
-    subst HasPropertyMaps (get_or_from_slice_get text k item item here)
-    (formed.each k item (slice_get_within text k item here)).maps
 
 pub column_few : {A : Type 0} (f : Item → A) (runs : List (Run A)) (text : List Item) → expanded runs ≡ map f text →
     IsFormedText text → total_len runs < 2 ^ 32

@@ -1,10 +1,10 @@
--- What is in effect at a place of either document is in effect where its item stands in the joined one.
+-- What is in effect at a place of either document is in effect where its item is in the joined one.
 use Rattle.std.proofs.Common.{◌≡◌, ◌∙◌, inl, inr, refl, sym, ap, subst, ℕ, ◌+◌, ◌-◌, ◌<◌, ◌≤◌, List}
 use Rattle.std.proofs.Common.{length, Some, arith}
 use Rattle.std.specs.Prelude.{slice_get}
 use Rattle.std.proofs.lemmas.Bool.{cases_lt}
 use Rattle.std.proofs.lemmas.Option.{slice_get_within, same_Some, none-some}
-use Rattle.doc_bits.proofs.ListLemmas.{get-map}
+use Rattle.doc_bits.proofs.Public.{get-map}
 use Rattle.doc_bits.specs.Places.{Place}
 use Rattle.doc_bits.specs.declared.places.Where.{Where}
 use Rattle.doc_bits.specs.declared.places.Where.TheVariants.{File, Wd, Table, Sheet as SheetPart, Main, Note, Head}
@@ -27,7 +27,7 @@ use Rattle.doc_join.proofs.PlaceLemmas.{first_main_stands, second_main_stands, f
 
 -- ---- what is in effect at a place
 
--- where an item stood, and where it stands
+-- where an item stood, and where it is
 pub record IsMoved (numbers : Renumbering) (old joined : Document) (text : List Item) (place : ℕ) (there : Place) :
     Type 0 where
   pub shift : ℕ

@@ -8,8 +8,7 @@ use Rattle.std.proofs.lemmas.Bool.{cases_lt}
 use Rattle.std.proofs.lemmas.List.{length-map}
 use Rattle.std.proofs.lemmas.List.Sums.{sum_by-cons, sum_by-append}
 use Rattle.std.proofs.lemmas.Option.{same_Some, slice_get_within, get_or_from_slice_get, none-some}
-use Rattle.doc_bits.proofs.ListLemmas.{from_map, slice_get_before}
-use Rattle.doc_bits.proofs.TogetherLemmas.{from_behind, got_drop}
+use Rattle.doc_bits.proofs.Public.{from_map, slice_get_before, from_behind, got_drop}
 use Rattle.doc_bits.specs.Rules.{Nowhere}
 use Rattle.doc_bits.specs.Places.{rank}
 use Rattle.doc_bits.specs.declared.places.Where.{Where}
@@ -25,7 +24,7 @@ use Rattle.plain_doc.specs.Formed.{IsFormed}
 use Rattle.plain_doc.specs.RulesOfTexts.{text_of}
 use Rattle.plain_doc.specs.RulesOfSheet.{HasShortStyle, note_count, head_count}
 use Rattle.plain_doc.specs.RightDocument.{IsValidText, IsValidDocument}
-use Rattle.plain_doc.proofs.RightLemmas.{sound_is_valid}
+use Rattle.plain_doc.proofs.Public.{sound_is_valid}
 use Rattle.doc_join.specs.declared.renumbering.Renumbering.{Renumbering}
 use Rattle.doc_join.specs.Texts.{renumbered_item, renumbered_text, renumbered_texts, ending_section, section_ended}
 use Rattle.doc_join.specs.Texts.{joined_main, joined_texts}
@@ -41,7 +40,7 @@ use Rattle.doc_join.proofs.BookmarkLemmas.{joined_apart}
 -- ---- what is right of the joined document
 
 -- all that a right document says but the numbers of items and of bookmarks
-pub record IsRightAttachedCounts (document : Document) : Type 0 where
+pub record IsValidAttachedCounts (document : Document) : Type 0 where
   pub texts :
       (part : Where) (text : List Item) → text_of document part ≡ Some text → IsValidText document.sheet part text
   pub notes : length document.notes ≡ note_count document.main
@@ -227,7 +226,7 @@ all_texts_right first second can (Head number) text is =
     number text is
 
 pub right_attached_counts : (first second : Document) → CanBeJoined first second →
-    IsRightAttachedCounts (document_join first second)
+    IsValidAttachedCounts (document_join first second)
 right_attached_counts first second can =
     let joined = document_join first second in
     let first_maps = first_numbers first in

@@ -8,7 +8,7 @@ use Rattle.std.specs.Prelude.{slice_index, nat_lt}
 use Rattle.std.specs.List.{cons_option, last_or}
 use Rattle.std.specs.FinMap.{get}
 use Rattle.doc_bits.specs.Number.{u16_at, number_bytes}
-use Rattle.doc_bits.proofs.NumberLemmas.{number_at-number_bytes}
+use Rattle.doc_bits.proofs.Public.{number_at-number_bytes}
 use Rattle.prop_map.specs.Settings.{Properties}
 use Rattle.style_sheet.specs.declared.styles.Style.{Style}
 use Rattle.style_sheet.specs.Sheet.{Sheet, style_at}

@@ -1,16 +1,16 @@
-pub mod SettingLemmas
-pub mod SheetLemmas
-pub mod TextLemmas
-pub mod ColumnLemmas
-pub mod BookmarkLemmas
-pub mod SoundLemmas
-pub mod PartLemmas
-pub mod LayerLemmas
-pub mod PlaceLemmas
-pub mod EffectLemmas
-pub mod CellLemmas
-pub mod RightTextLemmas
-pub mod RightMainLemmas
-pub mod RightSheetLemmas
-pub mod JoinedRightLemmas
-pub mod BrokenRuleLemmas
+mod SettingLemmas
+mod SheetLemmas
+mod TextLemmas
+mod ColumnLemmas
+mod BookmarkLemmas
+mod SoundLemmas
+mod PartLemmas
+mod LayerLemmas
+mod PlaceLemmas
+mod EffectLemmas
+mod CellLemmas
+mod RightTextLemmas
+mod RightMainLemmas
+mod RightSheetLemmas
+mod JoinedRightLemmas
+mod BrokenRuleLemmas

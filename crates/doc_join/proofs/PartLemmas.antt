@@ -14,7 +14,7 @@ use Rattle.style_sheet.specs.declared.styles.Kind.TheVariants.{Para, Char, Other
 use Rattle.style_sheet.specs.Sheet.{Sheet, style_at}
 use Rattle.style_sheet.specs.Changes.{characters_of, paragraphs_of, with_characters}
 use Rattle.style_sheet.specs.Chain.{properties_kind, kind_in, kind_at, base_in, base_at, IsBaseChain}
-use Rattle.style_sheet.proofs.OneChainLemmas.{there}
+use Rattle.style_sheet.proofs.Public.{there}
 use Rattle.effective_props.specs.Layers.{paragraph_properties, character_properties}
 use Rattle.doc_join.specs.declared.renumbering.Renumbering.{Renumbering}
 use Rattle.doc_join.specs.Numbers.{base_behind, numbers_of_first, numbers_of_second}
@@ -23,7 +23,7 @@ use Rattle.doc_join.specs.Styles.{slot_from_first, slot_from_second, slots_from_
 use Rattle.doc_join.proofs.SettingLemmas.{renumbered-empty}
 use Rattle.doc_join.proofs.SheetLemmas.{length-first, length-second}
 
--- the styles of a sheet stand in a joined one, each with its kind, its base and its properties renumbered
+-- the styles of a sheet are in a joined one, each with its kind, its base and its properties renumbered
 pub record IsSheetPart (numbers : Renumbering) (sheet joined : Sheet) : Type 0 where
   pub slots : numbers.slots ≡ length sheet.styles
   pub few : length joined.styles ≤ 4094
@@ -108,7 +108,7 @@ second_characters : (numbers : Renumbering) (istd : ℕ) (slot : Option Style) �
 second_characters numbers istd None = renumbered-empty numbers
 second_characters numbers istd (Some style) = new_characters numbers style.kind
 
--- ---- where the slots stand
+-- ---- where the slots are
 
 pub first_at : (first second : Sheet) (istd : ℕ) → istd < length first.styles →
     style_at (joined_sheet first second) (istd + 0) ≡ slot_from_first (numbers_of_first first) (style_at first istd)

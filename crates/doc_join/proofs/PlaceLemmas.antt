@@ -1,4 +1,4 @@
--- Where the items of both documents stand in the joined one, with the marks of their paragraphs.
+-- Where the items of both documents are in the joined one, with the marks of their paragraphs.
 use Rattle.std.proofs.Common.{◌≡◌, ◌∙◌, inl, inr, refl, sym, ap, subst, ℕ, zero, suc, ◌+◌, ◌-◌, ◌<◌, ◌≤◌, List, [], ◌∷◌}
 use Rattle.std.proofs.Common.{length, map, take, drop, get_or, Some, option_map, arith, is_some}
 use Rattle.std.proofs.Common.{length-take}
@@ -6,8 +6,7 @@ use Rattle.std.specs.Prelude.{slice_get, slice_set}
 use Rattle.std.proofs.lemmas.Bool.{cases_lt}
 use Rattle.std.proofs.lemmas.List.{length-map, length-set, get_or-take, get_or-set_same}
 use Rattle.std.proofs.lemmas.Option.{slice_get_within, slice_get_read, get_or_from_slice_get, same_Some}
-use Rattle.doc_bits.proofs.ListLemmas.{get-map, there_is}
-use Rattle.doc_bits.proofs.TogetherLemmas.{in_front, in_back}
+use Rattle.doc_bits.proofs.Public.{get-map, there_is, in_front, in_back}
 use Rattle.plain_doc.specs.declared.item.Item.{Item}
 use Rattle.plain_doc.specs.declared.item.Mark.{Mark}
 use Rattle.plain_doc.specs.Paragraphs.{EndsParagraph}
@@ -26,7 +25,7 @@ pub record HasItemLike (numbers : Renumbering) (text : List Item) (place : ℕ) 
   pub here : slice_get text place ≡ Some made
   pub mark : made.mark ≡ option_map (renumbered_mark numbers) item.mark
 
--- the items of a text stand in another one, behind so many others, with their marks renumbered
+-- the items of a text are in another one, behind so many others, with their marks renumbered
 pub record StandsIn (numbers : Renumbering) (shift : ℕ) (text joined : List Item) : Type 0 where
   pub items :
       (i : ℕ) (item : Item) → slice_get text i ≡ Some item → HasItemLike numbers joined (shift + i) item

@@ -11,8 +11,7 @@ use Rattle.std.proofs.lemmas.Grind.{flat_map-append}
 use Rattle.std.proofs.lemmas.List.{take-append-le, take-append-drop, drop_all}
 use Rattle.std.proofs.lemmas.List.Elements.{All-append}
 use Rattle.std.proofs.lemmas.Option.{get_or_from_slice_get, same_Some, slice_get_within, none-some}
-use Rattle.doc_bits.proofs.ListLemmas.{slice_get_before, slice_get_push}
-use Rattle.doc_bits.proofs.TogetherLemmas.{in_front, from_behind}
+use Rattle.doc_bits.proofs.Public.{slice_get_before, slice_get_push, in_front, from_behind}
 use Rattle.doc_bits.specs.Places.{rank}
 use Rattle.doc_bits.specs.declared.places.Where.TheVariants.{Main}
 use Rattle.text_codes.specs.Paragraph.{paragraph_mark, cell_mark}
@@ -24,8 +23,9 @@ use Rattle.plain_doc.specs.RulesOfItems.{IsPlacedRight, HasShortProperties}
 use Rattle.plain_doc.specs.RulesOfTexts.{last_unit, HasParagraphStyle}
 use Rattle.plain_doc.specs.RightDocument.{IsValidText}
 use Rattle.doc_join.specs.Texts.{ending_section, section_ended}
-use Rattle.doc_join.proofs.CellLemmas.{cells_push, cells_behind}
-use Rattle.plain_doc.proofs.FieldLemmas.{characters-append}
+use Rattle.doc_join.proofs.CellLemmas.{cells_behind}
+use Rattle.plain_doc.proofs.Public.{characters-append, no_character}
+use Rattle.doc_columns.proofs.Public.{cells_onto_last}
 
 -- ---- the items of the joined text
 
@@ -57,9 +57,6 @@ each_item front item other P before here behind i made is =
     ]
 
 -- ---- fields
-
-no_character : (item : Item) → is_some item.fld ≡ false → field_characters (item ∷ []) ≡ []
-no_character item none = ap (λ b. map (λ (x : Item). x.unit) (cond b (item ∷ []) [])) none
 
 fields_joined : (depth : ℕ) (one other : List ℕ) → AreFields (suc depth) one → AreFields (suc depth) other →
     AreFields (suc depth) (one ++ other)
@@ -164,8 +161,8 @@ joined_right sheet front item other one unit two some =
     let placed = one.placed (length front) item here in
     let none = no_field item unit placed.field in
     let closed : open_cells ended ≡ 0 =
-    cells_push front made
-    ∙ (sym (count_ended item (open_cells front) unit) ∙ (sym (cells_push front item) ∙ one.row_ends)) in
+    cells_onto_last front made
+    ∙ (sym (count_ended item (open_cells front) unit) ∙ (sym (cells_onto_last front item) ∙ one.row_ends)) in
     record {
       ends = inl (last_joined ended other some ∙ main_ends sheet other two);
       placed =

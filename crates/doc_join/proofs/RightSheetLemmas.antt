@@ -14,8 +14,7 @@ use Rattle.style_sheet.specs.Chain.{kind_at, IsBaseChain, HasSoundBases}
 use Rattle.prop_map.specs.Printing.{printed_list}
 use Rattle.style_sheet.specs.Counted.{even_up, written_counted}
 use Rattle.style_sheet.specs.Written.{written_upxes, written_style, written_slot, IsWritable}
-use Rattle.style_sheet.proofs.OneChainLemmas.{there}
-use Rattle.style_sheet.proofs.LengthLemmas.{para_len, char_len, rest_len, style_len}
+use Rattle.style_sheet.proofs.Public.{there, para_len, char_len, rest_len, style_len}
 use Rattle.plain_doc.specs.RulesOfSheet.{HasShortKind, HasShortStyle}
 use Rattle.doc_join.specs.declared.renumbering.Renumbering.{Renumbering}
 use Rattle.doc_join.specs.Numbers.{numbers_of_first, numbers_of_second}
@@ -25,7 +24,7 @@ use Rattle.doc_join.specs.Styles.{joined_sheet}
 use Rattle.doc_join.proofs.SettingLemmas.{renumbered_length}
 use Rattle.doc_join.proofs.PartLemmas.{first_part, second_part, first_at, second_at, chain_moved, length-joined}
 
--- ---- where a style stands
+-- ---- where a style is
 
 -- a number of the joined sheet is one of the first, one of the second, or beyond
 by_sheet : (first second : Sheet) (P : ℕ → Type 0) →

@@ -5,15 +5,15 @@ use Rattle.std.proofs.Common.{option_map, is_some, arith}
 use Rattle.std.specs.Prelude.{slice_get}
 use Rattle.std.specs.List.{filter}
 use Rattle.std.proofs.lemmas.List.{length-map}
-use Rattle.std.proofs.lemmas.Option.{slice_get-map, get_or_from_slice_get, same_Some, slice_get_within}
-use Rattle.doc_bits.proofs.ListLemmas.{from_map}
+use Rattle.std.proofs.lemmas.Option.{slice_get-map, same_Some, slice_get_within}
+use Rattle.doc_bits.proofs.Public.{from_map}
 use Rattle.doc_bits.specs.declared.places.Where.{Where}
 use Rattle.doc_bits.specs.declared.places.Where.TheVariants.{Main}
 use Rattle.text_codes.specs.Paragraph.{cell_mark}
 use Rattle.prop_map.specs.Formed.{IsPropertyMap, character_groups}
 use Rattle.style_sheet.specs.Sheet.{Sheet}
 use Rattle.style_sheet.specs.Chain.{kind_at}
-use Rattle.style_sheet.proofs.OneChainLemmas.{there}
+use Rattle.style_sheet.proofs.Public.{there}
 use Rattle.plain_doc.specs.declared.item.Item.{Item}
 use Rattle.plain_doc.specs.declared.item.Mark.{Mark}
 use Rattle.plain_doc.specs.Document.{IsFormedText}
@@ -29,6 +29,7 @@ use Rattle.doc_join.proofs.SettingLemmas.{renumbered_length}
 use Rattle.doc_join.proofs.TextLemmas.{mark_keeps, moved_some}
 use Rattle.doc_join.proofs.PartLemmas.{IsSheetPart}
 use Rattle.doc_join.proofs.CellLemmas.{CountAlike, cells_alike, alike_upto}
+use Rattle.plain_doc.proofs.Public.{item_map}
 
 -- ---- what an item says stays
 
@@ -154,13 +155,6 @@ each_right numbers text P Q step held i item here =
     let found = from_map (renumbered_item numbers) text i item here in
     subst (Q i) found.1.1 (step i found.0 found.1.0 (held i found.0 found.1.0))
 
-chp_at : (text : List Item) (i : ℕ) (item : Item) → IsFormedText text → slice_get text i ≡ Some item →
-    IsPropertyMap character_groups item.chp
-chp_at text i item formed here =
-    let within = slice_get_within text i item here in
-    subst (λ (x : Item). IsPropertyMap character_groups x.chp) (get_or_from_slice_get text i item item here)
-    (formed.each i item within).maps.chp
-
 pub text_stays_right : (numbers : Renumbering) (sheet joined : Sheet) (part other : Where) (text : List Item) →
     IsSheetPart numbers sheet joined → IsLikePart part other → IsFormedText text → IsValidText sheet part text →
     IsValidText joined other (renumbered_text numbers text)
@@ -194,5 +188,5 @@ text_stays_right numbers sheet joined part other text within like formed right =
           (λ i item here. style_right numbers sheet joined item within) right.styles;
       short =
           each_right numbers text (λ i item. HasShortProperties item) (λ i item. HasShortProperties item)
-          (λ i item here. short_right numbers item (chp_at text i item formed here)) right.short;
+          (λ i item here. short_right numbers item (item_map text i item formed here)) right.short;
     }

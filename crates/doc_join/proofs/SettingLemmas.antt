@@ -1,7 +1,7 @@
--- Properties whose style has another number: what stands at each code, that they stay what their place may hold, and
+-- Properties whose style has another number: what is at each code, that they stay what their place may hold, and
 -- how
 -- long they are printed.
-use Rattle.std.proofs.Common.{◌≡◌, ◌≢◌, ◌∙◌, refl, sym, ap, ℕ, zero, suc, ◌+◌, ◌<◌, ◌==◌, Bool, true, false, cond}
+use Rattle.std.proofs.Common.{◌≡◌, ◌≢◌, ◌∙◌, refl, sym, ap, ℕ, suc, ◌+◌, ◌<◌, ◌==◌, Bool, true, false, cond}
 use Rattle.std.proofs.Common.{List, [], ◌∷◌, length, take, Option, Some, None, option_map, arith}
 use Rattle.std.proofs.Math.Seq.{take-length}
 use Rattle.std.proofs.Common.{inl, inr}
@@ -10,16 +10,13 @@ use Rattle.std.specs.declared.cmp.Ordering.TheVariants.{Less, Equal, Greater}
 use Rattle.std.specs.Ordering.{nat_cmp}
 use Rattle.std.specs.Cmp.{nat_cmp_total, unsigned_tied}
 use Rattle.std.specs.FinMap.{get, insert, empty, get-empty, get-insert}
-use Rattle.doc_bits.specs.Number.{u16_at, number_bytes, AreBytes}
-use Rattle.std.specs.Int.{bytes_low_first, byte_at}
-use Rattle.doc_bits.proofs.ByteListLemmas.{number_bytes-number_at, no_bytes, joined_bytes, one_byte, small_byte}
-use Rattle.doc_bits.proofs.NumberLemmas.{length-number_bytes}
+use Rattle.doc_bits.specs.Number.{u16_at, number_bytes}
+use Rattle.doc_bits.proofs.Public.{number_bytes-number_at, number_are_bytes, length-number_bytes}
 use Rattle.prop_map.specs.Settings.{Properties}
 use Rattle.prop_map.specs.Formed.{IsPropertyMap, character_groups}
-use Rattle.prop_map.proofs.MapLemmas.{same_properties}
-use Rattle.prop_map.proofs.LawLemmas.{stay_formed}
+use Rattle.prop_map.proofs.Public.{same_properties, stay_formed, find_gap, rises, both_second}
 use Rattle.effective_props.specs.Layers.{character_style_code}
-use Rattle.effective_props.proofs.LayerLemmas.{named_bytes}
+use Rattle.effective_props.proofs.Public.{named_bytes}
 use Rattle.sprm_table.specs.Sprm.{Prl, spelling}
 use Rattle.std.proofs.Common.{flat_map, length-append, T, get_or}
 use Rattle.std.specs.Ordering.{is_eq}
@@ -29,7 +26,6 @@ use Rattle.std.proofs.lemmas.List.Concat.{flat_map-cons}
 use Rattle.std.proofs.lemmas.Option.{none-some, same_Some}
 use Rattle.std.specs.Cmp.{ranked}
 use Rattle.prop_map.specs.Printing.{printed_list}
-use Rattle.prop_map.proofs.EntriesLemmas.{find_gap, rises, both_second}
 use Rattle.sprm_table.specs.declared.operands.OperandSize.{OperandSize}
 use Rattle.sprm_table.specs.declared.operands.OperandSize.TheVariants.{Fixed, CountedByByte, CountedByWord}
 use Rattle.sprm_table.specs.Operands.{size_of, operand_bytes}
@@ -41,7 +37,7 @@ use Rattle.doc_join.specs.Settings.{naming, renumbered}
 abbrev pub renamed : Renumbering → List ℕ → List ℕ
 renamed numbers value = number_bytes 2 (style_behind numbers (u16_at value 0))
 
--- ---- what stands at each code
+-- ---- what is at each code
 
 -- properties that name no style stay
 pub none_named : (numbers : Renumbering) (map : Properties) → get map character_style_code ≡ None →
@@ -56,7 +52,7 @@ one_named numbers map value named = ap (naming numbers map) named
 pub renumbered-empty : (numbers : Renumbering) → empty ≡ renumbered numbers empty
 renumbered-empty numbers = sym (none_named numbers empty (get-empty nat_cmp character_style_code))
 
--- what was put at a code, and what stands at another one
+-- what was put at a code, and what is at another one
 placed : (map : Properties) (code other : ℕ) (value : List ℕ) (same : Bool) → (other == code) ≡ same →
     get (insert map code value) other ≡ cond same (Some value) (get map other)
 placed map code other value same is =
@@ -118,16 +114,6 @@ same_style numbers map value formed named same =
     ∙ put_again map character_style_code value named)
 
 -- ---- what a place may hold
-
-low_bytes : (i k x : ℕ) → AreBytes (bytes_low_first i k x)
-low_bytes i zero x = no_bytes
-low_bytes i (suc k) x =
-    joined_bytes (byte_at i x ∷ []) (bytes_low_first (suc i) k x) (one_byte (byte_at i x) (small_byte i x))
-    (low_bytes (suc i) k x)
-
-number_are_bytes : (x : ℕ) → AreBytes (number_bytes 2 x)
-unfolding number_bytes
-number_are_bytes x = low_bytes 0 2 x
 
 named_formed : (numbers : Renumbering) (map : Properties) (named : Option (List ℕ)) →
     get map character_style_code ≡ named → IsPropertyMap character_groups map →

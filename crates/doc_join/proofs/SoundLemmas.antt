@@ -11,7 +11,7 @@ use Rattle.std.proofs.lemmas.Option.{slice_get-get_or, none-some}
 use Rattle.doc_bits.specs.Places.{rank}
 use Rattle.doc_bits.specs.declared.places.Where.{Where}
 use Rattle.doc_bits.specs.declared.places.Where.TheVariants.{Main, Note, Head}
-use Rattle.style_sheet.proofs.OneChainLemmas.{there}
+use Rattle.style_sheet.proofs.Public.{there}
 use Rattle.plain_doc.specs.declared.item.Item.{Item}
 use Rattle.plain_doc.specs.declared.document.Document.{Document}
 use Rattle.doc_parts.specs.declared.bookmark_order.Bookmark.{Bookmark}
@@ -20,7 +20,7 @@ use Rattle.plain_doc.specs.Marks.{HasFormedBookmarks}
 use Rattle.plain_doc.specs.RightDocument.{IsValidDocument}
 use Rattle.plain_doc.specs.RulesOfTexts.{text_of, last_unit}
 use Rattle.plain_doc.specs.Sound.{IsSound, NamesFirstRule, document_rules}
-use Rattle.plain_doc.proofs.RightLemmas.{sound_is_valid}
+use Rattle.plain_doc.proofs.Public.{sound_is_valid}
 use Rattle.doc_join.specs.declared.renumbering.Renumbering.{Renumbering}
 use Rattle.doc_join.specs.Texts.{renumbered_item, renumbered_text, ending_section, section_ended, joined_main}
 use Rattle.doc_join.specs.Texts.{HaveOwnStyles, AllHaveOwnStyles}
@@ -93,7 +93,7 @@ are_few document sound =
       bookmarks = right.few_bookmarks;
     }
 
--- the bookmarks of a second document may stand behind a first main text
+-- the bookmarks of a second document may be behind a first main text
 pub record DoFit (before : ℕ) (list : List Bookmark) : Type 0 where
   pub starts : All (λ bookmark. bookmark.from + before < 2 ^ 32) list
   pub ends : All (λ bookmark. bookmark.to + before < 2 ^ 32) list
@@ -146,7 +146,7 @@ joined_bookmarks_formed first second sound next_sound =
     (joined_form (length first.main) (length second.main) first.bookmarks second.bookmarks sound.bookmarks
     next_sound.bookmarks)
 
--- ---- what the judge answers
+-- ---- what the check answers
 
 fault_of : (first second made : Document) (fault : JoinFault) → made ≡ document_join first second →
     slots_together first second ≤ most_slots → IsUnsound made fault → IsJoinFault first second fault

@@ -6,7 +6,7 @@ use Rattle.doc_parts.specs.Order.{in_order}
 use Rattle.doc_parts.specs.Bookmarks.{bookmark_cmp}
 use Rattle.doc_parts.specs.Names.{is_named}
 
--- a bookmark of a text that stands behind so many items
+-- a bookmark of a text that is behind so many items
 abbrev pub bookmark_behind : ℕ → Bookmark → Bookmark
 bookmark_behind len bookmark = record bookmark { from = bookmark.from + len; to = bookmark.to + len }
 

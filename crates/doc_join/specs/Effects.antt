@@ -1,4 +1,4 @@
--- What stands at a place of a document, and what is in effect there.
+-- What is at a place of a document, and what is in effect there.
 use Rattle.std.specs.Prelude.{◌≡◌, ℕ, List, Some, slice_get}
 use Rattle.doc_bits.specs.Places.{Place}
 use Rattle.prop_map.specs.Settings.{Properties}

@@ -1,4 +1,4 @@
--- What stands beside the units of a joined document.
+-- What is beside the units of a joined document.
 use Rattle.std.specs.Prelude.{◌<◌, option_map}
 use Rattle.std.specs.Option.{ForSome}
 use Rattle.doc_columns.specs.declared.attached.Attached.{Attached}

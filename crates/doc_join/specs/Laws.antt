@@ -22,7 +22,7 @@ pub record CanBeJoined (first second : Document) : Type 0 where
 abbrev pub main_end : Document → Place
 main_end document = (Main, length document.main - 1)
 
--- where an item of the second document stands; its separators of notes are gone
+-- where an item of the second document is; its separators of notes are gone
 abbrev pub place_from_second : Document → Where → ℕ → Place
 place_from_second first File at = (File, at)
 place_from_second first Wd at = (Wd, at)

@@ -1,4 +1,4 @@
--- How style numbers go on where the slots of two documents stand one behind the other.
+-- How style numbers go on where the slots of two documents are one behind the other.
 use Rattle.std.specs.Prelude.{ℕ, ◌+◌, nat_lt, if◌then◌else◌, Option, Some, None, length}
 use Rattle.style_sheet.specs.Sheet.{Sheet}
 use Rattle.doc_join.specs.declared.renumbering.Renumbering.{Renumbering}
@@ -7,7 +7,7 @@ use Rattle.doc_join.specs.declared.renumbering.Renumbering.{Renumbering}
 abbrev pub no_style : ℕ
 no_style = 0xFFFF
 
--- a style number of a document, whose slots stand behind others. Profile: one beyond its own sheet named nothing, and
+-- a style number of a document, whose slots are behind others. Profile: one beyond its own sheet named nothing, and
 -- it names nothing afterwards
 abbrev pub style_behind : Renumbering → ℕ → ℕ
 style_behind numbers istd = if nat_lt istd numbers.slots then istd + numbers.before else no_style
@@ -21,11 +21,11 @@ base_behind numbers (Some base) = if nat_lt base numbers.slots then Some (base +
 abbrev pub next_behind : Renumbering → ℕ → ℕ → ℕ
 next_behind numbers istd next = (if nat_lt next numbers.slots then next else istd) + numbers.before
 
--- nothing stands before the slots of the first document
+-- nothing is before the slots of the first document
 abbrev pub numbers_of_first : Sheet → Renumbering
 numbers_of_first first = record { before = 0; slots = length first.styles }
 
--- the slots of the second stand behind those of the first
+-- the slots of the second are behind those of the first
 abbrev pub numbers_of_second : Sheet → Sheet → Renumbering
 numbers_of_second first second = record { before = length first.styles; slots = length second.styles }
 

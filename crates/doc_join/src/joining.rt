@@ -12,8 +12,8 @@ use crate::renumbering::Renumbering;
 use crate::sheets::join_sheets;
 use crate::texts::{join_main, join_texts};
 use doc_bits::{Memory, keep_if_ok};
-use doc_columns::{ColumnDocument, is_sound};
-use plain_doc::{DocFault, Document, SEPARATORS, check};
+use doc_columns::{CheckFault, ColumnDocument, check};
+use plain_doc::{DocFault, Document, SEPARATORS};
 use std::alloc::Global;
 
 /// [MS-DOC] Stshif: the most slots of a sheet.
@@ -131,27 +131,16 @@ fn join_unchecked(
     })
 }
 
-/// Whether a document is sound, or its first broken rule. Where its columns do not tell, its items are put one by one.
+/// Whether a document is sound, or its first broken rule.
 fn check_joined(alloc: Global, made: &ColumnDocument) -> Result<(), JoinFault>
     requires { HasFormedBookmarks made.now }
     ensures { MatchResult result (λ _. IsSound made.now) (IsUnsound made.now) }
 {
-    if is_sound(alloc, made)? {
-        return Ok(());
-    }
-    let items = made.expand(alloc)?;
-    let verdict = check_items(&items);
-    drop(items);
-    verdict
-}
-
-/// Whether a document is sound, or its first broken rule, item by item.
-fn check_items(made: &Document) -> Result<(), JoinFault>
-    requires { HasFormedBookmarks made.now }
-    ensures { MatchResult result (λ _. IsSound made.now) (IsUnsound made.now) }
-{
-    match check(made) {
+    match check(alloc, made) {
         Ok(()) => Ok(()),
-        Err(DocFault { rule, place, at }) => Err(JoinFault::Unsound { rule, place, at }),
+        Err(CheckFault::Rule(DocFault { rule, place, at })) => {
+            Err(JoinFault::Unsound { rule, place, at })
+        }
+        Err(CheckFault::Memory) => Err(JoinFault::Memory),
     }
 }

@@ -1,5 +1,5 @@
 //! One document after another: the main texts, notes, header texts, styles and bookmarks of two documents in one. The
-//! styles of the second stand behind those of the first, and what names a style names it by its new number.
+//! styles of the second are behind those of the first, and what names a style names it by its new number.
 #![tactic(auto)]
 
 mod fault;

@@ -72,7 +72,7 @@ fn has_name(named: &[Bookmark], name: &[u16]) -> bool
     found.is_ok()
 }
 
-/// A bookmark of a text that stands behind so many items.
+/// A bookmark of a text that is behind so many items.
 fn move_by(bookmark: &Bookmark, before: usize) -> Result<Bookmark, Memory>
     requires from { bookmark.now.from + before < 2 ^ 32 }
     requires to { bookmark.now.to + before < 2 ^ 32 }

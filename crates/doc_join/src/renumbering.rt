@@ -3,7 +3,7 @@
 /// How the style numbers of a document go on in a joined one.
 #[derive(Clone, Copy)]
 pub(crate) struct Renumbering {
-    /// How many slots stand before those of the document.
+    /// How many slots are before those of the document.
     pub(crate) before: u16,
     /// How many slots the document has.
     pub(crate) slots: u16,

@@ -144,7 +144,7 @@ impl KeptMaps {
         Ok(())
     }
 
-    /// What stands beside units, with the styles of marks renumbered.
+    /// What is beside units, with the styles of marks renumbered.
     fn attachments(&self, runs: &[Run<Attached>]) -> Result<Runs<Attached>, Memory>
         requires few { total_len runs.now < 2 ^ 32 }
         requires styles { All (HasOwnMark self.now.numbers) (expanded runs.now) }
@@ -171,7 +171,7 @@ impl KeptMaps {
         Ok(())
     }
 
-    /// What stands beside a unit, with the style of its mark renumbered.
+    /// What is beside a unit, with the style of its mark renumbered.
     fn attached(&self, attached: &Attached) -> Result<Attached, Memory>
         requires { HasOwnMark self.now.numbers attached.now }
         ensures { IfOk result (λ made. made ≡ renumbered_attached self.now.numbers attached.now) }

@@ -13,8 +13,7 @@ use Rattle.file_rules.specs.Source.{DocSource, part_place, part_bytes}
 use Rattle.file_rules.specs.BinRules.{BreaksBinTable, rules_of_bins}
 use Rattle.doc_meaning.specs.Lifted.{IsReadPart}
 use Rattle.doc_meaning.specs.Apart.{ReadsClx}
-use Rattle.doc_meaning.proofs.ApartLemmas.{apart_part}
-use Rattle.doc_meaning.proofs.ListLemmas.{read_of}
+use Rattle.doc_meaning.proofs.Public.{apart_part, read_of}
 use Rattle.file_rules.specs.FileRules.{source_of}
 use Rattle.doc_lift.specs.LiftedRules.{IsLiftedSource, lifted_wd, lifted_table_rules}
 use Rattle.doc_lift.proofs.SkipLemmas.{read_part}

@@ -4,7 +4,7 @@ use Rattle.std.proofs.Common.{◌≡◌, ◌∙◌, ◌++◌, ◌+◌, sym, ap, 
 use Rattle.std.proofs.Common.{drop, arith}
 use Rattle.doc_bits.specs.Rules.{Hold, given}
 use Rattle.doc_bits.specs.Places.{Upto}
-use Rattle.doc_bits.proofs.RuleLemmas.{hold_or_first, first_agrees}
+use Rattle.doc_bits.proofs.Public.{hold_or_first, first_agrees}
 use Rattle.cfb_streams.specs.Contents.{Contents}
 use Rattle.fib_form.specs.Fib.{form_size}
 use Rattle.fib_form.specs.FibBytes.{written_fib}
@@ -14,7 +14,7 @@ use Rattle.fkp_pages.specs.declared.kind.PageKind.{PageKind}
 use Rattle.fkp_pages.specs.declared.kind.PageKind.TheVariants.{Chpx, Papx}
 use Rattle.fkp_pages.specs.Bin.{IsBinTable}
 use Rattle.fkp_gaps.specs.Filled.{next_page, with_empty_run}
-use Rattle.fkp_gaps.proofs.FilledLemmas.{filled_bin_is_one}
+use Rattle.fkp_gaps.proofs.Public.{filled_bin_is_one}
 use Rattle.page_copies.specs.Pages.{BinTables, bin_of}
 use Rattle.plain_doc.specs.declared.document.Document.{Document}
 use Rattle.file_rules.specs.declared.fault.ReadFault.{ReadFault}
@@ -23,17 +23,14 @@ use Rattle.file_rules.specs.Faults.{IsReadFault}
 use Rattle.file_rules.specs.Source.{DocSource, part_bytes}
 use Rattle.file_rules.specs.PartRules.{layout_rules, part_rules}
 use Rattle.file_rules.specs.FileRules.{FileText, IsFrontOf, source_of, clx_of}
-use Rattle.file_rules.proofs.FileLemmas.{part_single}
-use Rattle.file_rules.proofs.RightPlaces.{bin_tables}
-use Rattle.file_rules.proofs.RefusalLemmas.{refused-given}
+use Rattle.file_rules.proofs.Public.{part_single, bin_tables, refused-given}
 use Rattle.doc_read.specs.Opened.{IsReadOf}
 use Rattle.doc_meaning.specs.Skipped.{bins_of}
 use Rattle.doc_meaning.specs.Meaning.{MeansFrom}
 use Rattle.doc_meaning.specs.Apart.{IsReadTable}
 use Rattle.doc_meaning.specs.Filled.{BreaksAtGap, FillsStreams, HasFilledStreams, IsGapRule, filled_fields}
-use Rattle.doc_meaning.proofs.EarlyLemmas.{pair_same}
-use Rattle.doc_meaning.proofs.FrontLemmas.{HasFront, whole_text, front_text}
-use Rattle.doc_meaning.proofs.FilledLemmas.{IsPair, layout_holds, bytes_kept, filled_is_meant}
+use Rattle.doc_meaning.proofs.Public.{pair_same, HasFront, whole_text, front_text, IsPair, layout_holds, bytes_kept}
+use Rattle.doc_meaning.proofs.Public.{filled_is_meant}
 use Rattle.doc_lift.specs.LiftedRules.{IsLiftedSource, IsReadFor, lifted_wd}
 use Rattle.doc_lift.specs.FilledTexts.{AreFilledStreams, IsFrontWith, IsFilledOf, IsFilledText, IsFilledRead}
 use Rattle.doc_lift.specs.FilledTexts.{IsReadFilled, filled_rules}

@@ -1,8 +1,9 @@
-pub mod SepxLemmas
-pub mod SkipLemmas
-pub mod LiftLemmas
-pub mod FillLemmas
-pub mod StreamLemmas
-pub mod ReadLemmas
-pub mod RuleLemmas
-pub mod BinLemmas
+pub mod Public
+mod SepxLemmas
+mod SkipLemmas
+mod LiftLemmas
+mod FillLemmas
+mod StreamLemmas
+mod ReadLemmas
+mod RuleLemmas
+mod BinLemmas

@@ -10,7 +10,7 @@ use Rattle.fib_form.specs.Fib.{form_size}
 use Rattle.fib_form.specs.FibFields.{FibFields, fib_fields, text_length}
 use Rattle.fib_form.specs.FibBytes.{written_fib}
 use Rattle.fib_form.specs.declared.form.Form.TheVariants.{Early}
-use Rattle.fib_form.proofs.WriteLemmas.{length-written_fib}
+use Rattle.fib_form.proofs.Public.{length-written_fib}
 use Rattle.fib_versions.specs.Early.{early_pairs, early_fields}
 use Rattle.fib_versions.specs.Versions.{all_text_length}
 use Rattle.fib_versions.specs.VersionRules.{version_rules}
@@ -18,20 +18,17 @@ use Rattle.plain_doc.specs.declared.document.Document.{Document}
 use Rattle.plain_doc.specs.Marks.{HasFormedBookmarks}
 use Rattle.file_rules.specs.PartRules.{layout_rules, part_rules}
 use Rattle.file_rules.specs.FileRules.{FileText, IsFrontOf, source_of, rules_of_pieces, table_stream_name}
-use Rattle.cfb_sectors.proofs.OpeningLemmas.{whole_length}
+use Rattle.cfb_sectors.proofs.Public.{whole_length}
 use Rattle.cfb_directory.specs.Reach.{BreaksName}
 use Rattle.cfb_streams.specs.Container.{outer_rules, HasContents}
-use Rattle.cfb_streams.proofs.SingleLemmas.{directory_unique}
+use Rattle.cfb_streams.proofs.Public.{directory_unique}
 use Rattle.doc_read.specs.CarriedParts.{AreWithinBounds, LeavesRoom}
 use Rattle.doc_read.specs.Opened.{IsReadOf}
-use Rattle.doc_read.proofs.ContentsBounds.{bounded}
-use Rattle.doc_read.proofs.FewLemmas.{leaves_room}
-use Rattle.doc_read.proofs.FormedBookmarks.{parts-formed}
+use Rattle.doc_read.proofs.Public.{bounded, leaves_room, parts-formed}
 use Rattle.doc_meaning.specs.Meaning.{MeansFrom}
 use Rattle.doc_meaning.specs.Apart.{IsReadTable}
-use Rattle.doc_meaning.proofs.ApartLemmas.{clx_table_len, apart_part}
-use Rattle.doc_meaning.proofs.FrontLemmas.{HasFront, whole_text, front_text}
-use Rattle.doc_meaning.proofs.LoadedLemmas.{loaded_is_meant}
+use Rattle.doc_meaning.proofs.Public.{clx_table_len, apart_part, HasFront, whole_text, front_text, loaded_is_meant}
+use Rattle.doc_meaning.proofs.Public.{story_same}
 use Rattle.doc_lift.specs.declared.text_lifting.LiftedText.{LiftedText}
 use Rattle.doc_lift.specs.LiftedRules.{lifted_wd, IsReadFor}
 use Rattle.doc_lift.specs.LiftedTexts.{IsLiftedBy}
@@ -46,10 +43,9 @@ use Rattle.fkp_pages.specs.Bin.{IsBinTable}
 use Rattle.piece_table.specs.Piece.{UnitPlace, flat_pieces}
 use Rattle.file_rules.specs.Source.{story_length}
 use Rattle.file_rules.specs.FormatRules.{judged_places, text_count}
-use Rattle.file_rules.proofs.RightPlaces.{bin_tables}
-use Rattle.doc_meaning.proofs.EarlyLemmas.{story_same}
+use Rattle.file_rules.proofs.Public.{bin_tables}
 use Rattle.doc_lift.proofs.SkipLemmas.{read_table_len, read_loaded_for, read_part}
-use Rattle.fib_versions.proofs.EarlyLemmas.{length-early_pairs}
+use Rattle.fib_versions.proofs.Public.{length-early_pairs}
 
 -- a FIB that is long enough for the rules is as long as the early form
 pub early_long : (wd : List ℕ) → Hold (version_rules wd) → form_size Early ≤ length wd

@@ -11,10 +11,10 @@ use Rattle.file_rules.specs.declared.fault.ReadFault.{ReadFault}
 use Rattle.file_rules.specs.Faults.{IsReadFault}
 use Rattle.file_rules.specs.PartRules.{part_rules}
 use Rattle.file_rules.specs.FileRules.{FileText, IsFrontOf, source_of, rules_of_pieces}
-use Rattle.file_rules.proofs.RefusalLemmas.{refused-next}
+use Rattle.file_rules.proofs.Public.{refused-next}
 use Rattle.doc_read.specs.CarriedParts.{AreWithinBounds, LeavesRoom}
 use Rattle.doc_meaning.specs.Apart.{IsReadTable}
-use Rattle.doc_meaning.proofs.FrontLemmas.{HasFront, whole_text, front_text, front_units}
+use Rattle.doc_meaning.proofs.Public.{HasFront, whole_text, front_text, front_units}
 use Rattle.doc_lift.specs.declared.text_lifting.LiftedText.{LiftedText}
 use Rattle.doc_lift.specs.LiftedRules.{IsLiftedSource, IsReadFor, IsSkippedText, SkipsStreams, lifted_wd}
 use Rattle.doc_lift.specs.LiftedRules.{read_table_rules}

@@ -2,27 +2,25 @@
 use Rattle.std.proofs.Common.{◌≡◌, ◌∙◌, refl, sym, ap, subst, inl, inr, ℕ, List, map, take, lit<, lit≤, arith}
 use Rattle.doc_bits.specs.declared.places.Where.TheVariants.{File, Wd}
 use Rattle.doc_bits.specs.Rules.{IsSingle, Ascends}
-use Rattle.doc_bits.proofs.RuleLemmas.{ascends_wider}
+use Rattle.doc_bits.proofs.Public.{ascends_wider}
 use Rattle.cfb_streams.specs.Contents.{Contents}
 use Rattle.cfb_streams.specs.Container.{chain_rules, entry_rules, outer_entry_rules, outer_rules, HasContents}
 use Rattle.cfb_streams.specs.Names.{wd_name}
-use Rattle.cfb_streams.proofs.SingleLemmas.{outer_single, container_ascends}
-use Rattle.cfb_streams.proofs.UniqueLemmas.{contents_unique}
+use Rattle.cfb_streams.proofs.Public.{outer_single, container_ascends, contents_unique}
 use Rattle.fib_form.specs.FibFields.{fib_fields, text_length}
 use Rattle.fib_versions.specs.Versions.{all_text_length}
 use Rattle.fib_versions.specs.VersionRules.{version_rules}
-use Rattle.fib_versions.proofs.VersionLemmas.{version_rules-IsSingle, version_rules-Ascends}
+use Rattle.fib_versions.proofs.Public.{version_rules-IsSingle, version_rules-Ascends}
 use Rattle.piece_table.specs.Piece.{UnitPlace, flat_pieces}
 use Rattle.file_rules.specs.Units.{unit_at}
 use Rattle.file_rules.specs.Source.{DocSource}
 use Rattle.file_rules.specs.FileRules.{FileText, IsFrontOf, source_of, clx_of, table_stream_name}
-use Rattle.file_rules.proofs.FileLemmas.{ascends_in, part_single, part_ascends, pieces_single, pieces_ascend}
-use Rattle.file_rules.proofs.NameLemmas.{named_one}
-use Rattle.file_rules.proofs.RefusalLemmas.{single_in}
+use Rattle.file_rules.proofs.Public.{ascends_in, part_single, part_ascends, pieces_single, pieces_ascend, named_one}
+use Rattle.file_rules.proofs.Public.{single_in}
 use Rattle.doc_lift.specs.LiftedRules.{IsSkippedText, IsReadFor, IsLiftedSource, lifted_wd, lifted_table_rules}
 use Rattle.doc_lift.specs.LiftedRules.{read_table_rules}
 use Rattle.fib_versions.specs.Early.{early_pairs}
-use Rattle.doc_meaning.proofs.ApartLemmas.{clx_table_one}
+use Rattle.doc_meaning.proofs.Public.{clx_table_one}
 use Rattle.doc_lift.specs.LiftedRules.{lifted_wd_rules}
 use Rattle.doc_lift.specs.LiftedFiles.{lifted_rules}
 use Rattle.doc_lift.specs.FilledTexts.{IsFilledText, IsFilledRead}

@@ -6,9 +6,8 @@ use Rattle.std.proofs.lemmas.List.{length-append, length-drop}
 use Rattle.doc_bits.specs.declared.places.Where.{Where}
 use Rattle.doc_bits.specs.Rules.{Rules, Hold, IsSingle}
 use Rattle.doc_bits.specs.Places.{Place, Upto}
-use Rattle.doc_bits.proofs.RuleLemmas.{hold_or_first}
-use Rattle.doc_bits.proofs.ListLemmas.{get-map, slice_get-take, length-range}
-use Rattle.prl_skips.proofs.RangeLemmas.{put_length}
+use Rattle.doc_bits.proofs.Public.{hold_or_first, get-map, slice_get-take, length-range}
+use Rattle.prl_skips.proofs.Public.{put_length}
 use Rattle.fib_form.specs.Fib.{form_size, fib_pair, table_part}
 use Rattle.fib_form.specs.FibFields.{FibFields, fib_fields, text_length}
 use Rattle.fib_form.specs.FibBytes.{written_fib}
@@ -16,15 +15,15 @@ use Rattle.fib_form.specs.TableParts.{pair_of}
 use Rattle.fib_form.specs.declared.form.Form.TheVariants.{Early}
 use Rattle.fib_form.specs.declared.table_parts.TablePart.{TablePart}
 use Rattle.fib_form.specs.declared.table_parts.TablePart.TheVariants.{PlcfBteChpx, PlcfBtePapx, Clx}
-use Rattle.fib_form.proofs.WriteLemmas.{length-written_fib, drop_front}
+use Rattle.fib_form.proofs.Public.{length-written_fib, drop_front}
 use Rattle.fib_versions.specs.Early.{early_pairs, early_fields}
 use Rattle.fib_versions.specs.Versions.{all_text_length}
 use Rattle.piece_table.specs.Piece.{TextPiece, UnitPlace, flat_pieces}
 use Rattle.piece_table.specs.Clx.{IsClx}
-use Rattle.piece_table.proofs.UniqueLemmas.{clx_pieces_one}
+use Rattle.piece_table.proofs.Public.{clx_pieces_one}
 use Rattle.page_copies.specs.Pages.{BinTables, SkipsPages}
-use Rattle.page_copies.proofs.OneLemmas.{pages_one}
-use Rattle.part_skips.proofs.OneLemmas.{puts_sheet_one}
+use Rattle.page_copies.proofs.Public.{pages_one}
+use Rattle.part_skips.proofs.Public.{puts_sheet_one}
 use Rattle.file_rules.specs.declared.fault.ReadFault.{ReadFault}
 use Rattle.file_rules.specs.declared.fault.ReadFault.TheVariants.{Refused}
 use Rattle.file_rules.specs.Faults.{IsReadFault}
@@ -35,11 +34,10 @@ use Rattle.file_rules.specs.FileRules.{FileText, IsFrontOf, source_of, clx_of, r
 use Rattle.doc_meaning.specs.Skipped.{SkipsTable, KeepsSepxs, bins_of, sections_of, sheet_from, sheet_to}
 use Rattle.doc_meaning.specs.Lifted.{IsOther, KeepsPlaces, KeepsUnits}
 use Rattle.doc_meaning.specs.Loaded.{KeepsTable, IsLoadedFor}
-use Rattle.doc_meaning.proofs.EarlyLemmas.{pair_same}
-use Rattle.doc_meaning.proofs.LoadedLemmas.{table_part_kept}
-use Rattle.doc_meaning.proofs.FrontLemmas.{HasFront, whole_text, front_get, front_loaded, front_units}
+use Rattle.doc_meaning.proofs.Public.{pair_same, table_part_kept, HasFront, whole_text, front_get, front_loaded}
+use Rattle.doc_meaning.proofs.Public.{front_units}
 use Rattle.doc_lift.specs.LiftedRules.{lifted_wd, SkipsStreams, IsSkippedText, IsReadFor}
-use Rattle.fib_versions.proofs.EarlyLemmas.{length-early_pairs}
+use Rattle.fib_versions.proofs.Public.{length-early_pairs}
 
 -- ---- one way to skip
 

@@ -10,21 +10,20 @@ use Rattle.fib_form.specs.FibBytes.{written_fib}
 use Rattle.fib_form.specs.TableParts.{pair_of}
 use Rattle.fib_form.specs.declared.form.Form.TheVariants.{Early}
 use Rattle.fib_form.specs.declared.table_parts.TablePart.{TablePart}
-use Rattle.fib_form.proofs.WriteLemmas.{length-written_fib}
+use Rattle.fib_form.proofs.Public.{length-written_fib}
 use Rattle.fib_versions.specs.Early.{early_pairs, early_fields}
 use Rattle.fkp_pages.specs.declared.kind.PageKind.{PageKind}
 use Rattle.fkp_pages.specs.declared.kind.PageKind.TheVariants.{Chpx, Papx}
 use Rattle.fkp_gaps.specs.Gaps.{ArePagesWithin}
 use Rattle.fkp_gaps.specs.Filled.{IsFilledBin, next_page, with_empty_run}
-use Rattle.fkp_gaps.proofs.FilledLemmas.{filled_bin_is_one}
-use Rattle.fkp_gaps.proofs.PageLemmas.{length-with_empty_run}
+use Rattle.fkp_gaps.proofs.Public.{filled_bin_is_one, length-with_empty_run}
 use Rattle.page_copies.specs.Pages.{BinTables, bin_of}
 use Rattle.plain_doc.specs.declared.document.Document.{Document}
 use Rattle.cfb_streams.specs.Contents.{Contents}
 use Rattle.file_rules.specs.FileRules.{FileText}
 use Rattle.doc_meaning.specs.Skipped.{bins_of}
 use Rattle.doc_meaning.specs.Filled.{CanFill, FillsStreams, filled_pairs}
-use Rattle.doc_meaning.proofs.EarlyLemmas.{pair_same}
+use Rattle.doc_meaning.proofs.Public.{pair_same}
 use Rattle.doc_lift.specs.declared.gap_filling.FilledStreams.{FilledStreams}
 use Rattle.doc_lift.specs.FilledTexts.{AreFilledStreams, IsFrontWith, IsFilledOf}
 use Rattle.doc_lift.specs.Filling.{HasFilled}

@@ -1,4 +1,4 @@
-// The table stream of a file in which the codes in the Prcs that are not read are skipped, where the Clx stands apart
+// The table stream of a file in which the codes in the Prcs that are not read are skipped, where the Clx is apart
 // from the other parts and from the levels of lists.
 ghost use Rattle.std.specs.Prelude.{◌≡◌, ◌≢◌, ◌↔◌, ◌+◌, ◌<◌, ◌≤◌, ◌^◌, IsTrue, IfOk, length};
 ghost use Rattle.fib_form.specs.Fib.{kept_pairs};
@@ -17,7 +17,7 @@ const CLX: usize = 33;
 
 const PLF_LST: usize = 73;
 
-/// A copy of the table stream with skipped Prcs, where the Clx stands apart.
+/// A copy of the table stream with skipped Prcs, where the Clx is apart.
 pub(crate) fn clx_skipped(alloc: Global, early: &Fib, table: &[u8]) -> Result<Vec<u8>, Memory>
     requires { length table.now < 2 ^ 32 }
     ensures { IfOk result (λ copy. ReadsClx early.now.pairs table.now copy.items) }
@@ -27,7 +27,7 @@ pub(crate) fn clx_skipped(alloc: Global, early: &Fib, table: &[u8]) -> Result<Ve
     Ok(copy)
 }
 
-/// Skips the Prcs of the table stream, where the Clx stands apart.
+/// Skips the Prcs of the table stream, where the Clx is apart.
 fn skip_clx(early: &Fib, table: &mut [u8])
     requires { length table.old < 2 ^ 32 }
     ensures { ReadsClx early.now.pairs table.old table.new }
@@ -53,7 +53,7 @@ fn clx_end(early: &Fib) -> usize
     from as usize + len as usize
 }
 
-/// Whether the Clx is in the table stream, and each other part and the levels stand apart from it.
+/// Whether the Clx is in the table stream, and each other part and the levels are apart from it.
 fn is_clx_apart(early: &Fib, table: &[u8]) -> bool
     requires { length table.now < 2 ^ 32 }
     ensures { IsTrue result ↔ IsClxApart early.now.pairs table.now }
@@ -75,7 +75,7 @@ fn is_clx_apart(early: &Fib, table: &[u8]) -> bool
     true
 }
 
-/// Whether the part of pair `n` stands apart from a range, if it is not the Clx.
+/// Whether the part of pair `n` is apart from a range, if it is not the Clx.
 fn is_apart(early: &Fib, from: usize, to: usize, n: usize) -> bool
     requires { n < kept_pairs }
     ensures { IsTrue result ↔ IsApart from to early.now.pairs n }
@@ -86,7 +86,7 @@ fn is_apart(early: &Fib, from: usize, to: usize, n: usize) -> bool
     stands_apart(from, to, early.pair(n))
 }
 
-/// Whether a part has no bytes, or stands before a range or behind it.
+/// Whether a part has no bytes, or is before a range or behind it.
 fn stands_apart(from: usize, to: usize, pair: (u32, u32)) -> bool
     ensures { IsTrue result ↔ StandsApart from to pair }
 {

@@ -39,7 +39,7 @@ const RULE_PAPX_LIST: u8 = 47;
 const PLF_LST: usize = 73;
 
 /// The bytes of the longest table stream.
-const MOST_TABLE: usize = 7_143_936;
+const MAX_TABLE: usize = 7_143_936;
 
 /// `WordDocument` and the table stream with the gaps filled, and the pairs of their FIB.
 #[derive(Drop)]
@@ -81,7 +81,7 @@ pub(crate) fn filled_streams(
     let chars = filled_bin(alloc, PageKind::Chpx, wd, characters, number)?;
     let pars = filled_bin(alloc, PageKind::Papx, wd, paragraphs, number)?;
     let all = joined_table(alloc, table, chars.as_slice(), pars.as_slice())?;
-    if MOST_TABLE < all.len() {
+    if MAX_TABLE < all.len() {
         return Ok(None);
     }
     let pairs = pairs_behind(fib, table, chars.as_slice(), pars.as_slice());
@@ -135,7 +135,7 @@ fn filled_wd(alloc: Global, fib: &AnyFib<'_>, wd: &[u8], pairs: &Pairs) -> Resul
     Ok(front)
 }
 
-/// Whether the gaps of streams can be filled: each page that a bin table names is in the stream, and what stands behind
+/// Whether the gaps of streams can be filled: each page that a bin table names is in the stream, and what is behind
 /// the table stream becomes a part of no part.
 fn can_fill(fib: &AnyFib<'_>, wd: &[u8], table: &[u8]) -> bool
     requires { AreReadStreams fib.now wd.now table.now }

@@ -16,7 +16,7 @@ use fib_versions::AnyFib;
 use file_rules::{RULE_TABLE, RULE_WORD_DOCUMENT, ReadFault, refused_container};
 use std::alloc::Global;
 
-/// Where the flags of the FIB stand, which name the table stream.
+/// Where the flags of the FIB are, which name the table stream.
 const FLAGS: u32 = 10;
 
 /// What is lifted out of a file: its document, its streams with the names of its storages, the units of all CPs of its
@@ -30,7 +30,7 @@ pub struct Lifted {
     pub deleted: Vec<bool>,
 }
 
-/// Lifts the document of a file. The rules on documents, 60 to 71, are not judged.
+/// Lifts the document of a file. The rules on documents, 60 to 71, are not checked.
 pub fn lift(alloc: Global, file: &[u8]) -> Result<Lifted, ReadFault>
     ensures { MatchResult result (IsLifted file.now) (IsReadFault (lifted_rules file.now)) }
 {

@@ -1,5 +1,5 @@
 // The streams of a file in which the codes that are not read are skipped, each at its own place: in the pages that the
-// bin tables name, and in a style sheet that stands first in the table stream.
+// bin tables name, and in a style sheet that is first in the table stream.
 ghost use Rattle.std.specs.Prelude.{◌≡◌, ◌↔◌, ◌+◌, ◌<◌, ◌≤◌, ◌^◌, IsTrue, IfOk, length, slice_range, drop};
 ghost use Rattle.std.specs.Prelude.{◌++◌};
 ghost use Rattle.doc_bits.specs.Rules.{Hold};
@@ -40,7 +40,7 @@ pub(crate) struct SkippedStreams {
     pub(crate) table: Vec<u8>,
 }
 
-/// The FIB of the early form that stands for a FIB.
+/// The FIB of the early form that represents a FIB.
 pub(crate) fn early_fib(fib: &AnyFib<'_>) -> Fib
     requires { length fib.now < 2 ^ 32 }
     ensures { result ≡ early_fields fib.now (early_pairs fib.now) }
@@ -129,7 +129,7 @@ fn stands_behind(early: &Fib, place: usize, n: usize) -> bool
     stands_from(place, early.pair(n))
 }
 
-/// Whether the style sheet is in the table stream, and each other part stands behind it.
+/// Whether the style sheet is in the table stream, and each other part is behind it.
 fn is_sheet_first(early: &Fib, table_len: usize) -> bool
     ensures { IsTrue result ↔ IsSheetFirst early.now.pairs table_len }
 {
@@ -160,7 +160,7 @@ fn sheet_end(early: &Fib) -> usize
     from as usize + len as usize
 }
 
-/// Skips the style sheet of the table stream, where that stands first.
+/// Skips the style sheet of the table stream, where that is first.
 fn skip_first(early: &Fib, table: &mut [u8])
     requires { length table.old < 2 ^ 32 }
     ensures { SkipsTable early.now.pairs table.old table.new }
@@ -171,7 +171,7 @@ fn skip_first(early: &Fib, table: &mut [u8])
     skip_sheet_in(table, sheet_start(early), sheet_end(early));
 }
 
-/// A copy of the table stream with a skipped style sheet, where that stands first.
+/// A copy of the table stream with a skipped style sheet, where that is first.
 fn skipped_table(alloc: Global, early: &Fib, table: &[u8]) -> Result<Vec<u8>, Memory>
     requires { length table.now < 2 ^ 32 }
     ensures { IfOk result (λ copy. SkipsTable early.now.pairs table.now copy.items) }

@@ -1,7 +1,7 @@
 // The document of the streams of a text. A copy of WordDocument gets a FIB of the early form, and the reader of
 // doc_read reads the front of the text by it. The codes that are not read are skipped in copies of the streams: those
-// of Prcs where the Clx stands apart, and then those of pages and styles where no unit of the text and no Sepx changes
-// by it; all other streams are read as they stand.
+// of Prcs where the Clx is apart, and then those of pages and styles where no unit of the text and no Sepx changes
+// by it; all other streams are read as they are.
 ghost use Rattle.std.specs.Prelude.{◌≡◌, ◌↔◌, ◌<◌, ◌^◌, IsTrue, length, IfOk, MatchOption, MatchResult};
 ghost use Rattle.doc_bits.specs.Rules.{Hold};
 ghost use Rattle.cfb_streams.specs.Contents.{HasNamed};

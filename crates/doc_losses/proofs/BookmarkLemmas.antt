@@ -5,7 +5,7 @@ use Rattle.std.proofs.lemmas.List.Elements.{filter-append}
 use Rattle.std.specs.Prelude.{not}
 use Rattle.doc_parts.specs.declared.bookmark_order.Bookmark.{Bookmark}
 use Rattle.doc_parts.specs.Tabulated.{tabulate}
-use Rattle.doc_parts.proofs.BookmarkPartLemmas.{tabulate-next}
+use Rattle.doc_parts.proofs.Public.{tabulate-next}
 use Rattle.text_losses.specs.declared.features.TextFeature.{TextFeature}
 use Rattle.doc_losses.specs.Bookmarks.{bookmark_feature}
 use Rattle.doc_losses.specs.Losses.{is_kept, left_out}

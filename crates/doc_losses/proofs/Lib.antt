@@ -1,8 +1,9 @@
-pub mod CpLemmas
-pub mod NumberLemmas
-pub mod ListingLemmas
-pub mod ReferenceLemmas
-pub mod BookmarkLemmas
-pub mod LossLemmas
-pub mod NothingLemmas
-pub mod NoneLemmas
+pub mod Public
+mod CpLemmas
+mod NumberLemmas
+mod ListingLemmas
+mod ReferenceLemmas
+mod BookmarkLemmas
+mod LossLemmas
+mod NothingLemmas
+mod NoneLemmas

@@ -1,14 +1,14 @@
 -- Lists by their places, of which some are listed or joined.
 use Rattle.std.proofs.Common.{◌≡◌, ◌∙◌, ap, sym, refl, ℕ, zero, suc, ◌+◌, ◌<◌, ◌≤◌, ◌⊎◌, inl, inr, add-one}
-use Rattle.std.proofs.Common.{List, [], ◌∷◌, ◌++◌, length, arith, Option, Some, None, slice_get}
+use Rattle.std.proofs.Common.{List, [], ◌∷◌, ◌++◌, arith, Option, Some, None, slice_get}
 use Rattle.std.specs.List.{filter_map, flat_map}
 use Rattle.std.proofs.lemmas.Bool.{cases_lt}
-use Rattle.std.proofs.lemmas.List.{append-nil, length-append}
+use Rattle.std.proofs.lemmas.List.{append-nil}
 use Rattle.std.proofs.lemmas.List.Elements.{filter_map-append}
 use Rattle.std.proofs.lemmas.Grind.{flat_map-append}
-use Rattle.doc_bits.proofs.ListLemmas.{slice_get_push, slice_get_before}
+use Rattle.doc_bits.proofs.Public.{slice_get_push, slice_get_before}
 use Rattle.doc_parts.specs.Tabulated.{tabulate}
-use Rattle.doc_parts.proofs.BookmarkPartLemmas.{tabulate-next}
+use Rattle.doc_parts.proofs.Public.{tabulate-next}
 
 -- ---- one more
 
@@ -24,11 +24,6 @@ joined_more {A = A} f n =
     ap (flat_map (λ (l : List A). l)) (tabulate-next f n)
     ∙ (flat_map-append (λ (l : List A). l) (tabulate f n) (f n ∷ [])
     ∙ ap (λ (l : List A). flat_map (λ (m : List A). m) (tabulate f n) ++ l) (append-nil (f n)))
-
-pub length-tabulate : {A : Type 0} (f : ℕ → A) (n : ℕ) → length (tabulate f n) ≡ n
-unfolding tabulate
-length-tabulate f zero = refl
-length-tabulate f (suc n) = length-append (tabulate f n) (f n ∷ []) ∙ (ap (λ k. k + 1) (length-tabulate f n) ∙ add-one n)
 
 -- ---- nothing is listed
 

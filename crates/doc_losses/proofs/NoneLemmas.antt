@@ -11,7 +11,7 @@ use Rattle.doc_bits.specs.Plc.{plc_cp}
 use Rattle.doc_bits.specs.Rules.{Hold}
 use Rattle.doc_bits.specs.declared.places.Story.{Story}
 use Rattle.doc_bits.specs.declared.places.Story.TheVariants.{Main, Head}
-use Rattle.doc_bits.proofs.ListLemmas.{All_at}
+use Rattle.doc_bits.proofs.Public.{All_at}
 use Rattle.fib_form.specs.Fib.{fib_pair, pair_place, table_part}
 use Rattle.fib_form.specs.FibRules.{fib_rules}
 use Rattle.fib_versions.specs.declared.further.Further.{Further}

@@ -6,9 +6,7 @@ use Rattle.std.proofs.lemmas.List.{append-nil}
 use Rattle.std.proofs.lemmas.List.Elements.{filter-append, filter_map-append}
 use Rattle.std.proofs.lemmas.Grind.{flat_map-append}
 use Rattle.doc_parts.specs.Tabulated.{tabulate}
-
-one_not_kept : (p : ℕ → Bool) (n : ℕ) → p n ≡ false → filter p (n ∷ []) ≡ []
-one_not_kept p n is = rw is refl
+use Rattle.doc_bits.proofs.Public.{one_not_kept}
 
 pub none_kept : (p : ℕ → Bool) (n : ℕ) → ((k : ℕ) → p k ≡ false) → filter p (tabulate (λ k. k) n) ≡ []
 unfolding tabulate

@@ -5,7 +5,7 @@ use Rattle.std.specs.Prelude.{slice_index}
 use Rattle.std.specs.List.{count_by}
 use Rattle.std.proofs.lemmas.List.Sums.{sum_by-append}
 use Rattle.doc_bits.specs.Number.{number_at, u16_at, u32_at}
-use Rattle.doc_bits.proofs.NumberLemmas.{number_at-first}
+use Rattle.doc_bits.proofs.Public.{number_at-first}
 use Rattle.style_sheet.specs.Counted.{even_up}
 use Rattle.style_sheet.specs.Stsh.{slot_place}
 

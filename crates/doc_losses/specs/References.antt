@@ -1,4 +1,4 @@
--- [MS-DOC] PlcfandRef, PlcfendRef, PlcfSpa: CPs at which the marks of comments, of endnotes and of shapes stand. A mark
+-- [MS-DOC] PlcfandRef, PlcfendRef, PlcfSpa: CPs at which the marks of comments, of endnotes and of shapes are. A mark
 -- is the character of its story at such a CP, with nothing beside it. What it refers to is left out.
 use Rattle.std.specs.Prelude.{ℕ, ◌+◌, ◌==◌, Bool, false, List, [], ◌++◌, length, map, take, Option, Some, None, slice_get}
 use Rattle.std.specs.Prelude.{option_map, if◌then◌else◌}
@@ -18,7 +18,7 @@ use Rattle.plain_doc.specs.declared.document.Document.{Document}
 use Rattle.doc_columns.specs.Attached.{attached_of, has_something}
 use Rattle.text_losses.specs.declared.features.Reference.{Reference}
 
--- ---- where marks are said to stand
+-- ---- where marks are said to be
 
 -- the pair of the table of the marks of a story
 abbrev pub mark_pair : Further → ℕ
@@ -50,7 +50,7 @@ abbrev pub mark_cps : List ℕ → List ℕ → Further → List ℕ
 mark_cps wd table story =
     if has_no_marks wd story then [] else table_cps (mark_size story) (table_part wd table (mark_pair story))
 
--- whether a mark of a story is said to stand at a CP of the main text, or of the header texts
+-- whether a mark of a story is said to be at a CP of the main text, or of the header texts
 abbrev pub Names : Type 0
 Names = Further → ℕ → Bool
 

@@ -11,7 +11,7 @@ use Rattle.text_losses.specs.declared.features.TextFeature.TheVariants as has
 abbrev pub style_count : List ℕ → ℕ
 style_count part = count_by (nat_lt 0) (tabulate (λ istd. u16_at part (slot_place part istd)) (cstd part))
 
--- [MS-DOC] StshiLsd and what follows it, StdfPost2000 of each style, and what stands behind the last slot. The Stshif
+-- [MS-DOC] StshiLsd and what follows it, StdfPost2000 of each style, and what is behind the last slot. The Stshif
 -- has 18 bytes, and the Stdf that is read has 10
 abbrev pub sheet_beyond : List ℕ → ℕ
 sheet_beyond part =

@@ -44,7 +44,7 @@ pub(crate) fn add_bookmarks(
     Ok(())
 }
 
-/// Appends a bookmark, where it does not fit. Its name stands at a place.
+/// Appends a bookmark, where it does not fit. Its name is at a place.
 fn add_bookmark(
     alloc: Global,
     parts: BookmarkBytes<'_>,

@@ -1,4 +1,4 @@
-// The CPs at which the marks of further stories are said to stand, and whether an item is such a mark.
+// The CPs at which the marks of further stories are said to be, and whether an item is such a mark.
 ghost use Rattle.std.specs.Prelude.{◌≡◌, ◌==◌, ◌≤◌, if◌then◌else◌, Some, None, IfOk};
 ghost use Rattle.std.specs.List.{list_any};
 ghost use Rattle.std.specs.List.Sorted.{IsPermutation};
@@ -87,7 +87,7 @@ impl Marks {
         })
     }
 
-    /// Whether a mark of the story is said to stand at a CP.
+    /// Whether a mark of the story is said to be at a CP.
     fn names(&self, story: Further, cp: usize) -> bool
         ensures { result ≡ named_by self.now story cp }
     {
@@ -99,7 +99,7 @@ impl Marks {
         }
     }
 
-    /// The story whose mark a character at a CP of the main text or of the header texts is, with what stands beside it.
+    /// The story whose mark a character at a CP of the main text or of the header texts is, with what is beside it.
     pub(crate) fn mark_of(
         &self,
         story: Story,
@@ -119,7 +119,7 @@ impl Marks {
         }
     }
 
-    /// The story, where a mark of it is said to stand at the CP.
+    /// The story, where a mark of it is said to be at the CP.
     fn where_named(&self, to: Further, cp: usize) -> Option<Further>
         ensures { result ≡ where_named (named_by self.now) cp (Some to) }
     {

@@ -1,8 +1,7 @@
 -- A page of a document is read back.
 use Rattle.doc_places.specs.Places.{places_of}
 use Rattle.markdown_page.specs.Pages.{page_text}
-use Rattle.markdown_page.proofs.AllowedLemmas.{links_allowed}
-use Rattle.markdown_page.proofs.RightLemmas.{page_read}
+use Rattle.markdown_page.proofs.Public.{links_allowed, page_read}
 use Rattle.doc_markdown.specs.Laws.{IsReadBack, MarkdownPagesAreReadBack}
 
 pub pages_read : MarkdownPagesAreReadBack

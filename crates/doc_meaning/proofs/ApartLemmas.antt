@@ -1,26 +1,24 @@
--- A table stream in which the Prcs of a Clx are skipped that stands apart has the other parts, and the levels, as they
+-- A table stream in which the Prcs of a Clx are skipped that is apart has the other parts, and the levels, as they
 -- were, and the same pieces.
 use Rattle.std.specs.Prelude.{slice_range, slice_index}
 use Rattle.std.proofs.Common.{◌≡◌, ◌≢◌, ◌⊎◌, ◌∙◌, ◌+◌, ◌-◌, ◌*◌, ◌≤◌, ◌<◌, refl, sym, ap, subst, inl, inr, ℕ, zero, suc}
 use Rattle.std.proofs.Common.{List, ◌++◌, length, take, drop, arith}
 use Rattle.std.proofs.lemmas.List.{append_assoc, length-append, length-take-le, take-take, drop-take, get_or-take}
 use Rattle.doc_bits.specs.Number.{number_at, u16_at}
-use Rattle.doc_bits.proofs.NumberLemmas.{number_at-take}
-use Rattle.doc_bits.proofs.ListLemmas.{length-range, range_mid}
+use Rattle.doc_bits.proofs.Public.{number_at-take, length-range, range_mid}
 use Rattle.fib_form.specs.Fib.{fib_pair, table_part}
 use Rattle.fib_form.specs.FibFields.{pair_at}
 use Rattle.fib_form.specs.TableParts.{pair_of}
 use Rattle.fib_form.specs.declared.table_parts.TablePart.{TablePart}
 use Rattle.fib_form.specs.declared.table_parts.TablePart.TheVariants.{Stshf, Clx, PlfLst, PlcfBteChpx, PlcfBtePapx}
-use Rattle.fib_form.proofs.WriteLemmas.{take_front, drop_front}
+use Rattle.fib_form.proofs.Public.{take_front, drop_front}
 use Rattle.fib_versions.specs.Early.{early_pairs}
 use Rattle.piece_table.specs.Piece.{TextPiece}
 use Rattle.piece_table.specs.Clx.{IsClx}
-use Rattle.prl_skips.proofs.RangeLemmas.{put_length}
-use Rattle.part_skips.proofs.PrcLemmas.{clx_skips}
-use Rattle.part_skips.proofs.OneLemmas.{puts_prcs_one}
+use Rattle.prl_skips.proofs.Public.{put_length}
+use Rattle.part_skips.proofs.Public.{clx_skips, puts_prcs_one}
 use Rattle.doc_parts.specs.Levels.{level_end, level_start, level_count, list_part, HaveLength}
-use Rattle.doc_parts.proofs.LevelLemmas.{level_start-up, level_start-zero}
+use Rattle.doc_parts.proofs.Public.{level_start-up, level_start-zero}
 use Rattle.fib_form.specs.declared.stories.StoryKind.{StoryKind}
 use Rattle.fib_form.specs.declared.stories.StoryKind.TheVariants.{Main, Notes, Heads}
 use Rattle.fkp_pages.specs.declared.kind.PageKind.{PageKind}
@@ -146,7 +144,7 @@ range_apart old new from to pair before behind (inr (inl low)) =
 range_apart old new from to pair before behind (inr (inr high)) =
     range_behind old new to pair.0 (pair.0 + pair.1) behind high
 
--- where a part stands
+-- where a part is
 part_apart : (wd old new : List ℕ) (part : TablePart) → SkipsClx (early_pairs wd) old new →
     pair_of part ≢ pair_of Clx →
     StandsApart (clx_from (early_pairs wd)) (clx_to (early_pairs wd)) (fib_pair wd (pair_of part))

@@ -3,7 +3,7 @@ use Rattle.std.specs.Prelude.{slice_range, slice_index}
 use Rattle.std.proofs.Common.{◌≡◌, ◌∙◌, ◌+◌, ◌-◌, ◌<◌, ◌≤◌, sym, ap, ℕ, List, take, drop, length, arith}
 use Rattle.std.proofs.lemmas.List.{drop-drop, get_or-drop, length-drop}
 use Rattle.doc_bits.specs.Number.{number_at}
-use Rattle.doc_bits.proofs.NumberLemmas.{number_at-drop}
+use Rattle.doc_bits.proofs.Public.{number_at-drop}
 
 rest_at : (xs : List ℕ) (k from : ℕ) → k ≤ from → drop from xs ≡ drop (from - k) (drop k xs)
 rest_at xs k from low =

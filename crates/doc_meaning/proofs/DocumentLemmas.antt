@@ -16,9 +16,7 @@ use Rattle.doc_read.specs.CarriedParts.{HoldsCarried}
 use Rattle.doc_read.specs.Items.{HoldsItems, HoldsTexts}
 use Rattle.doc_read.specs.Texts.{AreCutsWithin}
 use Rattle.doc_read.specs.Holds.{IsDocumentFrom, head_texts}
-use Rattle.doc_read.proofs.DocumentLemmas.{notes_within, heads_within}
-use Rattle.doc_read.proofs.ExistItems.{parts_of}
-use Rattle.doc_read.proofs.GivenPlaces.{RightText}
+use Rattle.doc_read.proofs.Public.{notes_within, heads_within, parts_of, RightText}
 use Rattle.doc_meaning.specs.Lifted.{ReadsTheSame}
 use Rattle.doc_meaning.specs.Items.{MeansItems, MeansTexts}
 use Rattle.doc_meaning.specs.Meaning.{IsMeantFrom, MeansFrom}

@@ -12,12 +12,11 @@ use Rattle.fib_form.specs.FibFields.{FibFields, fib_fields, pair_at}
 use Rattle.fib_form.specs.FibBytes.{written_fib}
 use Rattle.fib_form.specs.Stories.{story_ccp}
 use Rattle.fib_form.specs.TableParts.{pair_of}
-use Rattle.fib_form.proofs.PairLemmas.{pair_at-fib_pairs}
-use Rattle.fib_form.proofs.WriteLemmas.{length-written_fib, drop_front}
+use Rattle.fib_form.proofs.Public.{pair_at-fib_pairs, length-written_fib, drop_front}
 use Rattle.fib_versions.specs.Early.{early_pair, early_pairs, early_fields, early_wd}
 use Rattle.file_rules.specs.Source.{DocSource, story_length}
-use Rattle.file_rules.proofs.StoryLemmas.{story_count}
-use Rattle.fib_versions.proofs.EarlyLemmas.{length-early_pairs, pair_at-early_pairs}
+use Rattle.file_rules.proofs.Public.{story_count}
+use Rattle.fib_versions.proofs.Public.{length-early_pairs, pair_at-early_pairs}
 
 pub early_behind : (wd : List ℕ) → drop (form_size Early) (early_wd wd (early_pairs wd)) ≡ drop (form_size Early) wd
 early_behind wd =

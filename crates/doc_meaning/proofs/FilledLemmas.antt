@@ -8,9 +8,7 @@ use Rattle.std.proofs.lemmas.List.{get_or-set_same, drop_all}
 use Rattle.doc_bits.specs.Number.{u16_at}
 use Rattle.doc_bits.specs.Rules.{Hold, Ascends}
 use Rattle.doc_bits.specs.Places.{Place, Upto}
-use Rattle.doc_bits.proofs.RuleLemmas.{first_breaks, breaks_within}
-use Rattle.doc_bits.proofs.ListLemmas.{range_mid}
-use Rattle.doc_bits.proofs.NumberLemmas.{number_at-before}
+use Rattle.doc_bits.proofs.Public.{first_breaks, breaks_within, range_mid, number_at-before}
 use Rattle.fib_form.specs.Fib.{form_size, kept_pairs, fib_pair, table_part}
 use Rattle.fib_form.specs.FibFields.{FibFields, fib_fields, pair_at}
 use Rattle.fib_form.specs.FibBytes.{written_fib}
@@ -21,18 +19,16 @@ use Rattle.fib_form.specs.declared.stories.StoryKind.{StoryKind}
 use Rattle.fib_form.specs.declared.stories.StoryKind.TheVariants.{Main}
 use Rattle.fib_form.specs.declared.table_parts.TablePart.{TablePart}
 use Rattle.fib_form.specs.declared.table_parts.TablePart.TheVariants.{Stshf, PlcfSed, PlcfBteChpx, PlcfBtePapx, PlfLst}
-use Rattle.fib_form.proofs.PairLemmas.{pair_at-fib_pairs}
-use Rattle.fib_form.proofs.WriteLemmas.{length-written_fib, drop_front, take_front}
+use Rattle.fib_form.proofs.Public.{pair_at-fib_pairs, length-written_fib, drop_front, take_front}
 use Rattle.fib_versions.specs.Early.{early_pairs, early_fields}
-use Rattle.fib_versions.proofs.EarlyLemmas.{length-early_pairs}
+use Rattle.fib_versions.proofs.Public.{length-early_pairs}
 use Rattle.fkp_pages.specs.declared.kind.PageKind.{PageKind}
 use Rattle.fkp_pages.specs.declared.kind.PageKind.TheVariants.{Chpx, Papx}
 use Rattle.fkp_pages.specs.Fkp.{HasRunAnswer}
 use Rattle.fkp_pages.specs.Bin.{IsBinTable, IsBinPage, page_at}
 use Rattle.fkp_pages.specs.Properties.{IsListAnswered, HasListAt}
 use Rattle.fkp_gaps.specs.Filled.{next_page, with_empty_run}
-use Rattle.fkp_gaps.proofs.FilledLemmas.{named_within, filled_places_have_lists}
-use Rattle.fkp_gaps.proofs.PageLemmas.{stream_range, stream_number}
+use Rattle.fkp_gaps.proofs.Public.{named_within, filled_places_have_lists, stream_range, stream_number}
 use Rattle.page_copies.specs.Pages.{BinTables, bin_of}
 use Rattle.style_sheet.specs.Sheet.{Sheet}
 use Rattle.style_sheet.specs.Stsh.{HasStyleSheet}
@@ -44,9 +40,8 @@ use Rattle.file_rules.specs.SectionRules.{HasSections, section_fc, sepx_list}
 use Rattle.file_rules.specs.ListRules.{HasLevels}
 use Rattle.file_rules.specs.PartRules.{layout_rules, part_rules}
 use Rattle.file_rules.specs.FileRules.{FileText, source_of}
-use Rattle.file_rules.proofs.RightPlaces.{bin_tables}
-use Rattle.file_rules.proofs.StoryLemmas.{story_count}
-use Rattle.doc_read.proofs.SettingsLemmas.{sepx-there}
+use Rattle.file_rules.proofs.Public.{bin_tables, story_count}
+use Rattle.doc_read.proofs.Public.{sepx-there}
 use Rattle.doc_meaning.specs.Skipped.{bins_of}
 use Rattle.doc_meaning.specs.Lifted.{IsListFor, KeepsLists, KeepsSections, ReadsTheSame, IsPlainPart}
 use Rattle.doc_meaning.specs.Loaded.{IsLoadedFor}
@@ -172,7 +167,7 @@ range_within old new pair same (inl none) =
 range_within old new pair same (inr within) =
     range_before old new (length old) pair.0 (pair.0 + pair.1) same (omega (arith, within)) within
 
--- where a part of the loaded text stands
+-- where a part of the loaded text is
 part_within : (old loaded new : FileText) (part : TablePart) → IsPair old loaded new →
     IsPartWithin (length loaded.table) (fib_pair old.wd (pair_of part))
 part_within old loaded new part is =
@@ -359,7 +354,7 @@ filled_sheet old loaded new sheet is has =
     (subst (λ b. HasStyleSheet b sheet)
     (bytes_kept old loaded new Stshf is (λ e. absurd (omega (arith, e))) (λ e. absurd (omega (arith, e)))) has)
 
--- both streams end before a place, so nothing stands behind it
+-- both streams end before a place, so nothing is behind it
 none_behind : (xs ys : List ℕ) (place : ℕ) → length xs ≤ place → length ys ≤ place → drop place xs ≡ drop place ys
 none_behind xs ys place a b = drop_all place xs a ∙ sym (drop_all place ys b)
 

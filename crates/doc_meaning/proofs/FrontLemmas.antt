@@ -8,7 +8,7 @@ use Rattle.std.proofs.lemmas.List.{length-take, take-append-drop}
 use Rattle.std.proofs.lemmas.List.Elements.{All-head, All-tail, All-weaker}
 use Rattle.doc_bits.specs.Number.{u16_at}
 use Rattle.doc_bits.specs.Rules.{Hold}
-use Rattle.doc_bits.proofs.ListLemmas.{slice_get-take, slice_get_before}
+use Rattle.doc_bits.proofs.Public.{slice_get-take, slice_get_before}
 use Rattle.cfb_streams.specs.Contents.{Contents}
 use Rattle.fib_form.specs.Fib.{fib_size, form_size}
 use Rattle.fib_form.specs.FibFields.{FibFields, fib_fields, text_length}
@@ -22,7 +22,7 @@ use Rattle.piece_table.specs.ClxRules.{text_bounds}
 use Rattle.file_rules.specs.Units.{unit_at, text_units}
 use Rattle.file_rules.specs.FormatRules.{text_count}
 use Rattle.file_rules.specs.FileRules.{FileText, HasText, IsFrontOf, source_of, clx_of, rules_of_pieces}
-use Rattle.file_rules.proofs.StandLemmas.{StandsBy, place_stands, places_stand}
+use Rattle.file_rules.proofs.Public.{StandsBy, place_stands, places_stand}
 use Rattle.doc_meaning.specs.Skipped.{sections_of, fc_sepx, KeepsSepx}
 use Rattle.doc_meaning.specs.Loaded.{IsLoadedFor}
 use Rattle.doc_meaning.specs.Apart.{IsReadTable}
@@ -39,7 +39,7 @@ pub record HasFront (wd table : List ℕ) (text_len : ℕ) : Type 0 where
 abbrev pub whole_text : List ℕ → List ℕ → List TextPiece → FileText
 whole_text wd table pieces = record { wd = wd; table = table; pieces = pieces }
 
--- what stands at a place of the front stands there in the list
+-- what is at a place of the front is there in the list
 pub front_get : {A : Type 0} (xs : List A) (n i : ℕ) → i < n → slice_get (take n xs) i ≡ slice_get xs i
 front_get xs n i below =
     let len = length-take n xs in
@@ -56,7 +56,7 @@ early_size : (wd early : List ℕ) → fib_fields early ≡ early_fields wd (ear
     fib_size early ≡ form_size Early
 early_size wd early fields = ap (λ (f : FibFields). form_size f.form) fields
 
--- what stands behind the FIB is the same
+-- what is behind the FIB is the same
 abbrev pub AreSameBehind : List ℕ → List ℕ → Type 0
 AreSameBehind old new = drop (form_size Early) new ≡ drop (form_size Early) old
 

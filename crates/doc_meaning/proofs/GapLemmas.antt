@@ -16,9 +16,7 @@ use Rattle.page_copies.specs.Names.{names_page}
 use Rattle.page_copies.specs.Places.{HasListsApart}
 use Rattle.page_copies.specs.Copies.{IsCopyOf}
 use Rattle.page_copies.specs.Pages.{BinTables, bin_of, kind_alone, SkipsPage, SkipsPages}
-use Rattle.page_copies.proofs.PlaceLemmas.{entry_low}
-use Rattle.page_copies.proofs.NameLemmas.{page_named}
-use Rattle.page_copies.proofs.ListLemmas.{IsKeptPage}
+use Rattle.page_copies.proofs.Public.{entry_low, page_named, IsKeptPage}
 use Rattle.file_rules.specs.FileRules.{FileText}
 use Rattle.doc_meaning.specs.Skipped.{bins_of}
 use Rattle.doc_meaning.specs.Loaded.{KeepsPages, IsLoadedFor}

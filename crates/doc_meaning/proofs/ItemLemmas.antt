@@ -7,16 +7,16 @@ use Rattle.std.proofs.lemmas.Option.{slice_get_within}
 use Rattle.std.specs.Option.{unwrap_or}
 use Rattle.std.specs.FinMap.{empty}
 use Rattle.doc_bits.specs.Number.{u16_at, number_at}
-use Rattle.doc_bits.proofs.NumberLemmas.{number_at-take}
-use Rattle.sprm_table.proofs.SprmLemmas.{spelt_unique, spells_end}
+use Rattle.doc_bits.proofs.Public.{number_at-take}
+use Rattle.sprm_table.proofs.Public.{spelt_unique, spells_end}
 use Rattle.prop_map.specs.Settings.{Properties}
 use Rattle.prop_map.specs.Formed.{character_groups, paragraph_groups, section_groups}
 use Rattle.prop_map.specs.Acting.{ArePropertiesAfter, style_named}
 use Rattle.prop_map.specs.Modifiers.{mark_style, IsCharacterAfter, IsMarkAfter}
-use Rattle.prop_map.proofs.LawLemmas.{acting_one}
+use Rattle.prop_map.proofs.Public.{acting_one}
 use Rattle.prop_map.specs.declared.modifiers.Modifier.{Modifier}
 use Rattle.prl_skips.specs.Skips.{skipped, SkipsOrStays, HoldsNoPictures}
-use Rattle.prl_skips.proofs.SkipLemmas.{make_skips, style_skips}
+use Rattle.prl_skips.proofs.Public.{make_skips, style_skips}
 use Rattle.text_codes.specs.Paragraph.{is_paragraph_end}
 use Rattle.fib_form.specs.declared.table_parts.TablePart.TheVariants.{PlcfBteChpx, PlcfBtePapx}
 use Rattle.fib_form.specs.declared.stories.StoryKind.TheVariants.{Main, Notes, Heads}
@@ -26,10 +26,10 @@ use Rattle.fkp_pages.specs.Properties.{HasListAt, bare_list}
 use Rattle.fkp_gaps.specs.Gaps.{IsGap}
 use Rattle.page_copies.specs.Pages.{bin_of}
 use Rattle.page_copies.specs.Laws.{IsListCopy}
-use Rattle.page_copies.proofs.ListLemmas.{copy_acts}
+use Rattle.page_copies.proofs.Public.{copy_acts}
 use Rattle.direct_props.specs.Direct.{MakesProperties, IsDirectCharacter}
 use Rattle.direct_props.specs.PageRules.{IsValidPlace}
-use Rattle.direct_props.proofs.RightLemmas.{right_places_have_lists}
+use Rattle.direct_props.proofs.Public.{right_places_have_lists}
 use Rattle.doc_parts.specs.Sections.{HasSepx}
 use Rattle.plain_doc.specs.declared.item.Item.{Item}
 use Rattle.plain_doc.specs.declared.item.Mark.{Mark}
@@ -42,9 +42,7 @@ use Rattle.file_rules.specs.FileRules.{FileText, source_of}
 use Rattle.doc_read.specs.Sections.{IsSectionProperties, HaveProperties, section_marks}
 use Rattle.doc_read.specs.Items.{IsMarkAt, IsItemAt}
 use Rattle.doc_read.specs.Marked.{story_bytes, field_bytes}
-use Rattle.doc_read.proofs.ExistItems.{parts_of}
-use Rattle.doc_read.proofs.GivenPlaces.{RightText, character_place, mark_place}
-use Rattle.doc_read.proofs.SettingsLemmas.{sepx-there}
+use Rattle.doc_read.proofs.Public.{parts_of, RightText, character_place, mark_place, sepx-there}
 use Rattle.doc_meaning.specs.Skipped.{bins_of}
 use Rattle.doc_meaning.specs.Places.{MeansCharacter, MeansMark}
 use Rattle.doc_meaning.specs.Items.{MeansMarkAt, MeansItem}

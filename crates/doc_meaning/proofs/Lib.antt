@@ -1,13 +1,14 @@
-pub mod OneLemmas
-pub mod BehindLemmas
-pub mod EarlyLemmas
-pub mod TableLemmas
-pub mod ApartLemmas
-pub mod ListLemmas
-pub mod ItemLemmas
-pub mod DocumentLemmas
-pub mod LoadedLemmas
-pub mod FrontLemmas
-pub mod MeaningLemmas
-pub mod GapLemmas
-pub mod FilledLemmas
+pub mod Public
+mod OneLemmas
+mod BehindLemmas
+mod EarlyLemmas
+mod TableLemmas
+mod ApartLemmas
+mod ListLemmas
+mod ItemLemmas
+mod DocumentLemmas
+mod LoadedLemmas
+mod FrontLemmas
+mod MeaningLemmas
+mod GapLemmas
+mod FilledLemmas

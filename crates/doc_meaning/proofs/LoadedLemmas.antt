@@ -16,7 +16,7 @@ use Rattle.fkp_pages.specs.Bin.{IsBinPage, page_at}
 use Rattle.fkp_pages.specs.Properties.{IsListAnswered, HasListAt}
 use Rattle.page_copies.specs.Pages.{bin_of}
 use Rattle.page_copies.specs.Laws.{HasListBefore}
-use Rattle.page_copies.proofs.ListLemmas.{list_before}
+use Rattle.page_copies.proofs.Public.{list_before}
 use Rattle.style_sheet.specs.Sheet.{Sheet}
 use Rattle.style_sheet.specs.Stsh.{HasStyleSheet}
 use Rattle.doc_parts.specs.declared.lists.Sed.{Sed}
@@ -26,7 +26,7 @@ use Rattle.file_rules.specs.SheetRules.{HasSheet}
 use Rattle.file_rules.specs.SectionRules.{section_fc, sepx_list}
 use Rattle.file_rules.specs.ListRules.{HasLevels}
 use Rattle.file_rules.specs.FileRules.{FileText, source_of}
-use Rattle.file_rules.proofs.RowLemmas.{index_of_get}
+use Rattle.file_rules.proofs.Public.{index_of_get}
 use Rattle.doc_meaning.specs.Skipped.{bins_of, sections_of, fc_sepx}
 use Rattle.doc_meaning.specs.Lifted.{KeepsLists, KeepsSections, IsOther, ReadsTheSame}
 use Rattle.doc_meaning.specs.Loaded.{KeepsPages, KeepsTable, IsLoadedFor, LoadedIsMeant}

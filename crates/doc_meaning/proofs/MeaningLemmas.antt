@@ -12,12 +12,10 @@ use Rattle.cfb_streams.specs.Contents.{Contents}
 use Rattle.cfb_streams.specs.Container.{HasContents}
 use Rattle.plain_doc.specs.declared.document.Document.{Document}
 use Rattle.file_rules.specs.FileRules.{source_of}
-use Rattle.file_rules.proofs.RightPlaces.{bin_tables}
+use Rattle.file_rules.proofs.Public.{bin_tables}
 use Rattle.doc_read.specs.Items.{TextParts, IsMarkAt, IsItemAt, HoldsItems, HoldsTexts}
 use Rattle.doc_read.specs.Holds.{FileParts, IsDocumentOf, text_parts, head_texts}
-use Rattle.doc_read.proofs.OneItem.{HaveBins}
-use Rattle.doc_read.proofs.OneDocument.{held_parts}
-use Rattle.doc_read.proofs.PartsOfOneFile.{file_parts_one}
+use Rattle.doc_read.proofs.Public.{HaveBins, held_parts, file_parts_one}
 use Rattle.doc_meaning.specs.Items.{MeansMarkAt, MeansItem, MeansItems, MeansTexts}
 use Rattle.doc_meaning.specs.Meaning.{HeldIsMeant, MeaningIsOne, MeantIsHeld, IsMeantOf, MeansFrom, MeansDocument}
 use Rattle.doc_meaning.proofs.OneLemmas.{parts_mean_one}

@@ -7,15 +7,15 @@ use Rattle.std.specs.Option.{unwrap_or}
 use Rattle.std.specs.FinMap.{empty, get}
 use Rattle.prop_map.specs.declared.modifiers.Modifier.{Modifier}
 use Rattle.prop_map.specs.Settings.{Properties}
-use Rattle.prop_map.proofs.MapLemmas.{same_properties}
+use Rattle.prop_map.proofs.Public.{same_properties}
 use Rattle.cfb_streams.specs.Contents.{Contents, NamedBytes}
 use Rattle.fib_form.specs.FibFields.{IsKeptFlags}
 use Rattle.fib_form.specs.declared.stories.StoryKind.TheVariants.{Main, Notes, Heads}
 use Rattle.fib_form.specs.declared.table_parts.TablePart.TheVariants.{PlcfBteChpx, PlcfBtePapx}
 use Rattle.fkp_pages.specs.declared.kind.PageKind.TheVariants.{Chpx, Papx}
 use Rattle.fkp_pages.specs.Bin.{IsBinTable}
-use Rattle.fkp_gaps.proofs.GapLemmas.{gaps_have_no_list}
-use Rattle.direct_props.proofs.LawLemmas.{character_one, mark_one}
+use Rattle.fkp_gaps.proofs.Public.{gaps_have_no_list}
+use Rattle.direct_props.proofs.Public.{character_one, mark_one}
 use Rattle.piece_table.specs.Piece.{UnitPlace}
 use Rattle.text_codes.specs.Paragraph.{is_paragraph_end}
 use Rattle.plain_doc.specs.declared.carried.Carried.{Carried}
@@ -29,8 +29,7 @@ use Rattle.file_rules.specs.FileRules.{source_of}
 use Rattle.doc_read.specs.CarriedParts.{HoldsCarried}
 use Rattle.doc_read.specs.Items.{TextParts}
 use Rattle.doc_read.specs.Holds.{FileParts, text_parts, head_texts}
-use Rattle.doc_read.proofs.OneItem.{HaveBins}
-use Rattle.doc_read.proofs.PartsOfOneFile.{same_lists}
+use Rattle.doc_read.proofs.Public.{HaveBins, same_lists}
 use Rattle.doc_meaning.specs.Places.{MeansCharacter, MeansMark}
 use Rattle.doc_meaning.specs.Items.{MeansMarkAt, MeansItem, MeansItems, MeansTexts}
 use Rattle.doc_meaning.specs.Meaning.{IsMeantOf}

@@ -1,28 +1,28 @@
--- A table stream in which a style sheet that stands first is skipped has the other parts as they were.
+-- A table stream in which a style sheet that is first is skipped has the other parts as they were.
 use Rattle.std.specs.Prelude.{slice_range, slice_index}
 use Rattle.std.proofs.Common.{◌≡◌, ◌∙◌, ◌+◌, ◌-◌, ◌*◌, ◌≤◌, refl, sym, ap, subst, inl, inr, ℕ, zero, suc}
 use Rattle.std.proofs.Common.{List, [], ◌++◌, length, take, drop, arith}
 use Rattle.std.proofs.lemmas.List.{append_assoc, length-append, length-take-le}
 use Rattle.doc_bits.specs.Number.{u16_at}
-use Rattle.doc_bits.proofs.ListLemmas.{length-range, range_mid}
+use Rattle.doc_bits.proofs.Public.{length-range, range_mid}
 use Rattle.fib_form.specs.Fib.{fib_pair, table_part}
 use Rattle.fib_form.specs.FibFields.{pair_at}
 use Rattle.fib_form.specs.TableParts.{pair_of}
 use Rattle.fib_form.specs.declared.table_parts.TablePart.{TablePart}
 use Rattle.fib_form.specs.declared.table_parts.TablePart.TheVariants.{Stshf, PlfLst}
-use Rattle.fib_form.proofs.WriteLemmas.{drop_front}
+use Rattle.fib_form.proofs.Public.{drop_front}
 use Rattle.fib_versions.specs.Early.{early_pairs}
 use Rattle.style_sheet.specs.Sheet.{Sheet}
 use Rattle.style_sheet.specs.Stsh.{HasStyleSheet}
-use Rattle.part_skips.proofs.SheetLemmas.{sheet_skips}
+use Rattle.part_skips.proofs.Public.{sheet_skips}
 use Rattle.doc_parts.specs.Levels.{level_end, level_start, level_count, list_part, HaveLength}
-use Rattle.file_rules.proofs.ListLemmas.{levels_empty}
+use Rattle.file_rules.proofs.Public.{levels_empty}
 use Rattle.doc_meaning.specs.Skipped.{sheet_from, sheet_to, StandsFrom, SkipsFirst}
 use Rattle.doc_meaning.specs.Lifted.{IsOther}
 use Rattle.doc_meaning.proofs.BehindLemmas.{drop_behind, range_behind, byte_behind, number_behind}
 use Rattle.doc_meaning.proofs.EarlyLemmas.{early_part, part_below}
 
--- ---- what stands behind the sheet
+-- ---- what is behind the sheet
 
 -- a sheet that is put is as long as it was
 sheet_len : (pairs : List (ℕ × ℕ)) (old new : List ℕ) (skips : SkipsFirst pairs old new) →
@@ -75,7 +75,7 @@ range_from old new place pair behind (inl none) =
     no_range new pair.0 pair.1 none ∙ sym (no_range old pair.0 pair.1 none)
 range_from old new place pair behind (inr low) = range_behind old new place pair.0 (pair.0 + pair.1) behind low
 
--- where a part stands
+-- where a part is
 other_stands : (wd old new : List ℕ) (part : TablePart) → SkipsFirst (early_pairs wd) old new → IsOther part →
     StandsFrom (sheet_to (early_pairs wd)) (fib_pair wd (pair_of part))
 other_stands wd old new part skips other =
@@ -135,7 +135,7 @@ no_levels : (table : List ℕ) (at len : ℕ) → len ≡ 0 →
     level_start table (at + len) (level_count (list_part table at len)) ≡ at + len
 no_levels table at len none = omega (arith, (levels_empty table at len none).1.0)
 
--- the levels stand behind their part
+-- the levels are behind their part
 abbrev pub StandBehindPart : List ℕ → ℕ → List ℕ → ℕ → List ℕ → Type 0
 StandBehindPart table at part len bytes =
     HaveLength table at (length part) len

@@ -1,4 +1,4 @@
--- The table stream of a file in which the codes in the Prcs that are not read are skipped, where the Clx stands apart
+-- The table stream of a file in which the codes in the Prcs that are not read are skipped, where the Clx is apart
 -- from all else that is read.
 use Rattle.std.specs.Prelude.{◌≡◌, ◌≢◌, ◌⊎◌, ℕ, ◌+◌, ◌<◌, ◌≤◌, List, length}
 use Rattle.doc_bits.specs.Rules.{Hold}
@@ -38,7 +38,7 @@ pub record EndBefore (table : List ℕ) (pair : ℕ × ℕ) (place : ℕ) : Type
 abbrev pub LevelsStandApart : ℕ → ℕ → List ℕ → ℕ × ℕ → Type 0
 LevelsStandApart from to table pair = (pair.1 ≡ 0) ⊎ ((to ≤ pair.0) ⊎ EndBefore table pair from)
 
--- the Clx is in the table stream, and each other part and the levels stand apart from it
+-- the Clx is in the table stream, and each other part and the levels are apart from it
 pub record IsClxApart (pairs : List (ℕ × ℕ)) (table : List ℕ) : Type 0 where
   pub within : clx_to pairs ≤ length table
   pub parts : (n : ℕ) → n < kept_pairs → IsApart (clx_from pairs) (clx_to pairs) pairs n

@@ -1,5 +1,5 @@
--- A text that is read with its gaps filled: a page of one run without properties stands behind its WordDocument, and
--- bin tables that name that page at each gap stand behind its table stream.
+-- A text that is read with its gaps filled: a page of one run without properties is behind its WordDocument, and
+-- bin tables that name that page at each gap are behind its table stream.
 use Rattle.std.specs.Prelude.{◌≡◌, ◌⊎◌, ℕ, ◌+◌, ◌<◌, ◌≤◌, ◌^◌, List, ◌++◌, length, drop, slice_set}
 use Rattle.doc_bits.specs.Rules.{Hold}
 use Rattle.doc_bits.specs.Places.{Place, IsFirstPlace}
@@ -60,7 +60,7 @@ pub record CanFill (wd old_wd old_table : List ℕ) : Type 0 where
 
 -- ---- how they are
 
--- the pairs of the FIB, where both bin tables stand behind the table stream
+-- the pairs of the FIB, where both bin tables are behind the table stream
 abbrev pub filled_pairs : List (ℕ × ℕ) → ℕ → BinTables → List (ℕ × ℕ)
 filled_pairs pairs at bins =
     slice_set (slice_set pairs (pair_of PlcfBteChpx) (at, length bins.characters)) (pair_of PlcfBtePapx)

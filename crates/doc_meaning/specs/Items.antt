@@ -16,7 +16,7 @@ use Rattle.doc_read.specs.Marked.{field_bytes, note_kinds}
 use Rattle.doc_read.specs.Items.{TextParts}
 use Rattle.doc_meaning.specs.Places.{MeansCharacter, MeansMark}
 
--- a mark stands exactly where a paragraph ends
+-- a mark is exactly where a paragraph ends
 abbrev pub MeansMarkAt : Bool → List ℕ → List ℕ → ℕ → Modifier → Option Mark → Type 0
 MeansMarkAt true wd bin fc modifier (Some mark) = MeansMark wd bin fc modifier mark.istd mark.pap
 MeansMarkAt true wd bin fc modifier None = ⊥

@@ -30,7 +30,7 @@ use Rattle.doc_meaning.specs.Skipped.{bins_of}
 abbrev pub KeepsPlaces : List TextPiece → List TextPiece → ℕ → Type 0
 KeepsPlaces old new count = (cp : ℕ) → cp < count → place_of_cp new cp ≡ place_of_cp old cp
 
--- no text stands before this place
+-- no text is before this place
 abbrev pub StandsBehind : List TextPiece → ℕ → Type 0
 StandsBehind pieces from = (cp : ℕ) (place : UnitPlace) → place_of_cp pieces cp ≡ Some place → from ≤ place.at
 

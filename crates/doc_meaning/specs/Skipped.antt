@@ -1,5 +1,5 @@
 -- The streams of a file in which the codes that are not read are skipped, each at its own place: in the pages that one
--- bin table alone names, and in a style sheet that stands first in the table stream.
+-- bin table alone names, and in a style sheet that is first in the table stream.
 use Rattle.std.specs.Prelude.{◌≡◌, ◌≢◌, ◌⊎◌, ℕ, ◌+◌, ◌<◌, ◌≤◌, List, length}
 use Rattle.doc_bits.specs.Number.{u16_at, u32_at}
 use Rattle.doc_bits.specs.Plc.{plc_entry}
@@ -34,7 +34,7 @@ StandsFrom place pair = (pair.1 ≡ 0) ⊎ (place ≤ pair.0)
 abbrev pub StandsBehind : List (ℕ × ℕ) → ℕ → ℕ → Type 0
 StandsBehind pairs place n = n ≢ pair_of Stshf → StandsFrom place (pair_at pairs n)
 
--- the style sheet is in the table stream, and each other part stands behind it
+-- the style sheet is in the table stream, and each other part is behind it
 pub record IsSheetFirst (pairs : List (ℕ × ℕ)) (table_len : ℕ) : Type 0 where
   pub within : sheet_to pairs ≤ table_len
   pub others : (n : ℕ) → n < kept_pairs → StandsBehind pairs (sheet_to pairs) n

@@ -18,7 +18,7 @@ use Rattle.style_sheet.specs.Sheet.{Sheet, style_at}
 use Rattle.style_sheet.specs.Chain.{kind_at, kind_in, HasNoChain}
 use Rattle.style_sheet.specs.Changes.{as_root, put_as_root, base_dropped, with_style}
 use Rattle.doc_mends.specs.Bases.{has_other_base, bases_dropped, AreEndless}
-use Rattle.doc_bits.proofs.ListLemmas.{get_or-behind}
+use Rattle.doc_bits.proofs.Public.{get_or-behind}
 
 -- ---- kinds and numbers of slots stay
 

@@ -12,8 +12,7 @@ use Rattle.doc_parts.specs.Bookmarks.{bookmark_cmp, IsFormedBookmark, AreFormedB
 use Rattle.plain_doc.specs.declared.item.Item.{Item}
 use Rattle.plain_doc.specs.declared.document.Document.{Document}
 use Rattle.plain_doc.specs.Marks.{HasFormedBookmarks}
-use Rattle.doc_parts.proofs.OrderLemmas.{in_order_sorted, all_in_order}
-use Rattle.doc_parts.proofs.BookmarkLemmas.{bookmark_total}
+use Rattle.doc_parts.proofs.Public.{in_order_sorted, all_in_order, bookmark_total}
 use Rattle.doc_losses.specs.References.{Names}
 use Rattle.doc_mends.specs.Cuts.{end_left, bookmark_left, bookmarks_left, reference_flags, references_cut}
 use Rattle.doc_mends.proofs.CutLemmas.{count_true, count_false, length_left}

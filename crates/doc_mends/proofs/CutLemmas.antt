@@ -14,18 +14,18 @@ use Rattle.std.proofs.lemmas.List.Sums.{sum_by-cons, sum_by_more}
 use Rattle.prop_map.specs.Settings.{Properties}
 use Rattle.run_lists.specs.declared.runs.Run.{Run}
 use Rattle.run_lists.specs.Spread.{expanded, total_len}
-use Rattle.run_lists.proofs.SpreadLemmas.{spread_push, length-spread, extent-take, extent_more}
+use Rattle.run_lists.proofs.Public.{spread_push, length-spread, extent-take, extent_more}
 use Rattle.plain_doc.specs.declared.item.Item.{Item}
 use Rattle.plain_doc.specs.Document.{HasPropertyMaps, IsFormedItem, IsFormedText}
 use Rattle.doc_columns.specs.declared.attached.Attached.{Attached}
 use Rattle.doc_columns.specs.Attached.{attached_of}
 use Rattle.doc_columns.specs.Columns.{item_of, items_of}
-use Rattle.doc_columns.proofs.ItemsOfLemmas.{items_of-maps}
+use Rattle.doc_columns.proofs.Public.{items_of-maps}
 use Rattle.doc_bits.specs.declared.places.Story.{Story}
-use Rattle.doc_bits.proofs.ListLemmas.{from_map, slice_get_push, slice_get_before}
+use Rattle.doc_bits.proofs.Public.{from_map, slice_get_push, slice_get_before}
 use Rattle.fib_versions.specs.declared.further.Further.{Further}
 use Rattle.doc_losses.specs.References.{reference_at, references_by}
-use Rattle.doc_losses.proofs.ListingLemmas.{none_listed}
+use Rattle.doc_losses.proofs.Public.{none_listed}
 use Rattle.doc_mends.specs.Cuts.{unflagged, end_left}
 
 -- ---- how many have no flag

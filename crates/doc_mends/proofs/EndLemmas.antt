@@ -6,7 +6,7 @@ use Rattle.std.specs.Option.{ForSome}
 use Rattle.std.specs.FinMap.{empty}
 use Rattle.prop_map.specs.Settings.{Properties}
 use Rattle.prop_map.specs.Formed.{IsPropertyMap, character_groups, paragraph_groups, section_groups}
-use Rattle.prop_map.proofs.ActingLemmas.{IsPropertyMap-empty}
+use Rattle.prop_map.proofs.Public.{IsPropertyMap-empty}
 use Rattle.plain_doc.specs.declared.item.Mark.{Mark}
 use Rattle.plain_doc.specs.Document.{HasPropertyMaps}
 use Rattle.std.specs.List.{splice}
@@ -38,7 +38,7 @@ pub stays_at : {A : Type 0} (f : A → A) (xs : List A) (k : ℕ) (x : A) → sl
 stays_at f xs k x is same =
     ap (put_changed xs k f) is ∙ (ap (set xs k) (same ∙ sym (get_or_from_slice_get xs k x x is)) ∙ set-get_or xs k x)
 
--- the last item and what stands in its place
+-- the last item and what is in its place
 pub ended_is : (text made fresh : List Item) (len from : ℕ) → len ≡ length text → from ≡ len - 1 →
     fresh ≡ last_left (last_item text) ++ ending_item (last_item text) ∷ [] → made ≡ splice text from len fresh →
     made ≡ ended text

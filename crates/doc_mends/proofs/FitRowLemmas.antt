@@ -7,7 +7,7 @@ use Rattle.std.specs.List.{count_by}
 use Rattle.std.proofs.Math.Seq.{take-length}
 use Rattle.std.proofs.lemmas.Bool.{cases_lt, eq-eqb, or_left, or_right}
 use Rattle.std.proofs.lemmas.Option.{get_or_from_slice_get, same_Some}
-use Rattle.doc_bits.proofs.ListLemmas.{there_is}
+use Rattle.doc_bits.proofs.Public.{there_is}
 use Rattle.doc_bits.specs.declared.places.Story.{Story}
 use Rattle.doc_bits.specs.declared.places.Story.TheVariants.{Main}
 use Rattle.doc_bits.specs.declared.places.Where.TheVariants as places
@@ -19,8 +19,8 @@ use Rattle.plain_doc.specs.declared.rules_texts.Side.TheVariants.{Notes, Heads}
 use Rattle.plain_doc.specs.Rows.{is_row_mark, is_cell_mark, is_mark_outside, is_on, paragraph_value, open_cells}
 use Rattle.plain_doc.specs.Rows.{HasCells, FitsRow}
 use Rattle.plain_doc.specs.RightDocument.{HoldsAtItems, IsValidDocument}
-use Rattle.plain_doc.proofs.RowLemmas.{open_cells-nil, open_cells_more}
-use Rattle.doc_losses.proofs.NothingLemmas.{nothing_listed, nothing_joined}
+use Rattle.plain_doc.proofs.Public.{open_cells-nil, open_cells_more}
+use Rattle.doc_losses.proofs.Public.{nothing_listed, nothing_joined}
 use Rattle.doc_mends.specs.declared.mends.BrokenRow.{BrokenRow}
 use Rattle.doc_mends.specs.Sides.{side_name}
 use Rattle.doc_mends.specs.BrokenRows.{parts_rows, open_length, cells_of_row, is_count, names_cells, fits_row, fits_behind}

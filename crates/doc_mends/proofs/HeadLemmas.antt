@@ -5,14 +5,14 @@ use Rattle.std.specs.Option.{unwrap_or}
 use Rattle.std.proofs.lemmas.List.{length-append, length-drop, append-nil, drop_all}
 use Rattle.doc_bits.specs.declared.places.Story.TheVariants.{Head}
 use Rattle.doc_parts.specs.Tabulated.{tabulate}
-use Rattle.doc_parts.proofs.BookmarkPartLemmas.{tabulate-next}
+use Rattle.doc_parts.proofs.Public.{tabulate-next, length-tabulate}
 use Rattle.plain_doc.specs.declared.item.Item.{Item}
 use Rattle.doc_patch.specs.Changes.{changed_at, put_changed}
 use Rattle.doc_losses.specs.References.{Names, head_begin, head_at}
-use Rattle.doc_losses.proofs.ListingLemmas.{length-tabulate}
 use Rattle.doc_mends.specs.Cuts.{cut_text, cut_heads}
 use Rattle.doc_mends.proofs.TextLemmas.{put_next}
-use Rattle.run_lists.proofs.CutLemmas.{run_and_rest}
+use Rattle.run_lists.proofs.Public.{run_and_rest}
+use Rattle.doc_columns.proofs.Public.{seam}
 
 -- ---- an entry becomes another
 
@@ -42,11 +42,6 @@ heads_long names heads number low =
     let back = length-drop number heads in
     length-append (tabulate (head_cut names heads) number) (drop number heads) ∙ omega (arith, front, back, low)
 
--- the next one is as it was
-at_seam : {A : Type 0} (front : List A) (x : A) (rest : List A) → slice_get (front ++ x ∷ rest) (length front) ≡ Some x
-at_seam [] x rest = refl
-at_seam (y ∷ front) x rest = at_seam front x rest
-
 pub head_there : (names : Names) (heads : List (List Item)) (number : ℕ) (text old : List Item) →
     slice_get heads number ≡ Some old → slice_get (cut_to names heads number) number ≡ Some text →
     slice_get heads number ≡ Some text
@@ -55,7 +50,7 @@ head_there names heads number text old is there =
     let here : slice_get (cut_to names heads number) number ≡ Some old =
     ap (λ (l : List (List Item)). slice_get (front ++ l) number) (run_and_rest heads number old is)
     ∙ (ap (slice_get (front ++ old ∷ drop (number + 1) heads)) (sym (length-tabulate (head_cut names heads) number))
-    ∙ at_seam front old (drop (number + 1) heads)) in
+    ∙ seam front old (drop (number + 1) heads)) in
     is ∙ (sym here ∙ there)
 
 -- one more is cut

@@ -1,5 +1,6 @@
 -- No row breaks the rule either once references are cut and texts have ends.
-use Rattle.std.proofs.Common.{◌≡◌, ◌∙◌, ap, sym, refl, subst, ℕ, zero, suc, ◌+◌, ◌-◌, ◌<◌, ◌≤◌, ◌==◌, Bool, true, false, inl, inr}
+use Rattle.std.proofs.Common.{◌≡◌, ◌∙◌, ap, sym, refl, subst, ℕ, zero, suc, ◌+◌, ◌-◌, ◌≤◌, ◌==◌, Bool, true, false, inl}
+use Rattle.std.proofs.Common.{inr}
 use Rattle.std.proofs.Common.{List, [], ◌∷◌, ◌++◌, length, take, map, arith, Option, Some, None, slice_get, not, add-one}
 use Rattle.std.proofs.Common.{append_assoc}
 use Rattle.std.specs.Prelude.{All, is_some, if◌then◌else◌}
@@ -7,25 +8,23 @@ use Rattle.std.specs.Option.{option_and_then, unwrap_or}
 use Rattle.std.proofs.Math.Seq.{take-append_seam, take-length}
 use Rattle.std.proofs.lemmas.Bool.{cases_Bool, eqb-true, and_left}
 use Rattle.std.proofs.lemmas.List.{length-map, length-take-le, map-append, append-nil, take-append-le, take_more}
-use Rattle.std.proofs.lemmas.List.Elements.{All-nil, All-push}
 use Rattle.std.proofs.lemmas.Option.{same_Some, slice_get_within, get_or_from_slice_get}
 use Rattle.doc_bits.specs.declared.places.Story.{Story}
 use Rattle.doc_bits.specs.declared.places.Story.TheVariants.{Main, Note, Head}
 use Rattle.doc_bits.specs.declared.places.Where.{Where}
 use Rattle.doc_bits.specs.declared.places.Where.TheVariants as places
-use Rattle.doc_bits.proofs.ListLemmas.{there_is, slice_get_push, slice_get_before, from_map, All_at}
+use Rattle.doc_bits.proofs.Public.{there_is, slice_get_push, slice_get_before, from_map, All_at}
 use Rattle.doc_parts.specs.Tabulated.{tabulate}
-use Rattle.doc_parts.proofs.BookmarkPartLemmas.{tabulate-next}
+use Rattle.doc_parts.proofs.Public.{tabulate-next, all_tabulated_below, length-tabulate}
 use Rattle.text_codes.specs.Paragraph.{cell_mark}
 use Rattle.fib_versions.specs.declared.further.Further.{Further}
 use Rattle.plain_doc.specs.declared.item.Item.{Item}
 use Rattle.plain_doc.specs.declared.document.Document.{Document}
 use Rattle.plain_doc.specs.Rows.{is_row_mark, is_cell_mark, is_on, paragraph_value, open_cells, cells_after, FitsRow}
 use Rattle.plain_doc.specs.RulesOfTexts.{text_of}
-use Rattle.plain_doc.proofs.RowLemmas.{open_cells_more}
+use Rattle.plain_doc.proofs.Public.{open_cells_more}
 use Rattle.doc_columns.specs.Attached.{attached_of, has_something}
 use Rattle.doc_losses.specs.References.{Names, mark_of_unit, where_named, mark_of, mark_at, head_begin, head_at}
-use Rattle.doc_losses.proofs.ListingLemmas.{length-tabulate}
 use Rattle.doc_mends.specs.Cuts.{unflagged, cut_text, cut_heads, references_cut}
 use Rattle.doc_mends.specs.Ends.{is_ended, last_left, without_section, ending_item, ended, with_end}
 use Rattle.doc_mends.specs.Ends.{with_ends}
@@ -34,8 +33,9 @@ use Rattle.doc_mends.specs.PlainRows.{plain_text, with_plain_rows}
 use Rattle.doc_mends.specs.WholeRows.{MendedRowsAreWhole}
 use Rattle.doc_mends.proofs.CutLemmas.{unflagged-append, unflagged-nil, unflagged-one}
 use Rattle.doc_mends.proofs.FitRowLemmas.{RowsFit}
-use Rattle.doc_mends.proofs.WholeRowLemmas.{FitsAndHas, cells_push, fit_push}
+use Rattle.doc_mends.proofs.WholeRowLemmas.{FitsAndHas, fit_push}
 use Rattle.doc_mends.proofs.WholeLemmas.{text_whole, no_row_breaks}
+use Rattle.doc_columns.proofs.Public.{cells_onto_last}
 
 -- ---- a reference
 
@@ -96,7 +96,7 @@ one_kept true front item n is fits inert =
     (is.0, is.1 ∙ sym (inert_after item n (inert refl)))
 one_kept false front item n is fits inert = (
   fit_push front item is.0 (subst (λ (c : ℕ). FitsRow c item) (sym is.1) fits),
-  cells_push front item ∙ ap (λ (c : ℕ). cells_after c item) is.1,
+  cells_onto_last front item ∙ ap (λ (c : ℕ). cells_after c item) is.1,
 )
 
 no_items : FitsAndHas [] (open_cells [])
@@ -183,10 +183,10 @@ last_left_fits front last is =
     let fits : FitsRow (open_cells front) last =
     subst (λ (t : List Item). FitsRow (open_cells t) last) (take-append_seam front (last ∷ []))
     (is.0 (length front) last (slice_get_push front last)) in
-    let zero_after : cells_after (open_cells front) last ≡ 0 = sym (cells_push front last) ∙ is.1 in
+    let zero_after : cells_after (open_cells front) last ≡ 0 = sym (cells_onto_last front last) ∙ is.1 in
     let left = left_where (last.unit == cell_mark) last (open_cells front) refl (fits, zero_after) in (
       fit_push front (without_section last) before left.0,
-      cells_push front (without_section last) ∙ left.1,
+      cells_onto_last front (without_section last) ∙ left.1,
     )
 
 -- the end of a paragraph outside of tables
@@ -197,7 +197,7 @@ with_ending front last is = (
     row = λ it_is. absurd (cc it_is);
     outside = λ it_is. is.1;
   }),
-  cells_push front (ending_item last) ∙ is.1,
+  cells_onto_last front (ending_item last) ∙ is.1,
 )
 
 ended_fits : (text : List Item) → FitsAndHas text 0 → FitsAndHas (ended text) 0
@@ -232,12 +232,6 @@ end_fits is_head text is = if_fits (is_ended is_head text) text (ended text) is 
 
 -- ---- a document
 
-all_tabulated : {A : Type 0} (P : A → Type 0) (f : ℕ → A) (n : ℕ) → ((k : ℕ) → k < n → P (f k)) → All P (tabulate f n)
-unfolding tabulate
-all_tabulated P f zero each = All-nil P
-all_tabulated P f (suc n) each =
-    All-push P (tabulate f n) (f n) (all_tabulated P f n (λ k low. each k (omega (arith, low)))) (each n (omega arith))
-
 abbrev Whole : List Item → Type 0
 Whole text = FitsAndHas text 0
 
@@ -249,7 +243,8 @@ mapped_whole texts n text is =
 heads_whole : (names : Names) (texts : List (List Item)) → All Whole (cut_heads names (map plain_text texts))
 heads_whole names texts =
     let heads : List (List Item) = map plain_text texts in
-    all_tabulated Whole (λ (number : ℕ). cut_text names (Head number) (head_begin heads number) (head_at heads number))
+    all_tabulated_below Whole (λ (number : ℕ). cut_text names (Head number) (head_begin heads number) (head_at heads
+    number))
     (length heads) (λ number low.
     let it = there_is heads number low in
     let there : it.0 ≡ head_at heads number = sym (ap (λ (o : Option (List Item)). unwrap_or o []) it.1) in

@@ -1,18 +1,19 @@
-pub mod MendLemmas
-pub mod BaseLemmas
-pub mod TextLemmas
-pub mod NormalLemmas
-pub mod EndLemmas
-pub mod CutLemmas
-pub mod HeadLemmas
-pub mod UncutLemmas
-pub mod OneLemmas
-pub mod SoundLemmas
-pub mod BookmarkLemmas
-pub mod RowLemmas
-pub mod CodeLemmas
-pub mod TableLemmas
-pub mod FitRowLemmas
-pub mod WholeRowLemmas
-pub mod WholeLemmas
-pub mod LaterRowLemmas
+pub mod Public
+mod MendLemmas
+mod BaseLemmas
+mod TextLemmas
+mod NormalLemmas
+mod EndLemmas
+mod CutLemmas
+mod HeadLemmas
+mod UncutLemmas
+mod OneLemmas
+mod SoundLemmas
+mod BookmarkLemmas
+mod RowLemmas
+mod CodeLemmas
+mod TableLemmas
+mod FitRowLemmas
+mod WholeRowLemmas
+mod WholeLemmas
+mod LaterRowLemmas

@@ -1,4 +1,4 @@
--- Ranges that are judged and struck.
+-- Ranges that are checked and struck.
 use Rattle.std.proofs.Common.{◌≡◌, inl, inr, ℕ, ◌+◌, ◌-◌, ◌<◌, ◌≤◌, Bool, true, false, List, [], ◌∷◌, ◌++◌, length}
 use Rattle.std.proofs.Common.{map, filter, Option, Some, None, slice_get, slice_set, slice_range, refl, sym, ap, ◌∙◌}
 use Rattle.std.proofs.Common.{subst, arith, drop, zero, suc, get_or}
@@ -17,12 +17,11 @@ use Rattle.doc_bits.specs.declared.places.Story.TheVariants.{Main, Note, Head}
 use Rattle.prop_map.specs.Modifiers.{IsFormedModifier}
 use Rattle.prop_map.specs.Settings.{Properties}
 use Rattle.prop_map.specs.Formed.{IsMapEntry, character_groups, paragraph_groups}
-use Rattle.prop_map.proofs.ActingLemmas.{IsPropertyMap-empty}
-use Rattle.prop_map.proofs.LawLemmas.{stay_formed}
-use Rattle.doc_bits.proofs.ByteListLemmas.{one_byte}
+use Rattle.prop_map.proofs.Public.{IsPropertyMap-empty, stay_formed}
+use Rattle.doc_bits.proofs.Public.{one_byte, set_here, set_other}
 use Rattle.plain_doc.specs.declared.item.Item.{Item}
 use Rattle.plain_doc.specs.declared.document.Document.{Document}
-use Rattle.plain_doc.proofs.FormedLemmas.{length-splice}
+use Rattle.plain_doc.proofs.Public.{length-splice}
 use Rattle.doc_patch.specs.declared.changes.Change.{Change}
 use Rattle.doc_patch.specs.Changes.{map_range, changed_at, put_changed, modified_item, with_text, changed}
 use Rattle.doc_patch.specs.Places.{text_at, HasText, HasRange}
@@ -32,7 +31,6 @@ use Rattle.doc_mends.specs.declared.mends.Mend.TheVariants.{StrikeDeleted}
 use Rattle.doc_mends.specs.declared.judging.Judged.{Judged}
 use Rattle.doc_mends.specs.Mends.{striking, strike_of, is_short, can_strike, strikes, kept_ranges, AreRanges}
 use Rattle.doc_mends.specs.Judging.{IsMendVerdict, AddsRange}
-use Rattle.doc_bits.proofs.ListLemmas.{set_here, set_other}
 
 -- ---- texts keep their lengths
 
@@ -246,7 +244,7 @@ striking_formed = record {
   pap = IsPropertyMap-empty paragraph_groups;
 }
 
--- the changes of judged ranges can be made
+-- the changes of checked ranges can be made
 pub judged_makes : (document : Document) (ranges : List DeletedRange) (judged : Judged) →
     IsMendVerdict document ranges judged → AreRanges document ranges → CanMakeAll judged.changes document
 judged_makes document ranges judged is are =

@@ -19,15 +19,14 @@ use Rattle.doc_columns.specs.declared.attached.Attached.{Attached}
 use Rattle.doc_columns.specs.Attached.{attached_of}
 use Rattle.doc_columns.specs.Columns.{item_of}
 use Rattle.doc_columns.specs.Changes.{HasOtherAttached, KeepsMaps}
-use Rattle.doc_patch.proofs.RangeLemmas.{changed_is}
-use Rattle.doc_patch.proofs.MakingLemmas.{whole_range}
+use Rattle.doc_patch.proofs.Public.{changed_is, whole_range}
 use Rattle.doc_mends.specs.declared.mends.WrongMark.{WrongMark}
 use Rattle.doc_mends.specs.Sides.{side_name}
 use Rattle.doc_mends.specs.Attachments.{BecomesNormal}
 use Rattle.doc_mends.specs.NormalMarks.{is_wrong_mark, normal_mark, normal_item, normal_text, with_normal_marks}
 use Rattle.doc_mends.specs.NormalMarks.{wrong_mark, wrong_mark_at, text_wrong_marks, texts_wrong_marks, wrong_marks}
-use Rattle.doc_bits.proofs.ListLemmas.{from_map}
-use Rattle.doc_losses.proofs.ListingLemmas.{none_listed, none_joined, left_nil, right_nil}
+use Rattle.doc_bits.proofs.Public.{from_map}
+use Rattle.doc_losses.proofs.Public.{none_listed, none_joined, left_nil, right_nil}
 use Rattle.doc_mends.proofs.TextLemmas.{same_map}
 
 -- ---- maps stay well formed

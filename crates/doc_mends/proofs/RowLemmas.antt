@@ -8,7 +8,7 @@ use Rattle.std.proofs.lemmas.List.{reverse-append, take_more}
 use Rattle.std.proofs.lemmas.List.Elements.{All-nil, All-append, All-cons, filter_map-append}
 use Rattle.std.proofs.lemmas.List.Sums.{take_while-cons, sum_by-cons}
 use Rattle.std.proofs.lemmas.Option.{same_Some, slice_get_within, get_or_from_slice_get}
-use Rattle.doc_bits.proofs.ListLemmas.{from_map, get-map, there_is}
+use Rattle.doc_bits.proofs.Public.{from_map, get-map, there_is}
 use Rattle.doc_bits.specs.declared.places.Story.{Story}
 use Rattle.doc_parts.specs.Tabulated.{tabulate}
 use Rattle.plain_doc.specs.declared.item.Item.{Item}
@@ -21,6 +21,8 @@ use Rattle.doc_mends.specs.declared.rows.OpenRow.{OpenRow}
 use Rattle.doc_mends.specs.BrokenRows.{parts_rows, open_items, open_length, cells_of_row, mark_length, marked_item}
 use Rattle.doc_mends.specs.BrokenRows.{fits_behind, broken_row, broken_row_at, text_broken_rows}
 use Rattle.doc_mends.specs.OpenRows.{IsOpenBefore}
+use Rattle.doc_parts.proofs.Public.{one_at_most}
+use Rattle.plain_doc.proofs.Public.{one_cell_more}
 
 -- ---- the open row after one item more
 
@@ -55,11 +57,6 @@ pub length_more : (text : List Item) (at : ℕ) (item : Item) → slice_get text
 length_more text at item is =
     ap length (open_items_more text at item is) ∙ length_where (parts_rows item) item (open_items (take at text))
 
-one_more : (b cell : Bool) (n : ℕ) → cond b 0 (cond cell 1 0 + n) ≡ cond b 0 (cond cell (n + 1) n)
-one_more true cell n = refl
-one_more false true n = omega arith
-one_more false false n = omega arith
-
 count_where : (b : Bool) (item : Item) (items : List Item) → count_by is_cell_mark (cond b [] (item ∷ items)) ≡ cond b 0
     (count_by is_cell_mark (item ∷ items))
 count_where true item items = refl
@@ -74,9 +71,9 @@ cells_more text at item is =
     ap (count_by is_cell_mark) (open_items_more text at item is)
     ∙ (count_where b item items
     ∙ (ap (λ (n : ℕ). cond b 0 n) (sum_by-cons (λ (x : Item). cond (is_cell_mark x) 1 0) item items)
-    ∙ one_more b (is_cell_mark item) (count_by is_cell_mark items)))
+    ∙ one_cell_more b (is_cell_mark item) (count_by is_cell_mark items)))
 
--- ---- an item by its unit and what stands beside it
+-- ---- an item by its unit and what is beside it
 
 pub record IsItemOf (text : List Item) (at unit : ℕ) (mark : Option Mark) : Type 0 where
   pub item : Item
@@ -206,16 +203,12 @@ listed_all {A = A} P f (suc n) each =
     (listed_all P f n (λ k x low is. each k x (omega (arith, low)) is))
     (one_listed P (f n) (λ x is. each n x (omega arith) is)))
 
-mark_where : (b : Bool) → cond b 1 0 ≤ 1
-mark_where true = omega arith
-mark_where false = omega arith
-
--- the mark of a row stands within the text
+-- the mark of a row is within the text
 mark_within : (text : List Item) (at : ℕ) (o : Option Item) → slice_get text at ≡ o → at ≤ length text →
     at + mark_length o ≤ length text
 mark_within text at None is low = omega (arith, low)
 mark_within text at (Some item) is low =
-    let one = mark_where (is_row_mark item) in
+    let one = one_at_most (is_row_mark item) in
     let here = slice_get_within text at item is in
     omega (arith, one, here)
 

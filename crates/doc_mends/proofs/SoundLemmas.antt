@@ -6,7 +6,7 @@ use Rattle.std.specs.Option.{option_and_then, unwrap_or}
 use Rattle.std.proofs.lemmas.Bool.{eq-eqb}
 use Rattle.std.proofs.lemmas.Option.{same_Some}
 use Rattle.std.proofs.lemmas.List.Elements.{All-head}
-use Rattle.doc_bits.proofs.ListLemmas.{there_is}
+use Rattle.doc_bits.proofs.Public.{there_is, and_false, or_first}
 use Rattle.doc_bits.specs.declared.places.Where.{Where}
 use Rattle.doc_bits.specs.declared.places.Where.TheVariants as places
 use Rattle.doc_bits.specs.declared.places.Story.{Story}
@@ -14,8 +14,7 @@ use Rattle.doc_bits.specs.declared.places.Story.TheVariants.{Main}
 use Rattle.text_codes.specs.Paragraph.{paragraph_mark}
 use Rattle.style_sheet.specs.Sheet.{Sheet}
 use Rattle.style_sheet.specs.Chain.{kind_at, base_at, HasNoChain, HasSoundBases}
-use Rattle.style_sheet.proofs.ChainLemmas.{climbed_none}
-use Rattle.style_sheet.proofs.OneChainLemmas.{next_kind}
+use Rattle.style_sheet.proofs.Public.{climbed_none, next_kind}
 use Rattle.plain_doc.specs.declared.item.Item.{Item}
 use Rattle.plain_doc.specs.declared.item.Mark.{Mark}
 use Rattle.plain_doc.specs.declared.document.Document.{Document}
@@ -23,7 +22,7 @@ use Rattle.plain_doc.specs.declared.rules_texts.Side.{Side}
 use Rattle.plain_doc.specs.declared.rules_texts.Side.TheVariants.{Notes, Heads}
 use Rattle.plain_doc.specs.RulesOfTexts.{EndsRight, IsHead, HasParagraphStyle}
 use Rattle.plain_doc.specs.RightDocument.{HoldsAtItems, IsValidDocument}
-use Rattle.plain_doc.proofs.RightLemmas.{sound_is_valid}
+use Rattle.plain_doc.proofs.Public.{sound_is_valid}
 use Rattle.doc_mends.specs.declared.mends.WrongMark.{WrongMark}
 use Rattle.doc_mends.specs.declared.mends.BrokenRow.{BrokenRow}
 use Rattle.doc_mends.specs.declared.mends.Mend.{Mend}
@@ -41,7 +40,7 @@ use Rattle.doc_mends.specs.BrokenRows.{broken_rows}
 use Rattle.doc_mends.specs.PlainRows.{with_plain_rows}
 use Rattle.doc_mends.specs.Cuts.{references_cut}
 use Rattle.doc_mends.specs.Mending.{mended_in_place, mends_in_place, mends_of_texts, SoundHasNoMends}
-use Rattle.doc_losses.proofs.NothingLemmas.{none_kept, nothing_listed, nothing_joined}
+use Rattle.doc_losses.proofs.Public.{none_kept, nothing_listed, nothing_joined}
 use Rattle.doc_mends.proofs.TextLemmas.{same_map}
 use Rattle.doc_mends.proofs.NormalLemmas.{right_document}
 use Rattle.doc_mends.proofs.TableLemmas.{document_stays}
@@ -49,7 +48,6 @@ use Rattle.doc_mends.proofs.FitRowLemmas.{no_broken_rows}
 use Rattle.doc_mends.proofs.EndLemmas.{stays_ended}
 use Rattle.doc_mends.proofs.OneLemmas.{mends_after}
 use Rattle.doc_mends.proofs.UncutLemmas.{uncut}
-use Rattle.doc_bits.proofs.TestLemmas.{and_false, or_first}
 
 -- ---- bases
 
@@ -218,7 +216,7 @@ no_open_stories document right =
 
 -- ---- all mends
 
--- items that are right where they stand are not mended
+-- items that are right where they are are not mended
 in_place : (document : Document) → IsValidDocument document → mended_in_place document ≡ document
 in_place document right =
     ap with_plain_rows (right_document document (no_wrong_marks document right))

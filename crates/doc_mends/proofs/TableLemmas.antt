@@ -11,19 +11,18 @@ use Rattle.std.proofs.lemmas.List.Sums.{fold_more}
 use Rattle.std.proofs.lemmas.Option.{same_Some, slice_get_within, get_or_from_slice_get}
 use Rattle.doc_bits.specs.declared.places.Story.{Story}
 use Rattle.doc_bits.specs.declared.places.Story.TheVariants.{Main}
-use Rattle.doc_bits.proofs.ListLemmas.{from_map, there_is}
+use Rattle.doc_bits.proofs.Public.{from_map, there_is}
 use Rattle.prop_map.specs.Formed.{IsPropertyMap, paragraph_groups}
-use Rattle.prop_map.proofs.MapLemmas.{without_formed}
+use Rattle.prop_map.proofs.Public.{without_formed}
 use Rattle.plain_doc.specs.declared.item.Item.{Item}
 use Rattle.plain_doc.specs.declared.item.Mark.{Mark}
 use Rattle.plain_doc.specs.declared.document.Document.{Document}
 use Rattle.plain_doc.specs.declared.rules_texts.Side.{Side}
 use Rattle.plain_doc.specs.declared.rules_texts.Side.TheVariants.{Notes, Heads}
 use Rattle.plain_doc.specs.Document.{HasPropertyMaps}
-use Rattle.plain_doc.proofs.FormedLemmas.{length-splice}
+use Rattle.plain_doc.proofs.Public.{length-splice}
 use Rattle.doc_patch.specs.Changes.{changed_at, put_changed, map_range}
-use Rattle.doc_losses.proofs.ListingLemmas.{none_listed, none_joined, left_nil, right_nil}
-use Rattle.doc_losses.proofs.NothingLemmas.{nothing_listed}
+use Rattle.doc_losses.proofs.Public.{none_listed, none_joined, left_nil, right_nil, nothing_listed}
 use Rattle.doc_mends.specs.declared.mends.BrokenRow.{BrokenRow}
 use Rattle.doc_mends.specs.Sides.{side_name}
 use Rattle.doc_mends.specs.BrokenRows.{open_length, cells_of_row, fits_behind, mark_length, broken_row, broken_row_at}

@@ -1,21 +1,15 @@
 -- Texts that become others, one after the other, and what is listed of them.
 use Rattle.std.proofs.Common.{◌≡◌, ◌∙◌, ap, sym, refl, ℕ, zero, suc, ◌+◌}
 use Rattle.std.proofs.Common.{List, [], ◌∷◌, ◌++◌, length, map, take, drop, arith, ◌≤◌, Some, slice_get, append_assoc}
-use Rattle.std.proofs.lemmas.List.{map-append, take_more, length-map, length-take-le, take_all, drop_all, append-nil}
+use Rattle.std.proofs.lemmas.List.{length-map, length-take-le, take_all, drop_all, append-nil}
 use Rattle.std.proofs.lemmas.List.{length-append, take-append-drop}
-use Rattle.std.proofs.lemmas.Option.{get_or_from_slice_get, slice_get_within}
+use Rattle.std.proofs.lemmas.Option.{slice_get_within}
 use Rattle.doc_patch.specs.Changes.{changed_at}
-use Rattle.run_lists.proofs.CutLemmas.{run_and_rest}
-use Rattle.doc_patch.proofs.RangeLemmas.{put_more}
+use Rattle.run_lists.proofs.Public.{run_and_rest}
+use Rattle.doc_patch.proofs.Public.{put_more}
+use Rattle.doc_parts.proofs.Public.{map_next}
 
 -- ---- one more
-
-pub mapped_more : {A B : Type 0} (f : A → B) (xs : List A) (k : ℕ) (x : A) → slice_get xs k ≡ Some x →
-    map f (take (k + 1) xs) ≡ map f (take k xs) ++ f x ∷ []
-mapped_more {A = A} f xs k x is =
-    ap (map f) (take_more xs k x (slice_get_within xs k x is)
-    ∙ ap (λ (y : A). take k xs ++ y ∷ []) (get_or_from_slice_get xs k x x is))
-    ∙ map-append f (take k xs) (x ∷ [])
 
 -- a map that changes no entry
 pub same_map : {A : Type 0} (f : A → A) (xs : List A) → ((i : ℕ) (x : A) → slice_get xs i ≡ Some x → f x ≡ x) →
@@ -53,7 +47,7 @@ pub put_mapped : {A : Type 0} (f : A → A) (xs : List A) (k : ℕ) (x : A) → 
 put_mapped {A = A} f xs k x is =
     let low = slice_get_within xs k x is in
     put_next f (map f (take k xs)) xs k x (mapped_front f xs k (omega (arith, low))) is
-    ∙ ap (λ (t : List A). t ++ drop (k + 1) xs) (sym (mapped_more f xs k x is))
+    ∙ ap (λ (t : List A). t ++ drop (k + 1) xs) (sym (map_next f xs k x is))
 
 pub all_mapped : {A : Type 0} (f : A → A) (xs : List A) (k : ℕ) → length xs ≤ k →
     map f (take k xs) ++ drop k xs ≡ map f xs

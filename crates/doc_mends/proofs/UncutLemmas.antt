@@ -8,21 +8,19 @@ use Rattle.std.proofs.lemmas.List.Sorted.{IsPermutation-refl}
 use Rattle.std.proofs.lemmas.Option.{slice_get_within}
 use Rattle.doc_bits.specs.declared.places.Story.{Story}
 use Rattle.doc_bits.specs.declared.places.Story.TheVariants.{Main, Head}
-use Rattle.doc_bits.proofs.ListLemmas.{All_at}
+use Rattle.doc_bits.proofs.Public.{All_at}
 use Rattle.doc_parts.specs.declared.bookmark_order.Bookmark.{Bookmark}
 use Rattle.doc_parts.specs.Bookmarks.{bookmark_cmp, IsFormedBookmark, AreFormedBookmarks}
 use Rattle.doc_parts.specs.Order.{in_order}
 use Rattle.doc_parts.specs.Tabulated.{tabulate}
-use Rattle.doc_parts.proofs.BookmarkBackLemmas.{tabulate_is}
-use Rattle.doc_parts.proofs.BookmarkLemmas.{bookmark_total, bookmark_alone}
-use Rattle.doc_parts.proofs.OrderLemmas.{sorted_is_in_order}
+use Rattle.doc_parts.proofs.Public.{tabulate_is, bookmark_total, bookmark_alone, sorted_is_in_order, length-tabulate}
 use Rattle.plain_doc.specs.declared.item.Item.{Item}
 use Rattle.plain_doc.specs.declared.document.Document.{Document}
 use Rattle.plain_doc.specs.Marks.{HasFormedBookmarks}
 use Rattle.text_losses.specs.declared.features.Reference.{Reference}
 use Rattle.doc_losses.specs.References.{Names, mark_at, text_marks, text_references, head_begin, head_at, head_references}
 use Rattle.doc_losses.specs.References.{all_head_references, references}
-use Rattle.doc_losses.proofs.ListingLemmas.{none_joined, left_nil, right_nil, length-tabulate}
+use Rattle.doc_losses.proofs.Public.{none_joined, left_nil, right_nil}
 use Rattle.doc_mends.specs.Cuts.{reference_flags, unflagged, cut_text, cut_heads, end_left, bookmark_left, bookmarks_left}
 use Rattle.doc_mends.specs.Cuts.{references_cut}
 use Rattle.doc_mends.proofs.TextLemmas.{same_map}

@@ -9,22 +9,22 @@ use Rattle.std.proofs.lemmas.Bool.{cases_Bool, eqb-true, or_parts, or_right}
 use Rattle.std.proofs.lemmas.List.{length-append, length-map, append-nil, drop_all}
 use Rattle.std.proofs.lemmas.List.Elements.{All-nil, All-push}
 use Rattle.std.proofs.lemmas.List.Sums.{fold-append, sum_by-cons, sum_by-append}
-use Rattle.doc_bits.proofs.ListLemmas.{range_mid, there_is}
+use Rattle.doc_bits.proofs.Public.{range_mid, there_is}
 use Rattle.doc_bits.specs.declared.places.Story.TheVariants.{Main}
 use Rattle.doc_parts.specs.Tabulated.{tabulate}
 use Rattle.plain_doc.specs.declared.item.Item.{Item}
 use Rattle.plain_doc.specs.Rows.{is_row_mark, is_cell_mark, is_mark_outside, paragraph_value, FitsRow}
 use Rattle.plain_doc.specs.Rows.{BreaksRows}
-use Rattle.plain_doc.proofs.RowLemmas.{open_cells-nil}
+use Rattle.plain_doc.proofs.Public.{open_cells-nil}
 use Rattle.doc_patch.specs.Changes.{map_range}
-use Rattle.doc_losses.proofs.ListingLemmas.{listed_more}
+use Rattle.doc_losses.proofs.Public.{listed_more}
 use Rattle.doc_mends.specs.declared.mends.BrokenRow.{BrokenRow}
 use Rattle.doc_mends.specs.BrokenRows.{parts_rows, open_length, cells_of_row, names_cells, fits_row}
 use Rattle.doc_mends.specs.BrokenRows.{fits_behind, mark_length, broken_row_at}
 use Rattle.doc_mends.specs.PlainRows.{plain_item, row_plain, rows_plain, plain_text}
 use Rattle.doc_mends.proofs.RowLemmas.{open_items-nil, length_more, cells_more, past}
 use Rattle.doc_mends.proofs.WholeRowLemmas.{IsInside, FitsAndHas, inside_row, plain_row, fits_rule, parted, after_where}
-use Rattle.run_lists.proofs.CutLemmas.{run_and_rest}
+use Rattle.run_lists.proofs.Public.{run_and_rest}
 
 -- ---- rows found so far
 
@@ -247,7 +247,7 @@ row_mark_step text at item done is parts fit mark =
     (omega (arith, all_len, made_len, whole_len, before))
     (plain_row whole done.front done.fits)
 
--- a mark outside of tables that does not fit stands behind the row
+-- a mark outside of tables that does not fit is behind the row
 outside_step : (text : List Item) (at : ℕ) (item : Item) → IsDone text at → slice_get text at ≡ Some item →
     parts_rows item ≡ true → fits_row (cells_of_row (take at text)) item ≡ false → is_row_mark item ≡ false →
     IsDone text (at + 1)

@@ -1,39 +1,26 @@
 -- Items behind the cells of a row, those of an open row and those that became paragraphs.
-use Rattle.std.proofs.Common.{◌≡◌, ◌∙◌, ap, sym, refl, subst, ℕ, ◌+◌, ◌-◌, ◌<◌, ◌==◌, Bool, true, false, inl, inr}
+use Rattle.std.proofs.Common.{◌≡◌, ◌∙◌, ap, sym, refl, subst, ℕ, ◌+◌, ◌-◌, ◌==◌, Bool, true, false, inl, inr}
 use Rattle.std.proofs.Common.{List, [], ◌∷◌, ◌++◌, length, take, map, arith, Option, Some, None, slice_get, not}
-use Rattle.std.proofs.Common.{get_or, append_assoc, cond}
+use Rattle.std.proofs.Common.{append_assoc, cond}
 use Rattle.std.specs.Prelude.{All, ◌&&◌, ◌||◌, is_some, if◌then◌else◌}
 use Rattle.std.specs.List.{count_by}
-use Rattle.std.proofs.Math.Seq.{take-append_seam, take-length}
+use Rattle.std.proofs.Math.Seq.{take-append_seam}
 use Rattle.std.proofs.lemmas.Bool.{cases_lt, eqb-true, or_parts, or_cases}
 use Rattle.std.proofs.lemmas.List.{length-append, append-nil, take-append-le}
 use Rattle.std.proofs.lemmas.List.Elements.{All-head, All-tail}
 use Rattle.std.proofs.lemmas.List.Sums.{sum_by-cons}
-use Rattle.std.proofs.lemmas.Option.{same_Some, slice_get_within, get_or_from_slice_get}
-use Rattle.doc_bits.proofs.ListLemmas.{slice_get_push, slice_get_before}
+use Rattle.std.proofs.lemmas.Option.{same_Some, slice_get_within}
+use Rattle.doc_bits.proofs.Public.{slice_get_push, slice_get_before, first_false}
 use Rattle.text_codes.specs.Paragraph.{paragraph_mark, cell_mark}
 use Rattle.plain_doc.specs.declared.item.Item.{Item}
 use Rattle.plain_doc.specs.Rows.{is_row_mark, is_cell_mark, is_mark_outside, is_on, paragraph_value, HasCells, FitsRow}
-use Rattle.plain_doc.specs.Rows.{open_cells, cells_after}
-use Rattle.plain_doc.proofs.RowLemmas.{open_cells_more}
+use Rattle.plain_doc.specs.Rows.{open_cells}
 use Rattle.doc_mends.specs.BrokenRows.{parts_rows, is_count, names_cells, fits_row}
 use Rattle.doc_mends.specs.PlainRows.{plain_item}
 use Rattle.doc_mends.proofs.FitRowLemmas.{RowsFit, no_cell}
+use Rattle.doc_columns.proofs.Public.{cells_onto_last}
 
 -- ---- one item more that fits
-
-pub cells_push : (text : List Item) (item : Item) → open_cells (text ++ item ∷ []) ≡ cells_after (open_cells text) item
-cells_push text item =
-    let all : List Item = text ++ item ∷ [] in
-    let at : ℕ = length text in
-    let there : slice_get all at ≡ Some item = slice_get_push text item in
-    let low : at < length all = slice_get_within all at item there in
-    let here : item ≡ get_or all at item = sym (get_or_from_slice_get all at item item there) in
-    let whole : take (at + 1) all ≡ all =
-    ap (λ (n : ℕ). take n all) (sym (length-append text (item ∷ []))) ∙ take-length all in
-    let front : take at all ≡ text = take-append_seam text (item ∷ []) in
-    ap open_cells (sym whole)
-    ∙ (open_cells_more all at item low here ∙ ap (λ (t : List Item). cells_after (open_cells t) item) front)
 
 pub fit_push : (text : List Item) (item : Item) → RowsFit text → FitsRow (open_cells text) item →
     RowsFit (text ++ item ∷ [])
@@ -86,7 +73,7 @@ inside_row (item ∷ row) front cells is inside =
     let fits = fit_push front item is.0 (inside_fits (open_cells front) item one) in
     let parts = or_parts (is_row_mark item) (is_mark_outside item) one in
     let here : open_cells (front ++ item ∷ []) ≡ cells + cond (is_cell_mark item) 1 0 =
-    cells_push front item
+    cells_onto_last front item
     ∙ (after_where (is_row_mark item) (is_cell_mark item) (open_cells front) parts.0
     ∙ ap (λ (n : ℕ). n + cond (is_cell_mark item) 1 0) is.1) in
     let rest = inside_row row (front ++ item ∷ []) (cells + cond (is_cell_mark item) 1 0) (fits, here)
@@ -106,18 +93,14 @@ other_unit false unit same = same
 no_cell_unit : (item : Item) → ((plain_item item).unit == cell_mark) ≡ false
 no_cell_unit item = other_unit (item.unit == cell_mark) item.unit refl
 
-and_false : (x y : Bool) → x ≡ false → (x && y) ≡ false
-and_false true y is = absurd (cc is)
-and_false false y is = refl
-
 no_row_mark : (item : Item) → is_row_mark (plain_item item) ≡ false
 no_row_mark item =
-    and_false ((plain_item item).unit == cell_mark) (is_on (paragraph_value (plain_item item) 0x2417)) (no_cell_unit
+    first_false ((plain_item item).unit == cell_mark) (is_on (paragraph_value (plain_item item) 0x2417)) (no_cell_unit
     item)
 
 no_cell_mark : (item : Item) → is_cell_mark (plain_item item) ≡ false
 no_cell_mark item =
-    and_false ((plain_item item).unit == cell_mark) (not (is_on (paragraph_value (plain_item item) 0x2417)))
+    first_false ((plain_item item).unit == cell_mark) (not (is_on (paragraph_value (plain_item item) 0x2417)))
     (no_cell_unit item)
 
 none_after : (row cell : Bool) (n : ℕ) → row ≡ false → cell ≡ false → n ≡ 0 →
@@ -135,7 +118,7 @@ plain_row (item ∷ row) front is =
       outside = λ it_is. is.1;
     } in
     let here : open_cells (front ++ made ∷ []) ≡ 0 =
-    cells_push front made
+    cells_onto_last front made
     ∙ none_after (is_row_mark made) (is_cell_mark made) (open_cells front) (no_row_mark item) (no_cell_mark item)
     is.1 in
     subst (λ (t : List Item). FitsAndHas t 0) (append_assoc front (made ∷ []) (map plain_item row))
@@ -200,7 +183,7 @@ pub parted : (front : List Item) (cells : ℕ) (item : Item) → FitsAndHas fron
 parted front cells item is fits parts =
     let fits_here : FitsRow (open_cells front) item = subst (λ (n : ℕ). FitsRow n item) (sym is.1) fits in (
       fit_push front item is.0 fits_here,
-      cells_push front item
+      cells_onto_last front item
           ∙ closed_where (is_row_mark item) (is_mark_outside item) (is_cell_mark item) (open_cells front) parts
           fits_here.outside (no_cell item),
     )

@@ -1,4 +1,4 @@
--- What stands beside a unit, where its mark gets style 0.
+-- What is beside a unit, where its mark gets style 0.
 use Rattle.std.specs.Prelude.{◌≡◌, option_map}
 use Rattle.style_sheet.specs.Sheet.{Sheet}
 use Rattle.doc_columns.specs.declared.attached.Attached.{Attached}

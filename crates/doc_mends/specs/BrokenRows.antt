@@ -1,5 +1,5 @@
--- The rows of tables that break rule 63. A row is what stands behind the end of the row before it, or behind a
--- paragraph that is in no table, up to its own end; it breaks the rule where an item stands that may not stand behind
+-- The rows of tables that break rule 63. A row is what is behind the end of the row before it, or behind a
+-- paragraph that is in no table, up to its own end; it breaks the rule where an item is that may not be behind
 -- its cells, or where the text ends.
 use Rattle.std.specs.Prelude.{ℕ, ◌+◌, ◌-◌, ◌==◌, Bool, false, ◌||◌, not, List, [], ◌++◌, length, take, reverse}
 use Rattle.std.specs.Prelude.{Option, Some, None, slice_get, if◌then◌else◌}
@@ -20,7 +20,7 @@ use Rattle.doc_mends.specs.Sides.{side_name}
 
 -- ---- rows
 
--- what stands behind such an item is in no row with it
+-- what is behind such an item is in no row with it
 abbrev pub parts_rows : Item → Bool
 parts_rows item = is_row_mark item || is_mark_outside item
 
@@ -52,7 +52,7 @@ fits_row cells item =
     if is_row_mark item then names_cells cells (paragraph_value item 0xD608)
     else (cells == 0 || not (is_mark_outside item))
 
--- the same of the item that stands behind the open row, or of the end of the text
+-- the same of the item that is behind the open row, or of the end of the text
 abbrev pub fits_behind : ℕ → Option Item → Bool
 fits_behind cells None = cells == 0
 fits_behind cells (Some item) = fits_row cells item

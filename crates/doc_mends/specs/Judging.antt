@@ -1,4 +1,4 @@
--- What is known of the ranges that were judged.
+-- What is known of the ranges that were checked.
 use Rattle.std.specs.Prelude.{◌≡◌, Bool, List, [], ◌∷◌, ◌++◌, map, if◌then◌else◌}
 use Rattle.plain_doc.specs.declared.document.Document.{Document}
 use Rattle.doc_mends.specs.declared.mends.DeletedRange.{DeletedRange}

@@ -169,7 +169,7 @@ fn last_of(alloc: Global, text: &Columns) -> Result<Option<Item>, Memory>
     Ok(Some(item))
 }
 
-/// What stands in place of a last item: what is left of it, and the end of a paragraph.
+/// What is in place of a last item: what is left of it, and the end of a paragraph.
 fn fresh_end(alloc: Global, last: Option<Item>) -> Result<Columns, Memory>
     requires { ForSome last HasPropertyMaps }
     ensures { IfOk result (λ made. made ≡ left_of_last last ++ item_that_ends last ∷ []) }

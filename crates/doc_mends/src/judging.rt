@@ -136,7 +136,7 @@ fn strike_change(alloc: Global, range: DeletedRange) -> Result<Change, Memory>
     Ok(Change::ModifyItems(range.story, range.from, range.to, modifier))
 }
 
-/// Judges the ranges of a document that a reviser deleted.
+/// Checks the ranges of a document that a reviser deleted.
 pub(crate) fn check(
     alloc: Global,
     document: &ColumnDocument,

@@ -193,7 +193,7 @@ fn normal_text(alloc: Global, text: Columns, sheet: &StyleSheet) -> Result<Colum
     Ok(made)
 }
 
-/// What stands beside units, with style 0 at such marks.
+/// What is beside units, with style 0 at such marks.
 #[derive(Drop)]
 struct NormalMarks<'a> {
     sheet: &'a StyleSheet,
@@ -208,7 +208,7 @@ impl<'a> Change<Attached> for NormalMarks<'a> {
     }
 }
 
-/// What stands beside a unit, with style 0 at such a mark.
+/// What is beside a unit, with style 0 at such a mark.
 fn normal_attached(
     alloc: Global,
     attached: &Attached,

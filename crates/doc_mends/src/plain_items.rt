@@ -10,18 +10,10 @@ ghost use Rattle.doc_mends.specs.PlainRows.{plain_item as item_left};
 use doc_bits::Memory;
 use plain_doc::{Item, Items, Mark};
 use prop_map::PropMap;
-use sprm_table::{Code, group};
+use sprm_table::{Code, TABLE_GROUP, group};
 use std::alloc::Global;
 use std::marker::Model;
-
-/// The end of a paragraph.
-const PARAGRAPH_MARK: u16 = 0x0D;
-
-/// The end of a cell or of a row.
-const CELL_MARK: u16 = 0x07;
-
-/// [MS-DOC] sgc of sprms of tables.
-const TABLE_GROUP: u8 = 5;
+use text_codes::{CELL_MARK, PARAGRAPH_MARK};
 
 /// Properties of a mark, and what is left of them.
 #[derive(Drop)]

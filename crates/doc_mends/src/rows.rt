@@ -1,5 +1,5 @@
 // The rows of tables that break rule 63.
-ghost use Rattle.std.specs.Prelude.{◌≡◌, ◌+◌, ◌^◌, ◌<◌, ◌≤◌, [], ◌∷◌, ◌++◌, if◌then◌else◌, length, option_map};
+ghost use Rattle.std.specs.Prelude.{◌≡◌, ◌+◌, ◌^◌, ◌<◌, ◌≤◌, [], ◌∷◌, ◌++◌, if◌then◌else◌, length};
 ghost use Rattle.std.specs.Prelude.{Some, None, IfOk, OnOk};
 ghost use Rattle.std.specs.List.{filter_map};
 ghost use Rattle.plain_doc.specs.Rows.{is_row_mark, is_cell_mark, is_mark_outside, is_on, value_in};
@@ -11,22 +11,11 @@ use crate::mends::BrokenRow;
 use crate::sides::side_name;
 use doc_bits::{Memory, Story};
 use doc_columns::{Attached, ColumnDocument, ColumnTexts, Columns};
-use plain_doc::{Mark, Side};
+use plain_doc::{Mark, Side, value_at};
 use run_lists::{Cursor, seek};
-use sprm_table::Code;
+use sprm_table::{Code, SPRM_P_F_IN_TABLE, SPRM_P_F_TTP, SPRM_T_DEF_TABLE};
 use std::alloc::Global;
-
-/// The end of a cell or of a row.
-const CELL_MARK: u16 = 0x07;
-
-/// The paragraph is in a table.
-const SPRM_P_F_IN_TABLE: Code = Code(0x2416);
-
-/// The mark ends a row.
-const SPRM_P_F_TTP: Code = Code(0x2417);
-
-/// The cells of a row: their number, and where each ends.
-const SPRM_T_DEF_TABLE: Code = Code(0xD608);
+use text_codes::CELL_MARK;
 
 /// The row that is open: how many items it has so far, and how many of them end cells.
 #[derive(Clone, Copy)]
@@ -97,7 +86,7 @@ fn add_found(found: Option<BrokenRow>, list: &mut Vec<BrokenRow>) -> Result<(), 
     Ok(())
 }
 
-/// The open row, where an item that stands behind it breaks the rule.
+/// The open row, where an item that is behind it breaks the rule.
 fn broken_at(
     story: Story,
     at: usize,
@@ -144,7 +133,7 @@ fn own_mark(unit: u16, mark: &Option<Mark>) -> usize
     if ends_row(unit, mark) { 1 } else { 0 }
 }
 
-/// Whether an item may stand behind so many cells.
+/// Whether an item may be behind so many cells.
 fn fits(cells: usize, unit: u16, mark: &Option<Mark>) -> bool
     ensures { result ≡ fits_row cells (marked_item unit mark.now) }
 {
@@ -173,7 +162,7 @@ impl OpenRow {
     }
 }
 
-/// Whether what stands behind an item is in no row with it.
+/// Whether what is behind an item is in no row with it.
 fn parts(unit: u16, mark: &Option<Mark>) -> bool
     ensures { result ≡ parts_rows (marked_item unit mark.now) }
 {
@@ -240,15 +229,5 @@ fn is_set(mark: &Option<Mark>, code: Code) -> bool
     match value_at(mark, code) {
         None => false,
         Some(value) => value.len() == 1 && value[0] == 1,
-    }
-}
-
-/// The value that the mark, where there is one, has at the code.
-fn value_at(mark: &Option<Mark>, code: Code) -> Option<&[u8]>
-    ensures { option_map (λ v. v.now) result ≡ value_in mark.now code.0 }
-{
-    match mark {
-        None => None,
-        Some(mark) => mark.pap.get(code),
     }
 }

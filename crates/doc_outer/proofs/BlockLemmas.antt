@@ -60,7 +60,7 @@ AppendsPrefix-more old new block bytes taken = record {
       taken.appended;
 }
 
--- what stands behind the front that was taken
+-- what is behind the front that was taken
 behind :
     (block first next waits : List ℕ) (count : ℕ) → count ≤ length (block ++ first) →
     waits ≡ drop count (block ++ first) → drop count (block ++ (first ++ next)) ≡ waits ++ next
@@ -68,7 +68,7 @@ behind block first next waits count within is =
     ap (drop count) (sym (append_assoc block first next))
     ∙ (drop-append-le count (block ++ first) next within ∙ ap (λ xs. xs ++ next) (sym is))
 
--- that front, and one of what stands behind it
+-- that front, and one of what is behind it
 both_fronts :
     (block first next waits : List ℕ) (count more : ℕ) → count ≤ length (block ++ first) →
     waits ≡ drop count (block ++ first) →

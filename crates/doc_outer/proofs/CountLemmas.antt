@@ -10,3 +10,12 @@ Rose-after first mid now on rose =
     let least = min-le_left (first + 1) last_count in
     let step : raised first ≤ raised mid = le-min (omega (arith, up, least)) (min-le_right (first + 1) last_count) in
     le_trans step rose
+
+pub count_stays : (n : ℕ) → GoesOn n n
+count_stays n = record { not_fallen = omega arith; not_beyond = λ h. h }
+
+pub count_on : (a b c : ℕ) → GoesOn a b → GoesOn b c → GoesOn a c
+count_on a b c one other = record {
+  not_fallen = (let p = one.not_fallen in let q = other.not_fallen in omega (arith, p, q));
+  not_beyond = λ h. other.not_beyond (one.not_beyond h);
+}

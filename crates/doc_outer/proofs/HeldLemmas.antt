@@ -1,4 +1,4 @@
--- On facts that hold wherever the files are told, and on names that stay.
+-- On facts that hold wherever the files are known, and on names that stay.
 use Rattle.std.proofs.Common.{◌≡◌, refl, ℕ, List, cond, false, ap, ◌∙◌}
 use Rattle.std.specs.Prelude.{Option, Some, None}
 use Rattle.std.specs.Ordering.{nat_cmp, eq_by_cmp}

@@ -1,6 +1,7 @@
-pub mod BlockLemmas
-pub mod CountLemmas
-pub mod HeldLemmas
-pub mod StoreLemmas
-pub mod WholeLemmas
-pub mod WrittenLemmas
+pub mod Public
+mod BlockLemmas
+mod CountLemmas
+mod HeldLemmas
+mod StoreLemmas
+mod WholeLemmas
+mod WrittenLemmas

@@ -11,7 +11,7 @@ abbrev pub IsFront : List ℕ → Option (List ℕ) → Type 0
 IsFront bytes None = length bytes ≡ 0
 IsFront bytes (Some all) = (bytes ≡ take (length bytes) all) × (length bytes ≤ length all)
 
--- a front, and what stands behind it
+-- a front, and what is behind it
 front_append : (bytes part all : List ℕ) (count : ℕ) → bytes ≡ take (length bytes) all → length bytes ≤ length all →
     part ≡ take count (drop (length bytes) all) → count ≤ length (drop (length bytes) all) → IsFront (bytes ++ part)
     (Some all)

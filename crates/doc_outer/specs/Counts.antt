@@ -1,4 +1,4 @@
--- Counts of what went wrong outside. A count is a number of 64 bits that never falls; at its last value it stands
+-- Counts of what went wrong outside. A count is a number of 64 bits that never falls; at its last value it is
 -- still.
 use Rattle.std.specs.Prelude.{ℕ, ◌+◌, ◌≤◌, min}
 
@@ -10,7 +10,7 @@ last_count = 18446744073709551615
 abbrev pub raised : ℕ → ℕ
 raised count = min (count + 1) last_count
 
--- the count rose, or it stands at its last value
+-- the count rose, or it is at its last value
 abbrev pub Rose : ℕ → ℕ → Type 0
 Rose before now = raised before ≤ now
 

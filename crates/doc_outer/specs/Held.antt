@@ -1,4 +1,4 @@
--- What names hold, where that is told: the meaning of a shelf, and what a read and a put say of it.
+-- What names hold, where that is known: the meaning of a shelf, and what a read and a put say of it.
 use Rattle.std.specs.Prelude.{◌≡◌, ◌≢◌, ℕ, ◌<◌, ◌≤◌, List, length, take, drop, Option, Some, None, option_map, ⊤}
 use Rattle.std.specs.Ordering.{nat_cmp}
 use Rattle.std.specs.Cmp.Lexicographic.{slice_cmp}
@@ -20,11 +20,11 @@ file_at files name = map.get files name
 abbrev pub with_file : Files → List ℕ → List ℕ → Files
 with_file files name bytes = map.insert files name bytes
 
--- what names hold after the bytes were put under the name, where that is told
+-- what names hold after the bytes were put under the name, where that is known
 abbrev pub held_with : Option Files → (name bytes : List ℕ) → Option Files
 held_with held name bytes = option_map (λ files. with_file files name bytes) held
 
--- the name holds what it held, where that is told; whether it is told stays
+-- the name holds what it held, where that is known; whether it is known stays
 abbrev pub StaysAt : List ℕ → Option Files → Option Files → Type 0
 StaysAt name None None = ⊤
 StaysAt name (Some before) (Some now) = file_at now name ≡ file_at before name
@@ -35,7 +35,7 @@ StaysAt name (Some before) None = ⊥
 abbrev pub OthersStay : List ℕ → Option Files → Option Files → Type 0
 OthersStay name before now = (other : List ℕ) → other ≢ name → StaysAt other before now
 
--- a fact on what the name holds, wherever the files are told
+-- a fact on what the name holds, wherever the files are known
 abbrev pub Told : Option Files → List ℕ → (Option (List ℕ) → Type 0) → Type 0
 Told None name fact = ⊤
 Told (Some files) name fact = fact (file_at files name)
@@ -53,7 +53,7 @@ abbrev pub IsLonger : ℕ → Option (List ℕ) → Type 0
 IsLonger count None = ⊥
 IsLonger count (Some all) = count < length all
 
--- the first bytes of the buffer are those that stand from a place on; none of them only at the end
+-- the first bytes of the buffer are those that are from a place on; none of them only at the end
 pub record IsPart (at count : ℕ) (buffer all : List ℕ) : Type 0 where
   pub bytes : take count buffer ≡ take count (drop at all)
   pub within : count ≤ length (drop at all)

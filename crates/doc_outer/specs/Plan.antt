@@ -1,4 +1,4 @@
--- Which calls of a stand-in are to fail. Calls are numbered from 1 to 4,294,967,295; later calls have no number.
+-- Which calls of a are-in are to fail. Calls are numbered from 1 to 4,294,967,295; later calls have no number.
 use Rattle.std.specs.Prelude.{ℕ, ◌+◌, ◌<◌, List, [], ◌∷◌, ◌++◌, min, Contains}
 
 pub record Plan : Type 0 where

@@ -1,7 +1,7 @@
--- What a byte sink has taken, where that is told.
+-- What a byte sink has taken, where that is known.
 use Rattle.std.specs.Prelude.{◌≡◌, ℕ, ◌≤◌, List, ◌++◌, length, take, drop, Option, Some, None, ⊤}
 
--- the new bytes are the old ones and then these; whether they are told stays
+-- the new bytes are the old ones and then these; whether they are known stays
 abbrev pub Appends : Option (List ℕ) → Option (List ℕ) → List ℕ → Type 0
 Appends None None more = ⊤
 Appends (Some old) (Some new) more = new ≡ old ++ more

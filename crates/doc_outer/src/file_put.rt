@@ -1,4 +1,4 @@
-// Bytes are put under the name of a real file. What stands there is replaced whole, or not at all, where
+// Bytes are put under the name of a real file. What is there is replaced whole, or not at all, where
 // the system lets a file be made beside it.
 use std::alloc::Global;
 use std::fs::{OpenFile, OpenOptions, Permissions};
@@ -18,7 +18,7 @@ const OWNER_ONLY: u32 = 0o600;
 #[derive(Drop)]
 struct Place {
     path: PathBuf,
-    /// Those of the file that stands there.
+    /// Those of the file that is there.
     permissions: Option<Permissions>,
 }
 
@@ -147,7 +147,7 @@ fn fill<F: Write + OpenFile + Drop>(
     file.sync_all()
 }
 
-/// Writes into what the name stands for. Once that is opened it is no longer as it was, so that no
+/// Writes into what the name represents. Once that is opened it is no longer as it was, so that no
 /// failure from there on is want of memory; else it keeps the system's reason.
 fn write_directly<R: Files>(files: &R, name: &str, bytes: &[u8]) -> io::Result<()> {
     let mut file = fs::create(files, name)?;

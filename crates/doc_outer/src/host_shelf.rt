@@ -1,4 +1,4 @@
-// Real files. What they hold is told by nobody: this is the trusted edge.
+// Real files. What they hold is known by nobody: this is the trusted edge.
 ghost use Rattle.std.specs.Prelude.{◌≡◌, ◌≤◌, length, None, IfOk, IsErrOf};
 ghost use Rattle.doc_outer.specs.Counts.{Rose, GoesOn};
 ghost use Rattle.doc_outer.specs.HostCounts.{no_counts};
@@ -26,7 +26,7 @@ struct LastFile<F> {
     at: u64,
 }
 
-/// The files of the system, by their paths. Why a call failed is told on the standard error.
+/// The files of the system, by their paths. Why a call failed is written to the standard error.
 #[derive(Drop)]
 pub struct HostShelf<R: Files + Drop, E: Eprint + Drop> {
     alloc: Global,
@@ -167,7 +167,7 @@ impl<R: Files + Drop, E: Eprint + Drop> Shelf for HostShelf<R, E> {
     ghost missed = { λ s. s.missed };
 
     fn read_at(&mut self, name: &str, at: u64, buf: &mut [u8]) -> Result<usize, ShelfFault>
-        // As every shelf, but nothing is told.
+        // As every shelf, but nothing is known.
         ensures within { IfOk result (λ count. count ≤ length buf.old) }
         ensures failed { IsErrOf result ShelfFault.Failed → Rose self.old.faults self.new.faults }
         ensures missing { IsErrOf result ShelfFault.Missing → Rose self.old.missed self.new.missed }
@@ -193,7 +193,7 @@ impl<R: Files + Drop, E: Eprint + Drop> Shelf for HostShelf<R, E> {
     }
 
     fn put(&mut self, name: &str, bytes: &[u8]) -> Result<(), PutFault>
-        // As every shelf, but nothing is told.
+        // As every shelf, but nothing is known.
         ensures failed { IsErrOf result PutFault.Failed
             → Rose self.old.faults self.new.faults × Rose self.old.put_faults self.new.put_faults }
         ensures memory { IsErrOf result PutFault.Memory

@@ -1,4 +1,4 @@
-// Standard output. What it has taken is told by nobody: this is the trusted edge.
+// Standard output. What it has taken is known by nobody: this is the trusted edge.
 ghost use Rattle.std.specs.Prelude.{◌≡◌, ◌<◌, ◌≤◌, ℕ, length, None, IfOk, OnErr};
 ghost use Rattle.doc_outer.specs.Counts.{raised, Rose, GoesOn};
 ghost use Rattle.doc_outer.specs.ByteSink.{faults_taking};
@@ -11,7 +11,7 @@ use std::marker::Model;
 /// How often a write that a signal cut short is tried.
 const TRIES: usize = 64;
 
-/// Standard output. A closed pipe and a full disk are failed calls. Why a call failed is told on the standard error,
+/// Standard output. A closed pipe and a full disk are failed calls. Why a call failed is written to the standard error,
 /// but for a closed pipe: whoever closed it wanted no more.
 #[derive(Drop)]
 pub struct HostSink<P: Print + Drop, E: Eprint + Drop> {
@@ -70,7 +70,7 @@ impl<P: Print + Drop, E: Eprint + Drop> Sink for HostSink<P, E> {
     ghost faults = { λ s. s };
 
     fn put(&mut self, bytes: &[u8]) -> Result<usize, SinkFailed>
-        // As every sink, but nothing is told.
+        // As every sink, but nothing is known.
         ensures within { IfOk result (λ count. count ≤ length bytes.now) }
         ensures failed { OnErr result (Rose self.old self.new) }
         ensures nothing { IfOk result (λ count.

@@ -1,4 +1,4 @@
-//! The world outside: files by name, a byte sink, and stand-ins for both.
+//! The world outside: files by name, a byte sink, and both in memory.
 #![tactic(auto)]
 
 mod file_put;
@@ -14,7 +14,7 @@ mod whole;
 
 pub use host_shelf::HostShelf;
 pub use host_sink::HostSink;
-pub use mem_shelf::MemShelf;
+pub use mem_shelf::{MemShelf, copy_part};
 pub use mem_sink::MemSink;
 pub use out_block::OutBlock;
 pub use shelf::{PutFault, Shelf, ShelfFault};

@@ -1,4 +1,4 @@
-// Files in memory, to stand in for real ones.
+// Files in memory, to be in for real ones.
 ghost use Rattle.std.specs.Prelude.{◌≡◌, ◌≢◌, ◌-◌, ◌≤◌, length, min, Some, IfOk, OnOk, OnErr, IsErrOf, option_map};
 ghost use Rattle.doc_outer.specs.Counts.{Rose, GoesOn};
 ghost use Rattle.doc_outer.specs.Held.{file_at, with_file, held_with, OthersStay, Told, ReadsPart, IsAbsent, IsPart};
@@ -91,8 +91,8 @@ fn newest<'a>(entries: &'a VecDeque<(Text, Bytes)>, name: &str) -> Option<&'a [u
     None
 }
 
-/// Copies what stands from `at` on, as far as the buffer has room, and answers how many bytes.
-fn copy_part(all: &[u8], at: u64, buf: &mut [u8]) -> usize
+/// Copies what is from `at` on, as far as the buffer has room, and answers how many bytes.
+pub fn copy_part(all: &[u8], at: u64, buf: &mut [u8]) -> usize
     ensures count { result ≡ min (length buf.old) (length all.now - at) }
     ensures part { IsPart at result buf.new all.now }
 {

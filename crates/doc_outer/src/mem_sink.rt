@@ -1,4 +1,4 @@
-// A byte sink in memory, to stand in for standard output.
+// A byte sink in memory, in place of standard output.
 ghost use Rattle.std.specs.Prelude.{◌≡◌, ◌+◌, ◌++◌, ◌<◌, ◌≤◌, length, take, true, Some, Ok, IfOk, OnOk, OnErr, IsErr};
 ghost use Rattle.std.specs.Prelude.{MatchResult, vec_len, vec_capacity};
 ghost use Rattle.doc_outer.specs.ByteSink.{empty_sink, taken_count, sink_after, sink_failed};

@@ -1,4 +1,4 @@
-// Which calls of a stand-in are to fail.
+// Which calls of a are-in are to fail.
 ghost use Rattle.std.specs.Prelude.{◌≡◌, ◌↔◌, IsTrue, OnOk, OnErr};
 ghost use Rattle.doc_outer.specs.Plan.{no_plan, fails_at, after_call, FailsNext};
 

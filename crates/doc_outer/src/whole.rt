@@ -8,7 +8,7 @@ use std::alloc::{AllocError, Global};
 use thiserror::Error;
 
 /// How many bytes a file has at most: 1 + 109 * 128 sectors of 512 bytes, as many as the FAT sectors
-/// that the header of a compound file can name stand for.
+/// that the header of a compound file can name represent.
 pub const MAX_FILE_LEN: usize = 7_143_936;
 
 /// How many bytes are asked for at once.

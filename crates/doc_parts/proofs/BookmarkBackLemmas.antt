@@ -8,10 +8,9 @@ use Rattle.std.proofs.lemmas.List.{append-nil, map-append, take_all, take-append
 use Rattle.std.proofs.lemmas.List.Elements.{All-head, All-tail, All-weaker}
 use Rattle.std.proofs.lemmas.Option.{same_Some}
 use Rattle.doc_bits.specs.Number.{number_at, u16_at, number_bytes}
-use Rattle.doc_bits.proofs.NumberLemmas.{length-number_bytes, number_at-number_bytes, number_at-read_back}
+use Rattle.doc_bits.proofs.Public.{length-number_bytes, number_at-number_bytes, number_at-read_back, number_at-after}
+use Rattle.doc_bits.proofs.Public.{number_at-range, All_at, there_is}
 use Rattle.doc_bits.specs.Plc.{PlcPart, plc_entry}
-use Rattle.doc_bits.proofs.NumberLemmas.{number_at-after, number_at-range}
-use Rattle.doc_bits.proofs.ListLemmas.{All_at, there_is}
 use Rattle.doc_parts.specs.declared.bookmark_order.Bookmark.{Bookmark}
 use Rattle.doc_parts.specs.Tabulated.{tabulate}
 use Rattle.doc_parts.specs.BookmarkParts.{bookmark_count, name_place, name_of, HasNameFront, IsWholeName}
@@ -96,7 +95,7 @@ front_extra count rest =
 
 -- ---- the names
 
--- a name with what stands before and behind it
+-- a name with what is before and behind it
 named_parts : (front : List ℕ) (list : List Bookmark) (k : ℕ) (x : Bookmark) → slice_get list k ≡ Some x →
     front ++ names_bytes list
     ≡ (front ++ names_bytes (take k list)) ++ (number_bytes 2 (length x.name)

@@ -11,8 +11,7 @@ use Rattle.std.specs.Option.{option_map}
 use Rattle.doc_bits.specs.Number.{u16_at, number_bytes}
 use Rattle.doc_bits.specs.Plc.{IsPlcOf, plc_cp, plc_entry, HasPlc}
 use Rattle.doc_bits.specs.Rules.{Nowhere}
-use Rattle.doc_bits.proofs.ListLemmas.{there_is, All_at}
-use Rattle.doc_bits.proofs.PlcLemmas.{printed-HasPlc}
+use Rattle.doc_bits.proofs.Public.{there_is, All_at, printed-HasPlc, length-number_bytes}
 use Rattle.doc_parts.specs.declared.bookmark_order.Bookmark.{Bookmark}
 use Rattle.doc_parts.specs.declared.bookmark_print.Start.{Start}
 use Rattle.doc_parts.specs.Order.{in_order}
@@ -27,7 +26,6 @@ use Rattle.doc_parts.specs.PrintedBookmarks.{starts_of}
 use Rattle.doc_parts.specs.PrintedBookmarks.{printed_starts, printed_ends, BookmarksAreReadBack}
 use Rattle.doc_parts.proofs.OrderLemmas.{sorted_stays, all_in_order}
 use Rattle.doc_parts.proofs.BookmarkLemmas.{bookmark_total, bookmark_alone}
-use Rattle.doc_bits.proofs.NumberLemmas.{length-number_bytes}
 use Rattle.doc_parts.proofs.NameLemmas.{there_at}
 use Rattle.doc_parts.proofs.NumberingLemmas.{end_there, end_within, length-ends}
 use Rattle.doc_parts.proofs.BookmarkPartLemmas.{right_names, right_starts}

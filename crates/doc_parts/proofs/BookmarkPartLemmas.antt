@@ -8,10 +8,9 @@ use Rattle.std.specs.Prelude.{All, nat_lt}
 use Rattle.std.proofs.lemmas.Bool.Decides.{nat_tests}
 use Rattle.std.proofs.lemmas.List.Elements.{filter-append, All-filter, All-push}
 use Rattle.doc_bits.specs.Number.{u16_at, AreBytes}
-use Rattle.doc_bits.proofs.NumberLemmas.{number_at-bound}
+use Rattle.doc_bits.proofs.Public.{number_at-bound, least_same, least_either}
 use Rattle.doc_bits.specs.Plc.{IsPlcOf, plc_cp}
 use Rattle.doc_bits.specs.Rules.{Nowhere, IsLeast, LeastOrNone, lesser_of}
-use Rattle.doc_bits.proofs.RuleLemmas.{least_same, least_either}
 use Rattle.doc_parts.specs.Tabulated.{tabulate}
 use Rattle.doc_parts.specs.BookmarkParts.{bookmark_count, name_place, HasNameFront, IsWholeName, AreWholeNames}
 use Rattle.doc_parts.specs.BookmarkParts.{IsWrongCount}
@@ -23,6 +22,7 @@ use Rattle.doc_parts.specs.declared.bookmark_order.Bookmark.{Bookmark}
 use Rattle.doc_parts.specs.Order.{in_order}
 use Rattle.doc_parts.specs.Table.{IsWrongPart}
 use Rattle.doc_parts.specs.Bookmarks.{bookmark_cmp, HasFileNumbers}
+use Rattle.std.proofs.lemmas.List.{length-append}
 
 -- ---- lists by their places
 
@@ -177,7 +177,7 @@ pub none_tabulated : {A : Type 0} (p : A → Bool) (f : ℕ → A) → filter p 
 unfolding tabulate
 none_tabulated p f = refl
 
-all_tabulated : {A : Type 0} (P : A → Type 0) (f : ℕ → A) (n : ℕ) → ((k : ℕ) → P (f k)) → All P (tabulate f n)
+pub all_tabulated : {A : Type 0} (P : A → Type 0) (f : ℕ → A) (n : ℕ) → ((k : ℕ) → P (f k)) → All P (tabulate f n)
 unfolding tabulate
 all_tabulated P f zero each = λ k d low. absurd (omega (arith, low))
 all_tabulated P f (suc n) each = All-push P (tabulate f n) (f n) (all_tabulated P f n each) (each n)
@@ -253,7 +253,7 @@ stable_eq a b h =
     let over : b ≤ a = stable_le b a (λ no. h (λ e. no (omega (arith, e)))) in
     omega (arith, upto, over)
 
--- a wrong count of a part that stands further on
+-- a wrong count of a part that is further on
 moved_count : (names : List ℕ) (at p : ℕ) → HasWrongCount names 0 p → HasWrongCount names at (at + p)
 moved_count names at p w = record {
   entry = w.entry;
@@ -324,3 +324,19 @@ right_elsewhere names starts ends at other right = record {
   indexes = right.indexes;
   ends = right.ends;
 }
+
+pub all_tabulated_below : {A : Type 0} (P : A → Type 0) (f : ℕ → A) (n : ℕ) → ((k : ℕ) → k < n → P (f k)) → All P
+    (tabulate f n)
+unfolding tabulate
+all_tabulated_below P f zero each = λ k d low. absurd (omega (arith, low))
+all_tabulated_below P f (suc n) each =
+    All-push P (tabulate f n) (f n) (all_tabulated_below P f n (λ k low. each k (omega (arith, low)))) (each n (omega
+    arith))
+
+pub length-tabulate : {A : Type 0} (f : ℕ → A) (n : ℕ) → length (tabulate f n) ≡ n
+unfolding tabulate
+length-tabulate f zero = refl
+length-tabulate f (suc n) =
+    let before = length-tabulate f n in
+    let both = length-append (tabulate f n) (f n ∷ []) in
+    omega (arith, before, both)

@@ -6,7 +6,7 @@ use Rattle.std.proofs.Math.Nat.{mod-eq_of_lt}
 use Rattle.std.proofs.lemmas.Bool.Decides.{nat_tests}
 use Rattle.std.proofs.lemmas.List.{append-nil}
 use Rattle.doc_bits.specs.Number.{number_bytes, u16_at}
-use Rattle.doc_bits.proofs.NumberLemmas.{number_at-number_bytes, number_at-read_back, length-number_bytes}
+use Rattle.doc_bits.proofs.Public.{number_at-number_bytes, number_at-read_back, length-number_bytes}
 use Rattle.doc_parts.specs.declared.lists.Sed.{Sed}
 use Rattle.doc_parts.specs.declared.lists.Fld.{Fld}
 use Rattle.doc_parts.specs.declared.lists.NoteRef.{NoteRef}

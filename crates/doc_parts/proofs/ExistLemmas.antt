@@ -1,4 +1,4 @@
--- Lists from what stands at each place, and the entries of tables without a wrong one.
+-- Lists from what is at each place, and the entries of tables without a wrong one.
 use Rattle.std.proofs.Common.{◌≡◌, inl, inr, refl, sym, ap, subst, ℕ, zero, suc, ◌<◌, ◌∙◌, List, [], ◌∷◌, ◌++◌}
 use Rattle.std.proofs.Common.{length, Option, Some, None, IsSome, get_or, arith, length-append}
 use Rattle.std.specs.Prelude.{slice_get}
@@ -6,7 +6,7 @@ use Rattle.std.specs.Option.{unwrap_or}
 use Rattle.std.proofs.lemmas.Bool.{cases_lt}
 use Rattle.std.proofs.lemmas.Option.{slice_get_within, slice_get-get_or}
 use Rattle.doc_bits.specs.Plc.{PlcPart, plc_cp}
-use Rattle.doc_bits.proofs.TestLemmas.{stable_le, stable_eq}
+use Rattle.doc_bits.proofs.Public.{stable_le, stable_eq}
 use Rattle.doc_parts.specs.declared.cps.CpForm.{CpForm}
 use Rattle.doc_parts.specs.declared.cps.CpOrder.{CpOrder}
 use Rattle.doc_parts.specs.declared.cps.CpOrder.TheVariants.{Ascend, NeverFall}
@@ -14,7 +14,7 @@ use Rattle.doc_parts.specs.Cps.{ComesBefore, IsCpInOrder}
 use Rattle.doc_parts.specs.Table.{EntryForm, KeepsCp, entry_at, IsValidEntry, AreEntries}
 use Rattle.doc_parts.proofs.TableLemmas.{slice_get_push, slice_get_before, leading_of_right}
 
--- ---- a list of what stands at each place
+-- ---- a list of what is at each place
 
 pub record HasList {A : Type 0} (n : ℕ) (Is : ℕ → A → Type 0) : Type 0 where
   pub list : List A

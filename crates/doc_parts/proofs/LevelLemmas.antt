@@ -4,7 +4,7 @@ use Rattle.std.proofs.Common.{subst, arith, add-one, eq-eqb, below_more, List, t
 use Rattle.std.proofs.lemmas.Bool.{ne_eqb, cases_lt}
 use Rattle.std.specs.Prelude.{slice_index, slice_range}
 use Rattle.doc_bits.specs.Number.{number_at, u16_at}
-use Rattle.doc_bits.proofs.NumberLemmas.{number_at-range}
+use Rattle.doc_bits.proofs.Public.{number_at-range}
 use Rattle.std.proofs.lemmas.List.{nil_from_length, get_or-take, get_or-drop}
 use Rattle.doc_bits.specs.Rules.{Hold, IsFirst}
 use Rattle.doc_parts.specs.Levels.{levels_before, levels_of_list, level_count, level_end, level_start, AreLevelsFrom}
@@ -139,7 +139,7 @@ pub level_count-empty : (part : List ℕ) → length part ≡ 0 → level_count 
 unfolding levels_before number_at
 level_count-empty part h = rw (nil_from_length part h) refl
 
--- ---- levels that stand within a table stream
+-- ---- levels that are within a table stream
 
 -- a byte of a part
 index_inside : (table levels : List ℕ) (from i : ℕ) → slice_range table from (from + length levels) ≡ levels →
@@ -184,7 +184,7 @@ starts_inside table levels from (suc k) e whole =
     ∙ (ap (level_end table) ih
     ∙ (level_inside table levels from (level_start levels 0 k) e low ∙ ap (λ x. from + x) (sym own))))
 
--- whole levels that stand from a place on are levels there
+-- whole levels that are from a place on are levels there
 pub levels_inside : (table levels : List ℕ) (from n : ℕ) → from + length levels ≤ length table → slice_range table
     from (from + length levels) ≡ levels → AreLevelsFrom levels 0 n (length levels) → AreLevelsFrom table from n
     (from + length levels)

@@ -1,18 +1,19 @@
-pub mod TableLemmas
-pub mod SectionLemmas
-pub mod LevelLemmas
-pub mod PrintLemmas
-pub mod ReadBackLemmas
-pub mod EntryLemmas
-pub mod LawLemmas
-pub mod ExistLemmas
-pub mod CpLemmas
-pub mod OrderLemmas
-pub mod BookmarkLemmas
-pub mod MoveLemmas
-pub mod NameLemmas
-pub mod BookmarkPartLemmas
-pub mod NumberingLemmas
-pub mod BookmarkBackLemmas
-pub mod BookmarkLawLemmas
-pub mod ApartLemmas
+pub mod Public
+mod TableLemmas
+mod SectionLemmas
+mod LevelLemmas
+mod PrintLemmas
+mod ReadBackLemmas
+mod EntryLemmas
+mod LawLemmas
+mod ExistLemmas
+mod CpLemmas
+mod OrderLemmas
+mod BookmarkLemmas
+mod MoveLemmas
+mod NameLemmas
+mod BookmarkPartLemmas
+mod NumberingLemmas
+mod BookmarkBackLemmas
+mod BookmarkLawLemmas
+mod ApartLemmas

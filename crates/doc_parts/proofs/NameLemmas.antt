@@ -1,4 +1,4 @@
--- The names of bookmarks: what keeps them apart, and where the first one stands that is there twice.
+-- The names of bookmarks: what keeps them apart, and where the first one is that is there twice.
 use Rattle.std.proofs.Common.{◌≡◌, ◌∙◌, inl, inr, refl, sym, ap, subst, ℕ, zero, suc, ◌+◌, ◌-◌, ◌<◌, ◌≤◌, ◌^◌, Bool}
 use Rattle.std.proofs.Common.{true}
 use Rattle.std.proofs.Common.{false, cond, not, List, [], ◌∷◌, ◌++◌, length, map, take, drop, get_or, set, Some, arith}
@@ -19,7 +19,7 @@ use Rattle.std.proofs.lemmas.List.Sorted.{ranks_by, sorted_far}
 use Rattle.std.proofs.lemmas.List.Sums.{sum_by-cons, sum_by_push, sum_by-take-le, sum_by-take-drop}
 use Rattle.std.proofs.lemmas.Option.{same_Some}
 use Rattle.doc_bits.specs.Rules.{Nowhere, IsLeast}
-use Rattle.doc_bits.proofs.RuleLemmas.{first_among}
+use Rattle.doc_bits.proofs.Public.{first_among}
 use Rattle.doc_parts.specs.declared.bookmark_order.Bookmark.{Bookmark}
 use Rattle.doc_parts.specs.Order.{put_in, in_order}
 use Rattle.doc_parts.specs.Bookmarks.{bookmark_cmp, HasFileNumbers, end_moved, moved_bookmark, moved_bookmarks}
@@ -213,7 +213,7 @@ apart_nowhere xs apart p w =
       own,
     )
 
--- what stands at a place
+-- what is at a place
 pub there_at : (xs : List Bookmark) (k : ℕ) (x : Bookmark) → slice_get xs k ≡ Some x →
     (k < length xs) × ((d : Bookmark) → get_or xs k d ≡ x)
 there_at [] k x here = absurd (cc here)

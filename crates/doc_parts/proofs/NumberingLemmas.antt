@@ -103,7 +103,7 @@ places_differ list one other some more differ same = elim (cases_lt one other) [
 
 -- ---- what is passed
 
--- beside the first place of each end stands how many equal ones there are among the bookmarks before
+-- beside the first place of each end is how many equal ones there are among the bookmarks before
 pub record ArePassed (list before : List Bookmark) (passed : List ℕ) : Type 0 where
   pub len : length passed ≡ length list
   pub each :
@@ -191,7 +191,7 @@ starts_of-push list before (x ∷ xs) b =
     ∙ ap (λ (zs : List Bookmark). starts_of list (before ++ x ∷ []) xs ++ start_of list zs b ∷ [])
     (append_assoc before (x ∷ []) xs))
 
--- ---- what stands at the place of an end
+-- ---- what is at the place of an end
 
 not_above : (y z : ℕ) → is_gt (nat_cmp y z) ≡ false → y ≤ z
 not_above y z h = elim (cases_lt z y) [
@@ -283,7 +283,7 @@ place_holds v (y ∷ ys) (suc j) up low high = elim (cases_lt y v) [
   ]
 ]
 
--- the end of a bookmark stands at its place
+-- the end of a bookmark is at its place
 pub end_there : (list : List Bookmark) (k : ℕ) (b : Bookmark) → slice_get list k ≡ Some b →
     slice_index (ends_of list) (end_place list (take k list) b.to) ≡ b.to
 end_there list k b here =

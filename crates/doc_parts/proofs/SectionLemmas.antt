@@ -4,11 +4,8 @@ use Rattle.std.proofs.Common.{Some, sym, subst, ◌∙◌, arith}
 use Rattle.std.proofs.lemmas.Option.{slice_get_within, same_Some}
 use Rattle.doc_bits.specs.Number.{AreBytes, u32_at}
 use Rattle.doc_bits.specs.Plc.{PlcPart, plc_cp, plc_entry}
-use Rattle.doc_bits.proofs.NumberLemmas.{number_at-bound}
-use Rattle.doc_bits.proofs.ByteListLemmas.{AreBytes-range}
-use Rattle.doc_bits.proofs.ListLemmas.{All-from_slice_get}
+use Rattle.doc_bits.proofs.Public.{number_at-bound, AreBytes-range, All-from_slice_get, least_same}
 use Rattle.doc_bits.specs.Rules.{LeastOrNone}
-use Rattle.doc_bits.proofs.RuleLemmas.{least_same}
 use Rattle.doc_parts.specs.declared.lists.Sed.{Sed}
 use Rattle.doc_parts.specs.Table.{plc_part, entry_at, AreLeading, IsEmptyOrWhole, IsWrongPart, HasWrongEntry}
 use Rattle.doc_parts.specs.Table.{BreaksTable}

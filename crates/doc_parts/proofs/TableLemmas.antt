@@ -8,8 +8,8 @@ use Rattle.std.proofs.lemmas.Option.{slice_get_cases}
 use Rattle.std.proofs.lemmas.List.{get_or-map, length-map}
 use Rattle.doc_bits.specs.Plc.{PlcPart, IsPlcOf, plc_cp, plc_entry}
 use Rattle.doc_bits.specs.Rules.{Nowhere, IsLeast}
-use Rattle.doc_bits.proofs.RuleLemmas.{first_among}
-pub use Rattle.doc_bits.proofs.ListLemmas.{slice_get_push, slice_get_before}
+use Rattle.doc_bits.proofs.Public.{first_among}
+pub use Rattle.doc_bits.proofs.Public.{slice_get_push, slice_get_before}
 use Rattle.doc_parts.specs.declared.cps.CpForm.{CpForm}
 use Rattle.doc_parts.specs.Cps.{ComesBefore, IsCpInOrder}
 use Rattle.doc_parts.specs.Table.{KeepsCp, EntryForm, plc_part, IsWholePlc, IsEmptyOrWhole, entry_at, IsValidEntry}

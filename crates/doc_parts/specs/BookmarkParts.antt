@@ -11,7 +11,7 @@ use Rattle.doc_parts.specs.Order.{in_order}
 use Rattle.doc_parts.specs.Tabulated.{tabulate}
 use Rattle.doc_parts.specs.Bookmarks.{bookmark_cmp}
 
--- the three parts, and where they stand in the table stream
+-- the three parts, and where they are in the table stream
 pub record BookmarkParts : Type 0 where
   pub names : List ℕ
   pub starts : List ℕ
@@ -37,7 +37,7 @@ parts_at names starts ends at = record {
 abbrev pub bookmark_count : List ℕ → ℕ
 bookmark_count names = u16_at names 2
 
--- where a name stands: a 16-bit count, and its units
+-- where a name is: a 16-bit count, and its units
 unfoldable pub name_place : List ℕ → ℕ → ℕ
 name_place names zero = 6
 name_place names (suc k) = name_place names k + 2 + 2 * u16_at names (name_place names k)
@@ -46,7 +46,7 @@ abbrev pub name_of : List ℕ → ℕ → List ℕ
 name_of names k =
     let place = name_place names k in tabulate (λ i. u16_at names (place + 2 + 2 * i)) (u16_at names place)
 
--- where the entry beside a start stands: the 16-bit place of its end among the ends, and 16-bit flags
+-- where the entry beside a start is: the 16-bit place of its end among the ends, and 16-bit flags
 abbrev pub start_entry : ℕ → ℕ → ℕ
 start_entry count k = 4 * (count + 1) + 4 * k
 
@@ -61,7 +61,7 @@ bookmark_at parts k = record {
   flags = u16_at parts.starts (start_entry (bookmark_count parts.names) k + 2);
 }
 
--- one whose end stands before its beginning or outside the main text is dropped
+-- one whose end is before its beginning or outside the main text is dropped
 abbrev pub is_kept : ℕ → Bookmark → Bool
 is_kept main_len bookmark = nat_le bookmark.from bookmark.to && nat_le bookmark.to main_len
 

@@ -28,12 +28,12 @@ pub record IsFormedBookmark (len : ℕ) (bookmark : Bookmark) : Type 0 where
   pub named : 1 ≤ length bookmark.name
   pub short : length bookmark.name ≤ 255
 
--- each is so, and they stand in their order
+-- each is so, and they are in their order
 pub record AreFormedBookmarks (len : ℕ) (list : List Bookmark) : Type 0 where
   pub each : All (IsFormedBookmark len) list
   pub in_order : IsSorted bookmark_cmp list
 
--- where an end goes when `count` items stand in place of those from `from` to before `to`
+-- where an end goes when `count` items are in place of those from `from` to before `to`
 abbrev pub end_moved : ℕ → ℕ → ℕ → ℕ → ℕ
 end_moved from to count p =
     if nat_le p from then p else (if nat_lt p to then from else p - (to - from) + count)

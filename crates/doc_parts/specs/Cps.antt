@@ -4,7 +4,7 @@ use Rattle.doc_parts.specs.declared.cps.CpOrder.{CpOrder}
 use Rattle.doc_parts.specs.declared.cps.CpOrder.TheVariants.{Ascend, NeverFall}
 use Rattle.doc_parts.specs.declared.cps.CpForm.{CpForm}
 
--- a CP may stand before another one
+-- a CP may be before another one
 abbrev pub ComesBefore : CpOrder → ℕ → ℕ → Type 0
 ComesBefore Ascend first second = first < second
 ComesBefore NeverFall first second = first ≤ second

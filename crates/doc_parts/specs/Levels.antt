@@ -1,4 +1,4 @@
--- [MS-DOC] PlfLst: a 16-bit count and the LSTFs; after the part stand the levels.
+-- [MS-DOC] PlfLst: a 16-bit count and the LSTFs; after the part are the levels.
 use Rattle.std.specs.Prelude.{◌≡◌, ◌⊎◌, ℕ, zero, suc, ◌+◌, ◌*◌, ◌%◌, ◌<◌, ◌≤◌, List, length, slice_index, slice_range}
 use Rattle.std.specs.Prelude.{◌==◌, if◌then◌else◌}
 use Rattle.doc_bits.specs.Number.{u16_at}
@@ -28,7 +28,7 @@ abbrev pub level_end : List ℕ → ℕ → ℕ
 level_end table at =
     let text = at + 28 + slice_index table (at + 25) + slice_index table (at + 24) in text + 2 + 2 * u16_at table text
 
--- each level stands right after the one before it
+-- each level is right after the one before it
 unfoldable pub level_start : List ℕ → ℕ → ℕ → ℕ
 level_start table from zero = from
 level_start table from (suc k) = level_end table (level_start table from k)

@@ -46,7 +46,7 @@ AreSections plc main_len list = AreEntries sed_form (sed_cps main_len) (plc_part
 abbrev pub printed_sections : List Sed → ℕ → List ℕ
 printed_sections = printed_entries sed_form
 
--- [MS-DOC] Sepx: a 16-bit count and the list. Profile: none stands in the first 1,024 bytes (rule 35).
+-- [MS-DOC] Sepx: a 16-bit count and the list. Profile: none is in the first 1,024 bytes (rule 35).
 pub record HasSepx (wd : List ℕ) (fc : ℕ) : Type 0 where
   pub after_fib : 1024 ≤ fc
   pub within : fc + 2 + u16_at wd fc ≤ length wd

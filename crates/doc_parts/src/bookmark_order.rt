@@ -60,7 +60,7 @@ impl Bookmark {
     }
 }
 
-/// Where a bookmark stands beside another.
+/// Where a bookmark is beside another.
 pub(crate) fn compare(one: &Bookmark, other: &Bookmark) -> Ordering
     ensures { result ≡ bookmark_cmp one.now other.now }
 {

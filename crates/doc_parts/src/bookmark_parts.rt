@@ -18,7 +18,7 @@ use crate::names::Name;
 use doc_bits::{Memory, get16, get32, lesser};
 use std::alloc::Global;
 
-const RULE_BOOKMARKS: u8 = 57;
+pub const RULE_BOOKMARKS: u8 = 57;
 
 /// What the names begin with: their units have 16 bits.
 pub(crate) const WIDE: u16 = 0xFFFF;
@@ -29,7 +29,7 @@ pub const STTBF_HEAD_LEN: usize = 6;
 /// The most units of a name.
 const NAME_MAX: usize = 255;
 
-/// Reads SttbfBkmk, PlcfBkf and PlcfBkl, which stand at `at` in the table stream, for a main text of
+/// Reads SttbfBkmk, PlcfBkf and PlcfBkl, which are at `at` in the table stream, for a main text of
 /// `main_len` units. The last CPs are not looked at.
 pub fn bookmarks(
     alloc: Global,

@@ -14,7 +14,7 @@ use crate::tables::{TableEntry, print_table};
 use doc_bits::{Bytes, Memory, get16, put16};
 use std::alloc::Global;
 
-/// A start with what stands beside it: the place of the end among the ends, and the flags.
+/// A start with what is beside it: the place of the end among the ends, and the flags.
 #[derive(Clone, Copy)]
 pub struct Start {
     pub cp: u32,

@@ -1,4 +1,4 @@
-// The order of the CPs of a table. The last CP of a table is judged by nobody.
+// The order of the CPs of a table. The last CP of a table is checked by nobody.
 ghost use Rattle.std.specs.Prelude.{◌≡◌, ◌<◌, ◌↔◌, IsTrue};
 ghost use Rattle.doc_bits.specs.Plc.{plc_cp};
 ghost use Rattle.doc_parts.specs.Cps.{ComesBefore, IsCpInOrder};
@@ -15,7 +15,7 @@ pub enum CpOrder {
 }
 
 impl CpOrder {
-    /// Whether a CP may stand before another one.
+    /// Whether a CP may be before another one.
     fn allows(self, first: u32, second: u32) -> bool
         ensures { IsTrue result ↔ ComesBefore self first second }
     {
@@ -32,7 +32,7 @@ pub struct CpForm {
     pub order: CpOrder,
     /// The first CP is 0.
     pub from_zero: bool,
-    /// Each CP may stand before it, in the same order.
+    /// Each CP may be before it, in the same order.
     pub story_len: u32,
 }
 

@@ -13,7 +13,7 @@ use crate::tables::{TableEntry, print_table, read_table};
 use doc_bits::{Bytes, Memory};
 use std::alloc::Global;
 
-const RULE_FIELDS: u8 = 52;
+pub const RULE_FIELDS: u8 = 52;
 
 /// What a field character does.
 #[derive(Clone, Copy)]
@@ -114,7 +114,7 @@ pub fn leading_fields(
     })
 }
 
-/// Reads a PlcFld, which stands at `at` in the table stream, for a story of `story_len` units. The
+/// Reads a PlcFld, which is at `at` in the table stream, for a story of `story_len` units. The
 /// last CP is not looked at, and the units in the text neither.
 pub fn fields(alloc: Global, plc: &[u8], at: u32, story_len: u32) -> Result<Flds, PartFault>
     requires { at + length plc.now < 2 ^ 32 }

@@ -30,7 +30,7 @@ pub struct LevelFault {
     pub offset: u32,
 }
 
-/// The number of bytes of the levels after PlfLst, which stands at `at` with `lcb` bytes.
+/// The number of bytes of the levels after PlfLst, which is at `at` with `lcb` bytes.
 pub fn list_levels(table: &[u8], at: u32, lcb: u32) -> Result<u32, LevelFault>
     requires within { at + lcb ≤ length table.now }
     requires addressed { length table.now < 2 ^ 32 }

@@ -18,10 +18,10 @@ mod tables;
 
 pub use bookmark_list::{Bookmarks, sort_names};
 pub use bookmark_order::Bookmark;
-pub use bookmark_parts::{STTBF_HEAD_LEN, bookmarks};
+pub use bookmark_parts::{RULE_BOOKMARKS, STTBF_HEAD_LEN, bookmarks};
 pub use bookmark_print::{print_ends, print_names, print_starts};
 pub use fault::PartFault;
-pub use field_part::{LeadingFields, fields, leading_fields, print_fields};
+pub use field_part::{LeadingFields, RULE_FIELDS, fields, leading_fields, print_fields};
 pub use laws::{
     bookmarks_are_read_back, fields_are_read_back, moves_keep_form, refs_are_read_back,
     sections_are_read_back, texts_are_read_back,
@@ -33,4 +33,4 @@ pub use level_part::{
 pub use lists::{Cuts, Fld, Flds, NoteRef, Refs, Sed, Seds};
 pub use names::Name;
 pub use section_part::{FC_SEPX, NO_SEPX, SED_LEN, fc_sepx_place, print_sections, sections, sepx};
-pub use story_parts::{note_refs, print_refs, print_texts, texts};
+pub use story_parts::{RULE_NOTES, note_refs, print_refs, print_texts, texts};

@@ -19,7 +19,7 @@ const RULE_SECTIONS: u8 = 33;
 /// A section has this fcSepx where it has no properties.
 pub const NO_SEPX: u32 = 0xFFFF_FFFF;
 
-/// A Sepx stands nowhere before it in `WordDocument`.
+/// A Sepx is nowhere before it in `WordDocument`.
 const SEPX_FROM: usize = 1024;
 
 /// The place of fcSepx in a Sed.
@@ -58,7 +58,7 @@ impl TableEntry for Sed {
     ghost keeps_cp = { sed-keeps_cp };
 }
 
-/// Reads PlcfSed, which stands at `at` in the table stream, for a main text of `main_len` units.
+/// Reads PlcfSed, which is at `at` in the table stream, for a main text of `main_len` units.
 /// The last CP is not looked at.
 pub fn sections(alloc: Global, plc: &[u8], at: u32, main_len: u32) -> Result<Seds, PartFault>
     requires { at + length plc.now < 2 ^ 32 }
@@ -115,7 +115,7 @@ pub fn sepx(wd: &[u8], fc: u32) -> Option<(usize, usize)>
     }
 }
 
-/// The place in the table stream of fcSepx of section `k`, where PlcfSed stands at `at` and has
+/// The place in the table stream of fcSepx of section `k`, where PlcfSed is at `at` and has
 /// `count` sections.
 pub fn fc_sepx_place(at: u32, count: usize, k: usize) -> u32
     requires section { k < count }

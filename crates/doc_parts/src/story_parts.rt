@@ -12,7 +12,7 @@ use crate::tables::{TableEntry, print_table, read_table};
 use doc_bits::{Bytes, Memory, get16};
 use std::alloc::Global;
 
-const RULE_NOTES: u8 = 53;
+pub const RULE_NOTES: u8 = 53;
 
 impl TableEntry for NoteRef {
     ghost form = { ref_form };
@@ -43,7 +43,7 @@ impl TableEntry for NoteRef {
     ghost keeps_cp = { ref-keeps_cp };
 }
 
-/// A CP of a story's texts stands alone.
+/// A CP of a story's texts is alone.
 impl TableEntry for u32 {
     ghost form = { cut_form };
 
@@ -70,7 +70,7 @@ impl TableEntry for u32 {
     ghost keeps_cp = { cut-keeps_cp };
 }
 
-/// Reads PlcffndRef, which stands at `at` in the table stream, for a main text of `main_len` units.
+/// Reads PlcffndRef, which is at `at` in the table stream, for a main text of `main_len` units.
 /// The last CP is not looked at.
 pub fn note_refs(alloc: Global, plc: &[u8], at: u32, main_len: u32) -> Result<Refs, PartFault>
     requires { at + length plc.now < 2 ^ 32 }
@@ -95,7 +95,7 @@ pub fn note_refs(alloc: Global, plc: &[u8], at: u32, main_len: u32) -> Result<Re
     })
 }
 
-/// Reads PlcffndTxt or PlcfHdd, which stands at `at` in the table stream, for a story of
+/// Reads PlcffndTxt or PlcfHdd, which is at `at` in the table stream, for a story of
 /// `story_len` units. `rule` is the number that a fault gets. The last CP is not looked at.
 pub fn texts(
     alloc: Global,

@@ -1,6 +1,7 @@
-pub mod FirstLemmas
-pub mod RangeLemmas
-pub mod MakeLemmas
-pub mod MakingLemmas
-pub mod ModifyLemmas
-pub mod PlaceLemmas
+pub mod Public
+mod FirstLemmas
+mod RangeLemmas
+mod MakeLemmas
+mod MakingLemmas
+mod ModifyLemmas
+mod PlaceLemmas

@@ -6,7 +6,7 @@ use Rattle.std.proofs.lemmas.List.{set-get_or}
 use Rattle.std.proofs.lemmas.Option.{get_or_from_slice_get}
 use Rattle.prop_map.specs.Settings.{Properties}
 use Rattle.prop_map.specs.Overlay.{overlay}
-use Rattle.prop_map.proofs.MapLemmas.{is_overlay}
+use Rattle.prop_map.proofs.Public.{is_overlay}
 use Rattle.style_sheet.specs.Sheet.{Sheet}
 use Rattle.style_sheet.specs.Changes.{SetsCharacters, SetsParagraphs, characters_of, with_characters, paragraphs_of}
 use Rattle.style_sheet.specs.Changes.{with_paragraphs, with_kind, with_style}

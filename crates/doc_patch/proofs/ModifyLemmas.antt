@@ -1,4 +1,4 @@
--- What becomes of items whose properties change, or what stands beside them.
+-- What becomes of items whose properties change, or what is beside them.
 use Rattle.std.proofs.Common.{◌≡◌, ◌∙◌, refl, sym, ap, subst, ℕ, ◌+◌, ◌<◌, ◌≤◌, List, length, Option, Some, None}
 use Rattle.std.specs.Prelude.{option_map}
 use Rattle.std.specs.Option.{ForSome}
@@ -8,7 +8,7 @@ use Rattle.prop_map.specs.Settings.{Properties}
 use Rattle.prop_map.specs.Formed.{IsPropertyMap, paragraph_groups, section_groups}
 use Rattle.prop_map.specs.Modifiers.{IsFormedModifier}
 use Rattle.prop_map.specs.Overlay.{overlay, modified_characters}
-use Rattle.prop_map.proofs.MapLemmas.{overlay_formed}
+use Rattle.prop_map.proofs.Public.{overlay_formed}
 use Rattle.run_lists.specs.Changed.{IsChanged}
 use Rattle.plain_doc.specs.declared.item.Item.{Item}
 use Rattle.doc_columns.specs.declared.attached.Attached.{Attached}

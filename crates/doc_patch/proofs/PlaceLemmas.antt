@@ -1,4 +1,4 @@
--- Places of a text, found in the runs of what stands beside its units.
+-- Places of a text, found in the runs of what is beside its units.
 use Rattle.std.proofs.Common.{◌≡◌, ◌∙◌, ◌⊎◌, inl, inr, refl, sym, ap, subst, cond, min, ℕ, zero, suc, ◌+◌, ◌-◌, ◌*◌}
 use Rattle.std.proofs.Common.{◌<◌, ◌≤◌, Bool, true, false, List, [], ◌∷◌, ◌++◌, length, map, take, drop, get_or}
 use Rattle.std.proofs.Common.{Option, Some, None, arith}
@@ -17,9 +17,7 @@ use Rattle.run_lists.specs.declared.runs.Run.{Run}
 use Rattle.run_lists.specs.declared.cut.Spot.{Spot}
 use Rattle.run_lists.specs.Places.{IsFound}
 use Rattle.run_lists.specs.Spread.{expanded, total_len}
-use Rattle.run_lists.proofs.SpreadLemmas.{length-spread, extent-nil, extent_more, extent_all}
-use Rattle.run_lists.proofs.CutLemmas.{value_in_run}
-use Rattle.run_lists.proofs.ChangeLemmas.{part_range}
+use Rattle.run_lists.proofs.Public.{length-spread, extent-nil, extent_more, extent_all, value_in_run, part_range}
 use Rattle.plain_doc.specs.declared.item.Item.{Item}
 use Rattle.doc_columns.specs.declared.attached.Attached.{Attached}
 use Rattle.doc_columns.specs.Attached.{attached_of}
@@ -45,7 +43,7 @@ not_true : (b : Bool) → (b ≡ true → ⊥) → b ≡ false
 not_true true none = absurd (none refl)
 not_true false none = refl
 
--- what stands beside a unit of a run
+-- what is beside a unit of a run
 attached_in : (runs : List (Run Attached)) (number begin k : ℕ) (run : Run Attached) (attached : Attached) →
     slice_get runs number ≡ Some run → begin ≡ total_len (take number runs) → begin ≤ k → k < begin + run.count
     → slice_get (expanded runs) k ≡ Some attached → run.value ≡ attached
@@ -295,9 +293,9 @@ count_of part p text attachments at count says are is =
         ∙ ap (λ (n : ℕ). cond (p item) 1 0 + n) (same_count items)
         ∙ sym (sum_by-cons (λ i. cond (p i) 1 0) item items)
 
--- ---- what stands at a place
+-- ---- what is at a place
 
--- a part of the item at a place, by what stands beside its unit
+-- a part of the item at a place, by what is beside its unit
 pub part_there : {A : Type 0} (f : Attached → Option A) (text : List Item) (place : ℕ) (attached : Attached) →
     slice_get (map attached_of text) place ≡ Some attached
     → option_and_then (λ item. f (attached_of item)) (slice_get text place) ≡ f attached

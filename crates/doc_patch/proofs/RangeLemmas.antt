@@ -7,9 +7,9 @@ use Rattle.std.proofs.lemmas.List.{length-map}
 use Rattle.std.proofs.lemmas.List.Edits.{length-between}
 use Rattle.std.proofs.Math.Seq.{drop-append_seam, take-append_seam}
 use Rattle.doc_bits.specs.Together.{AreTogether}
-use Rattle.doc_bits.proofs.ListLemmas.{map-map, range_mid}
+use Rattle.doc_bits.proofs.Public.{map-map, range_mid}
 use Rattle.run_lists.specs.Changed.{IsChanged}
-use Rattle.plain_doc.proofs.FormedLemmas.{length-splice}
+use Rattle.plain_doc.proofs.Public.{length-splice}
 use Rattle.doc_patch.specs.Changes.{map_range, changed_at, put_changed}
 
 -- values each of which became what a function makes of it
@@ -42,7 +42,7 @@ length-changed R from to old new changes ordered within =
     let fresh : length changes.fresh ≡ to - from = sym changes.each.len ∙ length-between old from to within in
     omega (arith, ap length changes.spliced, length-splice old changes.fresh from to ordered within, fresh)
 
--- what was put in place of a range stands there
+-- what was put in place of a range is there
 pub range_spliced : {A : Type 0} (xs ys : List A) (from to : ℕ) → from ≤ to → to ≤ length xs → length ys ≡ to - from →
     slice_range (splice xs from to ys) from to ≡ ys
 range_spliced xs ys from to ordered within long =

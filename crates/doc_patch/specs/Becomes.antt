@@ -1,4 +1,4 @@
--- What the properties of a run, and what stands beside its units, become by a change.
+-- What the properties of a run, and what is beside its units, become by a change.
 use Rattle.std.specs.Prelude.{◌≡◌, Option, option_map}
 use Rattle.std.specs.Option.{ForSome}
 use Rattle.prop_map.specs.declared.modifiers.Modifier.{Modifier}
@@ -21,11 +21,11 @@ StaysMark before after =
     ForSome before (λ mark. IsPropertyMap paragraph_groups mark.pap) →
     ForSome after (λ mark. IsPropertyMap paragraph_groups mark.pap)
 
--- what stands beside, by a modifier
+-- what is beside, by a modifier
 pub record BecomesAttached (modifier : Modifier) (before after : Attached) : Type 0 where
   pub is : after ≡ record before { mark = option_map (modified_mark modifier) before.mark }
   pub formed : IsFormedModifier modifier → StaysMark before.mark after.mark
 
--- what stands beside, where properties are put over those of a section
+-- what is beside, where properties are put over those of a section
 abbrev pub BecomesSection : Properties → Attached → Attached → Type 0
 BecomesSection set before after = after ≡ record before { sect = option_map (overlay set) before.sect }

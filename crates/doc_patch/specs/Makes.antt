@@ -31,7 +31,7 @@ CanFollow document Main = EndWithin (length document.main) document.bookmarks
 CanFollow document (Note number) = ⊤
 CanFollow document (Head number) = ⊤
 
--- what it names is there, and its properties may stand there
+-- what it names is there, and its properties may be there
 abbrev pub CanMake : Document → Change → Type 0
 CanMake document (SpliceText story from to fresh) =
     HasText document story (CanSplice from to fresh) × CanFollow document story

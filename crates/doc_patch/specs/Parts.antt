@@ -1,4 +1,4 @@
--- What commands ask of what stands beside a unit.
+-- What commands ask of what is beside a unit.
 use Rattle.std.specs.Prelude.{◌≡◌, ℕ, ◌<◌, ◌≤◌, Bool, true, false, List, Some, length, slice_get, is_some}
 use Rattle.doc_columns.specs.declared.attached.Attached.{Attached}
 use Rattle.doc_patch.specs.declared.places.Part.{Part}

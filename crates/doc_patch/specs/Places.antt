@@ -38,7 +38,7 @@ mark_place text at = at + position_or_len (λ item. is_some item.mark) (drop at 
 abbrev pub mark_at : List Item → ℕ → Option Mark
 mark_at text at = option_and_then (λ item. item.mark) (slice_get text (mark_place text at))
 
--- the unit that the mark stands on
+-- the unit that the mark is on
 abbrev pub mark_unit : List Item → ℕ → Option ℕ
 mark_unit text at = option_map (λ item. item.unit) (slice_get text (mark_place text at))
 

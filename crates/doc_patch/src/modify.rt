@@ -32,7 +32,7 @@ impl<'a> Change<PropMap> for OnCharacters<'a> {
     }
 }
 
-/// What stands beside units after a modifier, which acts on marks.
+/// What is beside units after a modifier, which acts on marks.
 #[derive(Drop)]
 struct OnMarks<'a> {
     modifier: &'a Modifier,
@@ -47,7 +47,7 @@ impl<'a> Change<Attached> for OnMarks<'a> {
     }
 }
 
-/// What stands beside units where properties are put over those of the section that ends there.
+/// What is beside units where properties are put over those of the section that ends there.
 #[derive(Drop)]
 struct OverSection<'a> {
     set: &'a PropMap,
@@ -70,7 +70,7 @@ fn modified_chp(alloc: Global, chp: &PropMap, modifier: &Modifier) -> Result<Pro
     Ok(made)
 }
 
-/// What stands beside a unit after a modifier.
+/// What is beside a unit after a modifier.
 fn modified_attached(
     alloc: Global,
     attached: &Attached,
@@ -83,7 +83,7 @@ fn modified_attached(
     Ok(made)
 }
 
-/// What stands beside a unit where properties are put over those of a section.
+/// What is beside a unit where properties are put over those of a section.
 fn attached_over(alloc: Global, attached: &Attached, set: &PropMap) -> Result<Attached, Memory>
     ensures { IfOk result (BecomesSection set.now attached.now) }
 {

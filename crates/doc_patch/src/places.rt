@@ -18,7 +18,7 @@ use plain_doc::{HEADERS_PER_SECTION, Mark, SEPARATORS};
 use prop_map::PropMap;
 use run_lists::{Cursor, Run, find, seek};
 
-/// What may stand beside a unit.
+/// What may be beside a unit.
 #[derive(Clone, Copy)]
 pub(crate) enum Part {
     /// A note that is referred to.
@@ -89,7 +89,7 @@ fn count_within(attached: &Attached, count: usize, part: Part) -> usize
     if has_part(attached, part) { count } else { 0 }
 }
 
-/// What stands beside the unit at the place, where there is one.
+/// What is beside the unit at the place, where there is one.
 fn attached_at(text: &Columns, place: usize) -> Option<&Attached>
     ensures { MatchOption result
         (slice_get (map attached_of text.now) place ≡ None)

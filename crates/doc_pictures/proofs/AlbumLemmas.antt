@@ -3,18 +3,16 @@ use Rattle.std.proofs.Common.{◌≡◌, ◌∙◌, ℕ, suc, ◌+◌, ◌<◌, 
 use Rattle.std.proofs.Common.{Option, None, Some, length-take}
 use Rattle.std.specs.Prelude.{slice_get}
 use Rattle.std.specs.List.{All}
-use Rattle.std.proofs.Math.Nat.{le_trans}
 use Rattle.std.proofs.lemmas.List.Elements.{All-cons, All-nil}
 use Rattle.std.proofs.lemmas.Option.{slice_get_within}
-use Rattle.doc_outer.specs.Counts.{GoesOn}
 use Rattle.doc_outer.specs.Held.{Files, OthersStay, StaysAt, held_with}
-use Rattle.doc_outer.proofs.HeldLemmas.{StaysAt-refl}
+use Rattle.doc_outer.proofs.Public.{StaysAt-refl}
 use Rattle.doc_pictures.specs.declared.pictures.Picture.{Picture}
 use Rattle.doc_pictures.specs.Names.{picture_path}
 use Rattle.doc_pictures.specs.Pictures.{AreInOrder, ArePictures}
 use Rattle.doc_pictures.specs.Album.{AreWithin, IsPicturePath, IsWithinStream, IsWritten, Writes, file_bytes}
-use Rattle.doc_pictures.proofs.PlaceLemmas.{take-next}
 use Rattle.doc_pictures.proofs.RangeLemmas.{picture-lies}
+use Rattle.doc_bits.proofs.Public.{take_step}
 
 -- ---- names that stay
 
@@ -30,15 +28,6 @@ stays-on name None (Some mid) now a b = absurd a
 stays-on name (Some first) None now a b = absurd a
 stays-on name (Some first) (Some mid) None a b = b
 stays-on name (Some first) (Some mid) (Some now) a b = b ∙ a
-
-pub counts-same : (count : ℕ) → GoesOn count count
-counts-same count = record { not_fallen = omega arith; not_beyond = λ low. low }
-
-pub counts-on : (first mid now : ℕ) → GoesOn first mid → GoesOn mid now → GoesOn first now
-counts-on first mid now a b = record {
-  not_fallen = le_trans a.not_fallen b.not_fallen;
-  not_beyond = λ low. b.not_beyond (a.not_beyond low);
-}
 
 -- the place of a picture is within the list
 pub within-length : (pictures : List Picture) (k : ℕ) (picture : Picture) → slice_get pictures k ≡ Some picture →
@@ -76,7 +65,8 @@ pub writes-on : (force : Bool) (folder stream : List ℕ) (pictures : List Pictu
 writes-on force folder stream pictures k picture before mid after here within are is =
     let long = length-take k pictures in
     let number : k + 1 ≡ 1 + length (take k pictures) = omega (arith, long, within) in
-    subst (λ (front : List Picture). Writes force folder stream 1 front before after) (sym (take-next pictures k picture here))
+    subst (λ (front : List Picture). Writes force folder stream 1 front before after) (sym (take_step pictures k picture
+    here))
     (writes-push force folder stream 1 (take k pictures) picture before mid after are
     (subst (λ (n : ℕ). IsWritten force (picture_path folder n picture.file.kind) (file_bytes stream picture) mid after)
     number is))

@@ -8,14 +8,14 @@ use Rattle.std.proofs.lemmas.Bool.{eq-eqb}
 use Rattle.std.proofs.lemmas.Bool.Decides.{nat_tests}
 use Rattle.std.proofs.lemmas.Fmt.{decimal_injective}
 use Rattle.std.proofs.lemmas.List.{append_cancel_left}
-use Rattle.doc_bits.proofs.TestLemmas.{and_true, and_first, and_second, not_true}
+use Rattle.doc_bits.proofs.Public.{and_true, and_first, and_second, not_true}
 use Rattle.doc_outer.specs.Held.{Files, ReadsPart, StaysAt, Told}
-use Rattle.doc_outer.proofs.HeldLemmas.{Told-map}
+use Rattle.doc_outer.proofs.Public.{Told-map}
 use Rattle.inline_pictures.specs.declared.kind.PictureKind.{PictureKind}
 use Rattle.doc_pictures.specs.Album.{IsThere}
 use Rattle.doc_pictures.specs.Names.{picture_path, suffix_of}
 
--- ---- what stands before the first full stop
+-- ---- what is before the first full stop
 
 abbrev HasNoStop : List ℕ → Type 0
 HasNoStop text = list_all (λ code. not (code == 46)) text ≡ true

@@ -1,7 +1,8 @@
-pub mod RangeLemmas
-pub mod OrderLemmas
-pub mod StepLemmas
-pub mod PlaceLemmas
-pub mod AlbumLemmas
-pub mod FileLemmas
-pub mod ApartLemmas
+pub mod Public
+mod RangeLemmas
+mod OrderLemmas
+mod StepLemmas
+mod PlaceLemmas
+mod AlbumLemmas
+mod FileLemmas
+mod ApartLemmas

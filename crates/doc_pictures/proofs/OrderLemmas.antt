@@ -5,7 +5,7 @@ use Rattle.std.specs.List.Sorted.{IsPermutation}
 use Rattle.std.proofs.lemmas.List.Sorted.{Contains-permutation, IsPermutation-sym}
 use Rattle.inline_pictures.specs.InlinePictures.{IsInlinePicture}
 use Rattle.inline_pictures.specs.declared.picture.PictureFile.{PictureFile}
-use Rattle.inline_pictures.proofs.PictureLemmas.{picture-unique}
+use Rattle.inline_pictures.proofs.Public.{picture-unique}
 use Rattle.doc_pictures.specs.declared.pictures.Picture.{Picture}
 use Rattle.doc_pictures.specs.Pictures.{AreInOrder, ArePictures, HasFile, IsCovered, IsPictureOf}
 use Rattle.doc_pictures.specs.Laws.{PicturesAreOne, PicturesAreShort, byte_count}

@@ -1,32 +1,21 @@
 -- The places of a text, item by item.
-use Rattle.std.proofs.Common.{◌≡◌, ◌∙◌, ℕ, suc, zero, ◌+◌, ◌≢◌, List, [], ◌∷◌, ◌++◌, map, take, sym, ap, subst}
+use Rattle.std.proofs.Common.{◌≡◌, ◌∙◌, ℕ, ◌+◌, ◌≢◌, List, [], ◌∷◌, ◌++◌, map, take, sym, ap, subst}
 use Rattle.std.proofs.Common.{append_assoc, arith, Bool, true, false, Option, Some, None}
 use Rattle.std.specs.Prelude.{◌==◌, slice_get, slice_index, if◌then◌else◌}
 use Rattle.std.specs.List.{cons_option, filter_map, flat_map}
 use Rattle.std.proofs.lemmas.Bool.Decides.{nat_tests}
-use Rattle.std.proofs.lemmas.Option.{get_or_from_slice_get, same_Some}
+use Rattle.std.proofs.lemmas.Option.{get_or_from_slice_get}
 use Rattle.std.proofs.lemmas.List.{flat_map_more}
 use Rattle.std.proofs.lemmas.List.Elements.{filter_map-append}
-use Rattle.doc_bits.proofs.ListLemmas.{get-map}
+use Rattle.doc_bits.proofs.Public.{get-map, take_step}
 use Rattle.plain_doc.specs.declared.item.Item.{Item}
 use Rattle.doc_columns.specs.declared.walk.Parts.{Parts}
 use Rattle.doc_columns.specs.Walks.{items_in, AreParts}
-use Rattle.doc_columns.proofs.WalkLemmas.{units_are}
+use Rattle.doc_columns.proofs.Public.{units_are}
 use Rattle.char_formats.specs.Locations.{location_in}
 use Rattle.doc_pictures.specs.Places.{place_of, places_in}
 
--- the front of a list and what stands behind it
-take-suc_is : {A : Type 0} (xs : List A) (i : ℕ) (x : A) → slice_get xs i ≡ Some x →
-    take (suc i) xs ≡ take i xs ++ x ∷ []
-take-suc_is [] i x here = absurd (cc (here))
-take-suc_is {A = A} (y ∷ xs) zero x here = ap (λ (z : A). z ∷ []) (same_Some y x here)
-take-suc_is {A = A} (y ∷ xs) (suc i) x here = ap (λ (rest : List A). y ∷ rest) (take-suc_is xs i x here)
-
-pub take-next : {A : Type 0} (xs : List A) (i : ℕ) (x : A) → slice_get xs i ≡ Some x → take (i + 1) xs ≡ take i xs ++ x ∷ []
-take-next {A = A} xs i x here =
-    let one : i + 1 ≡ suc i = omega arith in ap (λ (n : ℕ). take n xs) one ∙ take-suc_is xs i x here
-
--- the unit of an item stands in the column
+-- the unit of an item is in the column
 pub unit-there : (parts : Parts) → AreParts parts → (i : ℕ) (item : Item) → slice_get (items_in parts) i ≡ Some item →
     item.unit ≡ slice_index parts.units.now i
 unit-there parts are i item here =
@@ -62,7 +51,7 @@ text-on first now after items i item place here is names put =
     ∙ append_assoc first (places_in (take i items)) (cons_option (place_of item) [])
     ∙ ap (λ (rest : List ℕ). first ++ rest)
     (sym (filter_map-append place_of (take i items) (item ∷ []))
-    ∙ ap places_in (sym (take-next items i item here)))
+    ∙ ap places_in (sym (take_step items i item here)))
 
 -- one text more
 pub texts-on : (first now after : List ℕ) (texts : List (List Item)) (k : ℕ) (text : List Item) →
@@ -72,4 +61,4 @@ texts-on first now after texts k text here is put =
     put
     ∙ ap (λ (front : List ℕ). front ++ places_in text) is
     ∙ flat_map_more places_in first (take k texts) text
-    ∙ ap (λ (front : List (List Item)). first ++ flat_map places_in front) (sym (take-next texts k text here))
+    ∙ ap (λ (front : List (List Item)). first ++ flat_map places_in front) (sym (take_step texts k text here))

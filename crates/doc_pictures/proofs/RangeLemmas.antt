@@ -9,7 +9,7 @@ use Rattle.inline_pictures.specs.InlinePictures.{IsInlinePicture}
 use Rattle.inline_pictures.specs.Picf.{art_at, picf_end}
 use Rattle.inline_pictures.specs.Records.{record_end, record_instance, record_type}
 use Rattle.inline_pictures.specs.declared.picture.PictureFile.{PictureFile}
-use Rattle.inline_pictures.proofs.PictureLemmas.{picture-unique}
+use Rattle.inline_pictures.proofs.Public.{picture-unique}
 use Rattle.doc_pictures.specs.Names.{is_whole}
 use Rattle.doc_pictures.specs.Pictures.{HasFile}
 

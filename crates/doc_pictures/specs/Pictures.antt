@@ -1,4 +1,4 @@
--- The pictures at places of the stream `Data`, in the order in which they stand there.
+-- The pictures at places of the stream `Data`, in the order in which they are there.
 use Rattle.std.specs.Prelude.{◌≡◌, ℕ, ◌<◌, ◌≤◌, true, List, [], ◌∷◌, ⊤, ◌⊎◌}
 use Rattle.std.specs.List.{Contains}
 use Rattle.inline_pictures.specs.InlinePictures.{IsInlinePicture}
@@ -6,7 +6,7 @@ use Rattle.inline_pictures.specs.declared.picture.PictureFile.{PictureFile}
 use Rattle.doc_pictures.specs.declared.pictures.Picture.{Picture}
 use Rattle.doc_pictures.specs.Names.{is_whole}
 
--- at this place a picture stands whose file this is
+-- at this place a picture is whose file this is
 pub record HasFile (stream : List ℕ) (place : ℕ) (file : PictureFile) : Type 0 where
   pub picture : IsInlinePicture stream place file
   pub whole : is_whole file.kind ≡ true

@@ -1,4 +1,4 @@
-// The pictures of a document, in the order in which they stand in the stream `Data`.
+// The pictures of a document, in the order in which they are in the stream `Data`.
 ghost use Rattle.std.specs.Prelude.{◌≡◌, [], MatchOption, IfOk, OnOk};
 ghost use Rattle.std.specs.List.Sorted.{IsNonDecreasing};
 ghost use Rattle.inline_pictures.specs.declared.picture.PictureFile.{PictureFile as AFile};
@@ -22,7 +22,7 @@ pub struct Picture {
     pub file: PictureFile,
 }
 
-/// The pictures of a document, in the order in which they stand in the stream.
+/// The pictures of a document, in the order in which they are in the stream.
 #[derive(Drop)]
 pub struct Pictures {
     list: Vec<Picture>,
@@ -68,7 +68,7 @@ impl Pictures {
     }
 }
 
-/// The pictures of a document whose stream `Data` has these bytes. They stand one behind the other in the stream, so
+/// The pictures of a document whose stream `Data` has these bytes. They are one behind the other in the stream, so
 /// their files are together no longer than it. It is linear in the units and in the places that they name, but for
 /// putting these in order.
 pub fn pictures_of(

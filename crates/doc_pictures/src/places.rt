@@ -9,9 +9,7 @@ use char_formats::location_in;
 use doc_bits::Memory;
 use doc_columns::{ColumnDocument, ColumnTexts, Columns, Parts, Walk, alike_from};
 use std::alloc::Global;
-
-/// [MS-DOC] the character of a picture.
-const PICTURE: u16 = 0x01;
+use text_codes::PICTURE;
 
 /// The places that the characters of a document name: those of its main text, its notes and its header texts.
 pub(crate) fn places_of(alloc: Global, document: &ColumnDocument) -> Result<Vec<u32>, Memory>

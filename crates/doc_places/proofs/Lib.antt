@@ -1,4 +1,5 @@
-pub mod AnchorLemmas
-pub mod PlaceLemmas
-pub mod PathLemmas
-pub mod LinkLemmas
+pub mod Public
+mod AnchorLemmas
+mod PlaceLemmas
+mod PathLemmas
+mod LinkLemmas

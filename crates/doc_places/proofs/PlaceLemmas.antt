@@ -24,7 +24,7 @@ use Rattle.doc_places.specs.Laws.{EachGlyphHasAPlace, spoken, spoken_label}
 use Rattle.doc_places.specs.Looks.{units_of_label}
 use Rattle.doc_view.specs.Labels.{label_glyphs}
 use Rattle.view_places.specs.declared.element.Element.TheVariants.{Label}
-use Rattle.doc_bits.proofs.TestLemmas.{neither}
+use Rattle.doc_bits.proofs.Public.{neither}
 
 -- one more reference, or none
 length-cons_option : (reference : Option Reference) (more : List Reference) → length (cons_option reference more) ≡
@@ -83,7 +83,7 @@ items_places-hidden links block count place (x ∷ xs) hidden =
     (λ i. hidden_item block (links place) count x both.0 i ++ items_places-hidden links block (count + count_of
     x.reference) (place + 1) xs both.1 i)
 
--- where the next paragraph stands
+-- where the next paragraph is
 pub grid_of-cons : (paragraph : Paragraph) (before : List Paragraph) → grid_of (paragraph ∷ before) ≡ grid_after
     (grid_of before)
     paragraph.standing

@@ -20,7 +20,7 @@ known_bytes (Some bytes) = bytes
 abbrev pub definition_in : Option Mark → List ℕ
 definition_in mark = known_bytes (value_in mark 0xD608)
 
--- behind a paragraph that stands so, has its mark alone or not, and is the end of a row of this definition or of none
+-- behind a paragraph that is so, has its mark alone or not, and is the end of a row of this definition or of none
 abbrev pub tables_by : Tables → Standing → Bool → List ℕ → Tables
 tables_by tables Outside is_mark definition = behind_outside tables
 tables_by tables Inside is_mark definition = behind_inside tables

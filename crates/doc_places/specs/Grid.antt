@@ -1,4 +1,5 @@
--- Where paragraphs stand, by those before them, the nearest first: their numbers, and those of their tables, rows and cells;
+-- Where paragraphs are, by those before them, the nearest first: their numbers, and those of their tables, rows and
+-- cells;
 -- and which rows are the head of their table.
 use Rattle.std.specs.Prelude.{ℕ, ◌+◌, Bool, true, false, ◌&&◌, ◌||◌, List, [], ◌∷◌, length, if◌then◌else◌}
 use Rattle.doc_view.specs.declared.standing.Standing.{Standing}
@@ -30,7 +31,7 @@ all_heads (paragraph ∷ before) =
     if is_in_table paragraph.standing then (keeps_row paragraph.standing || ends_head paragraph.standing) && all_heads
     before else true
 
--- the row that the first of these paragraphs stands in is a head
+-- the row that the first of these paragraphs is in is a head
 abbrev pub is_head_row : List Paragraph → Bool
 is_head_row [] = false
 is_head_row (paragraph ∷ more) =

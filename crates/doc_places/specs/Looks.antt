@@ -17,7 +17,7 @@ level_of (Some outline) = if nat_lt outline 9 then outline + 1 else 0
 abbrev pub heading_level : Option ℕ → Bool → Bool → ℕ
 heading_level outline in_table is_text = if is_text && not in_table then level_of outline else 0
 
--- the item that a paragraph with this label is. Profile: one of a level behind the sixth stands at the sixth
+-- the item that a paragraph with this label is. Profile: one of a level behind the sixth is at the sixth
 abbrev pub labelled_item : Option ListLabel → Option ListItem
 labelled_item None = None
 labelled_item (Some label) = Some (record { level = min label.level 5; is_ordered = not label.is_bullet })
@@ -26,7 +26,7 @@ labelled_item (Some label) = Some (record { level = min label.level 5; is_ordere
 abbrev pub item_of_label : Option ListLabel → Bool → ℕ → Option ListItem
 item_of_label label in_table level = if in_table || not (level == 0) then None else labelled_item label
 
--- by its values, where they stand in a table or not, and have more than a mark or not
+-- by its values, where they are in a table or not, and have more than a mark or not
 abbrev pub look_of : Option ParagraphValues → Bool → Bool → Look
 look_of None in_table is_text = record { level = 0; right_to_left = false; breaks_page = false; item = None }
 look_of (Some values) in_table is_text = record {

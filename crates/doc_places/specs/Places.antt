@@ -51,7 +51,7 @@ Places = List (Place Element Glyph)
 abbrev pub CellSpans : Type 0
 CellSpans = ℕ → Option Span
 
--- ---- what a glyph stands in within its paragraph
+-- ---- what a glyph is in within its paragraph
 
 abbrev pub given : Bool → Element → List Element
 given there element = if there then element ∷ [] else []
@@ -78,7 +78,7 @@ abbrev pub link_elements : Option Link → List Element
 link_elements None = []
 link_elements (Some link) = ALink link ∷ []
 
--- a reference to a note is a link by itself, and stands in no other one
+-- a reference to a note is a link by itself, and is in no other one
 abbrev pub inline_elements : Option Link → ℕ → CharFormat → Option Reference → List Element
 inline_elements link count format None = link_elements link ++ format_elements format
 inline_elements link count format (Some reference) = note_elements count format reference.number
@@ -91,7 +91,7 @@ bare path = record { path = path; glyph = None }
 abbrev pub shown : List Element → Glyph → Place Element Glyph
 shown path glyph = record { path = path; glyph = Some glyph }
 
--- what is shown without a glyph stands in no format, so that a link goes on behind it
+-- what is shown without a glyph is in no format, so that a link goes on behind it
 abbrev pub place_of : List Element → Option Link → ℕ → Seen → Option Glyph → Place Element Glyph
 place_of block link count seen None = bare (block ++ link_elements link)
 place_of block link count seen (Some glyph) = shown (block ++ inline_elements link count seen.format seen.reference)
@@ -161,7 +161,7 @@ cell_of grid cell =
     if cell.in_head then Table grid.table ∷ TableHead ∷ Row grid.row ∷ HeadCell (cell_form grid cell) ∷ [] else Table
     grid.table ∷ TableBody ∷ Row grid.row ∷ Cell (cell_form grid cell) ∷ []
 
--- the cell of a paragraph that stands so, by how far the cells of the text reach; the mark of a row is in none of them
+-- the cell of a paragraph that is so, by how far the cells of the text reach; the mark of a row is in none of them
 abbrev pub own_span : CellSpans → ℕ → Bool → Option Span
 own_span cells number keeps = if keeps then cells number else Some single
 
@@ -172,7 +172,7 @@ cell_at cells grid standing in_head =
       span = own_span cells grid.ended (keeps_row standing);
     })
 
--- an item stands in its lists, by those that are open before it
+-- an item is in its lists, by those that are open before it
 abbrev pub item_elements : Lists → Option ListItem → ℕ → List Element
 item_elements lists None number = []
 item_elements lists (Some item) number = list_elements (with_item lists item number)
@@ -186,7 +186,7 @@ paragraph_form number look = record {
   breaks_page = look.breaks_page;
 }
 
--- what stands around a paragraph, in a cell or not
+-- what is around a paragraph, in a cell or not
 abbrev pub around_of : Grid → Option InCell → Option ListItem → Lists → List Element
 around_of grid None item lists = item_elements lists item grid.number
 around_of grid (Some cell) item lists = cell_of grid cell
@@ -199,7 +199,7 @@ is_part (Some cell) = not (is_some cell.span)
 abbrev pub own_elements : Bool → ℕ → Look → List Element
 own_elements part number look = if part then [] else AParagraph (paragraph_form number look) ∷ []
 
--- what a paragraph stands in, in a cell or not, and the paragraph
+-- what a paragraph is in, in a cell or not, and the paragraph
 abbrev pub block_of : Grid → Option InCell → Look → Lists → List Element
 block_of grid cell look lists =
     around_of grid cell look.item lists ++ own_elements (is_part cell) grid.number look
@@ -234,7 +234,7 @@ lead (bookmark ∷ bookmarks) place = if nat_lt bookmark.from place then suc (le
 abbrev pub anchors_of : List Bookmark → ℕ → ℕ → List ℕ
 anchors_of bookmarks begin end = numbers (lead bookmarks begin) (lead bookmarks end - lead bookmarks begin)
 
--- their places stand in front of what is shown of the paragraph
+-- their places are in front of what is shown of the paragraph
 abbrev pub anchor_places : List Element → List ℕ → Places
 anchor_places block numbers = map (λ number. bare (block ++ Anchor number ∷ [])) numbers
 

@@ -1,4 +1,4 @@
-// Where a paragraph stands.
+// Where a paragraph is.
 ghost use Rattle.std.specs.Prelude.{◌≡◌, ◌+◌, ◌^◌, ◌<◌, ◌≤◌, ◌++◌, ◌&&◌, [], ◌∷◌, length, true, if◌then◌else◌};
 ghost use Rattle.doc_places.specs.Grid.{grid_after};
 ghost use Rattle.cell_spans.specs.Spans.{span_at};
@@ -94,7 +94,7 @@ fn count_ended(standing: Standing) -> usize
     if standing.ends_cell() { 1 } else { 0 }
 }
 
-/// The cell of a paragraph that stands so, in the head of a table or not, by how far the cells of the text reach. A mark of
+/// The cell of a paragraph that is so, in the head of a table or not, by how far the cells of the text reach. A mark of
 /// a row is in none of them.
 pub fn cell_at(spans: &Spans, grid: Grid, standing: Standing, in_head: bool) -> Option<InCell>
     ensures { result ≡ cell_at (span_at spans.now) grid standing in_head }
@@ -110,7 +110,7 @@ pub fn cell_at(spans: &Spans, grid: Grid, standing: Standing, in_head: bool) -> 
     Some(InCell { in_head, span })
 }
 
-/// Puts the elements that a paragraph stands in, in a cell or behind these lists, and the paragraph, inside of a path. In a
+/// Puts the elements that a paragraph is in, in a cell or behind these lists, and the paragraph, inside of a path. In a
 /// cell that is a part of another one there is no paragraph.
 pub fn push_block(
     path: &mut Path<Element>,
@@ -126,7 +126,7 @@ pub fn push_block(
     push_own(path, is_part(cell), grid.number, look);
 }
 
-/// Puts what stands around a paragraph.
+/// Puts what is around a paragraph.
 fn push_around(
     path: &mut Path<Element>,
     grid: Grid,

@@ -1,4 +1,4 @@
-// What a glyph stands in within its paragraph.
+// What a glyph is in within its paragraph.
 ghost use Rattle.std.specs.Prelude.{◌≡◌, ◌+◌, ◌^◌, ◌<◌, ◌≤◌, ◌++◌, [], ◌∷◌, length};
 ghost use Rattle.doc_places.specs.Places.{format_elements, given, inline_elements, link_elements};
 ghost use Rattle.doc_places.specs.Places.{note_elements, position_elements};
@@ -9,8 +9,8 @@ use doc_view::Reference;
 use view_paths::{MAX_DEPTH, Path};
 use view_places::{Element, Link};
 
-/// Puts the elements that a glyph of this format in a link stands in, inside of a path. Where it refers to a note, so
-/// many references stand before it.
+/// Puts the elements that a glyph of this format in a link is in, inside of a path. Where it refers to a note, so
+/// many references are before it.
 pub fn push_inline(
     path: &mut Path<Element>,
     link: Option<Link>,

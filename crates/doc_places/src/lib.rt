@@ -1,4 +1,4 @@
-//! The places of a document: what its text stands in.
+//! The places of a document: what its text is in.
 #![tactic(auto)]
 
 mod grid;

@@ -1,4 +1,4 @@
--- What stands beside the CPs of a stretch.
+-- What is beside the CPs of a stretch.
 use Rattle.std.proofs.Common.{◌≡◌, ◌∙◌, refl, sym, ap, subst, ℕ, ◌<◌, ◌≤◌, ◌+◌, ◌-◌, false, List, ◌++◌}
 use Rattle.std.proofs.Common.{inl, inr, length, Option, Some, None, arith, length-append}
 use Rattle.std.proofs.lemmas.Bool.{cases_lt, true≢false}
@@ -6,13 +6,12 @@ use Rattle.std.specs.Prelude.{slice_get, slice_index, is_some, replicate}
 use Rattle.std.proofs.lemmas.List.{length-replicate}
 use Rattle.std.proofs.lemmas.List.Elements.{All-replicate}
 use Rattle.std.proofs.lemmas.Option.{slice_get_within}
-use Rattle.doc_bits.proofs.ListLemmas.{slice_get_before, All_at}
-use Rattle.doc_bits.proofs.TogetherLemmas.{from_behind}
+use Rattle.doc_bits.proofs.Public.{slice_get_before, All_at, from_behind}
 use Rattle.prop_map.specs.Settings.{Properties}
 use Rattle.prop_map.specs.declared.modifiers.Modifier.{Modifier}
 use Rattle.prop_map.specs.Formed.{IsPropertyMap, paragraph_groups, section_groups}
 use Rattle.text_codes.specs.Paragraph.{is_paragraph_end}
-use Rattle.plain_doc.proofs.FormedLemmas.{ForSome-from_cases}
+use Rattle.plain_doc.proofs.Public.{ForSome-from_cases}
 use Rattle.doc_columns.specs.declared.attached.Attached.{Attached}
 use Rattle.doc_columns.specs.Attached.{nothing}
 use Rattle.doc_read.specs.declared.reading.PlcCursors.{PlcCursors}
@@ -45,14 +44,14 @@ adds_times {A = A} P count old new x is right =
           subst (P k) same (right k upper (omega (arith, within, long, fresh_long)));
     }
 
--- nothing stands at a CP that is passed with the same number as the next one
+-- nothing is at a CP that is passed with the same number as the next one
 none_at : (cps : List ℕ) (next cp : ℕ) → IsPassed cps next cp → IsPassed cps next (cp + 1) → IsNotAmong cps cp
 none_at cps next cp here later k below = elim (cases_lt k next) [
   | inl low ↦ λ e. omega (arith, here.before k low, e)
   | inr high ↦ λ e. omega (arith, later.after k high below, e)
 ]
 
--- nothing stands beside a CP that is passed with the same numbers as the next one, where its unit ends no paragraph
+-- nothing is beside a CP that is passed with the same numbers as the next one, where its unit ends no paragraph
 pub bare_attached : (view : TextView) (modifier : Modifier) (passed : PlcCursors) (cp : ℕ) →
     is_paragraph_end (slice_index view.units cp) false ≡ false → ArePassed view.marks passed cp
     → ArePassed view.marks passed (cp + 1) → IsAttachedAt view modifier cp nothing
@@ -83,7 +82,7 @@ bare_goes_on view passed cp goes_on here later =
     (none_at view.marks.section_cps passed.section cp here.sections later.sections) in
     ap (λ (o : Option Properties). is_paragraph_end (slice_index view.units cp) (is_some o)) none ∙ goes_on
 
--- so no mark is looked for in a stretch where nothing stands
+-- so no mark is looked for in a stretch where nothing is
 pub bare_marks : (view : TextView) (passed : PlcCursors) (cp until : ℕ) →
     ((at : ℕ) → cp ≤ at → at < until → is_paragraph_end (slice_index view.units at) false ≡ false)
     → ((at : ℕ) → cp ≤ at → at ≤ until → ArePassed view.marks passed at) → HaveValidMarks view cp until
@@ -92,7 +91,7 @@ bare_marks view passed cp until bare passes = λ at upper lower ends.
     (true≢false (sym ends ∙ bare_goes_on view passed at (bare at upper lower) (passes at upper (omega (arith, lower)))
     (passes (at + 1) (omega (arith, upper)) (omega (arith, lower)))))
 
--- nothing came for each CP of a stretch where nothing stands
+-- nothing came for each CP of a stretch where nothing is
 pub bare_stretch : (view : TextView) (modifier : Modifier) (passed : PlcCursors) (cp until : ℕ) (old new : List
     Attached) →
     length old ≡ cp → cp < until → new ≡ old ++ replicate (until - cp) nothing
@@ -106,7 +105,7 @@ bare_stretch view modifier passed cp until old new here some is bare passes =
     (passes at (omega (arith, here, upper)) (omega (arith, here, some, lower)))
     (passes (at + 1) (omega (arith, here, upper)) (omega (arith, here, some, lower))))
 
--- one more, which stands beside the CP
+-- one more, which is beside the CP
 pub one_attached : (view : TextView) (modifier : Modifier) (cp : ℕ) (old new : List Attached) (attached : Attached) →
     length old ≡ cp → new ≡ old ++ replicate 1 attached → IsAttachedAt view modifier cp attached
     → AddsEach (IsAttachedAt view modifier) (cp + 1 - cp) old new

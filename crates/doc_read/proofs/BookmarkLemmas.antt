@@ -8,8 +8,7 @@ use Rattle.doc_parts.specs.declared.bookmark_order.Bookmark.{Bookmark}
 use Rattle.doc_parts.specs.Order.{in_order}
 use Rattle.doc_parts.specs.Bookmarks.{bookmark_cmp, HasFileNumbers}
 use Rattle.doc_parts.specs.BookmarkParts.{BookmarkParts, kept_bookmarks, bookmarks_of}
-use Rattle.doc_parts.proofs.OrderLemmas.{all_in_order}
-use Rattle.doc_parts.proofs.BookmarkPartLemmas.{kept_numbers, read_some}
+use Rattle.doc_parts.proofs.Public.{all_in_order, kept_numbers, read_some}
 
 -- the bookmarks that bytes spell have the numbers of a file
 pub bookmarks-numbers : (parts : BookmarkParts) (main_len : ℕ) → AreBytes parts.names → AreBytes parts.starts →

@@ -1,4 +1,4 @@
--- The streams that a document carries: where they stand in the file, their order and their number.
+-- The streams that a document carries: where they are in the file, their order and their number.
 use Rattle.std.proofs.Common.{◌≡◌, inl, inr, ℕ, zero, suc, ◌+◌, ◌<◌, ◌≤◌, true, false, cond, List, [], ◌∷◌}
 use Rattle.std.proofs.Common.{Some, length, map, filter, slice_get, refl, sym, ap, subst, arith}
 use Rattle.std.proofs.lemmas.Bool.{cases_Bool}
@@ -7,7 +7,7 @@ use Rattle.cfb_streams.specs.Contents.{Stream, NamedBytes}
 use Rattle.cfb_directory.specs.Directory.{ComesBefore}
 use Rattle.doc_read.specs.CarriedParts.{is_carried, carried_streams}
 
--- where a carried stream stands in the file
+-- where a carried stream is in the file
 pub record IsFrom (streams : List Stream) (named : NamedBytes) : Type 0 where
   pub index : ℕ
   pub stream : Stream

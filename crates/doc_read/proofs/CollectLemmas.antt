@@ -1,4 +1,4 @@
--- Lists of what stands at CPs, one entry more in each turn.
+-- Lists of what is at CPs, one entry more in each turn.
 use Rattle.std.proofs.Common.{◌≡◌, ◌∙◌, refl, sym, ap, ℕ, ◌<◌, ◌≤◌, ◌+◌, ◌-◌, List, [], ◌∷◌, ◌++◌, length, map}
 use Rattle.std.proofs.Common.{take, drop, slice_get, Some, arith, append_assoc, length-take}
 use Rattle.std.specs.Prelude.{slice_index}
@@ -13,7 +13,7 @@ use Rattle.file_rules.specs.Source.{DocSource, story_length}
 use Rattle.file_rules.specs.PartRules.{PartLists}
 use Rattle.doc_read.specs.Sections.{section_lasts}
 use Rattle.doc_read.specs.Marked.{story_bytes, field_bytes}
-use Rattle.doc_bits.proofs.ListLemmas.{map-map}
+use Rattle.doc_bits.proofs.Public.{map-map}
 use Rattle.doc_read.proofs.MarkListLemmas.{three_parts}
 
 -- the starts of the later sections, one more

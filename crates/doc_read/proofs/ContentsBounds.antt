@@ -15,14 +15,11 @@ use Rattle.cfb_directory.specs.StreamEntries.{stream_head}
 use Rattle.cfb_directory.specs.Order.{ListsStreams}
 use Rattle.cfb_streams.specs.Contents.{Stream, Contents}
 use Rattle.cfb_streams.specs.Container.{container_rules, IsStreamOf, HasContents}
-use Rattle.cfb_sectors.proofs.ChainLemmas.{pushed_before, pushed_last, length_pushed, length_below, path_short}
-use Rattle.cfb_sectors.proofs.StreamLemmas.{length-cut}
-use Rattle.cfb_directory.proofs.ReachLemmas.{reached_there}
-use Rattle.cfb_streams.proofs.ContentLemmas.{chain_inside}
-use Rattle.cfb_directory.proofs.NameLemmas.{ComesBefore-entries}
-use Rattle.cfb_directory.proofs.OrderLemmas.{streams_apart, name_length, name_short, name_some}
-use Rattle.cfb_sectors.proofs.OpeningLemmas.{whole_length}
-use Rattle.cfb_streams.proofs.SingleLemmas.{directory_unique}
+use Rattle.cfb_sectors.proofs.Public.{pushed_before, pushed_last, length_pushed, path_short, length-cut, whole_length}
+use Rattle.doc_bits.proofs.Public.{length_below}
+use Rattle.cfb_directory.proofs.Public.{reached_there, ComesBefore-entries, streams_apart, name_length, name_short}
+use Rattle.cfb_directory.proofs.Public.{name_some}
+use Rattle.cfb_streams.proofs.Public.{chain_inside, directory_unique}
 use Rattle.doc_read.specs.CarriedParts.{AreWithinBounds}
 
 -- a directory has at most 1,024 entries, and entry 0 is the root

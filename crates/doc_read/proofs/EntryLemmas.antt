@@ -1,10 +1,10 @@
--- What stands at a CP, where the CPs ascend.
+-- What is at a CP, where the CPs ascend.
 use Rattle.std.proofs.Common.{◌≡◌, ◌≢◌, ◌∙◌, refl, sym, ap, ℕ, zero, suc, ◌<◌, true, List, [], ◌∷◌, length, map}
 use Rattle.std.proofs.Common.{Some, None, slice_get, arith, inl, inr}
 use Rattle.std.specs.Prelude.{slice_index, zip, is_some}
 use Rattle.std.proofs.lemmas.Bool.{cases_eq}
 use Rattle.plain_doc.specs.Entries.{entry_at}
-use Rattle.plain_doc.proofs.CollectedLemmas.{entry_here, entry_later}
+use Rattle.plain_doc.proofs.Public.{entry_here, entry_later}
 use Rattle.doc_read.specs.Passing.{AreUp, IsNotAmong}
 
 -- the CPs behind the first one ascend too
@@ -33,7 +33,7 @@ entry_none (c ∷ cps) (v ∷ values) cp none =
     entry_later c cp v (zip cps values) (none zero (omega arith)) ∙ entry_none cps values cp (λ k below. none (suc k)
     (omega arith))
 
--- where something stands at a CP, the CP is among those of the entries
+-- where something is at a CP, the CP is among those of the entries
 pub entry_some : {A : Type 0} (cps : List ℕ) (values : List A) (cp : ℕ) →
     is_some (entry_at (zip cps values) cp) ≡ true → (k : ℕ) × ((k < length cps) × (slice_index cps k ≡ cp))
 entry_some [] values cp e = absurd (cc (e))

@@ -9,12 +9,10 @@ use Rattle.std.proofs.lemmas.Bool.{ltb-true}
 use Rattle.std.proofs.lemmas.List.Elements.{All-nil, All-cons, All-head, All-tail, All-append, All-map}
 use Rattle.std.proofs.lemmas.Option.{same_Some}
 use Rattle.doc_bits.specs.Number.{number_at}
-use Rattle.doc_bits.proofs.NumberLemmas.{number_at-bound}
-use Rattle.doc_bits.proofs.ListLemmas.{found_has}
+use Rattle.doc_bits.proofs.Public.{number_at-bound, found_has, All-from_slice_get, AreBytes-range}
 use Rattle.doc_bits.specs.Number.{AreBytes}
 use Rattle.text_codes.specs.Compressed.{compressed_text, unit_by, unit_of}
 use Rattle.piece_table.specs.Piece.{UnitPlace}
-use Rattle.piece_table.proofs.NumberingLemmas.{All-from_slice_get}
 use Rattle.doc_parts.specs.declared.lists.Fld.{Fld}
 use Rattle.doc_parts.specs.Table.{plc_part}
 use Rattle.doc_parts.specs.Fields.{AreFields}
@@ -25,7 +23,6 @@ use Rattle.file_rules.specs.PartRules.{PartLists}
 use Rattle.plain_doc.specs.Entries.{entry_at}
 use Rattle.doc_read.specs.Marked.{story_bytes, field_bytes}
 use Rattle.doc_read.proofs.ExistTables.{fld_byte}
-use Rattle.doc_bits.proofs.ByteListLemmas.{AreBytes-range}
 
 -- ---- what holds of all entries holds of that of a CP
 

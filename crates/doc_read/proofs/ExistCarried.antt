@@ -4,17 +4,16 @@ use Rattle.std.proofs.Common.{arith, length-take, length-drop}
 use Rattle.std.specs.Prelude.{slice_range, All}
 use Rattle.std.proofs.lemmas.List.Elements.{All-nil, All-cons}
 use Rattle.doc_bits.specs.Rules.{Hold}
-use Rattle.doc_bits.proofs.NumberLemmas.{number_at-bound}
-use Rattle.doc_bits.proofs.ListLemmas.{length-range}
+use Rattle.doc_bits.proofs.Public.{number_at-bound, length-range, AreBytes-range}
 use Rattle.doc_bits.specs.Number.{AreBytes}
 use Rattle.cfb_streams.specs.Contents.{Contents, AreStored}
 use Rattle.cfb_directory.specs.Reach.{directory_head, entry_place}
 use Rattle.cfb_streams.specs.Container.{container_rules, HasContents}
-use Rattle.cfb_streams.proofs.ContentLemmas.{chain_inside}
-use Rattle.cfb_sectors.proofs.OpeningLemmas.{whole_length}
+use Rattle.cfb_streams.proofs.Public.{chain_inside}
+use Rattle.cfb_sectors.proofs.Public.{whole_length}
 use Rattle.fib_form.specs.Fib.{fib_flags}
 use Rattle.fib_form.specs.FibFields.{fib_fields}
-use Rattle.fib_form.proofs.FlagLemmas.{kept_flags-kept}
+use Rattle.fib_form.proofs.Public.{kept_flags-kept}
 use Rattle.plain_doc.specs.declared.carried.Carried.{Carried}
 use Rattle.plain_doc.specs.Carried.{ArePartsShort, AreListsWithLevels}
 use Rattle.plain_doc.specs.Formed.{IsFormedCarried}
@@ -24,7 +23,6 @@ use Rattle.file_rules.specs.Source.{DocSource, part_bytes, part_place}
 use Rattle.file_rules.specs.ListRules.{HasLevels}
 use Rattle.file_rules.specs.FileRules.{FileText, HasText, source_of}
 use Rattle.doc_read.specs.CarriedParts.{carried_streams, AreWithinBounds, HoldsCarried}
-use Rattle.doc_bits.proofs.ByteListLemmas.{AreBytes-range}
 use Rattle.doc_read.proofs.ExistParts.{part_bytes_are}
 use Rattle.doc_read.proofs.PartLemmas.{short-cons}
 use Rattle.doc_read.proofs.StreamLemmas.{carried-are_streams, carried-fit}

@@ -7,9 +7,9 @@ use Rattle.std.proofs.lemmas.Bool.{cases_lt}
 use Rattle.std.proofs.lemmas.List.Elements.{All-nil, All-take, All-drop}
 use Rattle.plain_doc.specs.declared.item.Item.{Item}
 use Rattle.plain_doc.specs.Document.{IsFormedItem, IsFormedText, AreFormedTexts}
-use Rattle.piece_table.proofs.NumberingLemmas.{All-from_slice_get}
 use Rattle.doc_read.specs.Texts.{AreCutFrom}
-use Rattle.doc_parts.proofs.ExistLemmas.{list_of}
+use Rattle.doc_parts.proofs.Public.{list_of}
+use Rattle.doc_bits.proofs.Public.{All-from_slice_get}
 
 record IsCut (items : List Item) (begin : ℕ) (cuts : List ℕ) (k : ℕ) (text : List Item) : Type 0 where
   there : k + 1 < length cuts → text ≡ slice_range items (begin + slice_index cuts k) (begin + slice_index cuts (k + 1))

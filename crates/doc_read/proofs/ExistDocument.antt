@@ -25,8 +25,7 @@ use Rattle.file_rules.specs.SectionRules.{sed_rules}
 use Rattle.file_rules.specs.PartRules.{PartLists, HasPartLists, part_rules}
 use Rattle.file_rules.specs.FileRules.{FileText, HasText, source_of, table_stream_name, clx_of, loading_rules}
 use Rattle.cfb_streams.specs.Names.{wd_name}
-use Rattle.file_rules.proofs.OneLemmas.{sections_one}
-use Rattle.file_rules.proofs.RightPlaces.{hold_out}
+use Rattle.file_rules.proofs.Public.{sections_one, hold_out}
 use Rattle.style_sheet.specs.Formed.{IsFormedSheet}
 use Rattle.doc_read.specs.Sections.{AreSectionMaps}
 use Rattle.doc_read.specs.Holds.{head_texts, IsDocumentFrom}
@@ -36,7 +35,7 @@ use Rattle.doc_read.proofs.DocumentLemmas.{document-from}
 use Rattle.doc_read.proofs.FewLemmas.{table-short, heads-few, notes-few}
 use Rattle.doc_read.proofs.LevelLemmas.{lists-with_levels, levels-short}
 use Rattle.doc_read.proofs.MarkListLemmas.{some_section, ends_up}
-use Rattle.direct_props.proofs.ExistLists.{right_of}
+use Rattle.direct_props.proofs.Public.{right_of}
 use Rattle.doc_read.proofs.ExistSections.{section_maps_there}
 use Rattle.doc_read.proofs.ExistText.{named_bytes, right_modifiers, place_right}
 use Rattle.doc_read.proofs.ExistItems.{AreReady, HasItems, items_there}
@@ -44,7 +43,7 @@ use Rattle.doc_read.proofs.ExistParts.{part_bytes_are, part_lists_there}
 use Rattle.doc_read.proofs.EntryValues.{AreByteFields}
 use Rattle.doc_read.proofs.ExistFits.{text_held, TextFits, text_fits}
 use Rattle.doc_read.proofs.ExistCuts.{texts_there}
-use Rattle.cfb_streams.proofs.StoredLemmas.{contents_stored}
+use Rattle.cfb_streams.proofs.Public.{contents_stored}
 use Rattle.doc_read.proofs.StreamLemmas.{carried-stored}
 use Rattle.doc_read.proofs.ExistCarried.{clsid_long, HasFormedCarried, carried_there, carried_bytes, all_short}
 

@@ -2,7 +2,7 @@
 use Rattle.std.proofs.Common.{◌≡◌, ◌∙◌, ap, subst, ℕ, ◌+◌, ◌*◌, ◌<◌, ◌^◌, List, length, arith}
 use Rattle.doc_bits.specs.declared.places.Where.TheVariants.{Table}
 use Rattle.doc_bits.specs.Rules.{Hold}
-use Rattle.doc_bits.proofs.NumberLemmas.{number_at-bound}
+use Rattle.doc_bits.proofs.Public.{number_at-bound}
 use Rattle.doc_bits.specs.Number.{AreBytes}
 use Rattle.cfb_streams.specs.Contents.{Contents}
 use Rattle.cfb_streams.specs.Container.{HasContents}
@@ -11,16 +11,13 @@ use Rattle.fib_form.specs.FibFields.{fib_fields, text_length}
 use Rattle.piece_table.specs.Piece.{TextPiece, flat_pieces}
 use Rattle.piece_table.specs.Clx.{ClxParts, IsClx, clx_pieces, plc_place}
 use Rattle.piece_table.specs.ClxRules.{clx_rules, text_bounds}
-use Rattle.piece_table.proofs.ClxLemmas.{parts_unique}
-use Rattle.piece_table.proofs.ClxRuleLemmas.{ascends_of}
-use Rattle.piece_table.proofs.PieceLemmas.{total_of_pieces, length-flat_pieces}
+use Rattle.piece_table.proofs.Public.{parts_unique, ascends_of, total_of_pieces, length-flat_pieces}
 use Rattle.fib_form.specs.declared.table_parts.TablePart.TheVariants.{Clx}
 use Rattle.fib_form.specs.TableParts.{pair_of}
 use Rattle.file_rules.specs.FileRules.{FileText, HasText, table_stream_name, clx_of, table_rules, wd_rules}
 use Rattle.file_rules.specs.FileRules.{loading_rules}
 use Rattle.cfb_streams.specs.Names.{wd_name}
-use Rattle.file_rules.proofs.NameLemmas.{named_one}
-use Rattle.file_rules.proofs.RightPlaces.{hold_out}
+use Rattle.file_rules.proofs.Public.{named_one, hold_out}
 use Rattle.doc_read.proofs.ExistText.{plc_bytes}
 
 -- the rules on the pieces hold of the text that the file has

@@ -6,13 +6,12 @@ use Rattle.std.specs.List.{All}
 use Rattle.std.specs.Option.{ForSome}
 use Rattle.std.proofs.lemmas.List.{length-map}
 use Rattle.std.proofs.lemmas.Option.{same_Some}
-use Rattle.doc_bits.proofs.ListLemmas.{there_is}
+use Rattle.doc_bits.proofs.Public.{there_is, All-from_slice_get}
 use Rattle.doc_bits.specs.Number.{AreBytes}
 use Rattle.prop_map.specs.Settings.{Properties}
 use Rattle.prop_map.specs.Formed.{IsPropertyMap, paragraph_groups, section_groups}
 use Rattle.fkp_pages.specs.declared.kind.PageKind.TheVariants.{Chpx, Papx}
 use Rattle.piece_table.specs.Piece.{UnitPlace, flat_pieces, place_of_cp}
-use Rattle.piece_table.proofs.NumberingLemmas.{All-from_slice_get}
 use Rattle.plain_doc.specs.declared.item.Item.{Item}
 use Rattle.plain_doc.specs.declared.item.Mark.{Mark}
 use Rattle.plain_doc.specs.Document.{IsFormedItem}
@@ -32,10 +31,9 @@ use Rattle.doc_read.specs.Items.{TextParts, IsMarkAt, IsItemAt, HoldsItems}
 use Rattle.doc_read.proofs.PlaceLemmas.{read_at_place}
 use Rattle.doc_read.proofs.UpLemmas.{IsUpWithin}
 use Rattle.doc_read.proofs.RightLemmas.{section_ends_there, ends_more}
-use Rattle.direct_props.proofs.ExistLists.{IsValid}
+use Rattle.direct_props.proofs.Public.{IsValid, character_there, mark_there}
 use Rattle.direct_props.specs.Laws.{IsValidModifier}
-use Rattle.direct_props.proofs.ExistDirect.{character_there, mark_there}
-use Rattle.doc_parts.proofs.ExistLemmas.{list_of}
+use Rattle.doc_parts.proofs.Public.{list_of}
 use Rattle.doc_read.proofs.EntryValues.{entry_has, zipped_has, AreByteFields, all_bytes, place_unit_small}
 use Rattle.doc_read.proofs.KeptPlaces.{paragraph_place}
 

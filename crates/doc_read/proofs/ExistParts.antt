@@ -3,7 +3,7 @@ use Rattle.std.proofs.Common.{◌≡◌, inl, inr, refl, subst, ℕ, ◌+◌, �
 use Rattle.std.specs.List.{All, slice_range}
 use Rattle.doc_bits.specs.declared.places.Where.TheVariants.{Table}
 use Rattle.doc_bits.specs.Rules.{Nowhere, Hold}
-use Rattle.doc_bits.proofs.ListLemmas.{length-range}
+use Rattle.doc_bits.proofs.Public.{length-range, AreBytes-range}
 use Rattle.doc_bits.specs.Number.{AreBytes}
 use Rattle.style_sheet.specs.Formed.{IsFormedSheet}
 use Rattle.style_sheet.specs.Stsh.{stsh_rules}
@@ -13,7 +13,7 @@ use Rattle.doc_parts.specs.Fields.{fld_form, fld_cps}
 use Rattle.doc_parts.specs.Levels.{level_start, level_count, list_part}
 use Rattle.doc_parts.specs.Bookmarks.{HasFileNumbers}
 use Rattle.doc_parts.specs.BookmarkParts.{bookmarks_of}
-use Rattle.doc_parts.proofs.LevelLemmas.{level_start-zero, level_start-up}
+use Rattle.doc_parts.proofs.Public.{level_start-zero, level_start-up}
 use Rattle.fib_form.specs.declared.table_parts.TablePart.{TablePart}
 use Rattle.fib_form.specs.declared.table_parts.TablePart.TheVariants.{Stshf, PlcffndRef, PlfLst}
 use Rattle.fib_form.specs.declared.table_parts.TablePart.TheVariants.{SttbfBkmk, PlcfBkf, PlcfBkl}
@@ -27,12 +27,11 @@ use Rattle.file_rules.specs.FieldRules.{BreaksAllFields, BreaksStoryFields, fiel
 use Rattle.file_rules.specs.ListRules.{HasLevels}
 use Rattle.file_rules.specs.BookmarkRules.{bookmark_parts}
 use Rattle.file_rules.specs.PartRules.{PartLists, HasPartLists, part_rules}
-use Rattle.file_rules.proofs.RightPlaces.{hold_out}
+use Rattle.file_rules.proofs.Public.{hold_out}
 use Rattle.doc_read.proofs.BookmarkLemmas.{bookmarks-numbers}
 use Rattle.doc_read.proofs.ExistTables.{refs_there, fields_there}
-use Rattle.style_sheet.proofs.ExistSheet.{sheet_there}
+use Rattle.style_sheet.proofs.Public.{sheet_there}
 use Rattle.doc_read.proofs.EntryValues.{AreByteFields, fields_are_bytes}
-use Rattle.doc_bits.proofs.ByteListLemmas.{AreBytes-range}
 
 pub part_bytes_are : (source : DocSource) (part : TablePart) → AreBytes source.table → AreBytes (part_bytes source part)
 part_bytes_are source part are =

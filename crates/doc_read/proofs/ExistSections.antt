@@ -7,15 +7,13 @@ use Rattle.doc_bits.specs.Rules.{Nowhere}
 use Rattle.doc_bits.specs.Number.{AreBytes}
 use Rattle.prop_map.specs.Settings.{Properties}
 use Rattle.prop_map.specs.Formed.{IsPropertyMap, section_groups}
-use Rattle.prop_map.proofs.ActingLemmas.{IsPropertyMap-empty}
-use Rattle.piece_table.proofs.NumberingLemmas.{All-from_slice_get}
+use Rattle.prop_map.proofs.Public.{IsPropertyMap-empty, accepted_of}
 use Rattle.doc_parts.specs.declared.lists.Sed.{Sed}
 use Rattle.file_rules.specs.SectionRules.{section_fc, sepx_list, BreaksSepxLists}
 use Rattle.doc_read.specs.Sections.{IsSectionProperties, AreSectionMaps}
-use Rattle.doc_bits.proofs.ByteListLemmas.{AreBytes-range}
-use Rattle.prop_map.proofs.AcceptedLemmas.{accepted_of}
-use Rattle.direct_props.proofs.ExistDirect.{properties_there}
-use Rattle.doc_parts.proofs.ExistLemmas.{list_of}
+use Rattle.doc_bits.proofs.Public.{AreBytes-range, All-from_slice_get}
+use Rattle.direct_props.proofs.Public.{properties_there}
+use Rattle.doc_parts.proofs.Public.{list_of}
 
 -- a right map of a section
 record IsValidSection (wd : List ℕ) (fc : ℕ) (map : Properties) : Type 0 where

@@ -11,7 +11,7 @@ use Rattle.doc_parts.specs.declared.lists.NoteRef.{NoteRef}
 use Rattle.doc_parts.specs.Table.{plc_part, entry_at, IsValidEntry, BreaksTable}
 use Rattle.doc_parts.specs.Fields.{is_field_unit, fld_form, fld_cps, AreFields}
 use Rattle.doc_parts.specs.Stories.{ref_form, ref_cps, AreRefs}
-use Rattle.doc_parts.proofs.ExistLemmas.{entries_there}
+use Rattle.doc_parts.proofs.Public.{entries_there}
 
 -- the references
 pub refs_there : (bytes : List ℕ) (at main_len : ℕ) → Nowhere (BreaksTable ref_form (ref_cps main_len) bytes at) →

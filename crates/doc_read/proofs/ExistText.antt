@@ -1,5 +1,5 @@
 -- The text of a file: its bytes, its places and their modifiers.
-use Rattle.std.proofs.Common.{◌≡◌, ◌∙◌, inl, inr, sym, subst, ℕ, zero, suc, ◌+◌, ◌*◌, ◌/◌, ◌%◌, ◌<◌, ◌==◌, Bool}
+use Rattle.std.proofs.Common.{◌≡◌, ◌∙◌, inl, inr, sym, subst, ℕ, zero, suc, ◌+◌, ◌/◌, ◌%◌, ◌<◌, ◌==◌, Bool}
 use Rattle.std.proofs.Common.{true, false, cond, List, [], ◌∷◌, ◌++◌, length, take, get_or, map, flat_map, Some}
 use Rattle.std.proofs.Common.{arith, append_assoc}
 use Rattle.std.specs.Prelude.{slice_get}
@@ -8,12 +8,13 @@ use Rattle.std.specs.FinMap.{empty}
 use Rattle.std.proofs.lemmas.Option.{same_Some, slice_get_within, get_or_from_slice_get}
 use Rattle.std.proofs.lemmas.List.Elements.{All-nil, All-cons, All-head, All-tail, All-append, All-map}
 use Rattle.doc_bits.specs.Number.{number_bytes}
-use Rattle.doc_bits.proofs.NumberLemmas.{number_at-bound}
+use Rattle.doc_bits.proofs.Public.{number_at-bound, AreBytes-take, front_bytes, back_bytes, no_bytes, one_byte}
+use Rattle.doc_bits.proofs.Public.{All-from_slice_get}
 use Rattle.sprm_table.specs.Sprm.{Prl}
 use Rattle.doc_bits.specs.Number.{AreBytes}
 use Rattle.prop_map.specs.Formed.{character_groups, paragraph_groups}
 use Rattle.prop_map.specs.declared.modifiers.Modifier.{Modifier}
-use Rattle.prop_map.proofs.ActingLemmas.{IsPropertyMap-after, IsPropertyMap-empty}
+use Rattle.prop_map.proofs.Public.{IsPropertyMap-after, IsPropertyMap-empty, HasByteValue, list_bytes, style_small}
 use Rattle.cfb_streams.specs.Contents.{Stream, Contents, HasNamed}
 use Rattle.cfb_streams.specs.Container.{HasContents}
 use Rattle.cfb_sectors.specs.Header.{sector_bytes}
@@ -21,22 +22,11 @@ use Rattle.piece_table.specs.declared.pcd.Prm.TheVariants.{Nothing, Sprm, Prc}
 use Rattle.piece_table.specs.Piece.{TextPiece, UnitPlace, unit_places, flat_pieces, place_of_cp}
 use Rattle.piece_table.specs.Clx.{ClxParts, SpellsClx, IsClx, prc_bytes, pcdt_bytes, prm_word, pcd_prm}
 use Rattle.piece_table.specs.PrmLists.{NamesSprms}
-use Rattle.piece_table.proofs.NumberingLemmas.{All-from_slice_get}
-use Rattle.prop_map.proofs.ActingLemmas.{HasByteValue}
-use Rattle.prop_map.proofs.ByteLemmas.{list_bytes, style_small}
 use Rattle.direct_props.specs.Laws.{IsValidModifier}
-use Rattle.doc_bits.proofs.ByteListLemmas.{AreBytes-take, AreBytes-range, front_bytes, back_bytes, no_bytes}
-use Rattle.doc_bits.proofs.ByteListLemmas.{joined_bytes, one_byte}
 use Rattle.doc_read.proofs.PrmEntries.{named_entries}
+use Rattle.cfb_streams.proofs.Public.{sectors_bytes}
 
 -- ---- the bytes of streams
-
-sectors_bytes : (base unit : ℕ) (bytes sectors : List ℕ) → AreBytes bytes →
-    AreBytes (flat_map (sector_bytes base unit bytes) sectors)
-sectors_bytes base unit bytes [] are = no_bytes
-sectors_bytes base unit bytes (s ∷ ss) are =
-    joined_bytes (sector_bytes base unit bytes s) (flat_map (sector_bytes base unit bytes) ss)
-    (AreBytes-range bytes (base + s * unit) (base + s * unit + unit) are) (sectors_bytes base unit bytes ss are)
 
 body_bytes : (base unit size : ℕ) (bytes sectors body : List ℕ) → AreBytes bytes →
     body ≡ take size (flat_map (sector_bytes base unit bytes) sectors) → AreBytes body

@@ -8,7 +8,7 @@ use Rattle.plain_doc.specs.Marks.{HasFormedBookmarks}
 use Rattle.file_rules.specs.Source.{DocSource, story_length}
 use Rattle.file_rules.specs.PartRules.{HasPartLists, part_rules}
 use Rattle.file_rules.specs.FileRules.{source_of}
-use Rattle.file_rules.proofs.KeptLemmas.{bookmarks-formed}
+use Rattle.file_rules.proofs.Public.{bookmarks-formed}
 use Rattle.doc_read.specs.Holds.{FileParts, IsDocumentOf}
 use Rattle.doc_read.specs.Laws.{HeldBookmarksAreFormed}
 use Rattle.doc_read.proofs.OneDocument.{held_parts}

@@ -18,7 +18,7 @@ use Rattle.file_rules.specs.Units.{unit_at}
 use Rattle.file_rules.specs.FormatRules.{text_count, judged_units, ends_section, ends_paragraph}
 use Rattle.file_rules.specs.PartRules.{PartLists, HasPartLists, part_rules}
 use Rattle.file_rules.specs.FileRules.{FileText, source_of}
-use Rattle.file_rules.proofs.RightPlaces.{right_characters, right_paragraphs}
+use Rattle.file_rules.proofs.Public.{right_characters, right_paragraphs}
 use Rattle.doc_read.specs.Sections.{section_marks}
 use Rattle.doc_read.proofs.MarkListLemmas.{some_section, ends_up}
 use Rattle.doc_read.proofs.PlaceLemmas.{read_at_place}

@@ -9,7 +9,7 @@ use Rattle.doc_parts.specs.declared.lists.Sed.{Sed}
 use Rattle.file_rules.specs.Source.{DocSource}
 use Rattle.file_rules.specs.FormatRules.{judged_units, judged_places, ends_paragraph, paragraph_ends, paragraph_places}
 
--- where a kept number stands among those that are kept
+-- where a kept number is among those that are kept
 IsKeptAt : (ℕ → Bool) → List ℕ → ℕ → ℕ → Type 0
 IsKeptAt p xs y k = (k < length (filter p xs)) × (slice_index (filter p xs) k ≡ y)
 

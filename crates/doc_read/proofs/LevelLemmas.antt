@@ -6,16 +6,15 @@ use Rattle.std.proofs.lemmas.Bool.{cases_lt}
 use Rattle.doc_bits.specs.declared.places.Where.TheVariants.{Table}
 use Rattle.doc_bits.specs.Rules.{Hold}
 use Rattle.doc_bits.specs.Number.{u16_at}
-use Rattle.doc_bits.proofs.NumberLemmas.{number_at-range}
+use Rattle.doc_bits.proofs.Public.{number_at-range}
 use Rattle.doc_parts.specs.Levels.{level_count, level_end, level_start, AreLevelsFrom, list_part, level_rules}
 use Rattle.doc_parts.specs.Levels.{HaveLength}
-use Rattle.doc_parts.proofs.LevelLemmas.{level_start-zero, level_start-more, level_start-up, level_count-empty}
-use Rattle.doc_parts.proofs.LevelLemmas.{levels-none}
+use Rattle.doc_parts.proofs.Public.{level_start-zero, level_start-more, level_start-up, level_count-empty, levels-none}
 use Rattle.plain_doc.specs.Carried.{AreListsWithLevels}
 use Rattle.fib_form.specs.declared.table_parts.TablePart.TheVariants.{PlfLst}
 use Rattle.file_rules.specs.Source.{DocSource, part_place, part_bytes}
 use Rattle.file_rules.specs.ListRules.{rules_of_lists, HasLevels}
-use Rattle.file_rules.proofs.ListLemmas.{levels_within}
+use Rattle.file_rules.proofs.Public.{levels_within}
 
 -- a byte of a range
 byte-range : (bytes : List ℕ) (from to i : ℕ) → from + i < to →

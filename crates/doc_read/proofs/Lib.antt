@@ -1,44 +1,45 @@
-pub mod ContentsBounds
-pub mod CarriedLemmas
-pub mod LevelLemmas
-pub mod NameLemmas
-pub mod PartLemmas
-pub mod StreamLemmas
-pub mod FewLemmas
-pub mod SettingsLemmas
-pub mod SliceLemmas
-pub mod EntryLemmas
-pub mod UpLemmas
-pub mod MarkListLemmas
-pub mod PlaceLemmas
-pub mod ReaderLemmas
-pub mod AddLemmas
-pub mod RightLemmas
-pub mod GivenPlaces
-pub mod PageLemmas
-pub mod ReadableLemmas
-pub mod PlacedLemmas
-pub mod CollectLemmas
-pub mod DocumentLemmas
-pub mod OpeningLemmas
-pub mod PartsOfOneFile
-pub mod OneItem
-pub mod BookmarkLemmas
-pub mod OneDocument
-pub mod FormedBookmarks
-pub mod ExistTables
-pub mod ExistSections
-pub mod ExistText
-pub mod ExistItems
-pub mod ExistParts
-pub mod ExistDocument
-pub mod PrmEntries
-pub mod EntryValues
-pub mod KeptPlaces
-pub mod ExistFits
-pub mod ExistCuts
-pub mod ExistCarried
-pub mod AttachedLemmas
-pub mod MeetLemmas
+pub mod Public
+mod ContentsBounds
+mod CarriedLemmas
+mod LevelLemmas
+mod NameLemmas
+mod PartLemmas
+mod StreamLemmas
+mod FewLemmas
+mod SettingsLemmas
+mod SliceLemmas
+mod EntryLemmas
+mod UpLemmas
+mod MarkListLemmas
+mod PlaceLemmas
+mod ReaderLemmas
+mod AddLemmas
+mod RightLemmas
+mod GivenPlaces
+mod PageLemmas
+mod ReadableLemmas
+mod PlacedLemmas
+mod CollectLemmas
+mod DocumentLemmas
+mod OpeningLemmas
+mod PartsOfOneFile
+mod OneItem
+mod BookmarkLemmas
+mod OneDocument
+mod FormedBookmarks
+mod ExistTables
+mod ExistSections
+mod ExistText
+mod ExistItems
+mod ExistParts
+mod ExistDocument
+mod PrmEntries
+mod EntryValues
+mod KeptPlaces
+mod ExistFits
+mod ExistCuts
+mod ExistCarried
+mod AttachedLemmas
+mod MeetLemmas
 mod PartsLemmas
-pub mod ShortStreams
+mod ShortStreams

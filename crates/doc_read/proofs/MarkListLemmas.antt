@@ -1,11 +1,11 @@
--- The CPs at which something stands ascend.
+-- The CPs at which something is ascend.
 use Rattle.std.proofs.Common.{◌≡◌, ◌∙◌, refl, sym, ap, subst, inl, inr, ℕ, ◌<◌, ◌≤◌, ◌+◌, ◌-◌, true, false}
 use Rattle.std.proofs.Common.{List, [], ◌∷◌, ◌++◌, length, map, drop, arith, length-append, length-drop}
 use Rattle.std.proofs.lemmas.Bool.{cases_lt}
 use Rattle.std.proofs.lemmas.List.{length-map, map-append}
 use Rattle.doc_bits.specs.declared.places.Where.TheVariants.{Table}
 use Rattle.doc_bits.specs.Rules.{Hold}
-use Rattle.doc_bits.proofs.ListLemmas.{map-map}
+use Rattle.doc_bits.proofs.Public.{map-map}
 use Rattle.doc_parts.specs.declared.lists.Sed.{Sed}
 use Rattle.doc_parts.specs.declared.lists.Fld.{Fld}
 use Rattle.doc_parts.specs.declared.lists.NoteRef.{NoteRef}
@@ -19,7 +19,7 @@ use Rattle.file_rules.specs.Source.{DocSource, part_bytes, part_place, story_len
 use Rattle.file_rules.specs.SectionRules.{HasSections, rules_of_sections}
 use Rattle.file_rules.specs.FormatRules.{section_ends}
 use Rattle.file_rules.specs.PartRules.{PartLists, HasPartLists}
-use Rattle.file_rules.proofs.RightPlaces.{hold_out}
+use Rattle.file_rules.proofs.Public.{hold_out}
 use Rattle.doc_read.specs.Sections.{section_lasts}
 use Rattle.doc_read.specs.Marked.{story_bytes, field_bytes, note_kind, note_kinds}
 use Rattle.doc_read.specs.Passing.{AreUp}

@@ -1,11 +1,10 @@
--- The properties of the units and what stands beside them meet in the items.
+-- The properties of the units and what is beside them meet in the items.
 use Rattle.std.proofs.Common.{◌≡◌, ◌∙◌, sym, ap, subst, ℕ, zero, suc, ◌<◌, ◌≤◌, ◌+◌, ◌-◌, List, [], ◌∷◌, ◌++◌}
 use Rattle.std.proofs.Common.{length, get_or, Some, is_some, arith, length-append}
 use Rattle.std.specs.Prelude.{slice_get, slice_index, slice_range}
 use Rattle.std.specs.List.{All}
 use Rattle.std.proofs.lemmas.Option.{slice_get_within, slice_get-get_or, get_or_from_slice_get}
-use Rattle.doc_bits.proofs.ListLemmas.{slice_get_before, All_at, length-range, there_is}
-use Rattle.doc_bits.proofs.TogetherLemmas.{from_behind}
+use Rattle.doc_bits.proofs.Public.{slice_get_before, All_at, length-range, there_is, range_index, from_behind}
 use Rattle.prop_map.specs.Settings.{Properties}
 use Rattle.prop_map.specs.declared.modifiers.Modifier.{Modifier}
 use Rattle.prop_map.specs.Modifiers.{IsFormedModifier}
@@ -19,12 +18,10 @@ use Rattle.plain_doc.specs.Document.{HasPropertyMaps}
 use Rattle.doc_columns.specs.declared.attached.Attached.{Attached}
 use Rattle.doc_columns.specs.Attached.{attached_of}
 use Rattle.doc_columns.specs.Columns.{items_of}
-use Rattle.doc_columns.proofs.ItemsOfLemmas.{item_at}
-use Rattle.doc_columns.proofs.ChangesLemmas.{has_parts}
+use Rattle.doc_columns.proofs.Public.{item_at, has_parts}
 use Rattle.doc_read.specs.Items.{IsMarkAt}
 use Rattle.doc_read.specs.Passing.{AddsEach}
 use Rattle.doc_read.specs.Reading.{TextView, IsReadAt, IsReadCharacter, ArePlacedItems}
-use Rattle.doc_read.proofs.PlaceLemmas.{range_at}
 use Rattle.doc_read.specs.Attached.{IsAttachedAt}
 
 -- ---- the properties of a piece
@@ -54,7 +51,7 @@ adds_characters view modifier from to old new here ordered within formed adds =
           let below : j < to - from = omega (arith, here, inside, upper, long, added_long, range_long) in
           let cp_is : from + j ≡ k = omega (arith, here, upper) in
           let fc : slice_index (slice_range places from to) j ≡ slice_index places k =
-          range_at places from to j below ∙ ap (slice_index places) cp_is in
+          range_index places from to j below ∙ ap (slice_index places) cp_is in
           record {
             is =
                 subst (λ (n : ℕ). IsDirectCharacter view.wd view.characters n modifier chp) fc
@@ -96,7 +93,7 @@ length-read (unit ∷ units) (chp ∷ chps) (attached ∷ attachments) zero c b 
 length-read (unit ∷ units) (chp ∷ chps) (attached ∷ attachments) (suc n) c b le =
     ap suc (length-read units chps attachments n (omega (arith, c)) (omega (arith, b)) (omega (arith, le)))
 
--- properties and what stands beside came, so items came
+-- properties and what is beside came, so items came
 pub adds_items : (view : TextView) (modifier : Modifier) (cp count : ℕ) (chps more_chps : List Properties)
     (attachments more_attachments : List Attached) → length chps ≡ cp → length attachments ≡ cp → cp + count ≤ length
     view.units

@@ -2,22 +2,20 @@
 use Rattle.std.proofs.Common.{◌≡◌, ◌∙◌, ◌-◌, sym, subst, ap, ℕ, List, [], ◌∷◌, length, lit≤}
 use Rattle.std.proofs.Props.{props}
 use Rattle.doc_bits.specs.Rules.{Hold, IsSingle, Ascends}
-use Rattle.doc_bits.proofs.RuleLemmas.{ascends_wider}
+use Rattle.doc_bits.proofs.Public.{ascends_wider}
 use Rattle.cfb_streams.specs.Contents.{Contents, NamedBytes}
 use Rattle.fib_form.specs.FibFields.{IsKeptFlags}
 use Rattle.plain_doc.specs.declared.carried.Carried.{Carried}
 use Rattle.plain_doc.specs.declared.document.Document.{Document}
 use Rattle.plain_doc.specs.Carried.{ArePartsShort, AreListsWithLevels, AreCarriedStreams}
 use Rattle.plain_doc.specs.Sound.{document_rules}
-use Rattle.plain_doc.proofs.SoundLemmas.{document_rules-IsSingle, document_rules-Ascends}
+use Rattle.plain_doc.proofs.Public.{document_rules-IsSingle, document_rules-Ascends}
 use Rattle.fib_form.specs.declared.stories.StoryKind.TheVariants.{Main, Notes, Heads}
 use Rattle.file_rules.specs.Source.{DocSource, story_length, story_begin}
 use Rattle.file_rules.specs.PartRules.{part_rules}
 use Rattle.file_rules.specs.FileRules.{HasText, source_of, file_rules}
-use Rattle.file_rules.proofs.TextLemmas.{text_one}
-use Rattle.cfb_streams.proofs.UniqueLemmas.{contents_unique}
-use Rattle.file_rules.proofs.RightPlaces.{bin_tables}
-use Rattle.file_rules.proofs.FileLemmas.{file_single, file_ascends}
+use Rattle.file_rules.proofs.Public.{text_one, bin_tables, file_single, file_ascends}
+use Rattle.cfb_streams.proofs.Public.{contents_unique}
 use Rattle.doc_read.specs.CarriedParts.{HoldsCarried}
 use Rattle.doc_read.specs.Holds.{FileParts, HasFileParts, IsDocumentOf, text_parts, head_texts, all_rules}
 use Rattle.doc_read.specs.Laws.{DocumentIsOne}

@@ -1,4 +1,4 @@
--- What stands at a CP, and in a text, is one thing.
+-- What is at a CP, and in a text, is one thing.
 use Rattle.std.proofs.Common.{◌≡◌, ◌∙◌, inl, inr, sym, subst, ap, refl, ℕ, ◌+◌, ◌<◌, ◌≤◌, Bool, true, false}
 use Rattle.std.proofs.Common.{List, [], length, Option, Some, None, is_some, slice_index}
 use Rattle.std.specs.Option.{unwrap_or}
@@ -6,7 +6,7 @@ use Rattle.std.proofs.lemmas.Bool.{cases_lt}
 use Rattle.piece_table.specs.Piece.{UnitPlace}
 use Rattle.fkp_pages.specs.Bin.{IsBinTable}
 use Rattle.direct_props.specs.Direct.{IsDirectCharacter}
-use Rattle.direct_props.proofs.LawLemmas.{character_one, mark_one}
+use Rattle.direct_props.proofs.Public.{character_one, mark_one}
 use Rattle.plain_doc.specs.declared.item.Item.{Item}
 use Rattle.plain_doc.specs.declared.item.Mark.{Mark}
 use Rattle.fib_form.specs.declared.table_parts.TablePart.TheVariants.{PlcfBteChpx, PlcfBtePapx}

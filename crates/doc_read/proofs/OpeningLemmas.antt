@@ -12,7 +12,7 @@ use Rattle.plain_doc.specs.Sound.{IsSound, document_rules}
 use Rattle.file_rules.specs.declared.fault.ReadFault.{ReadFault}
 use Rattle.file_rules.specs.Faults.{IsReadFault}
 use Rattle.file_rules.specs.FileRules.{contents_rules, file_rules}
-use Rattle.file_rules.proofs.RefusalLemmas.{refused-first, refused-next, refused-given}
+use Rattle.file_rules.proofs.Public.{refused-first, refused-next, refused-given}
 use Rattle.doc_read.specs.Holds.{HoldsDocument, all_rules}
 use Rattle.doc_read.specs.Opened.{IsFoundIn, OpenedFile, IsOpened}
 

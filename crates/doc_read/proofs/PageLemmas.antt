@@ -2,11 +2,10 @@
 use Rattle.std.proofs.Common.{◌≡◌, ◌∙◌, sym, ap, subst, ℕ, ◌<◌, ◌≤◌, ◌+◌, ◌-◌, length, inl, inr, arith}
 use Rattle.std.specs.Prelude.{slice_index, slice_range, IsTrue}
 use Rattle.std.proofs.lemmas.Bool.{cases_lt}
-use Rattle.doc_bits.proofs.ListLemmas.{length-range}
+use Rattle.doc_bits.proofs.Public.{length-range, range_index}
 use Rattle.fkp_pages.specs.declared.kind.PageKind.TheVariants.{Chpx, Papx}
 use Rattle.direct_props.specs.PageRules.{AreValidPlaces, IsValidPlace}
 use Rattle.doc_read.specs.Reading.{TextView, HaveValidMarks, HaveValidPages, ends_at}
-use Rattle.doc_read.proofs.PlaceLemmas.{range_at}
 
 -- the unit of one CP
 pub one_mark : (view : TextView) (cp : ℕ) → (IsTrue (ends_at view cp) →
@@ -55,7 +54,7 @@ pub places_of_pages : (view : TextView) (from to : ℕ) → to ≤ length view.p
 places_of_pages view from to within right k below =
     let len = length-range view.places from to within in
     let inside : k < to - from = omega (arith, below, len) in
-    subst (λ fc. IsValidPlace Chpx view.wd view.characters fc) (sym (range_at view.places from to k inside))
+    subst (λ fc. IsValidPlace Chpx view.wd view.characters fc) (sym (range_index view.places from to k inside))
     (right (from + k) (omega arith) (omega (arith, inside)))
 
 pub pages_of_places : (view : TextView) (from to : ℕ) → to ≤ length view.places →
@@ -67,4 +66,8 @@ pages_of_places view from to within right cp upper lower =
     let inside : k < to - from = omega (arith, upper, lower) in
     let len = length-range view.places from to within in
     subst (λ fc. IsValidPlace Chpx view.wd view.characters fc)
-    (range_at view.places from to k inside ∙ ap (slice_index view.places) here) (right k (omega (arith, inside, len)))
+    (range_index view.places from to k inside ∙ ap (slice_index view.places) here) (right k (omega (
+      arith,
+      inside,
+      len,
+    )))

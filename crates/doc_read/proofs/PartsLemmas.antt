@@ -7,7 +7,7 @@ use Rattle.fib_form.specs.FibFields.{fib_fields}
 use Rattle.file_rules.specs.FormatRules.{judged_units, text_count}
 use Rattle.file_rules.specs.PartRules.{PartLists, HasPartLists}
 use Rattle.file_rules.specs.FileRules.{FileText, source_of}
-use Rattle.file_rules.proofs.StoryLemmas.{story_count, story_front}
+use Rattle.file_rules.proofs.Public.{story_count, story_front}
 use Rattle.doc_columns.specs.Columns.{items_of}
 use Rattle.doc_read.specs.Texts.{AreCutsWithin, AreCutFrom}
 use Rattle.doc_read.specs.CarriedParts.{LeavesRoom}

@@ -4,19 +4,18 @@ use Rattle.std.specs.Prelude.{slice_get}
 use Rattle.std.specs.FinMap.{empty}
 use Rattle.std.proofs.lemmas.List.{ext_get_or, nil_from_length}
 use Rattle.std.proofs.lemmas.Option.{slice_get-get_or}
-use Rattle.sprm_table.proofs.SprmLemmas.{spelt_unique}
+use Rattle.sprm_table.proofs.Public.{spelt_unique}
 use Rattle.prop_map.specs.Settings.{Properties}
 use Rattle.prop_map.specs.Acting.{ArePropertiesAfter}
-use Rattle.prop_map.proofs.LawLemmas.{acting_one}
+use Rattle.prop_map.proofs.Public.{acting_one}
 use Rattle.direct_props.specs.Direct.{MakesProperties}
-use Rattle.cfb_streams.proofs.UniqueLemmas.{contents_unique}
+use Rattle.cfb_streams.proofs.Public.{contents_unique}
 use Rattle.doc_parts.specs.declared.lists.Sed.{Sed}
 use Rattle.file_rules.specs.SectionRules.{section_fc, sepx_list}
 use Rattle.prop_map.specs.Formed.{section_groups}
 use Rattle.file_rules.specs.PartRules.{HasPartLists}
 use Rattle.file_rules.specs.FileRules.{HasText, source_of}
-use Rattle.file_rules.proofs.OneLemmas.{parts_one}
-use Rattle.file_rules.proofs.TextLemmas.{text_one}
+use Rattle.file_rules.proofs.Public.{parts_one, text_one}
 use Rattle.doc_read.specs.Sections.{IsSectionProperties, HaveProperties}
 use Rattle.doc_read.specs.Holds.{FileParts, HasFileParts}
 

@@ -1,14 +1,14 @@
 -- The place of a CP, by the pieces.
 use Rattle.std.proofs.Common.{◌≡◌, ◌∙◌, ap, ℕ, ◌<◌, ◌≤◌, ◌+◌, ◌-◌, ◌*◌, List, length, map, take, drop, get_or}
 use Rattle.std.proofs.Common.{slice_get, Some, flat_map, arith, get_or-take}
-use Rattle.std.specs.Prelude.{slice_index, slice_range}
+use Rattle.std.specs.Prelude.{slice_index}
 use Rattle.std.proofs.lemmas.Option.{slice_get_within, slice_get-get_or, get_or_from_slice_get}
 use Rattle.std.proofs.lemmas.List.{get_or-map, get_or-drop}
 use Rattle.std.proofs.lemmas.List.Concat.{get_or-flat_map}
 use Rattle.piece_table.specs.Piece.{TextPiece, UnitPlace, unit_bytes, unit_places, flat_pieces, place_of_cp}
 use Rattle.piece_table.specs.Piece.{total_length}
-use Rattle.piece_table.proofs.PieceLemmas.{length-unit_places, length-flat_pieces, get_or-unit_places}
-use Rattle.file_rules.proofs.UnitLemmas.{total-within}
+use Rattle.piece_table.proofs.Public.{length-unit_places, length-flat_pieces, get_or-unit_places}
+use Rattle.file_rules.proofs.Public.{total-within}
 
 -- the place of unit j of a piece
 abbrev pub place_at : TextPiece → ℕ → UnitPlace
@@ -45,12 +45,7 @@ read_at_place f pieces cp count place here below =
     get_or-take count (map f flat) cp 0 below ∙ (get_or-map f flat cp place 0 within ∙ ap f (get_or_from_slice_get
     flat cp place place here))
 
--- a part of a list
-pub range_at : (xs : List ℕ) (from to k : ℕ) → k < to - from →
-    slice_index (slice_range xs from to) k ≡ slice_index xs (from + k)
-range_at xs from to k below = get_or-take (to - from) (drop from xs) k 0 below ∙ get_or-drop from xs k 0
-
--- what stands in a part of a list that begins at a CP
+-- what is in a part of a list that begins at a CP
 pub part_at : (all part : List ℕ) (begin cp : ℕ) → begin ≤ cp → part ≡ drop begin all →
     slice_index part (cp - begin) ≡ slice_index all cp
 part_at all part begin cp behind is =

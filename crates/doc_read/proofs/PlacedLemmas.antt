@@ -16,7 +16,7 @@ use Rattle.file_rules.specs.FileRules.{FileText, source_of}
 use Rattle.file_rules.specs.FormatRules.{text_count, judged_units, judged_places}
 use Rattle.text_codes.specs.Paragraph.{is_paragraph_end}
 use Rattle.file_rules.specs.PartRules.{PartLists}
-use Rattle.file_rules.proofs.UnitLemmas.{total-more, length-text_units}
+use Rattle.file_rules.proofs.Public.{total-more, length-text_units}
 use Rattle.doc_read.specs.Marked.{field_bytes, note_kinds}
 use Rattle.doc_read.specs.Items.{TextParts, IsItemAt, HoldsItems, IsMarkAt}
 use Rattle.doc_read.specs.Passing.{AddsEach}

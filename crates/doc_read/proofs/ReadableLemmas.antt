@@ -10,8 +10,7 @@ use Rattle.doc_bits.specs.Rules.{Hold}
 use Rattle.file_rules.specs.Source.{DocSource, part_bytes, story_length}
 use Rattle.file_rules.specs.FormatRules.{judged_units, judged_places, section_ends, ends_paragraph, rules_of_formats}
 use Rattle.file_rules.specs.PartRules.{PartLists, HasPartLists, HoldButFormats}
-use Rattle.file_rules.proofs.PageLemmas.{formats_hold}
-use Rattle.file_rules.proofs.RightPlaces.{bin_tables, right_characters, right_paragraphs}
+use Rattle.file_rules.proofs.Public.{formats_hold, bin_tables, right_characters, right_paragraphs}
 use Rattle.doc_read.specs.Sections.{AreSectionMaps, section_lasts}
 use Rattle.doc_read.specs.Marked.{field_bytes, note_kinds}
 use Rattle.doc_read.specs.Passing.{AreUp}
@@ -32,7 +31,7 @@ view_of source marks maps = record {
   maps = maps;
 }
 
--- the last CPs of sections ascend, and stand beside the properties of each
+-- the last CPs of sections ascend, and are beside the properties of each
 ends_ready : (source : DocSource) (lists : PartLists) (maps : List Properties) → HoldButFormats source →
     HasPartLists source lists → AreSectionMaps source.wd lists.sections maps →
     IsUpWithin 1 (story_length source Main + 1) (section_ends lists.sections (story_length source Main)) ×

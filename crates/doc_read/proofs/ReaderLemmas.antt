@@ -4,7 +4,7 @@ use Rattle.std.proofs.Common.{Some, slice_get, get_or}
 use Rattle.std.proofs.lemmas.Option.{slice_get_read, slice_get_within}
 use Rattle.std.proofs.lemmas.List.Elements.{All-set}
 use Rattle.std.proofs.Math.ListN.{set}
-use Rattle.doc_bits.proofs.ListLemmas.{All_at, slice_get_push}
+use Rattle.doc_bits.proofs.Public.{All_at, slice_get_push}
 use Rattle.prop_map.specs.declared.modifiers.Modifier.{Modifier}
 use Rattle.fkp_pages.specs.declared.kind.PageKind.{PageKind}
 use Rattle.direct_props.specs.GrpprlCache.{PlaceSource}
@@ -58,7 +58,7 @@ readers_same view readers number old new are here same =
     All-set (IsPieceReader view) readers number new (subst (IsPieceReader view) (sym same) (reader_right view readers
     number old are here)) are
 
--- the reader that stands at the number serves
+-- the reader that is at the number serves
 pub reader_at : (readers : List PieceReader) (number : ℕ) (reader : PieceReader) (modifier : Modifier) →
     HasReaderFor readers number modifier → reader ≡ get_or readers number reader →
     (slice_get readers number ≡ Some reader) × (reader.characters.modifier ≡ modifier)

@@ -7,9 +7,7 @@ use Rattle.std.proofs.lemmas.Bool.{cases_Bool, eq-eqb, eqb-true, lt-ltb, true≢
 use Rattle.std.proofs.lemmas.List.{length-map, get_or-map}
 use Rattle.std.proofs.lemmas.List.Elements.{All-nil, All-cons, All-filter}
 use Rattle.std.proofs.lemmas.List.Folds.{list_any_at}
-use Rattle.std.proofs.lemmas.List.FromFn.{get_or-range_with_len, length-range_with_len}
-use Rattle.doc_bits.proofs.ListLemmas.{there_is, All_at}
-use Rattle.doc_bits.proofs.TestLemmas.{both_true}
+use Rattle.doc_bits.proofs.Public.{there_is, All_at, both_true}
 use Rattle.prop_map.specs.Settings.{Properties}
 use Rattle.doc_parts.specs.declared.lists.Sed.{Sed}
 use Rattle.fkp_pages.specs.declared.kind.PageKind.TheVariants.{Papx}
@@ -17,7 +15,7 @@ use Rattle.direct_props.specs.PageRules.{AreValidPlaces, IsValidPlace}
 use Rattle.file_rules.specs.Source.{DocSource}
 use Rattle.file_rules.specs.FormatRules.{judged_units, judged_places, section_ends, is_end, ends_section}
 use Rattle.file_rules.specs.FormatRules.{ends_paragraph, paragraph_ends, paragraph_places}
-use Rattle.file_rules.proofs.RowLemmas.{index_of_get}
+use Rattle.file_rules.proofs.Public.{index_of_get, below_len}
 use Rattle.text_codes.specs.Paragraph.{is_paragraph_end}
 use Rattle.plain_doc.specs.Entries.{entry_at}
 use Rattle.doc_read.specs.Sections.{section_lasts}
@@ -33,12 +31,6 @@ kept_true test (x ∷ xs) = elim (cases_Bool (test x)) [
   | inr fails ↦ rw fails (kept_true test xs)
 ]
 
-all_below : (n : ℕ) → All (λ c. c < n) (range_with_len 0 n)
-all_below n = λ k d below.
-    let len = length-range_with_len 0 n in
-    let at = get_or-range_with_len 0 n k d (omega (arith, below, len)) in
-    omega (arith, at, below, len)
-
 -- where the place of each such unit is right their places are
 pub paragraphs_right : (wd bin : List ℕ) (source : DocSource) (sections : List Sed) →
     ((cp : ℕ) → cp < length (judged_units source) → ends_paragraph source sections cp ≡ true →
@@ -52,7 +44,7 @@ paragraphs_right wd bin source sections each k below =
     let found = there_is ends k inside in
     let passes = All_at (λ x. test x ≡ true) ends k found.0 (kept_true test (range_with_len 0 n)) found.1 in
     let within =
-    All_at (λ c. c < n) ends k found.0 (All-filter test (λ c. c < n) (range_with_len 0 n) (all_below n)) found.1 in
+    All_at (λ c. c < n) ends k found.0 (All-filter test (λ c. c < n) (range_with_len 0 n) (below_len n)) found.1 in
     subst (IsValidPlace Papx wd bin)
     (sym (index_of_get (slice_index (judged_places source)) ends k found.0 found.1)) (each found.0 within passes)
 
@@ -64,7 +56,7 @@ paragraph_right wd bin source sections right cp below ends =
     let found = paragraph_place source sections cp below ends in
     subst (λ fc. IsValidPlace Papx wd bin fc) found.1.1 (right found.0 found.1.0)
 
--- a section ends with the CP at which properties stand
+-- a section ends with the CP at which properties are
 pub section_ends_there : (sections : List Sed) (main_len : ℕ) (maps : List Properties) (cp : ℕ) →
     IsUpWithin 1 (main_len + 1) (section_ends sections main_len) →
     is_some (entry_at (zip (section_lasts sections main_len) maps) cp) ≡ true → ends_section sections main_len cp ≡ true
@@ -97,7 +89,7 @@ any_index test (x ∷ xs) any = elim (cases_Bool (test x)) [
       (suc later.0, (omega arith, later.1.1))
 ]
 
--- properties stand at the CP with which a section ends
+-- properties are at the CP with which a section ends
 properties_there : (sections : List Sed) (main_len : ℕ) (maps : List Properties) (cp : ℕ) →
     IsUpWithin 1 (main_len + 1) (section_ends sections main_len) →
     length maps ≡ length (section_lasts sections main_len) →
@@ -115,7 +107,7 @@ properties_there sections main_len maps cp up many here =
     let its = there_is maps k (omega (arith, below, many)) in
     ap is_some (entry_found lasts maps cp k its.0 (up_less (main_len + 1) ends up) below last its.1)
 
--- properties stand at a CP exactly where a section ends with it
+-- properties are at a CP exactly where a section ends with it
 pub section_same : (sections : List Sed) (main_len : ℕ) (maps : List Properties) (cp : ℕ) →
     IsUpWithin 1 (main_len + 1) (section_ends sections main_len) →
     length maps ≡ length (section_lasts sections main_len) →

@@ -17,18 +17,16 @@ use Rattle.prop_map.specs.Acting.{IsActedBy, style_named}
 use Rattle.overlapping_grpprls.specs.declared.ranges.ListRange.{ListRange}
 use Rattle.overlapping_grpprls.specs.Walks.{list_at}
 use Rattle.overlapping_grpprls.specs.Keeping.{IsMadeBy}
-use Rattle.direct_props.proofs.CharacterLemmas.{makes_properties}
+use Rattle.direct_props.proofs.Public.{makes_properties, together_one}
 use Rattle.doc_parts.specs.declared.lists.Sed.{Sed}
 use Rattle.doc_parts.specs.Sections.{place_of_fc_sepx}
-use Rattle.doc_parts.proofs.TableLemmas.{slice_get_before, slice_get_push}
+use Rattle.doc_bits.proofs.Public.{slice_get_before, slice_get_push, together_joined}
 use Rattle.fib_form.specs.declared.table_parts.TablePart.TheVariants.{PlcfSed}
 use Rattle.file_rules.specs.Source.{DocSource, part_place}
 use Rattle.file_rules.specs.SectionRules.{section_fc, sepx_list, LacksSepx, HasSepxFault, HasSections, sed_rules}
 use Rattle.file_rules.specs.SectionRules.{rules_of_sections, IsSepxPlace}
 use Rattle.prop_map.specs.Formed.{section_groups}
-use Rattle.file_rules.proofs.OneLemmas.{sections_one}
-use Rattle.doc_bits.proofs.TogetherLemmas.{together_joined}
-use Rattle.direct_props.proofs.KeptLemmas.{together_one}
+use Rattle.file_rules.proofs.Public.{sections_one}
 use Rattle.doc_read.specs.Sections.{AreMetSections, IsMetSection, IsSectionProperties, IsMadeBySepx}
 
 -- the rules on each section hold of those that the document has

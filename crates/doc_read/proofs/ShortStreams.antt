@@ -3,7 +3,7 @@ use Rattle.std.proofs.Common.{◌≡◌, List, Some, length, slice_get, sym, ap,
 use Rattle.doc_bits.specs.declared.places.Where.TheVariants.{File}
 use Rattle.cfb_streams.specs.Contents.{NamedBytes}
 use Rattle.cfb_streams.specs.Container.{container_rules}
-use Rattle.file_rules.proofs.RightPlaces.{hold_out}
+use Rattle.file_rules.proofs.Public.{hold_out}
 use Rattle.doc_read.specs.CarriedParts.{carried_streams}
 use Rattle.doc_read.specs.Laws.{CarriedStreamsAreShort}
 use Rattle.doc_read.proofs.CarriedLemmas.{carried-from}

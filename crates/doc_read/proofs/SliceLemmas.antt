@@ -1,13 +1,13 @@
 -- The items of a part of the text.
 use Rattle.std.proofs.Common.{◌≡◌, ◌∙◌, inl, inr, refl, sym, ap, subst, ℕ, ◌+◌, ◌-◌, ◌<◌, ◌≤◌, List, [], ◌∷◌}
-use Rattle.std.proofs.Common.{◌++◌, length, take, drop, get_or, Some, slice_get, slice_index, slice_range}
+use Rattle.std.proofs.Common.{◌++◌, length, take, drop, slice_get, slice_index, slice_range}
 use Rattle.std.proofs.Common.{arith, length-append, length-take, length-drop}
-use Rattle.std.proofs.lemmas.List.{map-id, get_or-drop}
-use Rattle.std.proofs.lemmas.Option.{none-some, slice_get_within, slice_get-get_or, get_or_from_slice_get}
+use Rattle.std.proofs.lemmas.List.{map-id}
+use Rattle.std.proofs.lemmas.Option.{none-some}
 use Rattle.doc_parts.specs.Cps.{AreCpsInOrder}
 use Rattle.doc_parts.specs.Stories.{cut_cps, AreCuts}
 use Rattle.plain_doc.specs.declared.item.Item.{Item}
-use Rattle.doc_bits.proofs.ListLemmas.{slice_get-take}
+use Rattle.doc_bits.proofs.Public.{slice_get-take, zero_more}
 use Rattle.fib_form.specs.declared.table_parts.TablePart.TheVariants.{PlcffndTxt}
 use Rattle.fib_form.specs.declared.stories.StoryKind.TheVariants.{Notes}
 use Rattle.file_rules.specs.Source.{DocSource, part_bytes, story_length}
@@ -15,17 +15,7 @@ use Rattle.file_rules.specs.NoteRules.{HasNoteCuts}
 use Rattle.doc_read.specs.Items.{TextParts, IsItemAt, HoldsItems, HoldsTexts}
 use Rattle.doc_read.specs.Texts.{AreCutsWithin, AreCutFrom}
 use Rattle.doc_read.proofs.SettingsLemmas.{pushed}
-use Rattle.doc_bits.proofs.NumberLemmas.{zero_more}
-
--- what stands in a range of a list stands there in the list
-slice_get-range : {X : Type 0} (xs : List X) (from to i : ℕ) (x : X) → slice_get (slice_range xs from to) i ≡ Some x →
-    slice_get xs (from + i) ≡ Some x
-slice_get-range xs from to i x e =
-    let there : slice_get (drop from xs) i ≡ Some x = slice_get-take (to - from) (drop from xs) i x e in
-    let within = slice_get_within (drop from xs) i x there in
-    let value : get_or (drop from xs) i x ≡ x = get_or_from_slice_get (drop from xs) i x x there in
-    slice_get-get_or xs (from + i) x (omega (arith, length-drop from xs)) ∙ ap Some (sym (get_or-drop from xs i x) ∙
-    value)
+use Rattle.doc_columns.proofs.Public.{range_got}
 
 -- a part of the text has the items of its CPs
 pub holds_range : (parts : TextParts) (total from to : ℕ) (text : List Item) → from ≤ to → to ≤ length text →
@@ -33,7 +23,7 @@ pub holds_range : (parts : TextParts) (total from to : ℕ) (text : List Item) �
 holds_range parts total from to text order within holds = record {
   len = simp (length-take, length-drop) (omega arith);
   each = λ i item e. subst (λ cp. IsItemAt parts cp item) (zero_more (from + i)) (holds.each (from + i) item
-      (slice_get-range text from to i item e));
+      (range_got text from to i item e));
 }
 
 -- so has its front

@@ -13,7 +13,7 @@ use Rattle.doc_bits.specs.Number.{AreBytes}
 use Rattle.fib_form.specs.Fib.{fib_which_table}
 use Rattle.cfb_streams.specs.Contents.{Stream, Contents, NamedBytes, AreStreams, IsStored, AreStored}
 use Rattle.plain_doc.specs.Carried.{IsCarriedName, AreCarriedStreams}
-use Rattle.doc_bits.proofs.ListLemmas.{slice_get-take}
+use Rattle.doc_bits.proofs.Public.{slice_get-take}
 use Rattle.file_rules.specs.FileRules.{FileText, HasText}
 use Rattle.doc_read.specs.CarriedParts.{is_carried, carried_streams, AreWithinBounds, LeavesRoom}
 use Rattle.doc_read.proofs.CarriedLemmas.{without_chain, carried-from, carried-order, carried-count, left_out-two}
@@ -117,7 +117,7 @@ carried-more streams i none within =
     ∙ map-append without_chain (filter (λ s. is_carried s.name) (take i streams))
     (cond (is_carried (get_or streams i none).name) (get_or streams i none ∷ []) [])
 
--- a field of what stands at a place
+-- a field of what is at a place
 field-at : {X : Type 0} (streams : List Stream) (i : ℕ) (none : Stream) (field : Stream → X) (x : X) →
     i < length streams → option_map field (slice_get streams i) ≡ Some x → field (get_or streams i none) ≡ x
 field-at streams i none field x within p =

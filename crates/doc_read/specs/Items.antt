@@ -25,7 +25,7 @@ pub record TextParts : Type 0 where
   pub lists : PartLists
   pub sections : List Properties
 
--- a mark stands exactly where a paragraph ends, with the style and the properties of its place
+-- a mark is exactly where a paragraph ends, with the style and the properties of its place
 abbrev pub IsMarkAt : Bool → List ℕ → List ℕ → ℕ → Modifier → Option Mark → Type 0
 IsMarkAt true wd bin fc modifier (Some mark) = IsDirectMark wd bin fc modifier mark.istd mark.pap
 IsMarkAt true wd bin fc modifier None = ⊥

@@ -27,7 +27,7 @@ use Rattle.doc_read.specs.Marked.{field_bytes as bytes_of_fields, note_kinds as 
 use Rattle.doc_read.specs.Items.{IsMarkAt}
 use Rattle.doc_read.specs.Passing.{IsPassed, AreListed}
 
--- the CPs of what stands at CPs, and what stands there
+-- the CPs of what is at CPs, and what is there
 pub record MarkLists : Type 0 where
   pub field_cps : List ℕ
   pub field_bytes : List ℕ
@@ -52,7 +52,7 @@ pub record AreMarksOf (source : DocSource) (lists : PartLists) (marks : MarkList
   pub kinds : marks.note_kinds ≡ map (λ entry. entry.1) (kinds_of_notes lists.refs)
   pub sections : marks.section_cps ≡ section_lasts lists.sections (story_length source Main)
 
--- WordDocument, its bin tables, the units and their places, what stands at CPs, and the properties of the sections
+-- WordDocument, its bin tables, the units and their places, what is at CPs, and the properties of the sections
 pub record TextView : Type 0 where
   pub wd : List ℕ
   pub characters : List ℕ
@@ -73,7 +73,7 @@ text_view text = record {
   maps = text.maps.now;
 }
 
--- what stands at a CP
+-- what is at a CP
 abbrev pub field_at : MarkLists → ℕ → Option ℕ
 field_at marks cp = entry_at (zip marks.field_cps marks.field_bytes) cp
 
@@ -100,7 +100,7 @@ pub record HaveValidPages (view : TextView) (from to : ℕ) : Type 0 where
       (cp : ℕ) → from ≤ cp → cp < to → IsValidPlace Chpx view.wd view.characters (slice_index view.places cp)
   pub marks : HaveValidMarks view from to
 
--- the bin tables are tables, and what stands at CPs ascends
+-- the bin tables are tables, and what is at CPs ascends
 pub record IsReadable (view : TextView) : Type 0 where
   pub character_bins : IsBinTable view.characters
   pub paragraph_bins : IsBinTable view.paragraphs

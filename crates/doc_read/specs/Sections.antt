@@ -32,7 +32,7 @@ pub record AreSectionMaps (wd : List ℕ) (sections : List Sed) (properties : Li
   pub have : HaveProperties wd sections properties
   pub formed : All (IsPropertyMap section_groups) properties
 
--- these are the properties of a section whose Sepx stands at the place
+-- these are the properties of a section whose Sepx is at the place
 pub record IsMetSection (wd : List ℕ) (place : ℕ × ℕ) (properties : Properties) : Type 0 where
   pub is : IsSectionProperties wd place.0 properties
   pub formed : IsPropertyMap section_groups properties

@@ -1,4 +1,4 @@
-// What stands beside the units of a piece, stretch by stretch.
+// What is beside the units of a piece, stretch by stretch.
 ghost use Rattle.std.specs.Prelude.{◌≡◌, ◌↔◌, ◌+◌, ◌-◌, ◌<◌, ◌≤◌, ℕ, false, length, slice_index};
 ghost use Rattle.std.specs.Prelude.{IfOk, IfSome, IsTrue, MatchOption, OnOk};
 ghost use Rattle.prop_map.specs.Formed.{IsPropertyMap, paragraph_groups};
@@ -63,7 +63,7 @@ pub(crate) fn push_attachments(
     Ok(true)
 }
 
-/// Appends what stands beside the units up to where something stands, and what stands there. It answers the next CP;
+/// Appends what is beside the units up to where something is, and what is there. It answers the next CP;
 /// nothing where a unit ends a paragraph that has no right page for its mark.
 fn push_stretch(
     alloc: Global,
@@ -101,7 +101,7 @@ fn push_stretch(
     Ok(Some(bare + 1))
 }
 
-/// Appends nothing for each unit before the first where something may stand, and answers the CP of that one.
+/// Appends nothing for each unit before the first where something may be, and answers the CP of that one.
 fn push_bare(
     part: &TextPart<'_>,
     left: CpRange,
@@ -130,7 +130,7 @@ fn push_bare(
     Ok(until)
 }
 
-/// The first CP from one to before another whose unit ends a paragraph wherever it stands, or the other CP.
+/// The first CP from one to before another whose unit ends a paragraph wherever it is, or the other CP.
 fn bare_until(units: &[u16], cp: usize, until: usize) -> usize
     requires within { until ≤ length units.now }
     ensures inside { cp < result → result ≤ until }
@@ -142,7 +142,7 @@ fn bare_until(units: &[u16], cp: usize, until: usize) -> usize
     cp + bare_len(&units[cp..until])
 }
 
-/// Reads what stands beside the unit of a CP, which stands in a piece of the reader; nothing where it ends a paragraph
+/// Reads what is beside the unit of a CP, which is in a piece of the reader; nothing where it ends a paragraph
 /// that has no right page for its mark.
 fn attached_at(
     alloc: Global,

@@ -20,13 +20,13 @@ ghost use Rattle.doc_read.specs.Opened.{AreOfFile, IsFoundIn, IsOpened, IsReadOf
 use crate::document::{DocumentParts, document_with, read_document_parts};
 use cfb_streams::Container;
 use doc_bits::{Memory, drop_then};
-use doc_columns::{ColumnDocument, is_sound};
+use doc_columns::{CheckFault, ColumnDocument, check};
 use fib_form::Fib;
 use file_rules::{
     LoadedText, ReadFault, Source, check_formats, load_text, read_unjudged, refused_container,
 };
 use piece_table::PieceList;
-use plain_doc::{Document, check};
+use plain_doc::DocFault;
 use std::alloc::Global;
 use std::marker::Model;
 
@@ -149,7 +149,7 @@ struct Found {
     pieces: PieceList,
 }
 
-/// Reads the streams of a file, and judges its document.
+/// Reads the streams of a file, and checks its document.
 fn read_and_check(alloc: Global, container: &Container) -> Result<Found, ReadFault>
     requires bounds { AreWithinBounds container.now }
     requires of_file { AreOfFile container.now }
@@ -184,7 +184,7 @@ fn read_contents(alloc: Global, container: &Container) -> Result<Found, ReadFaul
 }
 
 /// Reads the document of a text that was loaded in place of the one that the streams name. What is carried is that of
-/// the streams. The document is not judged.
+/// the streams. The document is not checked.
 pub fn read_loaded(
     alloc: Global,
     container: &Container,
@@ -268,34 +268,20 @@ fn format_fault(alloc: Global, source: &Source<'_>) -> ReadFault
     }
 }
 
-/// Judges a document by the rules on documents. Where its columns do not tell, its items are put one by one.
+/// Checks a document by the rules on documents.
 pub fn check_document(alloc: Global, document: &ColumnDocument) -> Result<(), ReadFault>
     requires { HasFormedBookmarks document.now }
     ensures { MatchResult result
         (λ _. IsSound document.now)
         (IsReadFault (document_rules document.now)) }
 {
-    if is_sound(alloc, document)? {
-        return Ok(());
-    }
-    let items = document.expand(alloc)?;
-    let verdict = check_items(&items);
-    drop_then(items, verdict)
-}
-
-/// Judges a document, item by item, by the rules on documents.
-fn check_items(document: &Document) -> Result<(), ReadFault>
-    requires { HasFormedBookmarks document.now }
-    ensures { MatchResult result
-        (λ _. IsSound document.now)
-        (IsReadFault (document_rules document.now)) }
-{
-    match check(document) {
+    match check(alloc, document) {
         Ok(()) => Ok(()),
-        Err(fault) => Err(ReadFault::Refused {
-            rule: fault.rule,
-            place: fault.place,
-            offset: fault.at,
+        Err(CheckFault::Rule(DocFault { rule, place, at })) => Err(ReadFault::Refused {
+            rule,
+            place,
+            offset: at,
         }),
+        Err(CheckFault::Memory) => Err(ReadFault::Memory),
     }
 }

@@ -1,4 +1,4 @@
-// What stands with the units of all three stories, by columns, piece by piece.
+// What is with the units of all three stories, by columns, piece by piece.
 ghost use Rattle.std.specs.Prelude.{◌≡◌, ◌↔◌, ◌-◌, ◌≤◌, length, IfOk, IsTrue, MatchOption};
 ghost use Rattle.doc_bits.specs.Rules.{Hold};
 ghost use Rattle.piece_table.specs.Piece.{total_length};
@@ -27,14 +27,14 @@ use run_lists::Runs;
 use std::alloc::Global;
 use std::collections::BTreeMap;
 
-/// The properties of the units that were read, and what stands beside them.
+/// The properties of the units that were read, and what is beside them.
 #[derive(Drop)]
 pub(crate) struct ReadColumns {
     pub(crate) chps: Runs<PropMap>,
     pub(crate) attachments: Runs<Attached>,
 }
 
-/// Reads what stands with the units of the CPs of all three stories, where each has its right pages.
+/// Reads what is with the units of the CPs of all three stories, where each has its right pages.
 pub(crate) fn read_columns(
     alloc: Global,
     text: &LoadedText<'_>,
@@ -128,7 +128,7 @@ fn columns_of_pieces(
     Ok(Some(read))
 }
 
-/// Appends the properties of the units of a piece, and what stands beside them, and answers whether each of these has
+/// Appends the properties of the units of a piece, and what is beside them, and answers whether each of these has
 /// its
 /// right pages.
 fn push_piece(

@@ -1,4 +1,4 @@
-// What stands at CPs of the whole text: field bytes, references to notes, ends of sections.
+// What is at CPs of the whole text: field bytes, references to notes, ends of sections.
 ghost use Rattle.std.specs.Prelude.{◌≡◌, ◌+◌, ◌<◌, ◌^◌, ◌++◌};
 ghost use Rattle.std.specs.Prelude.{ℕ, All, Some, map, slice_get, IfOk};
 ghost use Rattle.std.specs.Prelude.{OnOk, IfSome};
@@ -20,7 +20,7 @@ use plain_doc::NoteKind;
 use prop_map::PropMap;
 use std::alloc::Global;
 
-/// The CPs of what stands at CPs, which ascend, and what stands there.
+/// The CPs of what is at CPs, which ascend, and what is there.
 #[derive(Drop)]
 pub struct TextMarks {
     pub field_cps: Vec<u32>,
@@ -80,7 +80,7 @@ impl TextMarks {
     }
 }
 
-/// Reads what stands at the CPs of the whole text.
+/// Reads what is at the CPs of the whole text.
 pub fn read_marks(
     alloc: Global,
     source: &Source<'_>,

@@ -67,7 +67,7 @@ impl<'a> TextPart<'a> {
         self.places.front(count)
     }
 
-    /// The next CP where something stands, or the greatest number.
+    /// The next CP where something is, or the greatest number.
     pub(crate) fn next_marked(&self, passed: &PlcCursors) -> u32
         ensures { (cp at : ℕ) → ArePassed self.now.view.marks passed.now cp → cp ≤ at → at ≤ result
             → ArePassed self.now.view.marks passed.now at }

@@ -17,7 +17,7 @@ use std::collections::BTreeMap;
 const READERS_TRIED: usize = 64;
 
 /// What the items of a text are read from: `WordDocument` with its bin tables, the units and their
-/// places by CP, and what stands at CPs.
+/// places by CP, and what is at CPs.
 #[derive(Drop)]
 pub struct TextSource<'a> {
     pub wd: &'a [u8],

@@ -115,7 +115,7 @@ impl MetSections {
         Ok(())
     }
 
-    /// The properties of the section whose Sepx stands at `fc`. A Sepx is read once.
+    /// The properties of the section whose Sepx is at `fc`. A Sepx is read once.
     fn properties(&mut self, alloc: Global, wd: &[u8], fc: u32) -> Result<PropMap, Memory>
         requires there { ¬ (LacksSepx wd.now fc) }
         requires right { Nowhere (HasSepxFault wd.now fc) }
@@ -141,7 +141,7 @@ impl MetSections {
     }
 }
 
-/// Reads the properties of a section whose Sepx stands at `fc`.
+/// Reads the properties of a section whose Sepx is at `fc`.
 fn read_section(alloc: Global, wd: &[u8], fc: u32) -> Result<PropMap, Memory>
     requires there { ¬ (LacksSepx wd.now fc) }
     requires right { Nowhere (HasSepxFault wd.now fc) }

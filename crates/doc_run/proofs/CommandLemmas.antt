@@ -7,7 +7,7 @@ use Rattle.document_commands.specs.Tasks.{text_task, check_task, show_task, prop
 use Rattle.document_commands.specs.Tasks.{title_task, retitle_task, export_task, compare_task, join_task}
 use Rattle.doc_run.specs.Commands.{Request, streams, on_document, on_two, edit, from_json, generate, IsCommand}
 
--- the word that stands there
+-- the word that is there
 word_at : ℕ → List (List ℕ) → List ℕ
 word_at k words = slice_index_or words k []
 

@@ -1,13 +1,13 @@
--- A command in whose way nothing stands is served.
+-- A command in whose way nothing is is served.
 use Rattle.std.proofs.Common.{◌≡◌, ◌≢◌, ◌<◌, ◌≤◌, inl, inr, refl, subst, ℕ, List, Some, length, arith}
 use Rattle.doc_bits.specs.declared.places.Where.TheVariants.{File}
 use Rattle.doc_bits.specs.Rules.{Rules, Hold, IsSingle, IsFirst}
 use Rattle.doc_bits.specs.Places.{Place, Upto, IsFirstPlace}
-use Rattle.doc_bits.proofs.RuleLemmas.{hold_or_first, first_in}
+use Rattle.doc_bits.proofs.Public.{hold_or_first, first_in}
 use Rattle.doc_outer.specs.Held.{Files}
 use Rattle.cfb_streams.specs.Container.{container_rules}
 use Rattle.doc_read.specs.Holds.{all_rules}
-use Rattle.doc_read.proofs.OneDocument.{all_single}
+use Rattle.doc_read.proofs.Public.{all_single}
 use Rattle.edit_guards.specs.Policies.{Policy}
 use Rattle.script_run.specs.States.{start_of}
 use Rattle.run_stages.specs.Outcomes.{Outcome}
@@ -15,12 +15,9 @@ use Rattle.document_commands.specs.Replies.{EndsBy}
 use Rattle.run_stages.specs.Judged.{Judges}
 use Rattle.document_commands.specs.Judged.{stream_rules}
 use Rattle.document_commands.specs.Answers.{ListsStreams, AnswersFile, AnswersTwo}
-use Rattle.run_stages.proofs.OutcomeLemmas.{status_said}
-use Rattle.document_commands.proofs.OutcomeLemmas.{ends_done}
-use Rattle.document_commands.proofs.JudgedLemmas.{streams_single}
-use Rattle.document_commands.proofs.AnswerLemmas.{file_done, two_done}
+use Rattle.run_stages.proofs.Public.{status_said, Says, settled}
+use Rattle.document_commands.proofs.Public.{ends_done, streams_single, file_done, two_done, import_done}
 use Rattle.document_commands.specs.Imports.{Imports}
-use Rattle.document_commands.proofs.ImportLemmas.{import_done}
 use Rattle.doc_run.specs.Commands.{Request, streams, on_document, on_two, edit, from_json, generate, IsCommand}
 use Rattle.run_stages.specs.Stages.{longest_file, BreaksLengthRule, ReadsFile}
 use Rattle.doc_run.specs.Edits.{EditsBy, IsOverlongScript, EditsFile}
@@ -30,7 +27,6 @@ use Rattle.doc_run.specs.Completeness.{HoldsRight, CanServe}
 use Rattle.doc_run.proofs.CommandLemmas.{command_one}
 use Rattle.doc_run.proofs.GenerateLemmas.{generated_done}
 use Rattle.doc_run.proofs.EditLemmas.{edited_done}
-use Rattle.run_stages.proofs.SaidLemmas.{Says, settled}
 
 -- a file that is too long breaks rule 1
 long_breaks : (file : List ℕ) → 7143936 < length file → IsFirst (container_rules file) 1 7143937

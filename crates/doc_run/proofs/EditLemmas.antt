@@ -6,7 +6,7 @@ use Rattle.edit_script.specs.declared.commands.Command.{Command}
 use Rattle.edit_script.specs.Json.{list_of}
 use Rattle.edit_script.specs.Shapes.{command_of}
 use Rattle.edit_script.specs.Scripts.{most_commands, EndsWithSave, IsScript}
-use Rattle.edit_script.proofs.ScriptLemmas.{script_one, fault_is_one}
+use Rattle.edit_script.proofs.Public.{script_one, fault_is_one}
 use Rattle.script_run.specs.declared.faults.Stop.{Stop}
 use Rattle.script_run.specs.declared.running.Saved.{Saved}
 use Rattle.script_run.specs.declared.faults.RunFault.{RunFault}
@@ -14,7 +14,7 @@ use Rattle.script_run.specs.declared.faults.RunFault.TheVariants.{Stopped}
 use Rattle.script_run.specs.Ends.{IsSavedBy, IsRunFault, IsAcceptedScript}
 use Rattle.script_run.specs.States.{RunState}
 use Rattle.script_run.specs.Commands.{listed}
-use Rattle.script_run.proofs.EndLemmas.{ends_once}
+use Rattle.script_run.proofs.Public.{ends_once}
 use Rattle.document_commands.specs.declared.reply.Reply.{Reply}
 use Rattle.document_commands.specs.declared.reply.Reply.TheVariants.{Made, Refused}
 use Rattle.document_commands.specs.declared.reply.Refusal.TheVariants.{Script}

@@ -5,7 +5,7 @@ use Rattle.script_run.specs.declared.generating.Generated.{Generated}
 use Rattle.script_run.specs.Generated.{generated}
 use Rattle.script_run.specs.Ends.{EndsInMode, IsLastSave}
 use Rattle.script_run.specs.GeneratedRuns.{most_seed, generator_start, IsGeneratedBy}
-use Rattle.script_run.proofs.GeneratedRunLemmas.{last_mode, ends_with_save}
+use Rattle.script_run.proofs.Public.{last_mode, ends_with_save}
 use Rattle.document_commands.specs.declared.reply.Reply.{Reply}
 use Rattle.document_commands.specs.declared.reply.Reply.TheVariants.{Made}
 use Rattle.run_stages.specs.Outcomes.{Outcome, puts}

@@ -1,10 +1,11 @@
-pub mod PositionLemmas
-pub mod CommandLemmas
-pub mod AlikeLemmas
-pub mod StageLemmas
-pub mod PutLemmas
-pub mod SessionLemmas
-pub mod EditLemmas
-pub mod GenerateLemmas
-pub mod OneLemmas
-pub mod CompleteLemmas
+pub mod Public
+mod PositionLemmas
+mod CommandLemmas
+mod AlikeLemmas
+mod StageLemmas
+mod PutLemmas
+mod SessionLemmas
+mod EditLemmas
+mod GenerateLemmas
+mod OneLemmas
+mod CompleteLemmas

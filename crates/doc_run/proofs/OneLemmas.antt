@@ -2,11 +2,11 @@
 use Rattle.std.proofs.Common.{◌≡◌, ◌≢◌, ◌∙◌, inl, inr, sym, subst, ℕ, List, Some}
 use Rattle.doc_bits.specs.Rules.{Rules, IsSingle}
 use Rattle.doc_bits.specs.Places.{Place, Upto}
-use Rattle.doc_bits.proofs.RuleLemmas.{hold_or_first}
+use Rattle.doc_bits.proofs.Public.{hold_or_first}
 use Rattle.doc_outer.specs.Held.{Files, file_at}
 use Rattle.doc_read.specs.Holds.{all_rules}
-use Rattle.doc_read.proofs.OneDocument.{all_single}
-use Rattle.fast_save.proofs.OneSession.{session_one}
+use Rattle.doc_read.proofs.Public.{all_single}
+use Rattle.fast_save.proofs.Public.{session_one}
 use Rattle.edit_guards.specs.Policies.{Policy}
 use Rattle.script_run.specs.States.{start_of}
 use Rattle.run_stages.specs.Outcomes.{Outcome}
@@ -14,13 +14,10 @@ use Rattle.document_commands.specs.Replies.{EndsBy}
 use Rattle.run_stages.specs.Judged.{Judges}
 use Rattle.document_commands.specs.Judged.{stream_rules}
 use Rattle.document_commands.specs.Answers.{ListsStreams, AnswersFile, AnswersTwo}
-use Rattle.run_stages.proofs.JudgedLemmas.{refused_one}
-use Rattle.run_stages.proofs.SaidLemmas.{reads_one as read_to_one}
-use Rattle.document_commands.proofs.JudgedLemmas.{streams_single}
-use Rattle.document_commands.proofs.AnswerLemmas.{lists_one, file_one, two_one}
+use Rattle.run_stages.proofs.Public.{refused_one, reads_one as read_to_one}
+use Rattle.document_commands.proofs.Public.{streams_single, lists_one, file_one, two_one, ends_one as replied_one}
+use Rattle.document_commands.proofs.Public.{import_one}
 use Rattle.document_commands.specs.Imports.{Imports}
-use Rattle.document_commands.proofs.OutcomeLemmas.{ends_one as replied_one}
-use Rattle.document_commands.proofs.ImportLemmas.{import_one}
 use Rattle.doc_run.specs.Commands.{Request, streams, on_document, on_two, edit, from_json, generate, IsCommand}
 use Rattle.run_stages.specs.Stages.{BreaksLengthRule, Reads, ReadsFile}
 use Rattle.doc_run.specs.Edits.{EditsBy, IsOverlongScript, EditsFile, ReadsScript}
@@ -40,7 +37,7 @@ reads_one :
 reads_one free name files overlong next a b ca cb long one x y =
     read_to_one (IsOne free a b) name files overlong next a b ca cb (one_same free a b) long one x y
 
--- one answer of a stage that judges, where the next stage has one
+-- one answer of a stage that checks, where the next stage has one
 judges_one :
     (free : Type 0) (rules : Rules Place) (name : List ℕ) (next : Outcome → Type 0) (a b : Outcome) → IsSingle rules →
     (next a → next b → IsOne free a b) → Judges rules name next a → Judges rules name next b → IsOne free a b
@@ -52,7 +49,7 @@ judges_one free rules name next a b single one (inr x) (inl y) =
     absurd (hold_or_first Upto rules y.rule y.place single x.0 y.first)
 judges_one free rules name next a b single one (inr x) (inr y) = one x.1 y.1
 
--- a file is read and judged to one ending
+-- a file is read and checked to one ending
 files_one :
     (free : Type 0) (name : List ℕ) (files : Files) (rules : List ℕ → Rules Place) (next : List ℕ → Outcome → Type 0)
     (a b : Outcome) → a.status ≢ 4 → b.status ≢ 4 → ((bytes : List ℕ) → IsSingle (rules bytes)) →

@@ -15,8 +15,8 @@ use Rattle.document_commands.specs.Replies.{EndsBy, Replies, RepliesTwo}
 use Rattle.run_stages.specs.Judged.{Judges}
 use Rattle.document_commands.specs.Judged.{stream_rules}
 use Rattle.document_commands.specs.Answers.{ListsStreams, AnswersFile, AnswersTwo}
-use Rattle.run_stages.proofs.OutcomeLemmas.{status_said, after_reading_inside}
-use Rattle.document_commands.proofs.OutcomeLemmas.{ends_put, ends_inside}
+use Rattle.run_stages.proofs.Public.{status_said, after_reading_inside}
+use Rattle.document_commands.proofs.Public.{ends_put, ends_inside}
 use Rattle.document_commands.specs.Imports.{Imports}
 use Rattle.doc_run.specs.Commands.{Request, streams, on_document, on_two, edit, from_json, generate, put_under}
 use Rattle.doc_run.specs.Commands.{IsCommand, PutsUnder}

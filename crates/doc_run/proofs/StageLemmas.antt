@@ -18,14 +18,14 @@ use Rattle.run_stages.specs.Judged.{IsRefused, Judges}
 use Rattle.run_stages.specs.Leaves.{IsCaused}
 use Rattle.run_stages.specs.Stages.{ReadsFile, BreaksLengthRule}
 use Rattle.run_stages.specs.Reading.{IsTaken, stage_status, Follows, IsWholeIn}
-use Rattle.run_stages.proofs.OutcomeLemmas.{said_inside}
-use Rattle.run_stages.proofs.StageLemmas.{follow_reads, file_map, inside_caused, stopped_caused as caused_as_stopped}
+use Rattle.run_stages.proofs.Public.{said_inside, follow_reads, file_map, inside_caused}
+use Rattle.run_stages.proofs.Public.{stopped_caused as caused_as_stopped}
 use Rattle.document_commands.specs.Tasks.{PairTask, out_of_two}
 use Rattle.document_commands.specs.declared.reply.Reply.{Reply}
 use Rattle.document_commands.specs.Replies.{EndsBy, RepliesTwo}
 use Rattle.document_commands.specs.Judged.{IsJudgedFile}
 use Rattle.document_commands.specs.Answers.{AnswersTwo}
-use Rattle.document_commands.proofs.OutcomeLemmas.{ends_inside}
+use Rattle.document_commands.proofs.Public.{ends_inside}
 use Rattle.doc_run.specs.Reading.{IsStoppedBy, IsOpenedAs}
 use Rattle.doc_run.specs.Reading.{IsOpenedStage, IsBegun, IsBegunOn, AnswersBeside}
 use Rattle.doc_run.specs.Endings.{ReadsSecond}
@@ -37,7 +37,7 @@ judged_reached name bytes (Go document) are j =
     (are, record { accepted = j.0; holds = j.1.0; sound = j.1.1 })
 judged_reached name bytes (Stop ending) are j = (are, j)
 
--- what judging them came to
+-- what checking them came to
 pub whole_reached :
     {E : Type 0} (name : List ℕ) (taken : Stage (List ℕ)) (bytes read : List ℕ) (result : Result (Stage Document) E) →
     taken ≡ Go bytes → read ≡ bytes → AreBytes read → IfOk result (λ r. IsJudgedFile name read r) →

@@ -58,7 +58,7 @@ pub record IsImportable (files : Files) (name : List ℕ) : Type 0 where
   pub short : length bytes ≤ longest_file
   pub can : CanImport bytes
 
--- nothing that the command names stands in its way
+-- nothing that the command names is in its way
 abbrev pub CanServe : List Policy → Request → Files → Type 0
 CanServe policies (streams file) files = HoldsRight stream_rules files file
 CanServe policies (on_document task file) files = IsAnswerable task files file

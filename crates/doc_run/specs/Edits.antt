@@ -75,7 +75,7 @@ pub record IsRun (start : RunState) (bytes : List ℕ) (answer : Reply) : Type 0
   pub is : IsScript bytes commands
   pub edits : Edits start commands answer
 
--- the bytes are judged as a script, and run the session
+-- the bytes are checked as a script, and run the session
 abbrev pub EditsBy : RunState → (bytes : List ℕ) → Reply → Type 0
 EditsBy start bytes answer = IsNoScript bytes answer ⊎ IsRun start bytes answer
 

@@ -72,7 +72,7 @@ pub record GeneratesFast (words : List (List ℕ)) : Type 0 where
 abbrev pub EndsFast : List (List ℕ) → Files → Type 0
 EndsFast words files = EditsFast words files ⊎ GeneratesFast words
 
--- where what names hold is told, a run has one status, one text and one name for what it puts, unless the shelf fails.
+-- where what names hold is known, a run has one status, one text and one name for what it puts, unless the shelf fails.
 -- What it puts is one too, but for the bytes of a last save that is fast
 pub record EndingIsOne : Type 0 where
   pub alike :

@@ -10,6 +10,6 @@ use Rattle.run_stages.specs.Stages.{Reads}
 abbrev pub IsOverlongJson : Outcome → Type 0
 IsOverlongJson outcome = outcome ≡ says 7 overlong_json_line
 
--- the file is read, no rule of files is judged on it, and its document is saved under a name
+-- the file is read, no rule of files is checked on it, and its document is saved under a name
 abbrev pub ReadsJson : (file out : List ℕ) → Option Files → Outcome → Type 0
 ReadsJson file out held = Reads file held IsOverlongJson (λ bytes. EndsBy (Some out) (Imports bytes))

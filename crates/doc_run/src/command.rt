@@ -76,7 +76,7 @@ fn command_on<'a>(word: &str, file: &'a str) -> Option<Command<'a>>
     Some(Command::OnDocument { task, file })
 }
 
-/// The command that a word names, where two words stand behind it.
+/// The command that a word names, where two words are behind it.
 fn command_on_two<'a>(word: &str, first: &'a str, second: &'a str) -> Option<Command<'a>>
     ensures { MatchOption result
         (IsNoCommand (word.now ∷ first.now ∷ second.now ∷ []))
@@ -113,7 +113,7 @@ fn command_on_two<'a>(word: &str, first: &'a str, second: &'a str) -> Option<Com
     Some(Command::OnDocument { task, file: first })
 }
 
-/// The command that a word names, where three words stand behind it.
+/// The command that a word names, where three words are behind it.
 fn command_on_three<'a>(
     word: &str,
     file: &'a str,

@@ -56,14 +56,14 @@ pub fn docbin_run<S: Shelf, K: Sink>(
         × (Appends (K.written out.old) (K.written out.new) outcome.text
         × LeavesPut outcome (S.put_faults shelf.old) (S.put_faults shelf.new) (S.held shelf.old) (S.held shelf.new)))) }
 
-    // Words are one command; words, told files and guards have one outcome, but for the bytes of a fast save.
+    // Words are one command; words, known files and guards have one outcome, but for the bytes of a fast save.
     ensures one_command { CommandIsOne }
     ensures only { EndingIsOne }
 
     // Where the documents of two files fit a file, `equal` says whether their full saves are the same bytes.
     ensures equal_saves { EqualFilesHaveOneSave }
 
-    // A command in whose way nothing stands is served, unless a fault rose or memory was refused.
+    // A command in whose way nothing is is served, unless a fault rose or memory was refused.
     ensures complete { (command : Request) (files : Files)
         → IsCommand (map string_bytes words.now) command
         → S.held shelf.old ≡ Some files → CanServe (map (λ b. policy b) guards.items) command files

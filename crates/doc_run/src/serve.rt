@@ -1,4 +1,4 @@
-// The endings of a run that reads files: each is read and judged before the next one is looked for.
+// The endings of a run that reads files: each is read and checked before the next one is looked for.
 ghost use Rattle.std.specs.Prelude.{Some, map, IfOk};
 ghost use Rattle.doc_bits.specs.Number.{AreBytes};
 ghost use Rattle.plain_doc.specs.Sound.{IsSound};
@@ -89,7 +89,7 @@ fn answer_taken(
     }
 }
 
-/// The ending where something is asked of the documents of two files. The first is judged before the second is looked
+/// The ending where something is asked of the documents of two files. The first is checked before the second is looked
 /// for.
 pub(crate) fn serve_two<S: Shelf>(
     alloc: Global,
@@ -175,7 +175,7 @@ fn answer_second(
     }
 }
 
-/// The ending where the document that is the JSON of a file is saved under a name. No rule of files is judged.
+/// The ending where the document that is the JSON of a file is saved under a name. No rule of files is checked.
 pub(crate) fn serve_import<S: Shelf>(
     alloc: Global,
     shelf: &mut S,
@@ -202,7 +202,7 @@ fn import_taken(alloc: Global, taken: Stage<Bytes>, out: &str) -> Result<Ending,
     }
 }
 
-/// The ending where the document of a file is edited by a script. The file is judged before the script is looked for.
+/// The ending where the document of a file is edited by a script. The file is checked before the script is looked for.
 pub(crate) fn serve_edit<S: Shelf>(
     alloc: Global,
     shelf: &mut S,

@@ -5,7 +5,7 @@ use Rattle.std.specs.List.{count_by, sum_by}
 use Rattle.std.proofs.lemmas.List.Sums.{count_by-le-length, sum_by-append, sum_by-cons}
 use Rattle.run_lists.specs.declared.runs.Run.{Run}
 use Rattle.run_lists.specs.Spread.{expanded, total_len}
-use Rattle.run_lists.proofs.SpreadLemmas.{spread-nil, spread-cons, length-spread, extent-take}
+use Rattle.run_lists.proofs.Public.{spread-nil, spread-cons, length-spread, extent-take}
 use Rattle.plain_doc.specs.declared.item.Item.{Item}
 use Rattle.plain_doc.specs.RulesOfSheet.{section_count}
 use Rattle.doc_columns.specs.declared.attached.Attached.{Attached}

@@ -1,8 +1,9 @@
-pub mod NumberedLemmas
-pub mod LineLemmas
-pub mod ParagraphLemmas
-pub mod OneTextLemmas
-pub mod WalkLemmas
-pub mod StoryLemmas
-pub mod CountLemmas
-pub mod SettingLemmas
+pub mod Public
+mod NumberedLemmas
+mod LineLemmas
+mod ParagraphLemmas
+mod OneTextLemmas
+mod WalkLemmas
+mod StoryLemmas
+mod CountLemmas
+mod SettingLemmas

@@ -10,9 +10,8 @@ use Rattle.plain_doc.specs.declared.document.Document.{Document}
 use Rattle.plain_doc.specs.Document.{IsFormedText}
 use Rattle.plain_doc.specs.Paragraphs.{HasNoParagraphEnd}
 use Rattle.plain_doc.specs.Sound.{IsSound}
-use Rattle.plain_doc.proofs.RightLemmas.{sound_is_valid}
-use Rattle.plain_doc.proofs.MainLemmas.{main_right, some_end, maps_there}
-use Rattle.doc_columns.proofs.EndLemmas.{EndsAt}
+use Rattle.plain_doc.proofs.Public.{sound_is_valid, main_right, some_end, maps_there}
+use Rattle.doc_columns.proofs.Public.{EndsAt}
 use Rattle.doc_show.specs.Properties.{IsMarkFrom}
 
 pub sound_bases : (document : Document) → IsSound document → HasSoundBases document.sheet
@@ -29,9 +28,9 @@ pub mark_map : (items : List Item) (from : ℕ) (mark : Mark) → IsFormedText i
 mark_map items from mark formed m =
     (maps_there items m.end m.item formed m.there).pap mark m.has
 
--- ---- the mark by what stands beside
+-- ---- the mark by what is beside
 
--- where the paragraph ends stands the first mark
+-- where the paragraph ends is the first mark
 pub mark_from : (text : List Item) (pos place : ℕ) (found : Option (Bor Mark)) →
     MatchOption found (HasNoParagraphEnd text pos) (λ mark. EndsAt text pos place mark.now)
     → MatchOption found (HasNoParagraphEnd text pos) (λ mark. IsMarkFrom text pos mark.now)
@@ -40,9 +39,6 @@ mark_from text pos place (Some mark) there =
     record { end = place; is_end = there.is_end; item = there.item; there = there.here; has = there.has }
 
 -- ---- the document that its columns are seen as
-
-pub sound_seen : (seen document : Document) → seen ≡ document → IsSound document → IsSound seen
-sound_seen seen document is sound = subst (λ (d : Document). IsSound d) (sym is) sound
 
 pub within_seen : (seen document : Document) (pos : ℕ) → seen ≡ document → pos < length document.main →
     pos < length seen.main

@@ -1,34 +1,29 @@
 -- The lines of a text by its columns.
 use Rattle.std.proofs.Common.{◌≡◌, ◌∙◌, ℕ, refl, sym, ap, subst, ◌+◌, ◌-◌, ◌<◌, ◌≤◌, List, [], ◌∷◌, ◌++◌, length, map}
-use Rattle.std.proofs.Common.{take, drop, Option, Some, None, Bool, true, false, not, ◌&&◌, arith, append_assoc, inl}
+use Rattle.std.proofs.Common.{take, drop, Option, Some, None, true, false, not, ◌&&◌, arith, append_assoc, inl}
 use Rattle.std.proofs.Common.{inr}
-use Rattle.std.specs.Prelude.{slice_get, slice_range, is_some, IsSome}
+use Rattle.std.specs.Prelude.{slice_get, slice_range, IsSome}
 use Rattle.std.specs.List.{flat_map}
 use Rattle.std.proofs.lemmas.Bool.{cases_lt}
 use Rattle.std.proofs.lemmas.List.{take-map, drop-map, take_all}
 use Rattle.std.proofs.lemmas.Option.{same_Some}
-use Rattle.doc_bits.proofs.ListLemmas.{there_is}
+use Rattle.doc_bits.proofs.Public.{there_is, both_are}
 use Rattle.prop_map.specs.Settings.{Properties}
 use Rattle.run_lists.specs.Spread.{expanded}
 use Rattle.plain_doc.specs.declared.item.Item.{Item}
 use Rattle.plain_doc.specs.Stretches.{stretches, BeginsStretch}
 use Rattle.plain_doc.specs.Settings.{same_properties, is_inside}
-use Rattle.plain_doc.proofs.LawLemmas.{equal_are_same}
+use Rattle.plain_doc.proofs.Public.{equal_are_same, a_mark, no_mark}
 use Rattle.doc_columns.specs.declared.attached.Attached.{Attached}
 use Rattle.doc_columns.specs.Attached.{attached_of}
 use Rattle.doc_columns.specs.declared.walk.Parts.{Parts}
 use Rattle.doc_columns.specs.Walks.{items_in, AreParts}
-use Rattle.doc_columns.proofs.WalkLemmas.{items_long, units_are, attached_there, range_got, range_long, begins_range}
+use Rattle.doc_columns.proofs.Public.{items_long, units_are, attached_there, range_got, range_long, begins_range}
 use Rattle.doc_show.specs.Story.{is_plain, is_one_run, run_line, mark_line, sect_line, line_of_mark, line_of_sect}
 use Rattle.doc_show.specs.Story.{paragraph_lines}
 use Rattle.doc_show.specs.Walks.{is_bare, alike_line}
 
 -- ---- runs
-
-both_true : (a b : Bool) → true ≡ (a && b) → (a ≡ true) × (b ≡ true)
-both_true true true is = (refl, refl)
-both_true true false is = absurd (cc)
-both_true false b is = absurd (cc)
 
 -- the items from a place to another are plain and have the same properties
 abbrev pub AreAlike : List Item → ℕ → ℕ → Properties → Type 0
@@ -52,7 +47,7 @@ pub alike_on : (items : List Item) (from to end : ℕ) (first next : Properties)
     ((k : ℕ) (item : Item) → to ≤ k → k < end → slice_get items k ≡ Some item → attached_of item ≡ attached) →
     AreAlike items from end first
 alike_on items from to end first next attached before same chps attachments = λ k item le until here.
-    let both = both_true (is_bare attached) (same_properties first next) same in
+    let both = both_are (is_bare attached) (same_properties first next) same in
     let one : first ≡ next = (equal_are_same first next).0 both.1 in
     elim (cases_lt k to) [
       | inl early ↦ before k item le early here
@@ -117,12 +112,6 @@ run_line-range parts are at to end chp attached some within first chps attachmen
 
 -- ---- paragraphs
 
-no_mark : (x y : Item) → x.mark ≡ None → is_inside x y ≡ true
-no_mark x y none = ap (λ m. not (is_some m)) none
-
-a_mark : (x y : Item) → IsSome x.mark → is_inside x y ≡ false
-a_mark x y some = ap not some
-
 -- a paragraph of the text
 pub begins_paragraph : (parts : Parts) → AreParts parts → (from to : ℕ) → from < to → to ≤ length parts.units.now →
     ((k : ℕ) (attached : Attached) → from ≤ k → k + 1 < to → slice_get (expanded parts.attachments.now) k ≡ Some
@@ -138,7 +127,7 @@ begins_paragraph parts are from to some within inside ends =
     (λ k x y le until here there. no_mark x y (inside k (attached_of x) le until (attached_there parts are k x here)))
     (λ more x y here there. a_mark x y (ends more (attached_of x) (attached_there parts are (to - 1) x here)))
 
--- its lines, by what stands beside its last item
+-- its lines, by what is beside its last item
 pub paragraph-range : (parts : Parts) → AreParts parts → (from to : ℕ) (attached : Attached) → from < to →
     to ≤ length parts.units.now → slice_get (expanded parts.attachments.now) (to - 1) ≡ Some attached →
     paragraph_lines (slice_range (items_in parts) from to)

@@ -51,7 +51,7 @@ pub record IsMarkFrom (items : List Item) (from : ℕ) (mark : Mark) : Type 0 wh
   pub there : slice_get items end ≡ Some item
   pub has : item.mark ≡ Some mark
 
--- what stands at a place of the main text, and what is in effect there
+-- what is at a place of the main text, and what is in effect there
 pub record ItemProperties : Type 0 where
   pub item : Item
   pub mark : Mark

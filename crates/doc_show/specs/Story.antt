@@ -22,7 +22,7 @@ is_plain item = not (is_some item.fld) && not (is_some item.note)
 abbrev pub is_one_run : Item → Item → Bool
 is_one_run item next = is_plain item && (is_plain next && same_properties item.chp next.chp)
 
--- what stands before the properties of an item
+-- what is before the properties of an item
 abbrev pub note_word : Option NoteKind → List ℕ
 note_word None = codes "run"
 note_word (Some Auto) = codes "note auto"

@@ -11,7 +11,7 @@ use Rattle.doc_show.specs.Story.{item_word}
 abbrev pub is_bare : Attached → Bool
 is_bare attached = not (is_some attached.fld) && not (is_some attached.note)
 
--- the line of units whose items have the same properties and begin with what stands beside
+-- the line of units whose items have the same properties and begin with what is beside
 abbrev pub alike_line : Attached → Properties → List ℕ → List ℕ
 alike_line attached chp units =
     line (item_word attached.fld attached.note ++ (properties_text chp ++ (codes " | " ++ shown false units)))

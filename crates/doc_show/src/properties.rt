@@ -1,4 +1,4 @@
-// The lines on an item of the main text: its properties and those of its paragraph, as they stand there and as they are
+// The lines on an item of the main text: its properties and those of its paragraph, as they are there and as they are
 // in effect.
 ghost use Rattle.std.specs.Prelude.{◌≡◌, ◌<◌, ◌++◌, length, IfOk, OnOk, MatchOption};
 ghost use Rattle.std.specs.List.{flat_map};

@@ -14,7 +14,7 @@ ghost use Rattle.doc_show.specs.Walks.{is_bare, alike_line};
 use crate::shown_maps::ShownMaps;
 use doc_bits::{Memory, Text};
 use doc_columns::{Alike, Attached, Columns, Parts, Walk, alike_from, paragraph_end};
-use plain_doc::{Mark, NoteKind};
+use plain_doc::{Mark, NoteKind, has_same_properties};
 use prop_map::PropMap;
 use run_lists::{Cursor, seek};
 use std::alloc::Global;
@@ -76,7 +76,7 @@ fn push_sect(maps: &mut ShownMaps, text: &mut Text, sect: &Option<PropMap>) -> R
     Ok(())
 }
 
-/// Appends the lines of the runs of a paragraph, which stands from `from` to before `end`.
+/// Appends the lines of the runs of a paragraph, which is from `from` to before `end`.
 fn push_runs(
     maps: &mut ShownMaps,
     text: &mut Text,
@@ -144,13 +144,6 @@ fn goes_on(first: &Alike<'_>, next: &Alike<'_>) -> bool
     is_plain(next.attached) && has_same_properties(first.chp, next.chp)
 }
 
-/// Whether two maps have the same codes and values.
-fn has_same_properties(one: &PropMap, other: &PropMap) -> bool
-    ensures { result ≡ same_properties one.now other.now }
-{
-    one.equal(other)
-}
-
 /// Whether there is no field character and no reference.
 fn is_plain(attached: &Attached) -> bool
     ensures { result ≡ is_bare attached.now }
@@ -177,7 +170,7 @@ fn push_run(
     text.push_all("\n")
 }
 
-/// Appends what stands before the properties of an item.
+/// Appends what is before the properties of an item.
 fn push_item_word(text: &mut Text, fld: &Option<u8>, note: &Option<NoteKind>) -> Result<(), Memory>
     ensures { OnOk result (text.new ≡ text.old ++ item_word fld.now note.now) }
 {

@@ -17,7 +17,7 @@ use Rattle.doc_view.specs.Glyphs.{are_halves, control_glyph, drawn_unit, glyph_o
 use Rattle.doc_view.specs.Glyphs.{is_windows, stand_in_glyph, unit_glyph, whole_text}
 use Rattle.doc_view.specs.Glyphs.{windows_unit}
 use Rattle.doc_view.specs.Laws.{is_control}
-use Rattle.doc_bits.proofs.TestLemmas.{both_true}
+use Rattle.doc_bits.proofs.Public.{both_true}
 use Rattle.text_codes.specs.Halves.{replacement, is_surrogate}
 
 -- a text without controls

@@ -110,7 +110,7 @@ front_plain lead line in_table plain =
     (either_plain line.later (9 ∷ []) [] (one_plain 9 refl) none_plain)))
     (line_plain lead line.some plain)
 
--- what stands in front of a paragraph's own text
+-- what is in front of a paragraph's own text
 
 unit_plain : (unit : ℕ) → IsPlainIn (label_glyph unit)
 unit_plain unit =

@@ -6,8 +6,8 @@ use Rattle.std.specs.List.{count_by, cons_option}
 use Rattle.std.proofs.lemmas.List.Elements.{filter_map-append}
 use Rattle.std.proofs.lemmas.List.Sums.{sum_by-append, count_by-le-length}
 use Rattle.std.proofs.lemmas.Option.{get_or_from_slice_get, slice_get_within}
-use Rattle.doc_bits.proofs.ListLemmas.{get-map, there_is, take_step}
-use Rattle.run_lists.proofs.CutLemmas.{run_and_rest}
+use Rattle.doc_bits.proofs.Public.{get-map, there_is, take_step}
+use Rattle.run_lists.proofs.Public.{run_and_rest}
 use Rattle.plain_doc.specs.declared.item.Item.{Item}
 use Rattle.plain_doc.specs.declared.item.NoteKind.{NoteKind}
 use Rattle.plain_doc.specs.declared.item.NoteKind.TheVariants.{Auto, Custom}
@@ -21,8 +21,8 @@ use Rattle.doc_columns.specs.declared.attached.Attached.{Attached}
 use Rattle.doc_columns.specs.declared.walk.Parts.{Parts}
 use Rattle.doc_columns.specs.declared.walk.Walk.{Walk}
 use Rattle.doc_columns.specs.Walks.{items_in, AreParts}
-use Rattle.doc_columns.proofs.WalkLemmas.{items_long, units_are}
-use Rattle.field_links.proofs.OpenLemmas.{open_fields-more}
+use Rattle.doc_columns.proofs.Public.{items_long, units_are}
+use Rattle.field_links.proofs.Public.{open_fields-more}
 use Rattle.field_links.specs.OpenFields.{open_fields, after_unit, is_in_results}
 use Rattle.page_out.specs.declared.page.Page.{Page}
 use Rattle.doc_view.specs.declared.paragraph.Saying.{Saying}
@@ -38,7 +38,7 @@ use Rattle.doc_view.specs.Lines.{IsSaying, Says}
 use Rattle.page_out.specs.Printed.{Prints}
 use Rattle.doc_view.specs.Seen.{Formats, is_shown, seen_as, front_of, is_auto, is_note_unit, note_unit, reference_kind, reference_of}
 use Rattle.doc_view.specs.Seen.{references_in}
-use Rattle.page_out.proofs.PrintLemmas.{nothing_put, put_then}
+use Rattle.page_out.proofs.Public.{nothing_put, put_then}
 use Rattle.doc_view.proofs.RangeLemmas.{last_is, seen_none, seen_one, seen_range, seen_then}
 use Rattle.doc_view.proofs.SayingLemmas.{says_none, says_then}
 

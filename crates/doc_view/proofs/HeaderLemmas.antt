@@ -4,12 +4,12 @@ use Rattle.std.proofs.Common.{append_assoc, append-nil, Some, Bool, true, false,
 use Rattle.std.specs.Prelude.{slice_get}
 use Rattle.std.specs.List.{count_by}
 use Rattle.std.proofs.Math.ListN.{drop_of_length-le}
-use Rattle.run_lists.proofs.CutLemmas.{run_and_rest}
+use Rattle.run_lists.proofs.Public.{run_and_rest}
 use Rattle.plain_doc.specs.declared.item.Item.{Item}
 use Rattle.doc_outer.specs.declared.sink.Sink.{Ghosts}
 use Rattle.page_out.specs.declared.page.Page.{Page}
 use Rattle.page_out.specs.Printed.{Prints}
-use Rattle.page_out.proofs.PrintLemmas.{nothing_put, put_then}
+use Rattle.page_out.proofs.Public.{nothing_put, put_then}
 use Rattle.symbol_fonts.specs.declared.fonts.SymbolFonts.{SymbolFonts}
 use Rattle.doc_view.specs.declared.reading.Manner.{Manner}
 use Rattle.doc_view.specs.declared.reading.TextKind.TheVariants as text_kind
@@ -28,7 +28,7 @@ pub no_references : (hidden : Bool) (fonts : SymbolFonts) (items : List Item) �
 no_references hidden fonts [] = refl
 no_references hidden fonts (item ∷ items) = no_references hidden fonts items
 
--- what stands before a header text
+-- what is before a header text
 same_header_lead : (begun : Bool) (number : ℕ) →
     lead_text (record { is_apart = not begun; title = title.Header number }) ≡ header_lead begun number
 same_header_lead true number = refl

@@ -5,17 +5,18 @@ use Rattle.std.specs.Prelude.{if◌then◌else◌, slice_get}
 use Rattle.std.specs.List.{cons_option, filter_map}
 use Rattle.std.proofs.Math.ListN.{drop_of_length-le}
 use Rattle.text_codes.specs.Shown.{is_pair}
-use Rattle.run_lists.proofs.CutLemmas.{run_and_rest}
+use Rattle.run_lists.proofs.Public.{run_and_rest}
 use Rattle.doc_outer.specs.declared.sink.Sink.{Ghosts}
 use Rattle.view_places.specs.declared.glyph.Glyph.{Glyph}
 use Rattle.view_places.specs.declared.glyph.Glyph.TheVariants.{Unit}
 use Rattle.page_out.specs.declared.page.Page.{Page}
 use Rattle.page_out.specs.Printed.{Prints}
-use Rattle.page_out.proofs.PrintLemmas.{nothing_put, put_then}
+use Rattle.page_out.proofs.Public.{nothing_put, put_then}
 use Rattle.doc_view.specs.Glyphs.{glyphs_text}
 use Rattle.doc_view.specs.Labels.{label_glyph, label_glyphs}
-use Rattle.doc_view.specs.Lines.{first_half, glyph_said, maybe_said, maybe_waits, unit_waits, waiting}
+use Rattle.doc_view.specs.Lines.{glyph_said, maybe_said, maybe_waits, unit_waits, waiting}
 use Rattle.doc_view.proofs.SayingLemmas.{IsHalf, glyph_on, glyph_still}
+use Rattle.text_codes.specs.Halves.{first_half}
 
 maybe_on : (in_table : Bool) (half : Option ℕ) (glyph : Option Glyph) (rest end : List Glyph) → IsHalf half →
     glyphs_text in_table (waiting half ++ (cons_option glyph rest ++ end))

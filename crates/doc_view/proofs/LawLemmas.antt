@@ -4,9 +4,9 @@ use Rattle.std.specs.Prelude.{encode_utf8_all, ◌==◌}
 use Rattle.prop_map.specs.Settings.{Properties}
 use Rattle.style_sheet.specs.Sheet.{Sheet}
 use Rattle.style_sheet.specs.Chain.{kind_at}
-use Rattle.char_formats.proofs.FormatLemmas.{format_one}
+use Rattle.char_formats.proofs.Public.{format_one}
 use Rattle.list_numbers.specs.declared.paragraph_values.ParagraphValues.{ParagraphValues}
-use Rattle.list_numbers.proofs.OneLemmas.{paragraph_values_of_one}
+use Rattle.list_numbers.proofs.Public.{paragraph_values_of_one}
 use Rattle.doc_view.specs.Laws.{PagesAreOne}
 use Rattle.doc_view.specs.Page.{AreFormats, page_text}
 use Rattle.doc_view.specs.Seen.{Formats}

@@ -1,16 +1,17 @@
-pub mod PrintLemmas
-pub mod SayingLemmas
-pub mod RangeLemmas
-pub mod CourseLemmas
-pub mod UnitLemmas
-pub mod TextLemmas
-pub mod NoteLemmas
-pub mod PageLemmas
-pub mod LawLemmas
-pub mod CharacterLemmas
-pub mod ControlLemmas
-pub mod OnceLemmas
-pub mod LabelLemmas
-pub mod HeaderLemmas
-pub mod LengthLemmas
-pub mod ShortLemmas
+pub mod Public
+mod PrintLemmas
+mod SayingLemmas
+mod RangeLemmas
+mod CourseLemmas
+mod UnitLemmas
+mod TextLemmas
+mod NoteLemmas
+mod PageLemmas
+mod LawLemmas
+mod CharacterLemmas
+mod ControlLemmas
+mod OnceLemmas
+mod LabelLemmas
+mod HeaderLemmas
+mod LengthLemmas
+mod ShortLemmas

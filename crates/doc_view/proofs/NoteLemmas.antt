@@ -4,7 +4,7 @@ use Rattle.std.proofs.Common.{append_assoc, append-nil, Option, Some, Bool, true
 use Rattle.std.specs.Prelude.{slice_get, if◌then◌else◌}
 use Rattle.std.specs.List.{count_by}
 use Rattle.std.proofs.Math.ListN.{drop_of_length-le}
-use Rattle.run_lists.proofs.CutLemmas.{run_and_rest}
+use Rattle.run_lists.proofs.Public.{run_and_rest}
 use Rattle.plain_doc.specs.declared.item.Item.{Item}
 use Rattle.doc_outer.specs.declared.sink.Sink.{Ghosts}
 use Rattle.page_out.specs.declared.page.Page.{Page}
@@ -20,7 +20,7 @@ use Rattle.page_out.specs.Printed.{Prints}
 use Rattle.doc_view.specs.Seen.{Formats, paragraphs_of, with_values}
 use Rattle.list_numbers.specs.declared.paragraph_values.ParagraphValues.{ParagraphValues}
 use Rattle.doc_view.proofs.TextLemmas.{no_values}
-use Rattle.page_out.proofs.PrintLemmas.{put_then}
+use Rattle.page_out.proofs.Public.{put_then}
 use Rattle.doc_view.specs.declared.reading.TextKind.TheVariants as text_kind
 
 -- a note refers to none
@@ -29,7 +29,7 @@ pub none_met : (hidden : Bool) (fonts : SymbolFonts) (items : List Item) →
 none_met hidden fonts [] = refl
 none_met hidden fonts (item ∷ items) = none_met hidden fonts items
 
--- what stands before a note
+-- what is before a note
 pub same_lead : (begun : Bool) (number : Option ℕ) (title : Title) → title_text title ≡ note_label number →
     lead_text (record { is_apart = not begun; title = title }) ≡ note_lead begun number
 same_lead true number title is = is

@@ -13,7 +13,7 @@ use Rattle.doc_view.specs.declared.reading.Seen.{Seen}
 use Rattle.doc_view.specs.Laws.{EachItemIsShownOnce, each_seen, style_behind, style_from}
 use Rattle.doc_view.specs.Seen.{Formats, Paragraph, front_of, glyphs_in, paragraph_ending}
 use Rattle.doc_view.specs.Seen.{paragraphs_from, paragraphs_of, seen_as, seen_from, shown_glyph, some_shown, style_of}
-use Rattle.doc_bits.proofs.TestLemmas.{neither}
+use Rattle.doc_bits.proofs.Public.{neither}
 
 -- ---- styles
 

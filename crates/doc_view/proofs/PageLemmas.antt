@@ -9,10 +9,10 @@ use Rattle.style_sheet.specs.Chain.{kind_at, HasSoundBases}
 use Rattle.doc_outer.specs.Counts.{Rose, GoesOn}
 use Rattle.doc_outer.specs.Written.{Appends, AppendsPrefix}
 use Rattle.doc_outer.specs.declared.sink.Sink.{Ghosts}
-use Rattle.doc_outer.proofs.BlockLemmas.{Sends-ends}
+use Rattle.doc_outer.proofs.Public.{Sends-ends}
 use Rattle.char_formats.specs.declared.format.CharFormat.{CharFormat}
 use Rattle.char_formats.specs.Formats.{IsCharFormat, format_in}
-use Rattle.char_formats.proofs.FormatLemmas.{format_there}
+use Rattle.char_formats.proofs.Public.{format_there}
 use Rattle.page_out.specs.declared.page.Page.{Page}
 use Rattle.list_numbers.specs.declared.paragraph_values.ParagraphValues.{ParagraphValues}
 use Rattle.list_numbers.specs.ParagraphValues.{AreParagraphValuesOf}
@@ -26,9 +26,9 @@ use Rattle.plain_doc.specs.RightDocument.{HoldsAtItems}
 use Rattle.plain_doc.specs.RulesOfSheet.{note_count}
 use Rattle.plain_doc.specs.RulesOfTexts.{HasParagraphStyle, text_of}
 use Rattle.plain_doc.specs.Sound.{IsSound}
-use Rattle.plain_doc.proofs.RightLemmas.{sound_is_valid}
+use Rattle.plain_doc.proofs.Public.{sound_is_valid}
 use Rattle.doc_view.specs.Seen.{Formats}
-use Rattle.page_out.proofs.PrintLemmas.{failed_before, failed_behind, flag_cases}
+use Rattle.page_out.proofs.Public.{failed_before, failed_behind, flag_cases}
 
 -- what was put at first is what the sink has taken at the end
 pub whole_page : {K : Type 0} (sink : Ghosts K) (a b c : K) (p q : Page) (bytes : List ℕ) → p.block ≡ [] →

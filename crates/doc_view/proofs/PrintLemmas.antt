@@ -5,7 +5,7 @@ use Rattle.doc_outer.specs.declared.sink.Sink.{Ghosts}
 use Rattle.text_codes.specs.Shown.{is_pair, pair_code}
 use Rattle.page_out.specs.declared.page.Page.{Page}
 use Rattle.page_out.specs.Printed.{Prints}
-use Rattle.page_out.proofs.PrintLemmas.{put_then}
+use Rattle.page_out.proofs.Public.{put_then}
 use Rattle.view_places.specs.declared.glyph.Glyph.{Glyph}
 use Rattle.doc_view.specs.declared.paragraph.Saying.{Saying}
 use Rattle.doc_view.specs.Lines.{begun_front, first_text, glyph_said, shown_said, unit_said}
@@ -28,7 +28,7 @@ second_put sink a b c p q r first unit apart one other =
     (if flag then pair_code first unit ∷ [] else replacement ∷ [] ++ first_text unit)) (sym apart)
     (put_then sink a b c p q r (replacement ∷ []) (first_text unit) one other)
 
--- a glyph behind what stands before its paragraph
+-- a glyph behind what is before its paragraph
 pub shown_put : {K : Type 0} (sink : Ghosts K) (a b c : K) (p q r : Page) (saying : Saying) (glyph : Option Glyph)
     (g : Glyph) → glyph ≡ Some g → Prints sink a p b q (begun_front saying) →
     Prints sink b q c r (glyph_said saying.in_table saying.half g) → Prints sink a p c r (shown_said saying glyph)

@@ -3,8 +3,8 @@ use Rattle.std.proofs.Common.{◌≡◌, ◌∙◌, ℕ, ◌+◌, ◌-◌, ◌�
 use Rattle.std.proofs.Common.{append_assoc, append-nil, arith, Some, length-append}
 use Rattle.std.specs.Prelude.{slice_get, slice_range, option_map}
 use Rattle.std.proofs.Math.Seq.{take-add}
-use Rattle.doc_bits.proofs.ListLemmas.{slice_get_push, range_split}
-use Rattle.run_lists.proofs.CutLemmas.{run_and_rest}
+use Rattle.doc_bits.proofs.Public.{slice_get_push, range_split}
+use Rattle.run_lists.proofs.Public.{run_and_rest}
 use Rattle.plain_doc.specs.declared.item.Item.{Item}
 use Rattle.plain_doc.specs.RulesOfTexts.{last_unit}
 use Rattle.doc_view.specs.declared.reading.Manner.{Manner}
@@ -13,7 +13,7 @@ use Rattle.doc_view.specs.Seen.{Formats, seen_as, seen_from, front_of}
 
 -- ---- ranges
 
--- what stands before a range, and the range
+-- what is before a range, and the range
 pub front_then : {A : Type 0} (xs : List A) (from to : ℕ) → from ≤ to → take from xs ++ slice_range xs from to ≡ take to xs
 front_then {A = A} xs from to low =
     let sum : from + (to - from) ≡ to = omega (arith, low) in

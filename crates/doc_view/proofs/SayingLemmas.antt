@@ -11,12 +11,12 @@ use Rattle.doc_view.specs.declared.paragraph.Saying.{Saying}
 use Rattle.doc_view.specs.declared.reading.Seen.{Seen}
 use Rattle.doc_view.specs.Glyphs.{glyph_text, glyphs_text, are_halves, whole_text}
 use Rattle.doc_view.specs.Seen.{some_shown, glyphs_in}
-use Rattle.doc_view.specs.Lines.{waiting, half_text, first_text, first_half, unit_in, unit_said, unit_waits, other_said}
+use Rattle.doc_view.specs.Lines.{waiting, first_text, unit_in, unit_said, unit_waits, other_said}
 use Rattle.doc_view.specs.Lines.{glyph_said, waits_after, saying_front, shown_said, shown_after, left}
 use Rattle.doc_view.specs.Lines.{IsSaying, Says}
-use Rattle.doc_bits.proofs.TestLemmas.{or_true, or_false}
-use Rattle.text_codes.proofs.ShownLemmas.{apart_low}
-use Rattle.text_codes.specs.Halves.{replacement, is_high, is_surrogate}
+use Rattle.doc_bits.proofs.Public.{or_true, or_false}
+use Rattle.text_codes.proofs.Public.{apart_low}
+use Rattle.text_codes.specs.Halves.{replacement, is_high, is_surrogate, half_text, first_half}
 
 -- ---- glyphs one by one
 
@@ -221,7 +221,7 @@ after_begun : (p : Saying) (glyph : Option Glyph) → (shown_after p glyph).begu
 after_begun p None = refl
 after_begun p (Some g) = refl
 
--- what is shown says its glyph, behind what stands before the paragraph
+-- what is shown says its glyph, behind what is before the paragraph
 pub says_shown : (p : Saying) (s : Seen) → IsSaying p → s.is_shown ≡ true →
     Says p (s ∷ []) (shown_after p s.glyph) (shown_said p s.glyph)
 says_shown p s is shown = record {

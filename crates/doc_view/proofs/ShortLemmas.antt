@@ -13,8 +13,7 @@ use Rattle.plain_doc.specs.declared.document.Document.{Document}
 use Rattle.plain_doc.specs.RulesOfSheet.{item_count}
 use Rattle.plain_doc.specs.Settings.{is_inside}
 use Rattle.plain_doc.specs.Stretches.{stretches}
-use Rattle.plain_doc.proofs.CutLemmas.{are_stretches}
-use Rattle.plain_doc.proofs.RightLemmas.{sound_is_valid}
+use Rattle.plain_doc.proofs.Public.{are_stretches, sound_is_valid}
 use Rattle.list_numbers.specs.declared.paragraph_values.ListLabel.{ListLabel}
 use Rattle.list_numbers.specs.declared.paragraph_values.ParagraphValues.{ParagraphValues}
 use Rattle.list_numbers.specs.Counts.{count_at}
@@ -45,7 +44,7 @@ use Rattle.doc_view.proofs.LengthLemmas.{IsSmallNumber, IsSmallReference, IsSmal
 use Rattle.doc_view.proofs.LengthLemmas.{glyphs_size}
 use Rattle.doc_view.proofs.LengthLemmas.{glyphs_small, items_small, label_size, references_small, seen_long, sizes_nine}
 use Rattle.doc_view.proofs.LengthLemmas.{utf8_short}
-use Rattle.doc_parts.specs.Tabulated.{tabulate}
+use Rattle.doc_parts.proofs.Public.{all_tabulated}
 
 -- ---- labels
 
@@ -66,12 +65,6 @@ with_short : (level : ℕ) (bullet : Bool) (units : List ℕ) → length units �
 with_short level bullet [] few = tt
 with_short level bullet (unit ∷ units) few = few
 
-tabulated : {A : Type 0} (P : A → Type 0) (f : ℕ → A) (n : ℕ) → ((i : ℕ) → P (f i)) → All P (tabulate f n)
-unfolding tabulate
-tabulated P f zero each = All-nil P
-tabulated P f (suc n) each =
-    All-append P (tabulate f n) (f n ∷ []) (tabulated P f n each) (All-cons P (f n) [] (each n) (All-nil P))
-
 values_short : (document : Document) (values : List ParagraphValues) → AreParagraphValuesOf document values →
     All AreShortValues values
 values_short document values is =
@@ -79,7 +72,7 @@ values_short document values is =
     let lists = lists_of document.carried.lst document.carried.levels in
     let places = map (place_of document) is.values in
     subst (λ (all : List ParagraphValues). All AreShortValues all) (sym is.made)
-    (tabulated AreShortValues (λ i. values_with (get_or is.values i no_values)
+    (all_tabulated AreShortValues (λ i. values_with (get_or is.values i no_values)
     (label_at_place fonts lists (take (i + 1) places) (at_entry (slice_get places i)))) (length is.values)
     (λ i. record {
       label =
@@ -99,7 +92,7 @@ values_short document values is =
           ];
     }))
 
--- ---- what stands before a paragraph's own text
+-- ---- what is before a paragraph's own text
 
 either_few : (bound : ℕ) (test : Bool) (one other : List ℕ) → length one ≤ bound → length other ≤ bound →
     length (if test then one else other) ≤ bound

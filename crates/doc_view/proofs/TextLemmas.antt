@@ -1,7 +1,7 @@
 -- A text is put paragraph by paragraph.
 use Rattle.std.proofs.Common.{◌≡◌, ◌∙◌, ℕ, ◌+◌, ◌-◌, ◌<◌, ◌≤◌, List, [], ◌∷◌, ◌++◌, length, take, drop, refl, sym, ap, subst}
 use Rattle.std.proofs.Common.{append_assoc, append-nil, arith, Option, Some, None, Bool, Bor, true, false, not, ◌||◌, inl, inr}
-use Rattle.std.specs.Prelude.{slice_get, slice_range, is_some, IsSome, if◌then◌else◌, option_map}
+use Rattle.std.specs.Prelude.{slice_get, slice_range, IsSome, if◌then◌else◌, option_map}
 use Rattle.std.specs.Option.{ForSome}
 use Rattle.std.specs.List.{list_any, take_while}
 use Rattle.std.proofs.lemmas.List.{drop-drop}
@@ -9,9 +9,9 @@ use Rattle.std.proofs.lemmas.List.Concat.{flat_map-cons}
 use Rattle.std.proofs.lemmas.List.Sums.{take_while-cons}
 use Rattle.std.proofs.lemmas.Bool.{cases_lt}
 use Rattle.std.proofs.lemmas.Option.{same_Some, slice_get_past}
-use Rattle.doc_bits.proofs.ListLemmas.{there_is}
+use Rattle.doc_bits.proofs.Public.{there_is, or_false}
 use Rattle.run_lists.specs.Spread.{expanded}
-use Rattle.run_lists.proofs.CutLemmas.{run_and_rest}
+use Rattle.run_lists.proofs.Public.{run_and_rest}
 use Rattle.style_sheet.specs.Chain.{kind_at}
 use Rattle.style_sheet.specs.Sheet.{Sheet}
 use Rattle.plain_doc.specs.declared.item.Item.{Item}
@@ -20,13 +20,13 @@ use Rattle.plain_doc.specs.RightDocument.{HoldsAtItems}
 use Rattle.plain_doc.specs.RulesOfTexts.{HasParagraphStyle}
 use Rattle.plain_doc.specs.Settings.{is_inside}
 use Rattle.plain_doc.specs.Stretches.{stretches, BeginsStretch}
-use Rattle.plain_doc.proofs.StretchLemmas.{stretches-first, stretches-nil, rest_of}
+use Rattle.plain_doc.proofs.Public.{stretches-first, stretches-nil, rest_of, a_mark, no_mark}
 use Rattle.doc_columns.specs.Attached.{attached_of}
 use Rattle.doc_columns.specs.declared.attached.Attached.{Attached}
 use Rattle.doc_columns.specs.declared.walk.Parts.{Parts}
 use Rattle.doc_columns.specs.Walks.{items_in, AreParts}
-use Rattle.doc_columns.proofs.WalkLemmas.{begins_range, attached_there, items_long, part_at, range_got, range_long}
-use Rattle.doc_columns.proofs.WalkLemmas.{units_are}
+use Rattle.doc_columns.proofs.Public.{begins_range, attached_there, items_long, part_at, range_got, range_long}
+use Rattle.doc_columns.proofs.Public.{units_are}
 use Rattle.list_numbers.specs.declared.paragraph_values.ParagraphValues.{ParagraphValues}
 use Rattle.doc_outer.specs.declared.sink.Sink.{Ghosts}
 use Rattle.doc_view.specs.declared.line.Lead.{Lead}
@@ -43,16 +43,16 @@ use Rattle.doc_view.specs.Glyphs.{glyphs_text}
 use Rattle.doc_view.specs.Labels.{opening_text}
 use Rattle.doc_view.specs.Layout.{front_at, is_in_table, keeps_row, ends_cell, layout_of, line_of, paragraph_text}
 use Rattle.doc_view.specs.Layout.{row_before, cell_before, some_here, text_from}
-use Rattle.doc_view.specs.Lines.{half_text, lead_text, left, line_after}
+use Rattle.doc_view.specs.Lines.{lead_text, left, line_after}
 use Rattle.page_out.specs.Printed.{Prints}
 use Rattle.doc_view.specs.Seen.{Formats, Paragraph, glyphs_in, is_here, paragraph_of, paragraph_ending, paragraphs_from}
 use Rattle.doc_view.specs.Seen.{paragraphs_of, references_in, references_of, seen_from, some_shown, standing_of, style_of}
 use Rattle.doc_view.specs.Seen.{with_values}
 use Rattle.std.proofs.Math.ListN.{drop_of_length-le}
-use Rattle.page_out.proofs.PrintLemmas.{nothing_put, put_then}
+use Rattle.page_out.proofs.Public.{nothing_put, put_then}
 use Rattle.doc_view.proofs.RangeLemmas.{front_then, seen_range}
 use Rattle.doc_view.proofs.SayingLemmas.{left_end}
-use Rattle.doc_bits.proofs.TestLemmas.{or_false}
+use Rattle.text_codes.specs.Halves.{half_text}
 
 -- ---- lines
 
@@ -210,12 +210,6 @@ paragraph_put sink before after next page seen passes put =
 
 -- ---- the paragraphs of a text by its columns
 
-no_mark : (x y : Item) → x.mark ≡ None → is_inside x y ≡ true
-no_mark x y none = ap (λ (m : Option Mark). not (is_some m)) none
-
-a_mark : (x y : Item) → IsSome x.mark → is_inside x y ≡ false
-a_mark x y some = ap not some
-
 -- the items from a place on begin with the paragraph there
 pub paragraph_begins : (parts : Parts) → AreParts parts → (from to : ℕ) → from < to → to ≤ length parts.units.now →
     ((k : ℕ) (attached : Attached) → from ≤ k → k + 1 < to → slice_get (expanded parts.attachments.now) k ≡ Some
@@ -241,7 +235,7 @@ paragraph_begins parts are from to some within inside ends =
     ∙ ap (λ (xs : List Item). slice_range items from to ∷ stretches is_inside xs)
     (drop-drop (to - from) from items ∙ ap (λ (n : ℕ). drop n items) place)
 
--- the paragraph, by what stands at its last item
+-- the paragraph, by what is at its last item
 pub paragraph_is : (formats : Formats) (manner : Manner) (parts : Parts) → AreParts parts → (from to unit : ℕ)
     (attached : Attached) → from < to → to ≤ length parts.units.now →
     slice_get parts.units.now (to - 1) ≡ Some unit → slice_get (expanded parts.attachments.now) (to - 1) ≡ Some attached

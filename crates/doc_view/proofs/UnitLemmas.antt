@@ -1,6 +1,7 @@
 -- Items that are seen as their units, one by one and together.
 use Rattle.std.proofs.Common.{◌≡◌, ◌∙◌, ℕ, zero, suc, ◌+◌, ◌-◌, ◌<◌, ◌≤◌, Bool, true, false, not, ◌&&◌, ◌||◌, ◌==◌, List, [], ◌∷◌}
-use Rattle.std.proofs.Common.{◌++◌, length, take, drop, refl, sym, ap, subst, append_assoc, arith, Option, Some, None, length-take}
+use Rattle.std.proofs.Common.{◌++◌, length, take, drop, refl, sym, ap, subst, append_assoc, arith, Some, None}
+use Rattle.std.proofs.Common.{length-take}
 use Rattle.std.specs.Prelude.{if◌then◌else◌, is_some, nat_le, nat_lt, slice_get, slice_index, slice_range}
 use Rattle.std.specs.Char.{IsScalar}
 use Rattle.std.specs.List.{All}
@@ -9,11 +10,11 @@ use Rattle.std.proofs.lemmas.Bool.{and_parts, cases_lt, le-leb, le-ltb, lt-ltb, 
 use Rattle.std.proofs.lemmas.Bool.Decides.{nat_tests}
 use Rattle.std.proofs.lemmas.List.{get_or-drop, get_or-take}
 use Rattle.std.proofs.lemmas.Option.{get_or_from_slice_get}
-use Rattle.doc_bits.proofs.ListLemmas.{get-map, there_is, range_split}
+use Rattle.doc_bits.proofs.Public.{get-map, there_is, range_split, second_false, and_false, not_true, none_is}
 use Rattle.doc_outer.specs.declared.sink.Sink.{Ghosts}
 use Rattle.doc_columns.specs.declared.walk.Parts.{Parts}
 use Rattle.doc_columns.specs.Walks.{items_in, AreParts}
-use Rattle.doc_columns.proofs.WalkLemmas.{items_long, units_are}
+use Rattle.doc_columns.proofs.Public.{items_long, units_are}
 use Rattle.page_out.specs.declared.page.Page.{Page}
 use Rattle.page_out.specs.Printed.{Prints}
 use Rattle.std.proofs.lemmas.List.Elements.{All-from_get_or, filter_map-append}
@@ -36,7 +37,7 @@ use Rattle.doc_view.specs.Glyphs.{control_glyph, is_windows, stand_in_glyph, uni
 use Rattle.doc_view.specs.Glyphs.{text_unit}
 use Rattle.symbol_fonts.specs.Characters.{is_sign}
 use Rattle.symbol_fonts.specs.Fonts.{symbol_font}
-use Rattle.symbol_fonts.proofs.CharacterLemmas.{sign_none}
+use Rattle.symbol_fonts.proofs.Public.{sign_none, not_below}
 use Rattle.doc_view.specs.Glyphs.{windows_unit}
 use Rattle.doc_view.specs.Lines.{IsSaying, Says, begun_front, shown_after, shown_said}
 use Rattle.doc_view.specs.Seen.{Formats, counts, is_note, reference_kind, reference_of, references_in, seen_as}
@@ -44,14 +45,9 @@ use Rattle.doc_view.specs.Seen.{visible}
 use Rattle.doc_view.proofs.CourseLemmas.{course_on}
 use Rattle.doc_view.proofs.RangeLemmas.{one_range, seen_one, seen_range, seen_then}
 use Rattle.doc_view.proofs.SayingLemmas.{says_shown, says_then}
-use Rattle.doc_bits.proofs.TestLemmas.{second_false, and_false, not_true}
 use Rattle.text_codes.specs.Halves.{replacement, is_high, is_surrogate}
 
 -- ---- what such a unit is not
-
-none_by : {A : Type 0} (x : Option A) → is_some x ≡ false → x ≡ None
-none_by None e = refl
-none_by (Some a) e = absurd (cc (e))
 
 -- no half of a character, and no sign
 abbrev no_part : ℕ → Bool
@@ -78,9 +74,6 @@ no_surrogate unit e =
 no_sign : (unit : ℕ) → is_itself unit ≡ true → is_sign unit ≡ false
 no_sign unit e =
     not_true (is_sign unit) (and_parts (not (is_surrogate unit)) (not (is_sign unit)) (is_no_part unit e)).1
-
-not_below : (unit : ℕ) → nat_le 0x20 unit ≡ true → nat_lt unit 0x20 ≡ false
-not_below unit high = grind (arith, nat_tests)
 
 not_equal : (unit control : ℕ) → control < 0x20 → nat_le 0x20 unit ≡ true → (unit == control) ≡ false
 not_equal unit control low high = grind (arith, nat_tests)
@@ -117,13 +110,13 @@ shows_by manner format front attached e =
     let four = and_parts seen (symbol && label) three.1 in
     let five = and_parts symbol label four.1 in
     record {
-      field = none_by attached.fld (not_true (is_some attached.fld) one.0);
+      field = none_is attached.fld (not_true (is_some attached.fld) one.0);
       note =
-          none_by (reference_kind manner attached.note) (not_true (is_some (reference_kind manner attached.note))
+          none_is (reference_kind manner attached.note) (not_true (is_some (reference_kind manner attached.note))
           two.0);
       results = three.0;
       seen = four.0;
-      symbol = none_by format.symbol (not_true (is_some format.symbol) five.0);
+      symbol = none_is format.symbol (not_true (is_some format.symbol) five.0);
       label = not_true (is_note manner.kind && front.behind_label) five.1;
     }
 

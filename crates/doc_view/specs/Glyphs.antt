@@ -39,7 +39,7 @@ unit_glyph unit ends_section =
     if nat_lt unit 0x20 then control_glyph unit ends_section else
     Some (Unit (if is_windows unit then windows_unit unit else unit))
 
--- [MS-DOC] sprmCSymbol: its code stands in place of the unit; each is shown by its font
+-- [MS-DOC] sprmCSymbol: its code is in place of the unit; each is shown by its font
 abbrev pub text_unit : SymbolFonts → Option ℕ → Option Symbol → ℕ → ℕ
 text_unit fonts font None unit = shown_unit (symbol_font fonts font) unit
 text_unit fonts font (Some symbol) unit = shown_unit (symbol_font fonts (Some symbol.font)) symbol.code
@@ -47,7 +47,7 @@ text_unit fonts font (Some symbol) unit = shown_unit (symbol_font fonts (Some sy
 abbrev pub drawn_unit : SymbolFonts → CharFormat → ℕ → ℕ
 drawn_unit fonts format unit = if nat_lt unit 0x20 then unit else text_unit fonts format.font format.symbol unit
 
--- [MS-DOC] sprmCFSpec: 01 and 08 stand for pictures and objects, or for the data of a field
+-- [MS-DOC] sprmCFSpec: 01 and 08 represent pictures and objects, or for the data of a field
 abbrev pub is_stand_in : CharFormat → ℕ → Bool
 is_stand_in format unit = format.special && (unit == 0x01 || unit == 0x08)
 

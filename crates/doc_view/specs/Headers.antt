@@ -20,7 +20,7 @@ abbrev pub header_title : ℕ → List ℕ
 header_title number =
     codes "[" ++ (header_kind (number % 6) ++ (codes " of section " ++ (decimal (number / 6) ++ codes "]\n")))
 
--- what stands before a header text: an empty line before the first one
+-- what is before a header text: an empty line before the first one
 abbrev pub header_lead : Bool → ℕ → List ℕ
 header_lead begun number = (if begun then [] else 10 ∷ []) ++ header_title number
 

@@ -1,4 +1,4 @@
--- What stands in front of a paragraph's own text in a page of text: the break of a page, and the label of its list.
+-- What is in front of a paragraph's own text in a page of text: the break of a page, and the label of its list.
 use Rattle.std.specs.Prelude.{ℕ, Bool, true, not, ◌&&◌, nat_le, if◌then◌else◌, List, [], ◌∷◌, ◌++◌, Option, Some, None}
 use Rattle.std.specs.List.{filter_map}
 use Rattle.list_numbers.specs.declared.paragraph_values.ListLabel.{ListLabel}

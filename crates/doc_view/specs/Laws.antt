@@ -34,7 +34,7 @@ NoControls =
 
 -- ---- length
 
--- a page is no longer than a number of bytes for each item of its document, whatever stands in these
+-- a page is no longer than a number of bytes for each item of its document, whatever is in these
 abbrev pub PagesAreShort : Type 0
 PagesAreShort =
     (options : Options) (document : Document) (bytes : List ℕ) →

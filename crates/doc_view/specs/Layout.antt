@@ -1,4 +1,5 @@
--- How paragraphs stand in a page of text: one that is outside of tables is a line, and so is a row of a table, whose cells stand
+-- How paragraphs are in a page of text: one that is outside of tables is a line, and so is a row of a table, whose
+-- cells are
 -- behind tabs, and the paragraphs of a cell behind spaces. Paragraphs that are not here leave nothing. In front of its own text
 -- a paragraph has the break of a page and its label.
 use Rattle.std.specs.Prelude.{ℕ, Bool, true, false, List, [], ◌∷◌, ◌++◌, if◌then◌else◌, not}
@@ -50,22 +51,22 @@ cell_before before = take_while (λ paragraph. not (ends_cell paragraph.standing
 abbrev pub some_here : List Paragraph → Bool
 some_here paragraphs = list_any is_here paragraphs
 
--- what stands between lines, and before the first one
+-- what is between lines, and before the first one
 abbrev pub line_front : List ℕ → Bool → List ℕ
 line_front lead some = if some then 10 ∷ [] else lead
 
--- what stands before a cell: a tab where it is not the first one of its row
+-- what is before a cell: a tab where it is not the first one of its row
 abbrev pub tab_front : Bool → List ℕ
 tab_front later = if later then 9 ∷ [] else []
 
--- what stands before a paragraph of a table, where these are here: one in its cell, in its row, before it at all; and
+-- what is before a paragraph of a table, where these are here: one in its cell, in its row, before it at all; and
 -- whether it is in a later cell
 abbrev pub inner_front : List ℕ → Line → List ℕ
 inner_front lead line =
     if line.in_cell then 32 ∷ [] else
     (if line.in_row then [] else line_front lead line.some) ++ tab_front line.later
 
--- what stands before a paragraph, in a table or not; before the first one of a text, its lead
+-- what is before a paragraph, in a table or not; before the first one of a text, its lead
 abbrev pub front_at : List ℕ → Line → Bool → List ℕ
 front_at lead line in_table = if in_table then inner_front lead line else line_front lead line.some
 

@@ -1,4 +1,5 @@
--- A page while it is put: what stands before a text and before its paragraphs, and what the glyphs of a paragraph come to one by
+-- A page while it is put: what is before a text and before its paragraphs, and what the glyphs of a paragraph come to
+-- one by
 -- one, where the first half of a character waits for the other one.
 use Rattle.std.specs.Prelude.{◌≡◌, ℕ, Bool, true, false, ◌&&◌, ◌||◌, not, if◌then◌else◌}
 use Rattle.std.specs.Prelude.{List, [], ◌∷◌, ◌++◌, Option, Some, None, option_map}
@@ -18,7 +19,7 @@ use Rattle.doc_view.specs.Notes.{note_label}
 use Rattle.doc_view.specs.Headers.{header_title}
 use Rattle.doc_view.specs.declared.reading.Seen.{Seen}
 use Rattle.doc_view.specs.Seen.{some_shown, glyphs_in}
-use Rattle.text_codes.specs.Halves.{replacement, is_high}
+use Rattle.text_codes.specs.Halves.{replacement, is_high, half_text, first_half}
 
 abbrev pub title_text : Title → List ℕ
 title_text title.Bare = []
@@ -42,16 +43,9 @@ abbrev pub waiting : Option ℕ → List Glyph
 waiting None = []
 waiting (Some unit) = Unit unit ∷ []
 
-abbrev pub half_text : Option ℕ → List ℕ
-half_text None = []
-half_text (Some unit) = replacement ∷ []
-
 -- a unit that no half waits for
 abbrev pub first_text : ℕ → List ℕ
 first_text unit = if is_high unit then [] else glyph_text false (Unit unit)
-
-abbrev pub first_half : ℕ → Option ℕ
-first_half unit = if is_high unit then Some unit else None
 
 abbrev pub unit_said : Option ℕ → ℕ → List ℕ
 unit_said None unit = first_text unit
@@ -108,7 +102,7 @@ abbrev pub maybe_waits : Option ℕ → Option Glyph → Option ℕ
 maybe_waits half None = half
 maybe_waits half (Some glyph) = waits_after half glyph
 
--- what stands before the paragraph, as long as nothing of it was put
+-- what is before the paragraph, as long as nothing of it was put
 abbrev pub saying_front : Saying → List ℕ
 saying_front saying =
     front_at (lead_text saying.lead) saying.line saying.in_table

@@ -12,7 +12,7 @@ abbrev pub note_label : Option ℕ → List ℕ
 note_label None = []
 note_label (Some number) = 91 ∷ [] ++ (decimal number ++ 93 ∷ 32 ∷ [])
 
--- what stands before a note: an empty line before the first one
+-- what is before a note: an empty line before the first one
 abbrev pub note_lead : Bool → Option ℕ → List ℕ
 note_lead begun number = (if begun then [] else 10 ∷ []) ++ note_label number
 

@@ -51,7 +51,7 @@ is_auto None = false
 is_auto (Some Auto) = true
 is_auto (Some Custom) = false
 
--- [MS-DOC] a note begins with 0x02, its number, and mostly a space or a tab behind it, for which its label stands
+-- [MS-DOC] a note begins with 0x02, its number, and mostly a space or a tab behind it, for which its label is
 abbrev pub note_unit : ℕ
 note_unit = 0x02
 
@@ -122,7 +122,8 @@ abbrev pub style_of : Option Mark → ℕ
 style_of None = 0
 style_of (Some mark) = mark.istd
 
--- where a paragraph with this mark on this unit stands: outside of tables, inside of a cell, at the end of a cell or of a row;
+-- where a paragraph with this mark on this unit is: outside of tables, inside of a cell, at the end of a cell or of a
+-- row;
 -- [MS-DOC] sprmTTableHeader, 3404: a row that is a head of its table
 abbrev pub standing_of : ℕ → Option Mark → Standing
 standing_of unit mark =
@@ -130,7 +131,7 @@ standing_of unit mark =
     (if is_on (value_in mark 0x2417) then (if is_on (value_in mark 0x3404) then HeadRow else Row) else Cell) else
     if is_on (value_in mark 0x2416) then Inside else Outside
 
--- a paragraph: where it stands, its values where it is one of the main text, and its items
+-- a paragraph: where it is, its values where it is one of the main text, and its items
 pub record Paragraph : Type 0 where
   pub standing : Standing
   pub values : Option ParagraphValues

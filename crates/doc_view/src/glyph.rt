@@ -7,23 +7,14 @@ ghost use Rattle.text_codes.specs.Halves.{is_surrogate};
 
 use char_formats::CharFormat;
 use symbol_fonts::{SymbolFonts, is_sign, shown_unit};
-use text_codes::unit_of_byte;
+use text_codes::{PICTURE, REPLACEMENT, SPACE, unit_of_byte};
 use view_places::Glyph;
-
-/// The unit of a picture, where it is special.
-const PICTURE: u16 = 0x01;
 
 /// The unit of a drawing, where it is special.
 const DRAWING: u16 = 0x08;
 
-/// The first unit that is no control.
-const SPACE: u16 = 0x20;
-
 /// A hyphen at which no line is broken.
 const NON_BREAKING_HYPHEN: u16 = 0x2011;
-
-/// The replacement character.
-const REPLACEMENT: u16 = 0xFFFD;
 
 /// How many units are looked at together.
 const PART_LEN: usize = 8;
@@ -43,14 +34,14 @@ pub(crate) fn glyph_of(
     unit_glyph(drawn_unit(fonts, format, unit), ends_section)
 }
 
-/// Whether a unit stands for something else than text.
+/// Whether a unit represents something else than text.
 fn is_stand_in(format: &CharFormat, unit: u16) -> bool
     ensures { result ≡ is_stand_in format.now unit }
 {
     format.special && (unit == PICTURE || unit == DRAWING)
 }
 
-/// What such a unit stands for: nothing where it has the data of a field.
+/// What such a unit represents: nothing where it has the data of a field.
 fn stand_in_glyph(format: &CharFormat) -> Option<Glyph>
     ensures { result ≡ stand_in_glyph format.now }
 {

@@ -1,4 +1,4 @@
-// What stands before a paragraph of a page.
+// What is before a paragraph of a page.
 ghost use Rattle.std.specs.Prelude.{◌≡◌, [], ◌∷◌, ◌++◌, codes, false, if◌then◌else◌};
 ghost use Rattle.std.specs.Fmt.{decimal};
 ghost use Rattle.doc_view.specs.Notes.{note_label};
@@ -36,7 +36,7 @@ impl Title {
     }
 }
 
-/// What stands before a text: an empty line, and its title.
+/// What is before a text: an empty line, and its title.
 #[derive(Clone, Copy)]
 pub(crate) struct Lead {
     pub(crate) is_apart: bool,
@@ -162,7 +162,7 @@ impl Line {
         }
     }
 
-    /// Puts what stands before a paragraph, in a table or not, of a text with this lead.
+    /// Puts what is before a paragraph, in a table or not, of a text with this lead.
     pub(crate) fn push_front<K: Sink>(
         self,
         page: &mut Page,
@@ -179,7 +179,7 @@ impl Line {
         }
     }
 
-    /// Puts what stands before a line.
+    /// Puts what is before a line.
     fn push_line<K: Sink>(self, page: &mut Page, out: &mut K, lead: Lead)
         ensures { Prints K.Sink out.old page.old out.new page.new (line_front (lead_text lead) self.some) }
     {
@@ -190,7 +190,7 @@ impl Line {
         }
     }
 
-    /// Puts what stands before a paragraph of a table.
+    /// Puts what is before a paragraph of a table.
     fn push_inner<K: Sink>(self, page: &mut Page, out: &mut K, lead: Lead)
         ensures { Prints K.Sink out.old page.old out.new page.new
             (inner_front (lead_text lead) self) }
@@ -203,7 +203,7 @@ impl Line {
         self.push_tab(page, out);
     }
 
-    /// Puts what stands before a row.
+    /// Puts what is before a row.
     fn push_row<K: Sink>(self, page: &mut Page, out: &mut K, lead: Lead)
         ensures { Prints K.Sink out.old page.old out.new page.new
             (if self.in_row then [] else line_front (lead_text lead) self.some) }
@@ -213,7 +213,7 @@ impl Line {
         }
     }
 
-    /// Puts what stands before a later cell.
+    /// Puts what is before a later cell.
     fn push_tab<K: Sink>(self, page: &mut Page, out: &mut K)
         ensures { Prints K.Sink out.old page.old out.new page.new (tab_front self.later) }
     {

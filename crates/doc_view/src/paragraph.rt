@@ -1,17 +1,16 @@
 // A paragraph of a page.
-ghost use Rattle.std.specs.Prelude.{◌≡◌, ℕ, List, ◌<◌, ◌++◌, [], ◌∷◌, true, false, if◌then◌else◌, MatchOption, Some, None};
+ghost use Rattle.std.specs.Prelude.{◌≡◌, ℕ, List, ◌<◌, ◌++◌, [], ◌∷◌, true, false, if◌then◌else◌, Some, None};
 ghost use Rattle.std.specs.Char.{IsScalar};
 ghost use Rattle.std.specs.Fmt.{decimal};
 ghost use Rattle.std.specs.List.{All};
-ghost use Rattle.text_codes.specs.Shown.{is_pair, pair_code};
 ghost use Rattle.std.specs.Prelude.{◌&&◌, not, option_map};
 ghost use Rattle.doc_view.specs.Glyphs.{glyphs_text};
 ghost use Rattle.doc_view.specs.Labels.{break_text, label_glyph, label_glyphs, label_text, opening_text};
-ghost use Rattle.doc_view.specs.Lines.{IsSaying, Says, glyph_said, half_text, other_said, shown_after};
-ghost use Rattle.doc_view.specs.Lines.{begun_front, first_half, first_text, saying_front, unit_in};
+ghost use Rattle.doc_view.specs.Lines.{IsSaying, Says, glyph_said, other_said, shown_after};
+ghost use Rattle.doc_view.specs.Lines.{begun_front, first_text, saying_front, unit_in};
 ghost use Rattle.doc_view.specs.Lines.{maybe_said, maybe_waits, shown_said, unit_said, unit_waits, waits_after};
 ghost use Rattle.page_out.specs.Printed.{Prints};
-ghost use Rattle.text_codes.specs.Halves.{is_high, is_surrogate};
+ghost use Rattle.text_codes.specs.Halves.{is_high, is_surrogate, half_text, first_half};
 
 use crate::labels::label_glyph;
 use crate::line::{Lead, Line};
@@ -19,14 +18,13 @@ use crate::reading::Seen;
 use doc_outer::Sink;
 use list_numbers::{ListLabel, ParagraphValues};
 use page_out::Page;
+use text_codes::{SPACE, is_high, pair};
 use view_places::Glyph;
 
 /// The replacement character.
 const REPLACEMENT: u32 = 0xFFFD;
 
-const SPACE: u16 = 0x20;
-
-/// A paragraph that is put: what stands before it, its values, whether something of it was put, and the first half of a
+/// A paragraph that is put: what is before it, its values, whether something of it was put, and the first half of a
 /// character that waits for the other one.
 #[derive(Clone, Copy)]
 pub(crate) struct Saying<'a> {
@@ -99,7 +97,7 @@ impl<'a> Saying<'a> {
         page.push_units(out, units);
     }
 
-    /// Puts what stands before the paragraph, as long as nothing of it was put.
+    /// Puts what is before the paragraph, as long as nothing of it was put.
     fn begin<K: Sink>(&mut self, page: &mut Page, out: &mut K)
         ensures said { Prints K.Sink out.old page.old out.new page.new (begun_front self.old) }
         ensures after { self.new ≡ record self.old { begun = true } }
@@ -110,7 +108,7 @@ impl<'a> Saying<'a> {
         self.begun = true;
     }
 
-    /// Puts what stands before the paragraph, and what stands in front of its text.
+    /// Puts what is before the paragraph, and what is in front of its text.
     fn push_front<K: Sink>(self, page: &mut Page, out: &mut K)
         ensures { Prints K.Sink out.old page.old out.new page.new (saying_front self.entry) }
     {
@@ -206,7 +204,7 @@ impl<'a> Saying<'a> {
     }
 }
 
-/// Puts what stands in front of the text of a paragraph of these values.
+/// Puts what is in front of the text of a paragraph of these values.
 fn push_opening<K: Sink>(
     page: &mut Page,
     out: &mut K,
@@ -313,13 +311,6 @@ fn push_mark<K: Sink>(page: &mut Page, out: &mut K, number: u32)
     page.push_ascii(out, b"]");
 }
 
-/// Whether a unit is the first half of characters.
-fn is_high(unit: u16) -> bool
-    ensures { result ≡ is_high unit }
-{
-    unit >= 0xD800 && unit < 0xDC00
-}
-
 /// The character of a unit that is in no pair.
 fn alone(unit: u16) -> u32
     ensures is { result ≡ (if is_surrogate unit then 0xFFFD else unit) }
@@ -329,20 +320,5 @@ fn alone(unit: u16) -> u32
         REPLACEMENT
     } else {
         unit as u32
-    }
-}
-
-/// The character of two halves, where they are one.
-fn pair(first: u16, second: u16) -> Option<u32>
-    ensures { MatchOption result
-        (is_pair first second ≡ false)
-        (λ code. (is_pair first second ≡ true) × ((code ≡ pair_code first second) × IsScalar code)) }
-{
-    if first >= 0xD800 && first < 0xDC00 && second >= 0xDC00 && second < 0xE000 {
-        let high = (first - 0xD800) as u32;
-        let low = (second - 0xDC00) as u32;
-        Some(0x10000 + high * 0x400 + low)
-    } else {
-        None
     }
 }

@@ -1,12 +1,12 @@
-// Where a paragraph stands.
-ghost use Rattle.std.specs.Prelude.{◌≡◌, ◌==◌, ◌&&◌, option_map, if◌then◌else◌};
+// Where a paragraph is.
+ghost use Rattle.std.specs.Prelude.{◌≡◌, ◌==◌, ◌&&◌, if◌then◌else◌};
 ghost use Rattle.plain_doc.specs.Rows.{is_on, value_in};
 ghost use Rattle.text_codes.specs.Paragraph.{cell_mark};
 ghost use Rattle.doc_view.specs.Layout.{ends_cell, ends_head, is_in_table, keeps_row};
 ghost use Rattle.doc_view.specs.Seen.{standing_of, style_of};
 ghost use Rattle.doc_view.specs.declared.standing.Standing.TheVariants.{HeadRow, Row};
 
-use plain_doc::Mark;
+use plain_doc::{Mark, value_at};
 use sprm_table::Code;
 use text_codes::CELL_MARK;
 
@@ -17,7 +17,7 @@ const ENDS_ROW: Code = Code(0x2417);
 
 const IS_HEAD: Code = Code(0x3404);
 
-/// Where a paragraph stands: outside of tables, inside of a cell, at the end of one, at the end of a row, or at that of
+/// Where a paragraph is: outside of tables, inside of a cell, at the end of one, at the end of a row, or at that of
 /// one of the rows that head a table.
 #[derive(Clone, Copy, PartialEq, Eq)]
 pub enum Standing {
@@ -108,19 +108,9 @@ pub fn is_row_mark(unit: u16, mark: &Option<Mark>) -> bool
 fn is_set(mark: &Option<Mark>, code: Code) -> bool
     ensures { result ≡ is_on (value_in mark.now code.0) }
 {
-    match property(mark, code) {
+    match value_at(mark, code) {
         None => false,
         Some(value) => value.len() == 1 && value[0] == 1,
-    }
-}
-
-/// The value of a mark at a code.
-fn property(mark: &Option<Mark>, code: Code) -> Option<&[u8]>
-    ensures { option_map (λ v. v.now) result ≡ value_in mark.now code.0 }
-{
-    match mark {
-        None => None,
-        Some(mark) => mark.pap.get(code),
     }
 }
 

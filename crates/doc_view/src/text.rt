@@ -273,7 +273,7 @@ impl Course {
         self.run_len(text, stretch)
     }
 
-    /// How many items of a stretch are seen as their units from here on, whatever stands before them.
+    /// How many items of a stretch are seen as their units from here on, whatever is before them.
     pub fn run_len(&self, text: &Text<'_>, stretch: &Stretch<'_>) -> usize
         requires ahead { self.now.place ≤ stretch.now.until }
         requires within { stretch.now.until ≤ length text.now.parts.units.now }

@@ -25,7 +25,7 @@ fn main(rt: HostRuntime) -> ExitCode {
     ExitCode::from(status)
 }
 
-/// The words after the program's name. Words that are no UTF-8 are no command, as no words are; that is told on the
+/// The words after the program's name. Words that are no UTF-8 are no command, as no words are; that is written to the
 /// standard error.
 fn words<R: Env + Eprint + AllocGlobal>(rt: &R) -> Result<Vec<String>, AllocError> {
     let mut words = Vec::new(rt.alloc());

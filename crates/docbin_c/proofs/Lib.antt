@@ -1,1 +1,1 @@
-pub mod GivenLemmas
+mod GivenLemmas

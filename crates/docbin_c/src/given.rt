@@ -1,12 +1,12 @@
 // The files of a call.
-ghost use Rattle.std.specs.Prelude.{◌≡◌, ◌-◌, ◌≤◌, length, min, Some, None, option_map};
+ghost use Rattle.std.specs.Prelude.{◌≡◌, ◌≤◌, Some, None, option_map};
 ghost use Rattle.std.specs.Prelude.{IfOk, OnOk, OnErr, IsErrOf};
 ghost use Rattle.doc_outer.specs.Counts.{Rose, GoesOn};
-ghost use Rattle.doc_outer.specs.Held.{file_at, held_with, OthersStay, Told, ReadsPart, IsAbsent, IsPart};
+ghost use Rattle.doc_outer.specs.Held.{file_at, held_with, OthersStay, Told, ReadsPart, IsAbsent};
 ghost use Rattle.docbin_c.specs.Calls.{Given, given_files};
 
 use doc_bits::{Bytes, Memory};
-use doc_outer::{PutFault, Shelf, ShelfFault};
+use doc_outer::{PutFault, Shelf, ShelfFault, copy_part};
 use std::alloc::Global;
 use std::marker::Model;
 
@@ -78,18 +78,6 @@ impl GivenFiles {
         }
         None
     }
-}
-
-/// Copies what stands from `at` on, as far as the buffer has room, and answers how many bytes.
-fn copy_part(all: &[u8], at: u64, buf: &mut [u8]) -> usize
-    ensures count { result ≡ min (length buf.old) (length all.now - at) }
-    ensures part { IsPart at result buf.new all.now }
-{
-    let from = (at as usize).min(all.len());
-    let rest = &all[from..];
-    let count = rest.len().min(buf.len());
-    buf[..count].copy_from_slice(&rest[..count]);
-    count
 }
 
 impl Shelf for GivenFiles {

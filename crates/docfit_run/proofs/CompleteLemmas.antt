@@ -1,23 +1,22 @@
--- A file in whose way nothing stands is fitted.
+-- A file in whose way nothing is is fitted.
 use Rattle.std.proofs.Common.{◌≡◌, ◌≢◌, ◌<◌, inl, inr, refl, ap, subst, ℕ, Bool, List, Some, length, arith}
 use Rattle.doc_bits.specs.declared.places.Where.TheVariants.{File}
 use Rattle.doc_bits.specs.Number.{AreBytes}
 use Rattle.doc_bits.specs.Rules.{Hold}
 use Rattle.doc_bits.specs.Places.{Upto}
-use Rattle.doc_bits.proofs.RuleLemmas.{hold_or_first}
+use Rattle.doc_bits.proofs.Public.{hold_or_first}
 use Rattle.doc_outer.specs.Held.{Files}
 use Rattle.full_save.specs.Layout.{FitsCompoundFile}
 use Rattle.plain_doc.specs.declared.document.Document.{Document}
 use Rattle.doc_mends.specs.declared.mends.Mend.{Mend}
 use Rattle.run_stages.specs.Outcomes.{Outcome}
 use Rattle.run_stages.specs.Stages.{longest_file, BreaksLengthRule}
-use Rattle.run_stages.proofs.SaidLemmas.{Says, settled}
+use Rattle.run_stages.proofs.Public.{Says, settled}
 use Rattle.doc_fit.specs.Rules.{fit_rules}
 use Rattle.doc_fit.specs.Noted.{IsDocumentWith}
 use Rattle.file_mends.specs.declared.mends.FileMend.{FileMend}
 use Rattle.doc_fit.specs.ReadAs.{IsReadAs}
-use Rattle.doc_fit.proofs.MeaningLemmas.{fit_single}
-use Rattle.doc_fit.proofs.ReadAsLemmas.{AreOneRead, read_one, read_bytes, long_read}
+use Rattle.doc_fit.proofs.Public.{fit_single, AreOneRead, read_one, read_bytes, long_read}
 use Rattle.docfit_run.specs.Requests.{fit, requested}
 use Rattle.docfit_run.specs.Fitted.{FitMends, JudgesRead, IsSaved, JudgesFit}
 use Rattle.docfit_run.specs.Endings.{Ends, IsEnding}

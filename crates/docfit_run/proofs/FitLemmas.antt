@@ -12,8 +12,7 @@ use Rattle.doc_fit.specs.Refusals.{IsFitRefused}
 use Rattle.doc_fit.specs.ReadAs.{IsReadAs}
 use Rattle.file_rules.specs.FileRules.{FileText}
 use Rattle.doc_fit.specs.Noted.{IsNotedText, IsOpenedNoted, IsOpenedWith, IsOpenedFit, AreNoted}
-use Rattle.doc_fit.proofs.LossLemmas.{inventory_of, lifted_inventory, lines_fit}
-use Rattle.doc_fit.proofs.OpenLemmas.{mended_by, text_meant}
+use Rattle.doc_fit.proofs.Public.{inventory_of, lifted_inventory, lines_fit, mended_by, text_meant}
 use Rattle.file_mends.specs.Mends.{bytes_read}
 use Rattle.doc_fit.specs.declared.file_opening.OpenedFile.{OpenedFile}
 use Rattle.docfit_run.specs.Fitted.{EndsOpened, IsReadFitted, IsSaved, JudgesFit}

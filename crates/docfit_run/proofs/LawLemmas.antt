@@ -4,13 +4,12 @@ use Rattle.std.proofs.lemmas.Option.{none-some, same_Some}
 use Rattle.plain_doc.specs.declared.document.Document.{Document}
 use Rattle.full_save.specs.Layout.{full_save_image}
 use Rattle.fast_save.specs.Laws.{IsSavable, IsHeldInFull}
-use Rattle.fast_save.proofs.FullFileLemmas.{full_saves_hold}
+use Rattle.fast_save.proofs.Public.{full_saves_hold}
 use Rattle.doc_bits.specs.Rules.{Hold}
 use Rattle.doc_read.specs.Holds.{HoldsDocument, IsAccepted, all_rules}
 use Rattle.file_mends.specs.declared.mends.FileMend.{FileMend}
 use Rattle.run_stages.specs.Outcomes.{Outcome, PutFile}
-use Rattle.doc_fit.proofs.NotedLemmas.{document_held}
-use Rattle.doc_fit.proofs.ReadAsLemmas.{accepted_read}
+use Rattle.doc_fit.proofs.Public.{document_held, accepted_read}
 use Rattle.docfit_run.specs.Fitted.{FitMends, IsReadFitted, IsSaved}
 use Rattle.docfit_run.specs.Laws.{IsHeldRead, FitsAreHeld, FitsSaveAccepted, FitsAreFixed}
 

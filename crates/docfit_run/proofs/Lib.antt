@@ -1,5 +1,5 @@
-pub mod FitLemmas
-pub mod PutLemmas
-pub mod LawLemmas
-pub mod OneLemmas
-pub mod CompleteLemmas
+mod FitLemmas
+mod PutLemmas
+mod LawLemmas
+mod OneLemmas
+mod CompleteLemmas

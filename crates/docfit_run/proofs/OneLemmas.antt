@@ -1,9 +1,9 @@
--- Words and told files have one outcome.
+-- Words and known files have one outcome.
 use Rattle.std.proofs.Common.{◌≡◌, ◌≢◌, ◌∙◌, inl, inr, sym, ap, subst, ℕ, Bool, List, Option, Some, None, arith, length}
 use Rattle.doc_bits.specs.Number.{AreBytes}
 use Rattle.doc_bits.specs.Rules.{Hold}
 use Rattle.doc_bits.specs.Places.{Upto}
-use Rattle.doc_bits.proofs.RuleLemmas.{hold_or_first}
+use Rattle.doc_bits.proofs.Public.{hold_or_first}
 use Rattle.doc_outer.specs.Held.{Files}
 use Rattle.plain_doc.specs.declared.document.Document.{Document}
 use Rattle.file_rules.specs.FileRules.{FileText}
@@ -11,15 +11,13 @@ use Rattle.loss_report.specs.Features.{Inventory}
 use Rattle.full_save.specs.Layout.{full_save_image}
 use Rattle.run_stages.specs.Outcomes.{Outcome, puts}
 use Rattle.run_stages.specs.Stages.{BreaksLengthRule, Reads}
-use Rattle.run_stages.proofs.SaidLemmas.{reads_one}
+use Rattle.run_stages.proofs.Public.{reads_one}
 use Rattle.doc_fit.specs.Rules.{fit_rules}
 use Rattle.doc_fit.specs.Noted.{IsDocumentWith, AreLinesWith}
 use Rattle.doc_mends.specs.declared.mends.Mend.{Mend}
-use Rattle.doc_fit.proofs.MeaningLemmas.{fit_single}
-use Rattle.doc_fit.proofs.OneLemmas.{refused_one, inventory_one, text_same}
+use Rattle.doc_fit.proofs.Public.{fit_single, refused_one, inventory_one, text_same, AreOneRead, read_one, read_bytes}
+use Rattle.doc_fit.proofs.Public.{document_one, are_noted_one, lines_with_one}
 use Rattle.file_mends.specs.declared.mends.FileMend.{FileMend}
-use Rattle.doc_fit.proofs.ReadAsLemmas.{AreOneRead, read_one, read_bytes}
-use Rattle.doc_fit.proofs.NotedLemmas.{document_one, are_noted_one, lines_with_one}
 use Rattle.docfit_run.specs.Requests.{Request, help, version, fit, requested}
 use Rattle.docfit_run.specs.Fitted.{FitMends, IsPut, IsSaved, IsReadFitted, JudgesRead, JudgesFit, FitsFile, fit_report}
 use Rattle.docfit_run.specs.Endings.{Ends}
@@ -89,7 +87,7 @@ judged_one plain name out file a b bytes x y =
 
 -- ---- runs
 
--- what is judged is a file of bytes
+-- what is checked is a file of bytes
 abbrev pub JudgesBytes : Bool → (name out file : List ℕ) → Outcome → Type 0
 JudgesBytes plain name out file outcome = AreBytes file × JudgesFit plain name out file outcome
 

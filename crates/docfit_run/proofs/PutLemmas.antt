@@ -9,7 +9,7 @@ use Rattle.file_mends.specs.declared.mends.FileMend.{FileMend}
 use Rattle.doc_outer.specs.Held.{Files, StaysAt, OthersStay}
 use Rattle.run_stages.specs.Lines.{shelf_fault_line}
 use Rattle.run_stages.specs.Outcomes.{Outcome, PutFile, says, IsAfterReading}
-use Rattle.run_stages.proofs.OutcomeLemmas.{said_inside}
+use Rattle.run_stages.proofs.Public.{said_inside}
 use Rattle.doc_fit.specs.Refusals.{EndsAt}
 use Rattle.docfit_run.specs.Requests.{Request, help, version, fit, requested, PutsUnder}
 use Rattle.docfit_run.specs.Fitted.{FitMends, JudgesRead, JudgesFit, FitsFile, IsSaved}

@@ -106,6 +106,6 @@ pub record JudgesFit (plain : Bool) (name out file : List ℕ) (outcome : Outcom
   pub read_as : IsReadAs file mends read
   pub judged : JudgesRead plain name out read mends outcome
 
--- a name is read whole, and its file judged so
+-- a name is read whole, and its file checked so
 abbrev pub FitsFile : Bool → (name out : List ℕ) → Option Files → Outcome → Type 0
 FitsFile plain name out held = Reads name held (BreaksLengthRule name) (JudgesFit plain name out)

@@ -36,7 +36,7 @@ abbrev pub FitsAreHeld : Type 0
 FitsAreHeld = (plain : Bool) (out file : List ℕ) (outcome : Outcome) (put : PutFile) → IsFitted plain out file outcome →
     outcome.put ≡ Some put → IsHeldFit plain file put.bytes
 
--- where what names hold is told, a run has one outcome, unless the shelf fails
+-- where what names hold is known, a run has one outcome, unless the shelf fails
 abbrev pub FitIsOne : Type 0
 FitIsOne = (words : List (List ℕ)) (files : Files) (one other : Outcome) → IsEnding words (Some files) one →
     IsEnding words (Some files) other → one.status ≢ 4 → other.status ≢ 4 → one ≡ other

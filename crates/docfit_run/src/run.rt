@@ -66,7 +66,7 @@ pub fn docfit_run<S: Shelf, K: Sink, E: Sink>(
     // they can be, unless it is to be plain.
     ensures held { FitsAreHeld }
 
-    // Words and told files have one outcome, unless the shelf fails.
+    // Words and known files have one outcome, unless the shelf fails.
     ensures only { FitIsOne }
 
     // Where a file is accepted, its fit is the full save of the document that it holds.
@@ -75,7 +75,7 @@ pub fn docfit_run<S: Shelf, K: Sink, E: Sink>(
     // The fit of a fit is the same bytes.
     ensures fixed { FitsAreFixed }
 
-    // A file in whose way nothing stands is fitted, unless a fault rose or memory was refused.
+    // A file in whose way nothing is is fitted, unless a fault rose or memory was refused.
     ensures complete { (plain : Bool) (file name : List ℕ) (files : Files)
         → requested (map string_bytes words.now) ≡ Some (fit plain file name)
         → S.held shelf.old ≡ Some files → CanFit files file

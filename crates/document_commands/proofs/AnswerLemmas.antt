@@ -1,10 +1,10 @@
 -- What is asked of files that were read has one ending, and is served where their documents have it.
 use Rattle.std.proofs.Common.{◌≡◌, ◌∙◌, ap, sym, subst, ℕ, List, Option, arith, inl}
 use Rattle.cfb_streams.specs.Contents.{Contents}
-use Rattle.cfb_streams.proofs.UniqueLemmas.{contents_unique}
+use Rattle.cfb_streams.proofs.Public.{contents_unique}
 use Rattle.plain_doc.specs.declared.document.Document.{Document}
 use Rattle.doc_read.specs.Holds.{HoldsDocument}
-use Rattle.doc_read.proofs.OneDocument.{document_one}
+use Rattle.doc_read.proofs.Public.{document_one}
 use Rattle.document_commands.specs.Lines.{stream_lines}
 use Rattle.run_stages.specs.Outcomes.{Outcome, says}
 use Rattle.document_commands.specs.Tasks.{FileTask, PairTask, out_of, out_of_two}
@@ -12,7 +12,7 @@ use Rattle.document_commands.specs.declared.reply.Reply.{Reply}
 use Rattle.document_commands.specs.Replies.{outcome_of, EndsBy, Replies, RepliesTwo, CanReply, CanReplyTwo}
 use Rattle.document_commands.specs.Answers.{IsListingOf, ListsStreams, AnswersFile, AnswersTwo}
 use Rattle.run_stages.specs.Outcomes.{IsAfterReading}
-use Rattle.run_stages.proofs.OutcomeLemmas.{said_inside}
+use Rattle.run_stages.proofs.Public.{said_inside}
 use Rattle.document_commands.proofs.OutcomeLemmas.{ends_one, ends_done, ends_inside, ends_by}
 use Rattle.document_commands.proofs.ReplyLemmas.{replies_one, replies_done, replies_two_one, replies_two_done}
 

@@ -4,15 +4,14 @@ use Rattle.std.specs.Prelude.{codes}
 use Rattle.edit_script.specs.Json.{IsJson}
 use Rattle.doc_bits.specs.declared.places.Where.{Where}
 use Rattle.doc_bits.specs.Places.{Upto, IsFirstPlace}
-use Rattle.doc_bits.proofs.PlaceLemmas.{place_one}
-use Rattle.doc_bits.proofs.RuleLemmas.{hold_or_first, first_agrees}
+use Rattle.doc_bits.proofs.Public.{place_one, hold_or_first, first_agrees}
 use Rattle.plain_doc.specs.declared.document.Document.{Document}
 use Rattle.plain_doc.specs.Sound.{document_rules}
-use Rattle.plain_doc.proofs.SoundLemmas.{document_rules-IsSingle}
+use Rattle.plain_doc.proofs.Public.{document_rules-IsSingle}
 use Rattle.json_doc.specs.declared.fault.JsonFault.TheVariants as fault
 use Rattle.json_doc.specs.Documents.{json_value}
 use Rattle.json_doc.specs.Reading.{IsWhole, IsReadAs, IsJsonFault}
-use Rattle.json_doc.proofs.DocumentLemmas.{values_same}
+use Rattle.json_doc.proofs.Public.{values_same, json_one}
 use Rattle.document_commands.specs.declared.reply.Reply.{Reply}
 use Rattle.document_commands.specs.declared.reply.Reply.TheVariants.{Refused}
 use Rattle.document_commands.specs.declared.reply.Refusal.TheVariants.{Json, Unsound}
@@ -23,7 +22,6 @@ use Rattle.run_stages.specs.Lines.{rule_line}
 use Rattle.document_commands.specs.Replies.{IsDone}
 use Rattle.document_commands.specs.Saves.{Saves}
 use Rattle.document_commands.proofs.SaveLemmas.{saved_one, saved_done}
-use Rattle.json_doc.proofs.LawLemmas.{json_one}
 
 -- ---- the replies of faults
 

@@ -3,11 +3,10 @@ use Rattle.std.proofs.Common.{◌≡◌, ◌∙◌, inl, inr, ap, sym, subst, �
 use Rattle.std.specs.Prelude.{codes}
 use Rattle.doc_bits.specs.declared.places.Where.{Where}
 use Rattle.doc_bits.specs.Places.{Upto}
-use Rattle.doc_bits.proofs.PlaceLemmas.{place_one}
-use Rattle.doc_bits.proofs.RuleLemmas.{hold_or_first, first_agrees}
+use Rattle.doc_bits.proofs.Public.{place_one, hold_or_first, first_agrees}
 use Rattle.plain_doc.specs.declared.document.Document.{Document}
 use Rattle.plain_doc.specs.Sound.{document_rules}
-use Rattle.plain_doc.proofs.SoundLemmas.{document_rules-IsSingle}
+use Rattle.plain_doc.proofs.Public.{document_rules-IsSingle}
 use Rattle.doc_join.specs.declared.fault.JoinFault.{JoinFault}
 use Rattle.doc_join.specs.declared.fault.JoinFault.TheVariants as fault
 use Rattle.doc_join.specs.Join.{document_join}

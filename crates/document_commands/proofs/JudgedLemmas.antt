@@ -1,22 +1,21 @@
--- What judging a file says of a run.
+-- What checking a file says of a run.
 use Rattle.std.proofs.Common.{◌≡◌, ◌∙◌, inl, inr, ap, sym, ℕ, List, arith}
 use Rattle.doc_bits.specs.declared.places.Where.TheVariants.{File}
 use Rattle.doc_bits.specs.Rules.{Rules, IsSingle}
 use Rattle.doc_bits.specs.Places.{Place, Upto}
-use Rattle.doc_bits.proofs.PlaceLemmas.{place_one}
-use Rattle.doc_bits.proofs.RuleLemmas.{first_agrees}
+use Rattle.doc_bits.proofs.Public.{place_one, first_agrees}
 use Rattle.cfb_streams.specs.Container.{container_rules}
-use Rattle.cfb_streams.proofs.SingleLemmas.{container_single}
+use Rattle.cfb_streams.proofs.Public.{container_single}
 use Rattle.file_rules.specs.declared.fault.ReadFault.{ReadFault}
 use Rattle.file_rules.specs.declared.fault.ReadFault.TheVariants as fault
 use Rattle.file_rules.specs.Faults.{IsReadFault}
-use Rattle.file_rules.proofs.RefusalLemmas.{single_in}
+use Rattle.file_rules.proofs.Public.{single_in}
 use Rattle.run_stages.specs.Lines.{rule_line}
 use Rattle.run_stages.specs.Outcomes.{Outcome, says}
 use Rattle.run_stages.specs.Judged.{IsRefused, Judges}
 use Rattle.document_commands.specs.Judged.{NamesRule, stream_rules}
 use Rattle.run_stages.specs.Outcomes.{IsAfterReading}
-use Rattle.run_stages.proofs.OutcomeLemmas.{said_inside}
+use Rattle.run_stages.proofs.Public.{said_inside}
 
 -- the line of a refusal names the first broken rule
 pub names-refused :

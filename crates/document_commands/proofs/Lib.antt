@@ -1,11 +1,12 @@
-pub mod ListingLemmas
-pub mod OutcomeLemmas
-pub mod JudgedLemmas
-pub mod SoundLemmas
-pub mod SaveLemmas
-pub mod SummaryLemmas
-pub mod JoinLemmas
-pub mod ExportLemmas
-pub mod ImportLemmas
-pub mod ReplyLemmas
-pub mod AnswerLemmas
+pub mod Public
+mod ListingLemmas
+mod OutcomeLemmas
+mod JudgedLemmas
+mod SoundLemmas
+mod SaveLemmas
+mod SummaryLemmas
+mod JoinLemmas
+mod ExportLemmas
+mod ImportLemmas
+mod ReplyLemmas
+mod AnswerLemmas

@@ -1,8 +1,8 @@
 -- A task comes to one reply, and to no refusal where the document has what it asks for.
 use Rattle.std.proofs.Common.{◌≡◌, ◌∙◌, inl, inr, ap, sym, ℕ, ◌<◌, List, length, arith}
 use Rattle.plain_doc.specs.declared.document.Document.{Document}
-use Rattle.doc_show.proofs.OneTextLemmas.{lines_one}
-use Rattle.list_numbers.proofs.OneLemmas.{lines_one as outline_one}
+use Rattle.doc_show.proofs.Public.{lines_one}
+use Rattle.list_numbers.proofs.Public.{lines_one as outline_one}
 use Rattle.document_commands.specs.declared.reply.Reply.{Reply}
 use Rattle.document_commands.specs.declared.reply.Reply.TheVariants.{Done}
 use Rattle.document_commands.specs.Tasks.{FileTask, text_task, check_task, show_task, props_task, outline_task}

@@ -6,7 +6,7 @@ use Rattle.plain_doc.specs.declared.carried.Carried.{Carried}
 use Rattle.plain_doc.specs.declared.document.Document.{Document}
 use Rattle.plain_doc.specs.RulesOfTexts.{text_of}
 use Rattle.plain_doc.specs.Sound.{IsSound}
-use Rattle.plain_doc.proofs.RightLemmas.{sound_is_valid, right_is_sound}
+use Rattle.plain_doc.proofs.Public.{sound_is_valid, right_is_sound}
 
 text_of-carried : (document : Document) (carried : Carried) (part : Where) →
     text_of (record document { carried = carried }) part ≡ text_of document part

@@ -8,8 +8,7 @@ use Rattle.std.specs.Option.{option_map, unwrap_or}
 use Rattle.std.proofs.lemmas.List.Sums.{position_or_len_is, sum_by-le}
 use Rattle.std.proofs.lemmas.Option.{slice_get_within, slice_get-get_or, none-some}
 use Rattle.doc_bits.specs.Rules.{IsSingle}
-use Rattle.doc_bits.proofs.RuleLemmas.{hold_or_first, first_agrees}
-use Rattle.doc_bits.proofs.ListLemmas.{All-from_slice_get}
+use Rattle.doc_bits.proofs.Public.{hold_or_first, first_agrees, All-from_slice_get}
 use Rattle.cfb_streams.specs.Contents.{NamedBytes}
 use Rattle.cfb_streams.specs.Names.{is_same_name}
 use Rattle.summary_set.specs.declared.fault.SetFault.{SetFault}
@@ -18,14 +17,13 @@ use Rattle.summary_set.specs.Form.{form_rules, IsPropertySet, IsSetFault}
 use Rattle.summary_set.specs.Written.{retitled_stream, kept_bytes, retitled}
 use Rattle.summary_set.specs.Values.{property_values}
 use Rattle.summary_set.specs.Laws.{IsAsked}
-use Rattle.summary_set.proofs.WrittenLemmas.{length-written}
-use Rattle.summary_set.proofs.TitleLemmas.{writable}
+use Rattle.summary_set.proofs.Public.{length-written, writable}
 use Rattle.plain_doc.specs.declared.carried.Carried.{Carried}
 use Rattle.plain_doc.specs.declared.document.Document.{Document}
 use Rattle.plain_doc.specs.Carried.{AreCarriedStreams, with_bytes}
 use Rattle.plain_doc.specs.OtherBytes.{carried_with, HasOtherBytes}
 use Rattle.plain_doc.specs.Sound.{IsSound}
-use Rattle.plain_doc.proofs.WithBytesLemmas.{with_bytes-carried}
+use Rattle.plain_doc.proofs.Public.{with_bytes-carried}
 use Rattle.doc_read.specs.CarriedParts.{AreShortStreams}
 use Rattle.document_commands.specs.declared.reply.Reply.{Reply}
 use Rattle.document_commands.specs.declared.reply.Reply.TheVariants.{Refused}

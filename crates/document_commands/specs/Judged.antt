@@ -1,4 +1,4 @@
--- What judging a file that was read came to.
+-- What checking a file that was read came to.
 use Rattle.std.specs.Prelude.{◌≡◌, ℕ, List}
 use Rattle.doc_bits.specs.declared.places.Where.TheVariants.{File}
 use Rattle.doc_bits.specs.Rules.{Rules, Hold}

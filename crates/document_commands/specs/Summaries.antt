@@ -20,7 +20,7 @@ use Rattle.document_commands.specs.Saves.{Saves}
 abbrev pub summary_name : List ℕ
 summary_name = 5 ∷ codes "SummaryInformation"
 
--- where it stands among the carried streams. Their names ascend, so no second one has this name
+-- where it is among the carried streams. Their names ascend, so no second one has this name
 abbrev pub summary_place : List NamedBytes → ℕ
 summary_place streams = position_or_len (λ stream. is_same_name stream.name summary_name) streams
 

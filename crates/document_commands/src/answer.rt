@@ -1,4 +1,4 @@
-// What is asked of the bytes of files that were read: they are judged, and what their documents say is the run's end.
+// What is asked of the bytes of files that were read: they are checked, and what their documents say is the run's end.
 ghost use Rattle.std.specs.Prelude.{◌≡◌, IfOk};
 ghost use Rattle.doc_bits.specs.Number.{AreBytes};
 ghost use Rattle.plain_doc.specs.Sound.{IsSound};

@@ -2,19 +2,16 @@
 use doc_bits::Bytes;
 use doc_outer::{MemShelf, MemSink, write_all};
 use docview_run::docview_run;
-use row_language::{Mode, RowFault, Subject};
+use row_language::{Mode, REASONS_LEN, RowFault, Subject};
 use run_stages::STATUS_MEMORY;
 use std::alloc::Global;
-
-/// How many bytes of reasons are taken.
-const REASONS_LEN: u32 = 1_024;
 
 /// No document.
 #[derive(Clone, Copy)]
 pub(crate) struct Shown;
 
 impl Subject for Shown {
-    /// What the standard error would take stands behind what the standard output took.
+    /// What the standard error would take is behind what the standard output took.
     fn run(alloc: Global, words: &[String], shelf: &mut MemShelf, sink: &mut MemSink) -> u8 {
         let Ok(mut reasons) = MemSink::new(alloc, REASONS_LEN) else {
             return STATUS_MEMORY;

@@ -5,15 +5,15 @@ use Rattle.doc_bits.specs.declared.places.Where.TheVariants.{File}
 use Rattle.doc_bits.specs.Number.{AreBytes}
 use Rattle.doc_bits.specs.Rules.{Hold}
 use Rattle.doc_bits.specs.Places.{Upto}
-use Rattle.doc_bits.proofs.RuleLemmas.{hold_or_first}
+use Rattle.doc_bits.proofs.Public.{hold_or_first}
 use Rattle.doc_outer.specs.Held.{Files}
 use Rattle.doc_read.specs.Holds.{IsAccepted, all_rules}
-use Rattle.doc_read.proofs.OneDocument.{all_single}
+use Rattle.doc_read.proofs.Public.{all_single}
 use Rattle.run_stages.specs.Outcomes.{Outcome}
 use Rattle.run_stages.specs.Stages.{longest_file, BreaksLengthRule}
-use Rattle.run_stages.proofs.SaidLemmas.{Says, settled}
+use Rattle.run_stages.proofs.Public.{Says, settled}
 use Rattle.doc_fit.specs.Rules.{fit_rules}
-use Rattle.doc_fit.proofs.MeaningLemmas.{fit_single}
+use Rattle.doc_fit.proofs.Public.{fit_single}
 use Rattle.docview_run.specs.declared.view.View.{View}
 use Rattle.docview_run.specs.Requests.{Request, page, requested}
 use Rattle.docview_run.specs.Viewed.{IsNotViewed}

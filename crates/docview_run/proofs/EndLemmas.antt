@@ -5,7 +5,7 @@ use Rattle.std.specs.Prelude.{if◌then◌else◌, ◌==◌}
 use Rattle.doc_outer.specs.Counts.{Rose}
 use Rattle.doc_outer.specs.Written.{Appends, AppendsPrefix}
 use Rattle.doc_outer.specs.declared.sink.Sink.{Ghosts}
-use Rattle.doc_outer.proofs.WrittenLemmas.{Appends-nil}
+use Rattle.doc_outer.proofs.Public.{Appends-nil}
 use Rattle.std.proofs.lemmas.Option.{none-some}
 use Rattle.std.specs.Prelude.{◌↔◌, None, Option, Some}
 use Rattle.doc_bits.specs.Number.{AreBytes}

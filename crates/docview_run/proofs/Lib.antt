@@ -1,7 +1,7 @@
-pub mod EndLemmas
-pub mod PropertyLemmas
-pub mod ViewLemmas
-pub mod OneLemmas
-pub mod CompleteLemmas
-pub mod SafeLemmas
-pub mod PictureLemmas
+mod EndLemmas
+mod PropertyLemmas
+mod ViewLemmas
+mod OneLemmas
+mod CompleteLemmas
+mod SafeLemmas
+mod PictureLemmas

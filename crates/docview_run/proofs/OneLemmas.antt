@@ -1,34 +1,32 @@
--- Words and told files have one outcome.
+-- Words and known files have one outcome.
 use Rattle.std.proofs.Common.{◌≡◌, ◌≢◌, ◌∙◌, inl, inr, sym, ap, subst, ℕ, List, Bool, true, false, true≢false}
 use Rattle.std.proofs.Common.{Option, Some, None, refl}
 use Rattle.doc_bits.specs.Number.{AreBytes}
 use Rattle.doc_bits.specs.Places.{Upto}
-use Rattle.doc_bits.proofs.RuleLemmas.{hold_or_first}
+use Rattle.doc_bits.proofs.Public.{hold_or_first}
 use Rattle.doc_outer.specs.Held.{Files}
 use Rattle.plain_doc.specs.declared.document.Document.{Document}
 use Rattle.doc_read.specs.Holds.{all_rules}
-use Rattle.doc_read.proofs.OneDocument.{all_single}
+use Rattle.doc_read.proofs.Public.{all_single}
 use Rattle.cfb_streams.specs.Contents.{Contents, HasNamed, HasNoNamed, Stream}
 use Rattle.cfb_streams.specs.Container.{HasContents}
-use Rattle.cfb_streams.proofs.UniqueLemmas.{contents_unique}
-use Rattle.file_rules.proofs.NameLemmas.{named_one}
+use Rattle.cfb_streams.proofs.Public.{contents_unique}
+use Rattle.file_rules.proofs.Public.{named_one}
 use Rattle.doc_pictures.specs.declared.pictures.Picture.{Picture}
 use Rattle.doc_pictures.specs.Files.{ImageFiles}
 use Rattle.doc_pictures.specs.Places.{places_of}
 use Rattle.doc_pictures.specs.Pictures.{ArePictures}
-use Rattle.doc_pictures.proofs.OrderLemmas.{pictures-one}
+use Rattle.doc_pictures.proofs.Public.{pictures-one}
 use Rattle.html_page.specs.Sources.{PageSource}
 use Rattle.doc_view.specs.declared.view.Options.{Options}
-use Rattle.doc_view.proofs.LawLemmas.{pages_one}
-use Rattle.doc_html.proofs.PageLemmas.{form_pages_one}
+use Rattle.doc_view.proofs.Public.{pages_one}
+use Rattle.doc_html.proofs.Public.{form_pages_one}
 use Rattle.form_page.specs.declared.page.PageForm.TheVariants as form
 use Rattle.run_stages.specs.Outcomes.{Outcome, says}
 use Rattle.run_stages.specs.Stages.{BreaksLengthRule, Reads}
-use Rattle.run_stages.proofs.JudgedLemmas.{refused_one}
-use Rattle.run_stages.proofs.SaidLemmas.{reads_one}
+use Rattle.run_stages.proofs.Public.{refused_one, reads_one}
 use Rattle.doc_fit.specs.Rules.{fit_rules}
-use Rattle.doc_fit.proofs.MeaningLemmas.{fit_single}
-use Rattle.doc_fit.proofs.OneLemmas.{refused_one as fit_refused_one}
+use Rattle.doc_fit.proofs.Public.{fit_single, refused_one as fit_refused_one}
 use Rattle.docview_run.specs.declared.view.Form.{Form}
 use Rattle.docview_run.specs.declared.view.Form.TheVariants.{Text, Html, Markdown}
 use Rattle.docview_run.specs.declared.view.View.{View}

@@ -3,14 +3,12 @@ use Rattle.std.proofs.Common.{◌≡◌, ◌≢◌, ◌⊎◌, ◌∙◌, ◌+�
 use Rattle.std.specs.Prelude.{IsErrOf, OnErr}
 use Rattle.doc_bits.specs.Number.{AreBytes}
 use Rattle.doc_bits.specs.Places.{Upto}
-use Rattle.doc_bits.proofs.RuleLemmas.{hold_or_first}
+use Rattle.doc_bits.proofs.Public.{hold_or_first}
 use Rattle.doc_outer.specs.Counts.{GoesOn, Rose}
 use Rattle.doc_outer.specs.Held.{Files, StaysAt}
 use Rattle.doc_outer.specs.declared.shelf.Shelf.{Ghosts as Shelf}
 use Rattle.doc_outer.specs.declared.sink.Sink.{Ghosts as Sink}
-use Rattle.doc_outer.proofs.CountLemmas.{Rose-after}
-use Rattle.doc_outer.proofs.HeldLemmas.{StaysAt-refl}
-use Rattle.doc_outer.proofs.WrittenLemmas.{Appends-nil}
+use Rattle.doc_outer.proofs.Public.{Rose-after, StaysAt-refl, Appends-nil}
 use Rattle.plain_doc.specs.declared.document.Document.{Document}
 use Rattle.file_rules.specs.Faults.{IsReadFault}
 use Rattle.file_rules.specs.declared.fault.ReadFault.{ReadFault}
@@ -19,9 +17,8 @@ use Rattle.doc_read.specs.Holds.{IsAccepted, all_rules}
 use Rattle.doc_read.specs.Opened.{IsOpened, OpenedFile}
 use Rattle.doc_fit.specs.declared.opening.OpenedAny.{OpenedAny}
 use Rattle.doc_fit.specs.Opened.{IsOpenedAny}
-use Rattle.doc_fit.proofs.OpenLemmas.{opened_holds, opened_lifts}
+use Rattle.doc_fit.proofs.Public.{opened_holds, opened_lifts, fit_single}
 use Rattle.doc_fit.specs.Rules.{fit_rules}
-use Rattle.doc_fit.proofs.MeaningLemmas.{fit_single}
 use Rattle.doc_pictures.specs.declared.album.AlbumFault.{AlbumFault}
 use Rattle.doc_pictures.specs.declared.album.AlbumFault.TheVariants.{There, Failed, Memory}
 use Rattle.doc_pictures.specs.declared.pictures.Picture.{Picture}

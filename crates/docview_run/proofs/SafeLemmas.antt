@@ -12,9 +12,9 @@ use Rattle.doc_fit.specs.Refusals.{EndsAt}
 use Rattle.doc_pictures.specs.Files.{ImageFiles}
 use Rattle.html_page.specs.Sources.{PageSource}
 use Rattle.doc_view.specs.declared.view.Options.{Options}
-use Rattle.doc_view.proofs.ControlLemmas.{page_plain}
-use Rattle.doc_html.proofs.PageLemmas.{html_pages_read}
-use Rattle.doc_markdown.proofs.ReadLemmas.{pages_read}
+use Rattle.doc_view.proofs.Public.{page_plain}
+use Rattle.doc_html.proofs.Public.{html_pages_read}
+use Rattle.doc_markdown.proofs.Public.{pages_read}
 use Rattle.docview_run.specs.declared.view.Form.{Form}
 use Rattle.docview_run.specs.declared.view.Form.TheVariants.{Text, Html, Markdown}
 use Rattle.docview_run.specs.declared.view.View.{View}

@@ -2,20 +2,18 @@
 use Rattle.std.proofs.Common.{◌≡◌, ◌⊎◌, ℕ, List, Option, None, true, false, not, refl, inl, inr, arith}
 use Rattle.doc_bits.specs.Number.{AreBytes}
 use Rattle.doc_bits.specs.Places.{Place, IsFirstPlace, Upto}
-use Rattle.doc_bits.proofs.RuleLemmas.{hold_or_first}
+use Rattle.doc_bits.proofs.Public.{hold_or_first}
 use Rattle.doc_outer.specs.declared.sink.Sink.{Ghosts}
 use Rattle.plain_doc.specs.declared.document.Document.{Document}
 use Rattle.doc_read.specs.Holds.{HoldsDocument, IsAccepted, all_rules}
-use Rattle.doc_read.proofs.OneDocument.{all_single, document_one}
+use Rattle.doc_read.proofs.Public.{all_single, document_one}
 use Rattle.run_stages.specs.Lines.{rule_line}
 use Rattle.run_stages.specs.Outcomes.{Outcome, says}
 use Rattle.doc_fit.specs.declared.opening.OpenedAny.{OpenedAny}
 use Rattle.doc_fit.specs.Rules.{fit_rules}
 use Rattle.doc_fit.specs.Refusals.{IsRefusalStatus}
 use Rattle.doc_fit.specs.Opened.{IsOpenedAny}
-use Rattle.doc_fit.proofs.MeaningLemmas.{lifts_one}
-use Rattle.doc_fit.proofs.OpenLemmas.{opened_holds, opened_lifts}
-use Rattle.doc_fit.proofs.RefusalLemmas.{refused_by}
+use Rattle.doc_fit.proofs.Public.{lifts_one, opened_holds, opened_lifts, refused_by}
 use Rattle.docview_run.specs.declared.view.View.{View}
 use Rattle.docview_run.specs.Viewed.{IsViewed}
 use Rattle.doc_pictures.specs.Files.{no_files}

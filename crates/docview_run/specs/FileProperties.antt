@@ -20,7 +20,7 @@ pub record PrintsProperties (file : List ℕ) (outcome : Outcome) : Type 0 where
   pub plain : HasNoControls text
   pub ends : outcome ≡ says 0 text
 
--- a file is judged as a container, and its properties are printed
+-- a file is checked as a container, and its properties are printed
 abbrev pub PropertiesOf : (name file : List ℕ) → Outcome → Type 0
 PropertiesOf name file outcome = Judges (file_rules file) name (PrintsProperties file) outcome
 

@@ -23,7 +23,8 @@ ViewedDocumentIsOne = (strict other : Bool) (file : List ℕ) (a b : Document) �
 abbrev pub AsksForProperties : Option Request → Type 0
 AsksForProperties request = (form : PropertyForm) × ((name : List ℕ) × (request ≡ Some (properties form name)))
 
--- where what names hold is told, a run has one outcome, unless the shelf fails, or properties are asked for, or pictures
+-- where what names hold is known, a run has one outcome, unless the shelf fails, or properties are asked for, or
+-- pictures
 -- whose files are to be kept
 abbrev pub ViewIsOne : Type 0
 ViewIsOne = (words : List (List ℕ)) (files : Files) (one other : Outcome) → IsEnding words (Some files) one →

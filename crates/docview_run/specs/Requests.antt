@@ -107,7 +107,7 @@ behind_option view (word ∷ words) =
     if is_strict view word then record { view = record view { strict = true }; words = words } else
     record { view = view; words = word ∷ words }
 
--- options stand first, each once
+-- options are first, each once
 abbrev pub viewed_behind : Behind → Option Request
 viewed_behind at = viewed at.view at.words
 

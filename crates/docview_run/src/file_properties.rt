@@ -1,4 +1,4 @@
-// The properties of a file, whatever is in it: the container alone is judged.
+// The properties of a file, whatever is in it: the container alone is checked.
 ghost use Rattle.std.specs.Prelude.{◌≡◌, ◌≢◌, MatchResult};
 ghost use Rattle.doc_bits.specs.Number.{AreBytes};
 ghost use Rattle.doc_bits.specs.Rules.{Hold};

@@ -7,7 +7,7 @@ pub fn viewed_document_is_one()
     ensures { ViewedDocumentIsOne }
 {}
 
-/// Words and told files have one outcome, unless the shelf fails.
+/// Words and known files have one outcome, unless the shelf fails.
 pub fn view_is_one()
     ensures { ViewIsOne }
 {}

@@ -16,6 +16,7 @@ use crate::View;
 use crate::lifting::{lines_of, show_lifted};
 use crate::run::{PROGRAM, show_file, show_source, tell};
 use cfb_streams::Container;
+use doc_bits::drop_then;
 use doc_columns::ColumnDocument;
 use doc_fit::{OpenedAny, open_any};
 use doc_outer::{Shelf, Sink};
@@ -96,7 +97,7 @@ fn show_taken<S: Shelf, K: Sink, E: Sink>(
                 file,
             };
             let status = show_held(alloc, shelf, &taken, opened.document(), out, reasons);
-            let_go(opened, status)
+            drop_then(opened, status)
         }
         Err(ReadFault::Memory) => STATUS_MEMORY,
         Err(ReadFault::Refused { .. }) => show_refused(alloc, shelf, asked, file, out, reasons),
@@ -130,7 +131,7 @@ fn show_refused<S: Shelf, K: Sink, E: Sink>(
                 file,
             };
             let status = show_opened(alloc, shelf, &taken, &opened, out, reasons);
-            let_go(opened, status)
+            drop_then(opened, status)
         }
         Err(ReadFault::Memory) => STATUS_MEMORY,
         Err(ReadFault::Refused { .. }) => {
@@ -230,14 +231,6 @@ fn tell_fault<E: Sink>(reasons: &mut E, album: &Album<'_>, fault: AlbumFault) ->
         AlbumFault::Failed => STATUS_SHELF_FAULT,
         AlbumFault::Memory => STATUS_MEMORY,
     }
-}
-
-/// An answer, once a value is let go.
-fn let_go<T: Drop, A>(value: T, answer: A) -> A
-    ensures { result ≡ answer }
-{
-    drop(value);
-    answer
 }
 
 /// Writes the files of the pictures of a document of a file.

@@ -36,7 +36,7 @@ use run_stages::{
 };
 use std::alloc::Global;
 
-/// The name that stands before what is told.
+/// The name that is before what is told.
 pub const PROGRAM: &str = "docview";
 
 /// How the program is called.

@@ -9,12 +9,11 @@ use Rattle.std.proofs.lemmas.Bool.{eqb-true}
 use Rattle.sprm_table.specs.Codes.{is_among}
 use Rattle.prop_map.specs.Settings.{Properties}
 use Rattle.prop_map.specs.Overlay.{overlay, without, modified_characters}
-use Rattle.prop_map.proofs.ChangeLemmas.{get-retained}
-use Rattle.prop_map.proofs.MapLemmas.{same_properties, get-overlay, overlay-empty}
+use Rattle.prop_map.proofs.Public.{get-retained, same_properties, get-overlay, overlay-empty}
 use Rattle.edit_ops.specs.Fresh.{special_codes}
 use Rattle.edit_ops.specs.Edits.{property_characters}
 use Rattle.edit_generator.specs.GeneratedDocuments.{bold, IsBoldOrNone}
-use Rattle.edit_ops.proofs.WithoutLemmas.{nothing_kept}
+use Rattle.edit_ops.proofs.Public.{nothing_kept}
 
 -- ---- what a test of codes leaves
 

@@ -11,7 +11,7 @@ use Rattle.std.specs.FinMap.{empty}
 use Rattle.std.proofs.lemmas.Option.{slice_get_within, get_or_from_slice_get}
 use Rattle.prop_map.specs.declared.modifiers.Modifier.{Modifier}
 use Rattle.prop_map.specs.Overlay.{modified_characters}
-use Rattle.prop_map.proofs.MapLemmas.{empty-overlay}
+use Rattle.prop_map.proofs.Public.{empty-overlay}
 use Rattle.fkp_pages.specs.declared.kind.PageKind.{PageKind}
 use Rattle.fkp_pages.specs.declared.kind.PageKind.TheVariants.{Chpx, Papx}
 use Rattle.doc_parts.specs.declared.bookmark_order.Bookmark.{Bookmark}
@@ -20,11 +20,11 @@ use Rattle.plain_doc.specs.declared.item.Item.{Item}
 use Rattle.plain_doc.specs.declared.item.Mark.{Mark}
 use Rattle.plain_doc.specs.declared.document.Document.{Document}
 use Rattle.plain_doc.specs.Settings.{same_properties, is_alike, is_inside}
-use Rattle.plain_doc.proofs.SettingsLemmas.{same_properties-Decides}
+use Rattle.plain_doc.proofs.Public.{same_properties-Decides}
 use Rattle.full_save.specs.Text.{with_mark, note_story, head_story, text_items}
 use Rattle.full_save.specs.Runs.{joins_run}
 use Rattle.full_save.specs.WordDocument.{text_at}
-use Rattle.full_save.proofs.StreamLengths.{length-runs_from}
+use Rattle.full_save.proofs.Public.{length-runs_from}
 use Rattle.plain_doc.specs.Stretches.{stretches}
 use Rattle.edit_ops.specs.Fresh.{base_of, base_properties, plain_end, unit_item, unit_items}
 use Rattle.edit_ops.specs.Fresh.{inserted_items, split_item}
@@ -35,7 +35,7 @@ use Rattle.edit_generator.specs.FewRuns.{runs_of, IsPlainAt, EditsAddFewRuns}
 use Rattle.edit_generator.proofs.RunCountLemmas.{count, StandsFor, one_more_put, none_put, several_put, count_changed}
 use Rattle.edit_generator.proofs.RunCountLemmas.{count_keys}
 
--- ---- the runs of a document are the stretches of its text, whose main text stands first
+-- ---- the runs of a document are the stretches of its text, whose main text is first
 
 abbrev behind : Document → List Item
 behind document = with_mark (note_story document ++ head_story document)
@@ -55,7 +55,7 @@ runs_now : (kind : PageKind) (document : Document) → runs_of kind document ≡
 unfolding text_items
 runs_now kind document = length-runs_from kind text_at (stretches (joins_run kind) (text_items document))
 
--- ---- the main text where an item stands in it
+-- ---- the main text where an item is in it
 
 module _ (main : List Item) (at : ℕ) (there : IsPlainAt main at) (rest : List Item) where
   from_item : drop at main ≡ there.item ∷ drop (at + 1) main

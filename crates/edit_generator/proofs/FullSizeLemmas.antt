@@ -8,26 +8,24 @@ use Rattle.fkp_pages.specs.declared.kind.PageKind.{PageKind}
 use Rattle.fkp_pages.specs.declared.kind.PageKind.TheVariants.{Chpx, Papx}
 use Rattle.fkp_pages.specs.PageBytes.{last_fc}
 use Rattle.fkp_pages.specs.InARow.{numbered_bins}
-use Rattle.fkp_pages.proofs.PrintedBinLemmas.{length-printed_bin}
-use Rattle.fkp_pages.proofs.RowLemmas.{length-numbered_bins}
+use Rattle.fkp_pages.proofs.Public.{length-printed_bin, length-numbered_bins}
 use Rattle.cfb_streams.specs.Contents.{NamedBytes}
 use Rattle.cfb_layout.specs.Sectors.{padded}
 use Rattle.cfb_layout.specs.Counts.{large_len, small_len, mini_counts, large_counts, sector_counts, sectors_needed}
 use Rattle.cfb_layout.specs.Layout.{lengths_of}
-use Rattle.cfb_layout.proofs.BytesLemmas.{length-padded}
+use Rattle.cfb_layout.proofs.Public.{length-padded}
 use Rattle.plain_doc.specs.declared.document.Document.{Document}
 use Rattle.plain_doc.specs.Collected.{sections_of}
 use Rattle.plain_doc.specs.Formed.{IsFormed}
 use Rattle.plain_doc.specs.RightDocument.{IsValidDocument}
-use Rattle.plain_doc.proofs.RightLemmas.{sound_is_valid}
+use Rattle.plain_doc.proofs.Public.{sound_is_valid}
 use Rattle.full_save.specs.Text.{text_items}
 use Rattle.full_save.specs.Sections.{sepxes}
 use Rattle.full_save.specs.Streams.{put_stream, saved_streams}
 use Rattle.full_save.specs.WordDocument.{text_bytes, document_runs, document_pages, bin_table, wd_body, wd_stream}
 use Rattle.full_save.specs.WordDocument.{table_stream, full_text, first_character_page, first_paragraph_page}
 use Rattle.full_save.specs.Layout.{layout_streams}
-use Rattle.full_save.proofs.TextLaidOut.{whole_pages, length-pages, length-text}
-use Rattle.full_save.proofs.LayoutLemmas.{length-wd_stream}
+use Rattle.full_save.proofs.Public.{whole_pages, length-pages, length-text, length-wd_stream}
 use Rattle.edit_generator.specs.FewRuns.{runs_of}
 use Rattle.edit_generator.specs.SmallSaves.{IsSmallDocument, HasSmallSave, SmallDocumentsHaveSmallSaves}
 

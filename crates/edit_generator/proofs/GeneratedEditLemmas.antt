@@ -11,7 +11,7 @@ use Rattle.std.proofs.lemmas.List.{length-map}
 use Rattle.std.proofs.lemmas.Option.{same_Some}
 use Rattle.std.proofs.lemmas.List.Elements.{All-map}
 use Rattle.doc_bits.specs.declared.places.Story.TheVariants.{Main}
-use Rattle.doc_bits.proofs.ListLemmas.{All_at, there_is}
+use Rattle.doc_bits.proofs.Public.{All_at, there_is}
 use Rattle.fkp_pages.specs.declared.kind.PageKind.{PageKind}
 use Rattle.fkp_pages.specs.declared.kind.PageKind.TheVariants.{Chpx, Papx}
 use Rattle.doc_parts.specs.declared.bookmark_order.Bookmark.{Bookmark}
@@ -24,12 +24,11 @@ use Rattle.plain_doc.specs.Formed.{IsFormed}
 use Rattle.plain_doc.specs.Marks.{main_spliced}
 use Rattle.plain_doc.specs.Sound.{IsSound}
 use Rattle.plain_doc.specs.Stretches.{stretches}
-use Rattle.plain_doc.proofs.BlankLemmas.{bold as bold_formed}
-use Rattle.plain_doc.proofs.FormedLemmas.{All-one, length-splice}
+use Rattle.plain_doc.proofs.Public.{bold as bold_formed, All-one, length-splice}
 use Rattle.full_save.specs.Text.{note_story, head_story, text_items}
 use Rattle.full_save.specs.Runs.{joins_run}
 use Rattle.full_save.specs.WordDocument.{text_at, full_text, table_stream}
-use Rattle.full_save.proofs.StreamLengths.{length-runs_from}
+use Rattle.full_save.proofs.Public.{length-runs_from}
 use Rattle.edit_script.specs.declared.commands.Command.TheVariants.{Insert, Char, Style, Split}
 use Rattle.edit_ops.specs.Fresh.{base_of, base_properties, unit_item, unit_items, inserted_items, split_item}
 use Rattle.doc_patch.specs.Places.{mark_place}

@@ -15,20 +15,16 @@ use Rattle.std.proofs.lemmas.List.Folds.{sum_by-replicate}
 use Rattle.std.proofs.lemmas.Option.{same_Some, none-some, slice_get_within, slice_get-get_or, get_or_from_slice_get}
 use Rattle.doc_bits.specs.declared.places.Where.{Where}
 use Rattle.doc_bits.specs.declared.places.Where.TheVariants.{File, Wd, Table, Sheet, Main, Note, Head}
-use Rattle.doc_bits.proofs.ListLemmas.{All_at, there_is, slice_get_push, slice_get_before, get-map}
+use Rattle.doc_bits.proofs.Public.{All_at, there_is, slice_get_push, slice_get_before, get-map}
 use Rattle.doc_bits.specs.Number.{number_bytes}
 use Rattle.text_codes.specs.Paragraph.{paragraph_mark, cell_mark}
 use Rattle.prop_map.specs.Settings.{Properties}
 use Rattle.prop_map.specs.Printing.{printed_list}
 use Rattle.prop_map.specs.Formed.{IsPropertyMap, character_groups, paragraph_groups, section_groups}
-use Rattle.prop_map.proofs.ActingLemmas.{IsPropertyMap-empty}
+use Rattle.prop_map.proofs.Public.{IsPropertyMap-empty}
 use Rattle.style_sheet.specs.Chain.{kind_at}
-use Rattle.doc_parts.specs.Order.{in_order}
-use Rattle.doc_parts.specs.Bookmarks.{bookmark_cmp, AreFormedBookmarks, IsFormedBookmark}
 use Rattle.doc_parts.specs.Names.{AreApart}
-use Rattle.doc_parts.proofs.OrderLemmas.{in_order_sorted}
-use Rattle.doc_parts.proofs.BookmarkLemmas.{bookmark_total}
-use Rattle.doc_parts.proofs.NameLemmas.{apart_nowhere}
+use Rattle.doc_parts.proofs.Public.{apart_nowhere}
 use Rattle.plain_doc.specs.declared.item.Item.{Item}
 use Rattle.plain_doc.specs.declared.document.Document.{Document}
 use Rattle.plain_doc.specs.Blank.{blank_sheet, blank_document}
@@ -41,13 +37,13 @@ use Rattle.plain_doc.specs.RulesOfTexts.{text_of, last_unit, HasParagraphStyle}
 use Rattle.plain_doc.specs.RulesOfSheet.{note_count, section_count}
 use Rattle.plain_doc.specs.RightDocument.{IsValidText, IsValidDocument}
 use Rattle.plain_doc.specs.Sound.{IsSound}
-use Rattle.plain_doc.proofs.BlankLemmas.{bold as bold_formed, blank_document_is_formed}
-use Rattle.plain_doc.proofs.RightLemmas.{right_is_sound}
-use Rattle.plain_doc.proofs.RowLemmas.{open_cells-nil, open_cells_more}
+use Rattle.plain_doc.proofs.Public.{bold as bold_formed, blank_document_is_formed, right_is_sound, open_cells-nil}
+use Rattle.plain_doc.proofs.Public.{open_cells_more, blank_bases, blank_short, blank_writable, none_printed}
+use Rattle.plain_doc.proofs.Public.{one_printed}
 use Rattle.edit_generator.specs.GeneratedDocuments.{IsBoldOrNone, IsLetter, IsPlainMark, IsGeneratedItem}
 use Rattle.edit_generator.specs.GeneratedDocuments.{IsGeneratedText}
-use Rattle.plain_doc.proofs.BlankSheetLemmas.{blank_bases, blank_short, blank_writable, none_printed, one_printed}
 use Rattle.edit_generator.proofs.GeneratedTextLemmas.{marked}
+use Rattle.file_rules.proofs.Public.{none_formed}
 
 -- ---- each item
 
@@ -334,13 +330,6 @@ one_section main text =
 
 -- ---- no bookmarks
 
-no_bookmarks_formed : (len : ℕ) → AreFormedBookmarks len []
-unfolding in_order
-no_bookmarks_formed len = record {
-  each = All-nil (IsFormedBookmark len);
-  in_order = in_order_sorted bookmark_cmp bookmark_total [];
-}
-
 none_apart : AreApart []
 none_apart name = omega arith
 
@@ -361,7 +350,7 @@ generated_right main text few =
       bases = blank_bases;
       short = blank_short;
       writable = blank_writable;
-      bookmarks = no_bookmarks_formed (length main);
+      bookmarks = none_formed (length main);
       few_bookmarks = omega arith;
       names = apart_nowhere [] none_apart;
     }

@@ -8,7 +8,7 @@ use Rattle.std.specs.FinMap.{empty}
 use Rattle.std.proofs.lemmas.List.Elements.{All-head, All-tail}
 use Rattle.doc_bits.specs.Number.{number_bytes}
 use Rattle.prop_map.specs.Settings.{Properties}
-use Rattle.prop_map.proofs.EntriesLemmas.{entries-empty}
+use Rattle.prop_map.proofs.Public.{entries-empty}
 use Rattle.fib_form.specs.FibFields.{pair_at}
 use Rattle.fib_form.specs.TableEntries.{TableEntry, entry}
 use Rattle.fib_form.specs.TableParts.{pair_of}
@@ -27,20 +27,18 @@ use Rattle.plain_doc.specs.declared.item.Item.{Item}
 use Rattle.plain_doc.specs.declared.item.NoteKind.{NoteKind}
 use Rattle.plain_doc.specs.Blank.{blank_sheet}
 use Rattle.plain_doc.specs.Collected.{entry_before, collected, sections_of, field_of, fields_of, is_auto, refs_of}
-use Rattle.plain_doc.proofs.CollectedLemmas.{collected_count}
+use Rattle.plain_doc.proofs.Public.{collected_count, length-blank_sheet}
 use Rattle.full_save.specs.declared.table_text.TableText.{TableText}
 use Rattle.full_save.specs.Text.{note_story, head_story, text_items}
 use Rattle.full_save.specs.Sections.{sepx_bytes, sepxes}
 use Rattle.full_save.specs.TableText.{table_entries}
 use Rattle.full_save.specs.TableStream.{entries_bytes, entries_pairs}
 use Rattle.full_save.specs.WordDocument.{pages_end, full_text, full_fib, table_stream}
-use Rattle.full_save.proofs.EntriesFound.{AreNumbered, plain as plain_part, entry_stands}
-use Rattle.save_bounds.proofs.TableLemmas.{tables_differ_by_own_parts}
+use Rattle.full_save.proofs.Public.{AreNumbered, plain as plain_part, entry_stands, clx_short, length-seds, no_starts}
+use Rattle.full_save.proofs.Public.{no_ends}
+use Rattle.save_laws.proofs.Public.{tables_differ_by_own_parts}
 use Rattle.edit_generator.specs.GeneratedDocuments.{IsGeneratedItem, IsGeneratedText}
-use Rattle.plain_doc.proofs.BlankSheetLemmas.{length-blank_sheet}
 use Rattle.edit_generator.proofs.GeneratedRightLemmas.{generated_with, sect_empty, one_section}
-use Rattle.full_save.proofs.StreamLengths.{clx_short, length-seds}
-use Rattle.full_save.proofs.MarkLengths.{no_starts, no_ends}
 
 -- ---- what is not there
 

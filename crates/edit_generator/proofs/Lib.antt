@@ -1,9 +1,10 @@
-pub mod NumberLemmas
-pub mod RunCountLemmas
-pub mod EditRunLemmas
-pub mod FullSizeLemmas
-pub mod BoldLemmas
-pub mod GeneratedTextLemmas
-pub mod GeneratedRightLemmas
-pub mod GeneratedTableLemmas
-pub mod GeneratedEditLemmas
+pub mod Public
+mod NumberLemmas
+mod RunCountLemmas
+mod EditRunLemmas
+mod FullSizeLemmas
+mod BoldLemmas
+mod GeneratedTextLemmas
+mod GeneratedRightLemmas
+mod GeneratedTableLemmas
+mod GeneratedEditLemmas

@@ -16,7 +16,7 @@ use Rattle.edit_ops.specs.Edits.{document_after}
 abbrev pub runs_of : PageKind → Document → ℕ
 runs_of kind document = length (document_runs kind document)
 
--- the item stands there, and is no special unit
+-- the item is there, and is no special unit
 pub record IsPlainAt (main : List Item) (at : ℕ) : Type 0 where
   pub item : Item
   pub here : slice_get main at ≡ Some item

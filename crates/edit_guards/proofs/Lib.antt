@@ -1,2 +1,3 @@
+pub mod Public
 mod PolicyLemmas
-pub mod LawLemmas
+mod LawLemmas

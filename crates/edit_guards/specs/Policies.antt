@@ -3,12 +3,12 @@ use Rattle.std.specs.Prelude.{ℕ, ◌-◌, ◌<◌, ◌≤◌, List, [], Option
 use Rattle.std.specs.List.{Contains, AllWithin, HoldsAt}
 use Rattle.edit_guards.specs.declared.facts.Facts.{Facts}
 
--- how many more items edits may add, where a number is told, and the styles that they may not concern
+-- how many more items edits may add, where a number is given, and the styles that they may not concern
 pub record Policy : Type 0 where
   pub left : Option ℕ
   pub locked : List ℕ
 
--- so many items are left, or no number is told
+-- so many items are left, or no number is given
 abbrev pub AreLeft : Option ℕ → ℕ → Type 0
 AreLeft None items = ⊤
 AreLeft (Some left) items = items ≤ left
@@ -18,7 +18,7 @@ pub record Grants (policy : Policy) (facts : Facts) : Type 0 where
   pub within : AreLeft policy.left facts.units_in
   pub unlocked : ¬ (Contains policy.locked facts.style)
 
--- what is left after so many items, where a number is told
+-- what is left after so many items, where a number is given
 abbrev pub left_after : Option ℕ → ℕ → Option ℕ
 left_after None items = None
 left_after (Some left) items = Some (left - items)

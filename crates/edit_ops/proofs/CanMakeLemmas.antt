@@ -19,7 +19,7 @@ use Rattle.plain_doc.specs.declared.item.Item.{Item}
 use Rattle.plain_doc.specs.declared.document.Document.{Document}
 use Rattle.plain_doc.specs.Sound.{IsSound}
 use Rattle.plain_doc.specs.RightDocument.{IsValidText, IsValidDocument}
-use Rattle.plain_doc.proofs.RightLemmas.{sound_is_valid}
+use Rattle.plain_doc.proofs.Public.{sound_is_valid}
 use Rattle.doc_parts.specs.declared.bookmark_order.Bookmark.{Bookmark as BookmarkOf}
 use Rattle.doc_parts.specs.Bookmarks.{AreFormedBookmarks, IsFormedBookmark}
 use Rattle.edit_script.specs.declared.commands.Command.{Command}
@@ -38,10 +38,10 @@ use Rattle.edit_ops.specs.Ranges.{IsInRange, HasText, HasPlace, HasRange, TakesT
 use Rattle.edit_ops.specs.Codes.{HasValidCodes}
 use Rattle.edit_ops.specs.Causes.{CanBeTried}
 use Rattle.doc_patch.specs.Makes.{CanSplice, CanMakeAll, CanFollow, EndWithin}
-use Rattle.doc_patch.proofs.MakingLemmas.{text_weaker}
+use Rattle.doc_patch.proofs.Public.{text_weaker}
 use Rattle.edit_ops.proofs.TextLemmas.{right_text, part_of, few_items, mark_within, section_within}
 use Rattle.edit_ops.proofs.TextLemmas.{unit_within, count_upto, count_within}
-use Rattle.prop_map.proofs.ActingLemmas.{IsPropertyMap-empty}
+use Rattle.prop_map.proofs.Public.{IsPropertyMap-empty}
 
 -- ---- properties
 

@@ -4,14 +4,14 @@ use Rattle.std.specs.FinMap.{insert}
 use Rattle.std.specs.Option.{option_and_then}
 use Rattle.std.proofs.lemmas.Option.{slice_get_cases, none-some}
 use Rattle.doc_bits.specs.Number.{AreBytes}
-use Rattle.doc_bits.proofs.ByteListLemmas.{one_byte}
+use Rattle.doc_bits.proofs.Public.{one_byte}
 use Rattle.prop_map.specs.Settings.{Properties}
 use Rattle.prop_map.specs.Formed.{IsPropertyMap, character_groups, paragraph_groups, section_groups}
-use Rattle.prop_map.proofs.LawLemmas.{stay_formed}
+use Rattle.prop_map.proofs.Public.{stay_formed}
 use Rattle.plain_doc.specs.declared.item.Item.{Item}
 use Rattle.plain_doc.specs.declared.item.Mark.{Mark}
 use Rattle.plain_doc.specs.Document.{IsFormedText}
-use Rattle.plain_doc.proofs.MainLemmas.{maps_there}
+use Rattle.plain_doc.proofs.Public.{maps_there}
 use Rattle.doc_patch.specs.Places.{mark_place, mark_at, section_place, section_at}
 use Rattle.edit_ops.specs.Fresh.{special}
 

@@ -11,7 +11,7 @@ use Rattle.prop_map.specs.Overlay.{without}
 use Rattle.prop_map.specs.Formed.{IsPropertyMap, character_groups}
 use Rattle.plain_doc.specs.declared.item.Item.{Item}
 use Rattle.plain_doc.specs.Document.{IsFormedText}
-use Rattle.plain_doc.proofs.MainLemmas.{maps_there}
+use Rattle.plain_doc.proofs.Public.{maps_there}
 use Rattle.doc_columns.specs.Columns.{bare_items}
 use Rattle.edit_ops.specs.Fresh.{special_codes, base_of, base_properties, special, unit_item, unit_items, plain_end}
 use Rattle.edit_ops.specs.Fresh.{field_mark, field_items, note_items}

@@ -1,5 +1,5 @@
--- What a judged copy says of the edit.
-use Rattle.std.proofs.Common.{◌≡◌, ◌∙◌, ap, sym, subst, Result, Ok, Err, IsOk, OnOk, IfOk, MatchResult}
+-- What a checked copy says of the edit.
+use Rattle.std.proofs.Common.{◌≡◌, ◌∙◌, ap, subst, Result, Ok, Err, IsOk, MatchResult}
 use Rattle.plain_doc.specs.declared.document.Document.{Document}
 use Rattle.plain_doc.specs.Sound.{IsSound, document_rules}
 use Rattle.doc_bits.specs.Places.{IsFirstPlace}
@@ -37,15 +37,7 @@ pub accepted : (document : Document) (command : Command) (made : Document) → C
     made ≡ document_after document command → IsSound made → IsAcceptedEdit document command
 accepted d c made tried is sound = record { tried = tried; sound = subst IsSound is sound }
 
--- what is made, and nothing is said against it
-pub given_right : {T E : Type 0} (made : T) (verdict : Result Unit E) (result : Result T E) (P : T → Type 0) →
-    OnOk verdict (P made) → MatchResult result (λ given. (given ≡ made) × IsOk verdict) (λ fault. verdict ≡ Err fault) →
-    IfOk result P
-given_right made (Ok nothing) (Ok given) P so right = subst P (sym right.0) so
-given_right made (Err fault) (Ok given) P so right = absurd (let none = right.1 in cc (none))
-given_right made verdict (Err fault) P so right = tt
-
--- an edit that is judged
+-- an edit that is checked
 pub outcome : (document : Document) (command : Command) (edit : Edit) (verdict : Result Unit EditFault)
     (result : Result Edit EditFault) → CanBeTried document command → edit.changes ≡ changes_of document command →
     edit.document ≡ document_after document command → edit.facts ≡ edit_facts document command →

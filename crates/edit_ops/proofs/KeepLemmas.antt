@@ -9,13 +9,13 @@ use Rattle.doc_bits.specs.declared.places.Story.{Story}
 use Rattle.doc_bits.specs.declared.places.Story.TheVariants.{Main, Note as NoteText, Head as HeadText}
 use Rattle.doc_parts.specs.Bookmarks.{AreFormedBookmarks, IsFormedBookmark, moved_bookmarks}
 use Rattle.doc_parts.specs.Names.{is_named}
-use Rattle.doc_parts.proofs.MoveLemmas.{moves_form, put_form, filter_form}
+use Rattle.doc_parts.proofs.Public.{moves_form, put_form, filter_form}
 use Rattle.prop_map.specs.Settings.{Properties}
 use Rattle.prop_map.specs.declared.modifiers.Modifier.{Modifier}
 use Rattle.plain_doc.specs.declared.item.Item.{Item}
 use Rattle.plain_doc.specs.declared.document.Document.{Document}
 use Rattle.plain_doc.specs.Marks.{HasFormedBookmarks, main_spliced}
-use Rattle.plain_doc.proofs.FormedLemmas.{length-splice}
+use Rattle.plain_doc.proofs.Public.{length-splice}
 use Rattle.edit_script.specs.declared.commands.Command.{Command}
 use Rattle.edit_script.specs.declared.commands.Command.TheVariants.{Insert, Erase, Char, Plain, Para, Style, Field}
 use Rattle.edit_script.specs.declared.commands.Command.TheVariants.{Note, Split, Merge, Sect, Row, StyleChar}

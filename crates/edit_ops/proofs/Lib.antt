@@ -1,14 +1,15 @@
-pub mod OutcomeLemmas
-pub mod FewLemmas
-pub mod CellLemmas
-pub mod FreshLemmas
-pub mod TextLemmas
-pub mod CanMakeLemmas
-pub mod KeepLemmas
-pub mod WithoutLemmas
-pub mod JudgeLemmas
-pub mod RowLemmas
-pub mod SumLemmas
-pub mod FactLemmas
-pub mod RunLemmas
-pub mod FreshTextLemmas
+pub mod Public
+mod OutcomeLemmas
+mod FewLemmas
+mod CellLemmas
+mod FreshLemmas
+mod TextLemmas
+mod CanMakeLemmas
+mod KeepLemmas
+mod WithoutLemmas
+mod JudgeLemmas
+mod RowLemmas
+mod SumLemmas
+mod FactLemmas
+mod RunLemmas
+mod FreshTextLemmas

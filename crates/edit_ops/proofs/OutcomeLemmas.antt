@@ -2,11 +2,10 @@
 use Rattle.std.proofs.Common.{◌≡◌, refl, sym, ap, subst, ℕ}
 use Rattle.doc_bits.specs.declared.places.Where.{Where}
 use Rattle.doc_bits.specs.Places.{Place, Upto}
-use Rattle.doc_bits.proofs.PlaceLemmas.{place_one}
-use Rattle.doc_bits.proofs.RuleLemmas.{first_agrees, hold_or_first}
+use Rattle.doc_bits.proofs.Public.{place_one, first_agrees, hold_or_first}
 use Rattle.plain_doc.specs.declared.document.Document.{Document}
 use Rattle.plain_doc.specs.Sound.{document_rules}
-use Rattle.plain_doc.proofs.SoundLemmas.{document_rules-IsSingle}
+use Rattle.plain_doc.proofs.Public.{document_rules-IsSingle}
 use Rattle.edit_script.specs.declared.commands.Command.{Command}
 use Rattle.edit_ops.specs.declared.faults.EditFault.{EditFault}
 use Rattle.edit_ops.specs.declared.faults.EditFault.TheVariants.{Range, Code, Rule, Limit, Memory}

@@ -9,17 +9,15 @@ use Rattle.std.proofs.lemmas.List.Concat.{length-flat_map}
 use Rattle.std.proofs.lemmas.List.FromFn.{map-range_with_len_more, length-map-range_with_len}
 use Rattle.std.proofs.lemmas.List.Sums.{sum_by-le}
 use Rattle.std.specs.FinMap.{empty}
-use Rattle.std.specs.Int.{bytes_low_first, byte_at}
-use Rattle.doc_bits.proofs.ByteListLemmas.{no_bytes, joined_bytes, one_byte, AreBytes-flat_map, small_byte}
+use Rattle.doc_bits.proofs.Public.{no_bytes, joined_bytes, one_byte, AreBytes-flat_map, length-number_bytes, take_step}
+use Rattle.doc_bits.proofs.Public.{number_are_bytes}
 use Rattle.doc_bits.specs.Number.{number_bytes, AreBytes}
-use Rattle.doc_bits.proofs.NumberLemmas.{length-number_bytes}
 use Rattle.prop_map.specs.Formed.{IsPropertyMap, paragraph_groups}
-use Rattle.prop_map.proofs.ActingLemmas.{IsPropertyMap-empty}
+use Rattle.prop_map.proofs.Public.{IsPropertyMap-empty}
 use Rattle.text_codes.specs.Paragraph.{cell_mark}
 use Rattle.edit_ops.specs.Fresh.{row_edges, row_definition, row_properties, cell_properties, cell_items, unit_item}
 use Rattle.edit_ops.specs.Fresh.{unit_items, mark_item, mark_with}
 use Rattle.edit_ops.proofs.FreshLemmas.{in_table_formed, row_end_formed, definition_formed}
-use Rattle.doc_bits.proofs.ListLemmas.{take_step}
 
 -- ---- lists by their entries
 
@@ -76,15 +74,6 @@ definition_short cells width few =
     two : (x : ℕ) → length (number_bytes 2 x) ≤ 2
     two x = let len = length-number_bytes 2 x in omega arith
 
-low_bytes : (i k x : ℕ) → AreBytes (bytes_low_first i k x)
-low_bytes i zero x = no_bytes
-low_bytes i (suc k) x = joined_bytes (byte_at i x ∷ []) (bytes_low_first (suc i) k x) (one_byte (byte_at i x)
-    (small_byte i x)) (low_bytes (suc i) k x)
-
-two_bytes : (x : ℕ) → AreBytes (number_bytes 2 x)
-unfolding number_bytes
-two_bytes x = low_bytes 0 2 x
-
 zero_bytes : (n : ℕ) → AreBytes (replicate n 0)
 zero_bytes zero = no_bytes
 zero_bytes (suc n) = joined_bytes (0 ∷ []) (replicate n 0) (one_byte 0 (omega arith)) (zero_bytes n)
@@ -94,7 +83,7 @@ definition_bytes cells width few =
     let edges = flat_map (number_bytes 2) (row_edges cells width) in
     joined_bytes (cells ∷ []) (edges ++ replicate (20 * cells) 0) (one_byte cells (omega (arith, few)))
     (joined_bytes edges (replicate (20 * cells) 0) (AreBytes-flat_map (number_bytes 2) (row_edges cells width)
-    two_bytes) (zero_bytes (20 * cells)))
+    number_are_bytes) (zero_bytes (20 * cells)))
 
 pub row_formed : (cells width : ℕ) → cells ≤ 63 → IsPropertyMap paragraph_groups (row_properties cells width)
 row_formed cells width few =

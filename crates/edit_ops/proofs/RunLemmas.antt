@@ -14,8 +14,7 @@ use Rattle.plain_doc.specs.declared.item.Mark.{Mark}
 use Rattle.plain_doc.specs.declared.document.Document.{Document}
 use Rattle.plain_doc.specs.Stretches.{stretches}
 use Rattle.plain_doc.specs.Settings.{is_alike}
-use Rattle.plain_doc.proofs.SettingsLemmas.{same_properties-Decides}
-use Rattle.plain_doc.proofs.StretchLemmas.{one_more, none_more}
+use Rattle.plain_doc.proofs.Public.{same_properties-Decides, one_more, none_more}
 use Rattle.doc_bits.specs.declared.places.Story.{Story}
 use Rattle.doc_bits.specs.declared.places.Story.TheVariants.{Main, Note as NoteText, Head as HeadText}
 use Rattle.edit_script.specs.declared.commands.Command.TheVariants.{Insert, Erase, Char, Plain, Para, Style, Field}

@@ -18,9 +18,9 @@ use Rattle.plain_doc.specs.declared.item.Item.{Item}
 use Rattle.plain_doc.specs.declared.document.Document.{Document}
 use Rattle.plain_doc.specs.RulesOfTexts.{last_unit, EndsRight}
 use Rattle.plain_doc.specs.RightDocument.{IsValidText, IsValidDocument}
-use Rattle.plain_doc.proofs.MainLemmas.{main_ends, ends_main}
+use Rattle.plain_doc.proofs.Public.{main_ends, ends_main}
 use Rattle.doc_patch.specs.Places.{text_at, mark_place, mark_unit, section_place}
-use Rattle.doc_patch.proofs.PlaceLemmas.{nothing}
+use Rattle.doc_patch.proofs.Public.{nothing}
 
 -- ---- texts that are there
 

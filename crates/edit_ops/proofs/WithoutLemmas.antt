@@ -10,8 +10,7 @@ use Rattle.sprm_table.specs.Codes.{is_among}
 use Rattle.prop_map.specs.Settings.{Properties}
 use Rattle.prop_map.specs.Entries.{Entries}
 use Rattle.prop_map.specs.Overlay.{without}
-use Rattle.prop_map.proofs.ChangeLemmas.{get-retained}
-use Rattle.prop_map.proofs.MapLemmas.{same_properties, get-without}
+use Rattle.prop_map.proofs.Public.{get-retained, same_properties, get-without}
 
 abbrev pub keys : Entries → List ℕ
 keys es = map (λ entry. entry.0) es

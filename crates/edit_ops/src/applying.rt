@@ -1,4 +1,4 @@
-// Edits tried and made. A copy is changed, run by run, and judged.
+// Edits tried and made. A copy is changed, run by run, and checked.
 ghost use Rattle.std.specs.Prelude.{◌≡◌, Err, IfErr, IfOk, OnOk, MatchResult};
 ghost use Rattle.plain_doc.specs.Sound.{IsSound};
 ghost use Rattle.edit_ops.specs.Causes.{CanBeTried, IsAcceptedEdit, IsEditFault};
@@ -128,7 +128,7 @@ pub fn edit_of(
     keep_if_ok(edit, verdict)
 }
 
-/// The edit of a command, before the document after it is judged.
+/// The edit of a command, before the document after it is checked.
 fn plan(alloc: Global, document: &ColumnDocument, command: &Command) -> Result<Edit, Memory>
     requires sound { IsSound document.now }
     requires tried { CanBeTried document.now command.now }

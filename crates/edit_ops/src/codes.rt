@@ -6,6 +6,7 @@ ghost use Rattle.edit_ops.specs.Codes.{most_units, IsShownUnit};
 
 use crate::{Cells, Command};
 use prop_map::{CHARACTER_GROUPS, PARAGRAPH_GROUPS, SECTION_GROUPS};
+use text_codes::SPACE;
 
 /// The most units that a command's texts have together.
 const MAX_UNITS: usize = 4_000_000_000;
@@ -19,14 +20,11 @@ const MAX_TWIPS: usize = 32_767;
 /// The most units of the name of a bookmark.
 const MAX_NAME_UNITS: usize = 40;
 
-/// The first character that is no control character.
-const SPACE: u16 = 0x20;
-
 const TAB: u16 = 0x09;
 
 const LINE_BREAK: u16 = 0x0B;
 
-/// Whether the texts of a command may be put, and its properties may stand at its place.
+/// Whether the texts of a command may be put, and its properties may be at its place.
 pub fn has_valid_codes(command: &Command) -> bool
     ensures { IsTrue result ↔ HasValidCodes command.now }
 {

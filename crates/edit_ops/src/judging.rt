@@ -1,4 +1,4 @@
-// A changed document judged.
+// A changed document checked.
 ghost use Rattle.std.specs.Prelude.{◌↔◌, IsTrue, MatchResult};
 ghost use Rattle.plain_doc.specs.declared.document.Document.{Document};
 ghost use Rattle.plain_doc.specs.Marks.{HasFormedBookmarks};
@@ -6,32 +6,19 @@ ghost use Rattle.plain_doc.specs.Sound.{IsSound, NamesFirstRule, document_rules}
 ghost use Rattle.edit_ops.specs.Causes.{IsLimit, IsNamedRule};
 
 use crate::EditFault;
-use doc_bits::drop_then;
-use doc_columns::{ColumnDocument, is_sound};
-use plain_doc::{DocFault, Document, RULE_ITEMS, RULE_SETTINGS, RULE_STD, check};
+use doc_columns::{CheckFault, ColumnDocument, check};
+use plain_doc::{DocFault, RULE_ITEMS, RULE_SETTINGS, RULE_STD};
 use std::alloc::Global;
 
-/// Judges a changed document. Where its columns do not tell, its items are put one by one.
+/// Checks a changed document.
 pub(crate) fn check_edited(alloc: Global, document: &ColumnDocument) -> Result<(), EditFault>
     requires { HasFormedBookmarks document.now }
     ensures { MatchResult result (λ _. IsSound document.now) (IsNamedRule document.now) }
 {
-    if is_sound(alloc, document)? {
-        return Ok(());
-    }
-    let items = document.expand(alloc)?;
-    let verdict = check_items(&items);
-    drop_then(items, verdict)
-}
-
-/// Judges a changed document item by item.
-fn check_items(document: &Document) -> Result<(), EditFault>
-    requires { HasFormedBookmarks document.now }
-    ensures { MatchResult result (λ _. IsSound document.now) (IsNamedRule document.now) }
-{
-    match check(document) {
+    match check(alloc, document) {
         Ok(()) => Ok(()),
-        Err(fault) => Err(edit_fault(fault)),
+        Err(CheckFault::Rule(fault)) => Err(edit_fault(fault)),
+        Err(CheckFault::Memory) => Err(EditFault::Memory),
     }
 }
 

@@ -12,15 +12,12 @@ use doc_columns::Columns;
 use doc_patch::{mark_at, properties_over, section_at};
 use plain_doc::Mark;
 use prop_map::PropMap;
-use sprm_table::{Code, group};
+use sprm_table::{Code, TABLE_GROUP, group};
 use std::alloc::Global;
 use text_codes::{PARAGRAPH_MARK, SECTION_MARK};
 
 /// [MS-DOC] sprmPFTtp: the mark ends a row.
 const SPRM_P_F_TTP: u16 = 0x2417;
-
-/// [MS-DOC] sgc of the codes of tables.
-const TABLE_GROUP: u8 = 5;
 
 /// Whether no paragraph that is split off keeps the code.
 fn is_table_code(code: u16) -> bool

@@ -67,13 +67,13 @@ fn row_properties(alloc: Global, cells: u8, width: u16) -> Result<PropMap, Memor
     ensures formed { IfOk result (IsPropertyMap paragraph_groups) }
 {
     let definition = row_definition(alloc, cells, width)?;
-    let made = mark_settings(alloc, definition.as_slice());
+    let made = mark_properties(alloc, definition.as_slice());
     drop(definition);
     made
 }
 
 /// The properties of the mark of a row with this definition.
-fn mark_settings(alloc: Global, definition: &[u8]) -> Result<PropMap, Memory>
+fn mark_properties(alloc: Global, definition: &[u8]) -> Result<PropMap, Memory>
     ensures { IfOk result
         (λ made. made ≡ insert (insert settings_of_cells 0x2417 (1 ∷ [])) 0xD608 definition.now) }
 {

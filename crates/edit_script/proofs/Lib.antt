@@ -1,5 +1,6 @@
-pub mod StoryLemmas
-pub mod HexLemmas
-pub mod TextLemmas
-pub mod ScriptLemmas
-pub mod SettingsLemmas
+pub mod Public
+mod StoryLemmas
+mod HexLemmas
+mod TextLemmas
+mod ScriptLemmas
+mod SettingsLemmas

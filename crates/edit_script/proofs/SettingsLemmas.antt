@@ -14,7 +14,7 @@ use Rattle.edit_script.specs.Json.{◌>>=◌}
 use Rattle.edit_script.specs.Hex.{digit_of, byte_of_digits, code_of_digits}
 use Rattle.edit_script.specs.Values.{bytes_of, properties_put}
 use Rattle.edit_script.specs.Laws.{last_value, PropertiesAreAsKeyed}
-use Rattle.doc_bits.proofs.TestLemmas.{both_true}
+use Rattle.doc_bits.proofs.Public.{both_true}
 
 -- ---- a code has one key
 

@@ -15,7 +15,7 @@ abbrev pub number_written : List ℕ → Option ℕ
 number_written digits =
     if bytes_eq digits (decimal (digits_value 10 digits)) then below (2 ^ 32) (digits_value 10 digits) else None
 
--- the number that stands behind the prefix
+-- the number that is behind the prefix
 abbrev pub number_after : List ℕ → List ℕ → Option ℕ
 number_after prefix word =
     if bytes_eq (take (length prefix) word) prefix then number_written (drop (length prefix) word) else None

@@ -17,7 +17,7 @@ pub(crate) fn story_named(word: &str) -> Option<Story>
     }
 }
 
-/// The number that stands behind the prefix.
+/// The number that is behind the prefix.
 fn number_behind(prefix: &str, word: &str) -> Option<u32>
     ensures { result ≡ number_after prefix.now word.now }
 {

@@ -16,7 +16,7 @@ use Rattle.style_sheet.specs.Formed.{IsFormedKind, IsFormedSlot, IsFormedSheet}
 use Rattle.style_sheet.specs.Changes.{characters_of, paragraphs_of}
 use Rattle.effective_props.specs.Layers.{paragraph_properties, character_properties, AreChainLayers, AreNamedLayers}
 use Rattle.effective_props.specs.Layers.{named_style, AreCharacterLayers, AreParagraphLayers}
-use Rattle.prop_map.proofs.ActingLemmas.{IsPropertyMap-empty}
+use Rattle.prop_map.proofs.Public.{IsPropertyMap-empty}
 
 past_end : {X : Type 0} → (xs : List X) (i : ℕ) (d : X) → length xs ≤ i → get_or xs i d ≡ d
 past_end [] i d l = refl

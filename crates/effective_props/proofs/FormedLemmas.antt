@@ -9,17 +9,17 @@ use Rattle.sprm_table.specs.Codes.{class_of}
 use Rattle.sprm_table.specs.Operands.{size_of, IsSizeOf}
 use Rattle.prop_map.specs.Settings.{Properties}
 use Rattle.doc_bits.specs.Number.{AreBytes}
-use Rattle.doc_bits.proofs.ByteListLemmas.{one_byte}
+use Rattle.doc_bits.proofs.Public.{one_byte}
 use Rattle.prop_map.specs.Formed.{IsMapEntry, IsPropertyMap}
 use Rattle.effective_props.specs.Toggles.{is_byte, is_keep, is_turn, opposite, toggled, toggle_value}
 use Rattle.effective_props.proofs.PlaceLemmas.{some_is}
 use Rattle.effective_props.specs.Values.{tabs_code, is_toggle, values_at, value_of, effective_value, IsEffectiveMap}
 
--- each value that is there may stand at the code
+-- each value that is there may be at the code
 abbrev pub IfProperty : ℕ → ℕ → Option (List ℕ) → Type 0
 IfProperty groups code o = (value : List ℕ) → o ≡ Some value → IsMapEntry groups (code, value)
 
--- other bytes of the same length may stand there too
+-- other bytes of the same length may be there too
 same_length : (groups code : ℕ) (a b : List ℕ) → length a ≡ length b → AreBytes b → IsMapEntry groups (code, a) →
     IsMapEntry groups (code, b)
 same_length groups code a b e bytes h = record {

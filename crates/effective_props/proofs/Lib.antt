@@ -1,11 +1,12 @@
-pub mod ValueLemmas
-pub mod PlaceLemmas
-pub mod StopLemmas
-pub mod StopListLemmas
-pub mod StopStepLemmas
-pub mod FormedLemmas
-pub mod LayerLemmas
-pub mod FormedLayerLemmas
-pub mod ToggleLemmas
-pub mod OneLemmas
-pub mod LastLemmas
+pub mod Public
+mod ValueLemmas
+mod PlaceLemmas
+mod StopLemmas
+mod StopListLemmas
+mod StopStepLemmas
+mod FormedLemmas
+mod LayerLemmas
+mod FormedLayerLemmas
+mod ToggleLemmas
+mod OneLemmas
+mod LastLemmas

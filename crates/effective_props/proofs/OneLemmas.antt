@@ -15,11 +15,11 @@ use Rattle.std.specs.FinMap.{find, is_sorted, entries, from_sorted, get-from_sor
 use Rattle.std.specs.FinMap.{nat_cmp-IsAntisymmetric, int_cmp-IsAntisymmetric}
 use Rattle.std.specs.FinMap.Entries.{below_all}
 use Rattle.prop_map.specs.Settings.{Properties}
-use Rattle.prop_map.proofs.EntriesLemmas.{of_true}
+use Rattle.prop_map.proofs.Public.{of_true}
 use Rattle.style_sheet.specs.declared.styles.Style.{Style}
 use Rattle.style_sheet.specs.Sheet.{Sheet}
 use Rattle.style_sheet.specs.Chain.{kind_at}
-use Rattle.style_sheet.proofs.OneChainLemmas.{base_chains_agree}
+use Rattle.style_sheet.proofs.Public.{base_chains_agree}
 use Rattle.effective_props.specs.declared.tabs.Tab.{Tab}
 use Rattle.effective_props.specs.Values.{IsEffectiveMap}
 use Rattle.effective_props.specs.Layers.{paragraph_properties, character_properties, properties_of_styles}

@@ -1,4 +1,4 @@
--- The last place where something stands, and lists with one more entry.
+-- The last place where something is, and lists with one more entry.
 use Rattle.std.proofs.Common.{◌≡◌, ◌≢◌, ◌⊎◌, inl, inr, ℕ, zero, suc, ℤ, ◌<◌, true, false, List, [], ◌∷◌, ◌++◌, length}
 use Rattle.std.proofs.Common.{Some, None, refl, sym, arith, subst}
 use Rattle.std.proofs.lemmas.Bool.{cases_lt}

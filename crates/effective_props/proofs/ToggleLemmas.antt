@@ -7,7 +7,7 @@ use Rattle.std.proofs.lemmas.List.Sums.{fold-append, sum_by-cons}
 use Rattle.std.specs.List.{fold, count_by}
 use Rattle.effective_props.specs.Toggles.{is_byte, is_keep, is_turn, opposite, toggled, toggle_value}
 use Rattle.effective_props.specs.Laws.{is_relative, AreRelative, turned, ToggleIsSaidByLastValue}
-use Rattle.doc_bits.proofs.NumberLemmas.{zero_more}
+use Rattle.doc_bits.proofs.Public.{zero_more}
 
 -- turning round three times is turning round once
 opposite_thrice : (before : Option (List ℕ)) → opposite (Some (opposite (Some (opposite before)))) ≡ opposite before

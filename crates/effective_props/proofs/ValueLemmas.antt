@@ -17,7 +17,7 @@ use Rattle.prop_map.specs.Entries.{Entries}
 use Rattle.effective_props.specs.Toggles.{toggled}
 use Rattle.effective_props.specs.Values.{tabs_code, is_toggle, values_at, value_of, effective_value}
 use Rattle.effective_props.specs.ValueSteps.{value_over, layer_over, IsValueOver}
-use Rattle.prop_map.proofs.ChangeLemmas.{find-earlier}
+use Rattle.prop_map.proofs.Public.{find-earlier}
 
 -- ---- one value
 

@@ -9,7 +9,7 @@ use Rattle.effective_props.specs.declared.tabs.Tab.{Tab}
 abbrev pub deleted_count : List ℕ → ℕ
 deleted_count value = slice_index value 0
 
--- where the number of added positions stands
+-- where the number of added positions is
 abbrev pub added_count_place : List ℕ → ℕ
 added_count_place value = 1 + 2 * deleted_count value
 
@@ -17,7 +17,7 @@ added_count_place value = 1 + 2 * deleted_count value
 abbrev pub added_count : List ℕ → ℕ
 added_count value = slice_index value (added_count_place value)
 
--- where the kinds of the added positions stand
+-- where the kinds of the added positions are
 abbrev pub kinds_place : List ℕ → ℕ
 kinds_place value = added_count_place value + 1 + 2 * added_count value
 

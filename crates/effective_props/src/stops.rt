@@ -70,7 +70,7 @@ fn add(stops: &mut BTreeMap<i16, u8>, change: &TabChange<'_>) -> Result<(), Memo
     Ok(())
 }
 
-/// Puts a stop, in place of what stood at its position.
+/// Puts a stop, in place of what was at its position.
 fn put(stops: &mut BTreeMap<i16, u8>, tab: Tab) -> Result<(), Memory>
     ensures { OnOk result (Updates int_cmp stops.old stops.new tab.at (Some tab.kind)) }
 {

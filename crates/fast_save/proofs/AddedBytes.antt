@@ -17,13 +17,13 @@ use Rattle.doc_bits.specs.declared.places.Story.{Story}
 use Rattle.doc_bits.specs.declared.places.Story.TheVariants.{Main, Note as NoteText, Head as HeadText}
 use Rattle.sprm_table.specs.Sprm.{Prl}
 use Rattle.prop_map.specs.Settings.{Properties}
-use Rattle.prop_map.proofs.EntriesLemmas.{entries-empty}
+use Rattle.prop_map.proofs.Public.{entries-empty}
 use Rattle.plain_doc.specs.declared.item.Item.{Item}
 use Rattle.plain_doc.specs.declared.item.Mark.{Mark}
 use Rattle.plain_doc.specs.declared.document.Document.{Document}
 use Rattle.plain_doc.specs.Collected.{joined_texts}
 use Rattle.plain_doc.specs.Stretches.{stretches}
-use Rattle.plain_doc.proofs.TextListLemmas.{empty_joined, length-joined}
+use Rattle.plain_doc.proofs.Public.{empty_joined, length-joined}
 use Rattle.full_save.specs.Text.{extra_mark}
 use Rattle.edit_script.specs.declared.commands.Command.{Command}
 use Rattle.edit_script.specs.declared.commands.Command.TheVariants.{Insert, Erase, Char, Plain, Para, Style, Field}
@@ -43,16 +43,13 @@ use Rattle.edit_ops.specs.Edits.{erased, section_changes, changes_of, property_c
 use Rattle.edit_ops.specs.Edits.{clearing}
 use Rattle.edit_ops.specs.Edits.{naming_style}
 use Rattle.edit_ops.specs.Runs.{run_count, texts_put, most_runs}
-use Rattle.edit_ops.proofs.RunLemmas.{few_runs}
+use Rattle.edit_ops.proofs.Public.{few_runs, HasChp, one_run, units_have}
 use Rattle.session_text.specs.AddedText.{marked_block}
 use Rattle.session_text.specs.EditSteps.{HasGrownBy, IsBlockOf, NamesEmptyStory, items_put}
-use Rattle.save_bounds.specs.SharedPages.{pages_begun, marks_of, is_bare_mark, page_bound}
-use Rattle.save_bounds.proofs.MarkRunLemmas.{both_marks}
-use Rattle.save_bounds.proofs.PageBoundLemmas.{page_bounds_are_fewer, page_bounds_add, bare_marks_share}
-use Rattle.fast_save.proofs.GrownLemmas.{together_tail}
-use Rattle.edit_ops.proofs.RunLemmas.{HasChp, one_run, units_have}
-use Rattle.session_text.proofs.PutLemmas.{length-marked}
-use Rattle.session_text.proofs.GrowLemmas.{length-joined as joined_sum}
+use Rattle.save_laws.specs.SharedPages.{pages_begun, marks_of, is_bare_mark, page_bound}
+use Rattle.save_laws.proofs.Public.{both_marks, page_bounds_are_fewer, page_bounds_add, bare_marks_share}
+use Rattle.session_text.proofs.Public.{length-marked, length-joined as joined_sum}
+use Rattle.piece_table.proofs.Public.{others_together}
 
 abbrev pub bytes_of : List Item → ℕ
 bytes_of items = 2 * length items + 512 * page_bound items
@@ -124,7 +121,7 @@ unmarked_bytes document (change ∷ changes) (block ∷ blocks) together all =
     let same = All-head (IsUnmarked document) change changes all block (together.each 0 change block refl refl) in
     let first = put_bytes change in
     let more =
-    unmarked_bytes document changes blocks (together_tail (IsBlockOf document) change changes block blocks together)
+    unmarked_bytes document changes blocks (others_together (IsBlockOf document) change changes block blocks together)
     (All-tail (IsUnmarked document) change changes all) in
     let both = bytes-append block (joined_texts blocks) in
     omega (
@@ -312,7 +309,7 @@ two_blocks document change next (block ∷ blocks) most rest within later togeth
     let first = within block (together.each 0 change block refl refl) in
     let more =
     one_block document next blocks rest later
-    (together_tail (IsBlockOf document) change (next ∷ []) block blocks together) in
+    (others_together (IsBlockOf document) change (next ∷ []) block blocks together) in
     let both = bytes-append block (joined_texts blocks) in
     omega (arith, first, more, both)
 
@@ -465,7 +462,7 @@ long_blocks document (change ∷ changes) [] together = let len = together.len i
 long_blocks document (change ∷ changes) (block ∷ blocks) together =
     let first = long_block document change block (together.each 0 change block refl refl) in
     let more =
-    long_blocks document changes blocks (together_tail (IsBlockOf document) change changes block blocks together) in
+    long_blocks document changes blocks (others_together (IsBlockOf document) change changes block blocks together) in
     omega (arith, length-joined block blocks, sum_by-cons items_added change changes, first, more)
 
 -- the runs of added text after a command

@@ -3,7 +3,7 @@ use Rattle.std.specs.Prelude.{slice_get, slice_index, IsSome, All}
 use Rattle.std.specs.List.{filter_map, cons_option}
 use Rattle.std.proofs.Common.{◌≡◌, ◌∙◌, refl, sym, ap, ℕ, zero, suc, ◌+◌, Bool, true, false, List, [], ◌∷◌}
 use Rattle.std.proofs.Common.{◌++◌, length, map, Option, Some, None, arith, append_assoc, length-append}
-use Rattle.std.proofs.lemmas.List.Elements.{All-nil, All-cons, All-head, All-tail, All-map, All-append}
+use Rattle.std.proofs.lemmas.List.Elements.{All-head, All-tail, All-append}
 use Rattle.std.proofs.lemmas.Option.{same_Some, none-some}
 use Rattle.plain_doc.specs.declared.item.Item.{Item}
 use Rattle.plain_doc.specs.declared.document.Document.{Document}
@@ -11,8 +11,9 @@ use Rattle.plain_doc.specs.Collected.{joined_texts}
 use Rattle.save_laws.specs.ByRuns.{slot_end, text_ends}
 use Rattle.save_laws.specs.Slots.{Slot, shown, loose, last, StoryEnds, loose_if, story_slots, note_slots, head_slots}
 use Rattle.save_laws.specs.Slots.{last_slots, whole_text, story_counts}
+use Rattle.save_laws.proofs.Public.{story_ends, shown_ends}
 
--- ---- which marks stand behind stories is told by the counts
+-- ---- which marks are behind stories is told by the counts
 
 loose_same : (one other : Bool) → length (loose_if one) ≡ length (loose_if other) → one ≡ other
 loose_same true true same = refl
@@ -38,7 +39,7 @@ same_ends document one other same =
     let heads = story_same document.heads one.heads other.heads (ap (λ (l : List ℕ). slice_index l 2) same) in
     λ i. record { notes = notes i; heads = heads i }
 
--- ---- the end of a slot stands at its place
+-- ---- the end of a slot is at its place
 
 index_in : (front behind : List Slot) (k : ℕ) (slot : Slot) (end : Bool) → All (λ s. IsSome (slot_end s)) front →
     ((j : ℕ) (s : Slot) → slice_get behind j ≡ Some s → slot_end s ≡ None) →
@@ -59,18 +60,6 @@ last_none : (slots : List Slot) (j : ℕ) (s : Slot) → slice_get (last_slots s
 last_none [] j s here = absurd (none-some s here)
 last_none (slot ∷ slots) zero s here = ap slot_end (sym (same_Some last s here))
 last_none (slot ∷ slots) (suc j) s here = absurd (none-some s here)
-
-loose_ends : (end : Bool) → All (λ s. IsSome (slot_end s)) (loose_if end)
-loose_ends true = All-cons (λ s. IsSome (slot_end s)) loose [] refl (All-nil (λ s. IsSome (slot_end s)))
-loose_ends false = All-nil (λ s. IsSome (slot_end s))
-
-shown_ends : (items : List Item) → All (λ s. IsSome (slot_end s)) (map shown items)
-shown_ends items = All-map (λ s. IsSome (slot_end s)) shown items (λ k d below. refl)
-
-story_ends : (texts : List (List Item)) (end : Bool) → All (λ s. IsSome (slot_end s)) (story_slots texts end)
-story_ends texts end =
-    All-append (λ s. IsSome (slot_end s)) (map shown (joined_texts texts)) (loose_if end)
-    (shown_ends (joined_texts texts)) (loose_ends end)
 
 pub end_there : (document : Document) (ends : StoryEnds) (k : ℕ) (slot : Slot) (end : Bool) →
     slice_get (whole_text document ends) k ≡ Some slot → slot_end slot ≡ Some end →

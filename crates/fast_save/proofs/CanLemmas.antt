@@ -11,7 +11,7 @@ use Rattle.std.proofs.lemmas.List.{length-map}
 use Rattle.std.proofs.lemmas.List.FromFn.{length-range_with_len}
 use Rattle.std.proofs.Math.Nat.{mul-le-mul_left}
 use Rattle.doc_bits.specs.Together.{AreTogether}
-use Rattle.doc_bits.proofs.ListLemmas.{get-map}
+use Rattle.doc_bits.proofs.Public.{get-map}
 use Rattle.prop_map.specs.Settings.{Properties}
 use Rattle.cfb_streams.specs.Names.{wd_name, table_name}
 use Rattle.fib_form.specs.Fib.{fib_pair, table_part}
@@ -22,8 +22,7 @@ use Rattle.fkp_pages.specs.declared.kind.PageKind.{PageKind}
 use Rattle.fkp_pages.specs.declared.kind.PageKind.TheVariants.{Chpx, Papx}
 use Rattle.fkp_pages.specs.Bin.{bin_count}
 use Rattle.fkp_pages.specs.InARow.{numbered_bins}
-use Rattle.fkp_pages.proofs.PrintedBinLemmas.{length-printed_bin}
-use Rattle.fkp_pages.proofs.RowLemmas.{length-numbered_bins}
+use Rattle.fkp_pages.proofs.Public.{length-printed_bin, length-numbered_bins}
 use Rattle.piece_table.specs.Piece.{ArePieces}
 use Rattle.piece_table.specs.Printing.{IsPrintedClx}
 use Rattle.plain_doc.specs.declared.document.Document.{Document}
@@ -33,10 +32,9 @@ use Rattle.plain_doc.specs.Formed.{IsFormed}
 use Rattle.file_rules.specs.FileRules.{table_stream_name}
 use Rattle.full_save.specs.WordDocument.{table_stream}
 use Rattle.save_laws.specs.Saves.{HasPropertiesAt}
-use Rattle.save_bounds.specs.ClxLengths.{HaveShortPrcs}
-use Rattle.save_bounds.specs.FastSizes.{reckoned_sectors}
-use Rattle.save_bounds.proofs.ClxLemmas.{clx_is_short, reckoned_prcs_are_short}
-use Rattle.save_bounds.proofs.TableLemmas.{tables_are_short}
+use Rattle.save_laws.specs.ClxLengths.{HaveShortPrcs}
+use Rattle.save_laws.specs.FastSizes.{reckoned_sectors}
+use Rattle.save_laws.proofs.Public.{clx_is_short, reckoned_prcs_are_short, tables_are_short}
 use Rattle.fast_save_layout.specs.Appended.{old_stream, old_wd, old_table, old_bins, bins_end, added_pages, page_count}
 use Rattle.fast_save_layout.specs.Appended.{first_page}
 use Rattle.fast_save_layout.specs.Appended.{pages_end}
@@ -46,12 +44,9 @@ use Rattle.fast_save_layout.specs.Kept.{CanBeAppended}
 use Rattle.fast_save_layout.specs.KeptBins.{bin_of, bins_of, kept_bins}
 use Rattle.fast_save_layout.specs.RenewedStreams.{bytes_named}
 use Rattle.fast_save_layout.specs.Saves.{FastSave}
-use Rattle.fast_save_layout.proofs.FilledTable.{table_within}
-use Rattle.fast_save_layout.proofs.PlannedLemmas.{length-planned_seds}
-use Rattle.fast_save_layout.proofs.RunLengths.{pages_are_few}
-use Rattle.fast_save_layout.proofs.StreamLemmas.{named_is}
+use Rattle.fast_save_layout.proofs.Public.{table_within, length-planned_seds, pages_are_few, named_is}
 use Rattle.session_text.specs.SessionText.{IsSectionPlan}
-use Rattle.session_text.proofs.StartLemmas.{properties_are_listed}
+use Rattle.session_text.proofs.Public.{properties_are_listed}
 use Rattle.fast_save.specs.declared.ledgers.Counts.{Counts}
 use Rattle.fast_save.specs.declared.parts.SessionParts.{SessionParts}
 use Rattle.fast_save.specs.Ledgers.{modifier_bytes, bytes_reckoned, sector_bound}

@@ -11,9 +11,7 @@ use Rattle.text_codes.specs.Paragraph.{cell_mark}
 use Rattle.prop_map.specs.Settings.{Properties}
 use Rattle.prop_map.specs.Modifiers.{no_modifier, printed_modifier}
 use Rattle.prop_map.specs.Printing.{printed_list}
-use Rattle.prop_map.proofs.EntriesLemmas.{entries-empty}
-use Rattle.prop_map.proofs.PrintedLemmas.{length-style, length-clear}
-use Rattle.prop_map.proofs.PrintedLengths.{modifier_parts}
+use Rattle.prop_map.proofs.Public.{entries-empty, length-style, length-clear, modifier_parts}
 use Rattle.plain_doc.specs.declared.item.Item.{Item}
 use Rattle.plain_doc.specs.declared.document.Document.{Document}
 use Rattle.edit_script.specs.declared.commands.Command.{Command}
@@ -36,7 +34,7 @@ use Rattle.edit_ops.specs.Runs.{most_runs, most_runs_of_section}
 use Rattle.session_text.specs.SessionText.{section_properties}
 use Rattle.session_text.specs.EditSteps.{ActsOnNone, growth_of, sections_put}
 use Rattle.fast_save.specs.Ledgers.{is_formatting, modifier_growth, sections_set}
-use Rattle.session_text.proofs.SectionLemmas.{properties-append}
+use Rattle.session_text.proofs.Public.{properties-append}
 
 -- ---- properties of sections
 

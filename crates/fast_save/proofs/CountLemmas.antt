@@ -5,7 +5,7 @@ use Rattle.std.proofs.Common.{None, take, get_or}
 use Rattle.std.proofs.lemmas.List.{length-map}
 use Rattle.std.proofs.lemmas.List.Sums.{fold_more, sum_by-cons}
 use Rattle.std.proofs.lemmas.Option.{none-some, same_Some, slice_get_within, get_or_from_slice_get}
-use Rattle.doc_bits.proofs.ListLemmas.{get-map}
+use Rattle.doc_bits.proofs.Public.{get-map, neither}
 use Rattle.std.proofs.Common.{◌≡◌, ◌∙◌, ◌∷◌, ◌+◌, ◌*◌, ◌-◌, ◌^◌, ◌<◌, ◌≤◌, [], refl, sym, ap, subst}
 use Rattle.std.proofs.Common.{false, Some, length, map, arith, All}
 use Rattle.std.proofs.lemmas.List.Elements.{All-nil, All-cons, All-head, All-tail}
@@ -13,14 +13,14 @@ use Rattle.cfb_sectors.specs.Opening.{IsWhole}
 use Rattle.prop_map.specs.declared.modifiers.Modifier.{Modifier}
 use Rattle.prop_map.specs.Modifiers.{no_modifier, printed_modifier}
 use Rattle.piece_table.specs.Piece.{TextPiece, IsTextPiece, ArePieces, total_length}
-use Rattle.piece_table.proofs.PrcPrintLemmas.{printed_short}
+use Rattle.piece_table.proofs.Public.{printed_short}
 use Rattle.plain_doc.specs.declared.document.Document.{Document}
 use Rattle.edit_script.specs.declared.commands.Command.{Command}
 use Rattle.edit_ops.specs.Codes.{HasValidCodes}
 use Rattle.edit_ops.specs.Runs.{most_runs}
 use Rattle.edit_ops.specs.Edits.{changes_of}
 use Rattle.plain_doc.specs.Stretches.{stretches}
-use Rattle.save_bounds.specs.SharedPages.{pages_begun, page_bound}
+use Rattle.save_laws.specs.SharedPages.{pages_begun, page_bound}
 use Rattle.session_text.specs.SessionText.{HaveFitModifiers, HaveNoModifiers, HaveModifiersWithin, unwritten_count}
 use Rattle.session_text.specs.EditSteps.{growth_of, pieces_added}
 use Rattle.session_text.specs.TextEdits.{IsTextEdit, IsSectionsEdit}
@@ -34,7 +34,6 @@ use Rattle.fast_save.specs.Edited.{HasRoom}
 use Rattle.fast_save.proofs.OpenLemmas.{flat_modifiers}
 use Rattle.fast_save.proofs.AddedBytes.{bytes_of}
 use Rattle.fast_save.proofs.CommandLemmas.{sections_few, growth_few, others_act_on_none, few_reckoned, few_sections}
-use Rattle.doc_bits.proofs.TestLemmas.{neither}
 
 -- ---- at the start
 

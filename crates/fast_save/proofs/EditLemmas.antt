@@ -20,7 +20,7 @@ use Rattle.save_laws.specs.declared.ends.Ends.{Ends}
 use Rattle.save_laws.specs.Ends.{ends_of}
 use Rattle.save_laws.specs.Places.{PagedStream}
 use Rattle.save_laws.specs.FastSaves.{StandsInSession}
-use Rattle.save_bounds.specs.SharedPages.{page_bound}
+use Rattle.save_laws.specs.SharedPages.{page_bound}
 use Rattle.session_text.specs.declared.added.Added.{Added}
 use Rattle.session_text.specs.AddedText.{plan_of}
 use Rattle.session_text.specs.OldUnits.{IsOldBounded, OldUnitsAreBounded}

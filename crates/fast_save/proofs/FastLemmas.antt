@@ -13,7 +13,7 @@ use Rattle.piece_table.specs.Piece.{TextPiece, ArePieces, flat_pieces}
 use Rattle.plain_doc.specs.declared.document.Document.{Document}
 use Rattle.plain_doc.specs.Document.{IsFormedText}
 use Rattle.plain_doc.specs.Formed.{IsFormed}
-use Rattle.plain_doc.proofs.RightLemmas.{sound_is_valid}
+use Rattle.plain_doc.proofs.Public.{sound_is_valid}
 use Rattle.file_rules.specs.FileRules.{FileText, source_of}
 use Rattle.full_save.specs.WordDocument.{table_stream}
 use Rattle.doc_read.specs.Opened.{OpenedFile}
@@ -25,21 +25,16 @@ use Rattle.save_laws.specs.KeptPages.{KeepsBytes}
 use Rattle.save_laws.specs.Places.{PagedStream, fib_end}
 use Rattle.save_laws.specs.Slots.{StoryEnds, whole_text}
 use Rattle.save_laws.specs.Laws.{IsSavedIn}
-use Rattle.save_laws.proofs.FastLemmas.{fast_saves_are_saves}
-use Rattle.save_laws.proofs.FullByRuns.{slot_there}
-use Rattle.save_laws.proofs.HeldLemmas.{files_hold}
-use Rattle.save_laws.proofs.SavedLemmas.{Save as SavedCopy, part_is}
-use Rattle.save_bounds.specs.SharedPages.{page_bound}
+use Rattle.save_laws.proofs.Public.{fast_saves_are_saves, slot_there, files_hold, Save as SavedCopy, part_is}
+use Rattle.save_laws.specs.SharedPages.{page_bound}
 use Rattle.fast_save_layout.specs.declared.fault.AppendFault.TheVariants.{Sixteenth, TooLarge}
 use Rattle.fast_save_layout.specs.Saves.{FastSave, plan_of}
 use Rattle.fast_save_layout.specs.Appended.{old_wd, old_stream, fast_fib, fast_wd, fast_table, change_of, table_name_of}
 use Rattle.fast_save_layout.specs.Appended.{fast_bin_table, fast_saved_text}
 use Rattle.fast_save_layout.specs.FastByRuns.{AreBoundedBefore}
 use Rattle.fast_save_layout.specs.Answers.{IsAnew, IsAppended, IsAppendFault, IsInPlace}
-use Rattle.fast_save_layout.proofs.FastByRuns.{fast_saves_are_bounded}
-use Rattle.fast_save_layout.proofs.ReadyLemmas.{Ready}
-use Rattle.fast_save_layout.proofs.SavedInPlace.{stays}
-use Rattle.fast_save_layout.proofs.ShortLemmas.{appended_saves_are_short, appended_files_are_short, counted_saves_fit}
+use Rattle.fast_save_layout.proofs.Public.{fast_saves_are_bounded, Ready, stays, appended_saves_are_short}
+use Rattle.fast_save_layout.proofs.Public.{appended_files_are_short, counted_saves_fit}
 use Rattle.session_text.specs.SessionText.{HaveNoModifiers, HaveModifiersWithin, unwritten_count}
 use Rattle.fast_save.specs.declared.fast_parts.FastParts.{FastParts}
 use Rattle.fast_save.specs.declared.ledgers.Counts.{Counts}

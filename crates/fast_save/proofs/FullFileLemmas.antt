@@ -11,10 +11,10 @@ use Rattle.std.proofs.lemmas.List.Sums.{AllPass-from_list_all}
 use Rattle.cfb_streams.specs.Contents.{NamedBytes, Contents, AreStreams}
 use Rattle.cfb_directory.specs.Directory.{AreSameNames, ComesBefore}
 use Rattle.cfb_streams.specs.Names.{wd_name, first_table_name, second_table_name, is_same_name}
-use Rattle.cfb_streams.proofs.SameNameLemmas.{same_name-false}
+use Rattle.cfb_streams.proofs.Public.{same_name-false}
 use Rattle.cfb_layout.specs.Layout.{contents_of}
 use Rattle.cfb_layout.specs.Laws.{IsLayout}
-use Rattle.cfb_layout.proofs.MadeLemmas.{file_holds, file_contents}
+use Rattle.cfb_layout.proofs.Public.{file_holds, file_contents}
 use Rattle.plain_doc.specs.declared.document.Document.{Document}
 use Rattle.plain_doc.specs.Carried.{IsCarriedName}
 use Rattle.plain_doc.specs.Formed.{IsFormed}
@@ -22,25 +22,19 @@ use Rattle.plain_doc.specs.Sound.{IsSound}
 use Rattle.full_save.specs.WordDocument.{wd_stream, table_stream}
 use Rattle.full_save.specs.Streams.{put_stream}
 use Rattle.full_save.specs.Layout.{layout_streams, full_save_image}
-use Rattle.doc_read.proofs.FormedBookmarks.{held_formed}
+use Rattle.doc_read.proofs.Public.{held_formed, wd-not_carried, table-not_carried, document_one}
+use Rattle.doc_read.proofs.Public.{files_hold as files_hold_documents}
 use Rattle.doc_read.specs.CarriedParts.{is_carried}
 use Rattle.doc_read.specs.Holds.{HoldsDocument}
-use Rattle.doc_read.proofs.NameLemmas.{wd-not_carried, table-not_carried}
-use Rattle.doc_read.proofs.OneDocument.{document_one}
-use Rattle.doc_read.proofs.ExistDocument.{files_hold as files_hold_documents}
 use Rattle.save_laws.specs.Saves.{IsFileOf}
 use Rattle.save_laws.specs.FullSaves.{full_saved_text, HasLayout}
-use Rattle.save_laws.proofs.HeldLemmas.{files_hold}
-use Rattle.save_laws.proofs.FullSavedLemmas.{full_saves_are_saves}
+use Rattle.save_laws.proofs.Public.{files_hold, full_saves_are_saves}
 use Rattle.fast_save.specs.Laws.{IsSavable, FullSavesHold, FullSavesAreRead, FullSavesAreCanonical}
 use Rattle.fast_save.specs.Laws.{IsSavableFile, FullSavesAreFixed, EqualFilesHaveOneSave}
-use Rattle.full_save.proofs.NameOrder.{same_as_itself}
-use Rattle.full_save.proofs.PutStreams.{IsPutAmong, length-put, put_there, kept_there, each_put, put_ascend}
-use Rattle.full_save.proofs.PutStreams.{put_are_streams, total-put}
-use Rattle.full_save.proofs.PutStreams.{put_among, put_left_out, all_pass}
-use Rattle.fast_save_layout.proofs.StreamLemmas.{contents_has, contents_clsid, contents_carried}
-use Rattle.full_save.proofs.FitLemmas.{stream_short}
-use Rattle.full_save.proofs.LayoutLemmas.{other_names}
+use Rattle.full_save.proofs.Public.{same_as_itself, IsPutAmong, length-put, put_there, kept_there, each_put, put_ascend}
+use Rattle.full_save.proofs.Public.{put_are_streams, total-put, put_among, put_left_out, all_pass, stream_short}
+use Rattle.full_save.proofs.Public.{other_names}
+use Rattle.fast_save_layout.proofs.Public.{contents_has, contents_clsid, contents_carried}
 
 -- ---- the two streams that a save makes
 
@@ -94,7 +88,7 @@ laid_table document formed =
     with_wd (laid_wd document formed)
     (λ i stream here. (formed.carried.streams.names i stream here).no_second_table) other_names)
 
--- where the two stand
+-- where the two are
 table_there : (document : Document) → IsFormed document →
     (k : ℕ) × (slice_get (layout_streams document) k ≡ Some (the_table document))
 table_there document formed =

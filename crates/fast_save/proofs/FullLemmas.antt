@@ -5,35 +5,33 @@ use Rattle.std.proofs.Common.{arith}
 use Rattle.std.proofs.lemmas.List.Elements.{All-nil, All-cons}
 use Rattle.doc_bits.specs.Number.{AreBytes}
 use Rattle.doc_bits.specs.Rules.{Hold, IsFirst}
-use Rattle.doc_bits.proofs.RuleLemmas.{hold_or_first}
+use Rattle.doc_bits.proofs.Public.{hold_or_first}
 use Rattle.cfb_streams.specs.Contents.{Contents, HasNamed}
 use Rattle.cfb_streams.specs.Container.{container_rules, HasContents}
 use Rattle.cfb_streams.specs.Names.{wd_name}
-use Rattle.cfb_streams.proofs.UniqueLemmas.{contents_unique}
+use Rattle.cfb_streams.proofs.Public.{contents_unique}
 use Rattle.fib_form.specs.FibFields.{FibFields, fib_fields, text_length}
 use Rattle.fib_form.specs.FibRules.{fib_rules}
 use Rattle.prop_map.specs.Modifiers.{no_modifier}
 use Rattle.piece_table.specs.Piece.{TextPiece, one_piece, total_length}
-use Rattle.piece_table.proofs.PieceLemmas.{length-flat_pieces}
+use Rattle.piece_table.proofs.Public.{length-flat_pieces}
 use Rattle.plain_doc.specs.declared.document.Document.{Document}
 use Rattle.full_save.specs.Text.{text_items}
 use Rattle.full_save.specs.WordDocument.{wd_stream, table_stream, text_at, full_fib}
 use Rattle.full_save.specs.Layout.{full_save_image}
-use Rattle.full_save.proofs.LaidOut.{LaidOut, fib_read, few_items}
-use Rattle.plain_doc.proofs.RightLemmas.{sound_is_valid}
+use Rattle.full_save.proofs.Public.{LaidOut, fib_read, few_items}
+use Rattle.plain_doc.proofs.Public.{sound_is_valid}
 use Rattle.fib_form.specs.declared.table_parts.TablePart.TheVariants.{Clx}
 use Rattle.file_rules.specs.FileRules.{FileText, source_of, table_stream_name}
-use Rattle.file_rules.proofs.NameLemmas.{named_one}
-use Rattle.doc_read.proofs.ExistText.{named_bytes}
-use Rattle.doc_read.proofs.ExistFits.{text_fits}
-use Rattle.doc_read.proofs.ExistParts.{part_bytes_are}
+use Rattle.file_rules.proofs.Public.{named_one}
+use Rattle.doc_read.proofs.Public.{named_bytes, text_fits, part_bytes_are}
 use Rattle.fast_save.specs.declared.ledgers.Counts.{Counts}
 use Rattle.fast_save.specs.Laws.{IsSavable}
 use Rattle.fast_save.specs.Ledgers.{AreCountsOf, AreUnmodified, most_printed, after_full}
 use Rattle.fast_save.specs.Started.{IsOpenFile}
 use Rattle.fast_save.proofs.FullFileLemmas.{full_saves_are_read, within}
 use Rattle.fast_save.proofs.OpenLemmas.{container_holds, table_holds}
-use Rattle.session_text.proofs.TextLemmas.{none_printed}
+use Rattle.session_text.proofs.Public.{none_printed}
 
 -- a FIB that breaks no rule has no fault
 pub no_fib_fault : (wd : List ℕ) (rule place : ℕ) → Hold (fib_rules wd) → IsFirst (fib_rules wd) rule place → ⊥

@@ -12,7 +12,7 @@ use Rattle.doc_bits.specs.declared.places.Story.TheVariants.{Main, Note as NoteT
 use Rattle.plain_doc.specs.declared.item.Item.{Item}
 use Rattle.plain_doc.specs.declared.document.Document.{Document}
 use Rattle.plain_doc.specs.Collected.{joined_texts}
-use Rattle.plain_doc.proofs.TextListLemmas.{length-joined}
+use Rattle.plain_doc.proofs.Public.{length-joined}
 use Rattle.full_save.specs.Text.{extra_mark}
 use Rattle.prop_map.specs.Settings.{Properties}
 use Rattle.edit_script.specs.declared.commands.Command.{Command}
@@ -28,7 +28,8 @@ use Rattle.edit_ops.specs.Fresh.{row_items}
 use Rattle.edit_ops.specs.Edits.{erased, section_changes, changes_of}
 use Rattle.edit_ops.specs.Runs.{most_runs, most_runs_of_section}
 use Rattle.session_text.specs.EditSteps.{HasGrownBy, IsBlockOf, items_put}
-use Rattle.session_text.proofs.GrowLemmas.{length-joined as joined_sum}
+use Rattle.session_text.proofs.Public.{length-joined as joined_sum}
+use Rattle.piece_table.proofs.Public.{others_together}
 
 -- ---- the block of a change
 
@@ -57,13 +58,6 @@ short_block document change block is =
       few_marks items is.marks is.few is.first,
     )
 
-pub together_tail : {A B : Type 0} (P : A → B → Type 0) (x : A) (xs : List A) (y : B) (ys : List B) →
-    AreTogether P (x ∷ xs) (y ∷ ys) → AreTogether P xs ys
-together_tail P x xs y ys together = record {
-  len = let len = together.len in omega (arith, len);
-  each = λ k a b here there. together.each (suc k) a b here there;
-}
-
 short_blocks : (document : Document) (changes : List Change) (blocks : List (List Item)) →
     AreTogether (IsBlockOf document) changes blocks → length (joined_texts blocks) ≤ sum_by block_most changes
 short_blocks document [] [] together = omega arith
@@ -75,7 +69,7 @@ short_blocks document (change ∷ changes) (block ∷ blocks) together =
       length-joined block blocks,
       sum_by-cons block_most change changes,
       short_block document change block (together.each 0 change block refl refl),
-      short_blocks document changes blocks (together_tail (IsBlockOf document) change changes block blocks together),
+      short_blocks document changes blocks (others_together (IsBlockOf document) change changes block blocks together),
     )
 
 -- ---- the changes of a command

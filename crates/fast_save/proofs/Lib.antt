@@ -1,17 +1,18 @@
-pub mod FullFileLemmas
-pub mod OpenLemmas
-pub mod BoundedLemmas
-pub mod StartLemmas
-pub mod CommandLemmas
-pub mod CountLemmas
-pub mod EditLemmas
-pub mod FullLemmas
-pub mod GrownLemmas
-pub mod RoomLemmas
-pub mod ResultLemmas
-pub mod AddedBytes
-pub mod CanLemmas
-pub mod FastLemmas
-pub mod HeldLemmas
-pub mod OneSession
-pub mod WrittenLemmas
+pub mod Public
+mod FullFileLemmas
+mod OpenLemmas
+mod BoundedLemmas
+mod StartLemmas
+mod CommandLemmas
+mod CountLemmas
+mod EditLemmas
+mod FullLemmas
+mod GrownLemmas
+mod RoomLemmas
+mod ResultLemmas
+mod AddedBytes
+mod CanLemmas
+mod FastLemmas
+mod HeldLemmas
+mod OneSession
+mod WrittenLemmas

@@ -4,8 +4,7 @@ use Rattle.cfb_sectors.specs.Header.{sector_count}
 use Rattle.fib_form.specs.FibFields.{fib_fields}
 use Rattle.piece_table.specs.Piece.{TextPiece}
 use Rattle.doc_read.specs.Holds.{FileParts}
-use Rattle.doc_read.proofs.PartsOfOneFile.{file_parts_one}
-use Rattle.doc_read.proofs.OneDocument.{document_one}
+use Rattle.doc_read.proofs.Public.{file_parts_one, document_one}
 use Rattle.fast_save.specs.declared.ledgers.Counts.{Counts}
 use Rattle.fast_save.specs.Ledgers.{AreUnmodified, AreCountsOf}
 use Rattle.fast_save.specs.Session.{SessionView, bin_length}

@@ -7,21 +7,20 @@ use Rattle.std.proofs.lemmas.List.Elements.{All-nil, All-append, All-map, All-he
 use Rattle.doc_bits.specs.declared.places.Where.TheVariants.{File, Wd, Table}
 use Rattle.doc_bits.specs.Number.{AreBytes}
 use Rattle.doc_bits.specs.Rules.{Hold, Nowhere, Among, Rules}
-use Rattle.doc_bits.proofs.RuleLemmas.{hold_or_first}
+use Rattle.doc_bits.proofs.Public.{hold_or_first}
 use Rattle.cfb_streams.specs.Contents.{Contents, HasNamed}
 use Rattle.cfb_streams.specs.Container.{container_rules, HasContents}
 use Rattle.cfb_streams.specs.Names.{wd_name}
-use Rattle.cfb_streams.proofs.SingleLemmas.{container_single}
+use Rattle.cfb_streams.proofs.Public.{container_single, contents_unique}
 use Rattle.cfb_sectors.specs.declared.faults.CfbFault.{CfbFault}
 use Rattle.cfb_sectors.specs.declared.faults.CfbFault.TheVariants.{Rule as Broken}
 use Rattle.cfb_sectors.specs.Judged.{IsCfbFault}
 use Rattle.cfb_sectors.specs.Opening.{IsWhole}
-use Rattle.cfb_sectors.proofs.OpeningLemmas.{whole_length}
-use Rattle.cfb_streams.proofs.UniqueLemmas.{contents_unique}
+use Rattle.cfb_sectors.proofs.Public.{whole_length}
 use Rattle.fib_form.specs.Fib.{fib_size, fib_pair}
 use Rattle.fib_form.specs.FibFields.{FibFields, fib_fields, pair_at, text_length}
 use Rattle.fib_form.specs.FibRules.{fib_rules}
-use Rattle.fib_form.proofs.FibRuleLemmas.{is_fib}
+use Rattle.fib_form.proofs.Public.{is_fib}
 use Rattle.fib_form.specs.TableParts.{pair_of}
 use Rattle.fib_form.specs.declared.table_parts.TablePart.TheVariants.{Clx, PlcfSed}
 use Rattle.fib_form.specs.declared.stories.StoryKind.TheVariants.{Main}
@@ -32,26 +31,20 @@ use Rattle.doc_parts.specs.Table.{IsPartFault}
 use Rattle.doc_parts.specs.Sections.{AreSections, section_rules}
 use Rattle.file_rules.specs.Source.{part_bytes, part_place, story_length}
 use Rattle.file_rules.specs.SectionRules.{HasSections}
-use Rattle.file_rules.proofs.PartLemmas.{pair-read}
-use Rattle.file_rules.proofs.OneLemmas.{sections_one}
+use Rattle.file_rules.proofs.Public.{pair-read, sections_one, named_one, hold_out}
 use Rattle.prop_map.specs.declared.modifiers.Modifier.{Modifier}
 use Rattle.piece_table.specs.Piece.{TextPiece, UnitPlace, unit_bytes, unit_places, flat_pieces}
 use Rattle.piece_table.specs.Clx.{ClxParts}
 use Rattle.piece_table.specs.ClxRules.{clx_rules, text_bounds, IsLongPrc, FitsPages}
-use Rattle.piece_table.proofs.ClxLemmas.{parts_unique}
-use Rattle.piece_table.proofs.FitLemmas.{pieces_fit}
+use Rattle.piece_table.proofs.Public.{parts_unique, pieces_fit}
 use Rattle.plain_doc.specs.declared.document.Document.{Document}
 use Rattle.file_rules.specs.FileRules.{source_of, clx_of, wd_rules, table_rules, table_stream_name}
 use Rattle.file_rules.specs.FileRules.{loading_rules, file_rules}
-use Rattle.file_rules.proofs.NameLemmas.{named_one}
-use Rattle.file_rules.proofs.RightPlaces.{hold_out}
 use Rattle.doc_read.specs.CarriedParts.{AreWithinBounds}
 use Rattle.doc_read.specs.Holds.{FileParts, HasFileParts, HoldsDocument}
-use Rattle.doc_read.proofs.ExistText.{named_bytes}
+use Rattle.doc_read.proofs.Public.{named_bytes, contents-bounded, text_held}
 use Rattle.doc_read.specs.Opened.{OpenedFile}
-use Rattle.doc_read.proofs.ContentsBounds.{contents-bounded}
-use Rattle.doc_read.proofs.ExistFits.{text_held}
-use Rattle.save_laws.proofs.GivenFiles.{held_rules}
+use Rattle.save_laws.proofs.Public.{held_rules}
 use Rattle.session_text.specs.SessionText.{HaveFitModifiers}
 use Rattle.fast_save.specs.Started.{IsOpenFile, IsReadFile}
 

@@ -9,19 +9,15 @@ use Rattle.fib_form.specs.FibRules.{fib_rules}
 use Rattle.fib_form.specs.declared.fault.FibFault.{FibFault}
 use Rattle.plain_doc.specs.declared.document.Document.{Document}
 use Rattle.plain_doc.specs.Sound.{IsSound}
-use Rattle.plain_doc.proofs.MainLemmas.{main_ends}
-use Rattle.plain_doc.proofs.RightLemmas.{sound_is_valid}
+use Rattle.plain_doc.proofs.Public.{main_ends, sound_is_valid}
 use Rattle.fast_save.proofs.FullLemmas.{no_fib_fault}
-
-pub ok_then : {T E : Type 0} (r : Result T E) (P Q : T → Type 0) → ((x : T) → P x → Q x) → IfOk r P → IfOk r Q
-ok_then (Ok x) P Q follows holds = follows x holds
-ok_then (Err e) P Q follows holds = holds
+use Rattle.cfb_in_place.proofs.Public.{ok_more}
 
 -- a copy of a sound document
 pub sound_copy : {E : Type 0} (r : Result Document E) (inside view : Document) → inside ≡ view → IsSound inside →
     IfOk r (λ copy. copy ≡ inside) → IfOk r (λ document. (document ≡ view) × IsSound document)
 sound_copy r inside view same sound copied =
-    ok_then r (λ copy. copy ≡ inside) (λ document. (document ≡ view) × IsSound document)
+    ok_more r (λ copy. copy ≡ inside) (λ document. (document ≡ view) × IsSound document)
     (λ document is. (is ∙ same, subst IsSound (sym is) sound)) copied
 
 -- a FIB is read that breaks no rule

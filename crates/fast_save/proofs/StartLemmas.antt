@@ -19,11 +19,11 @@ use Rattle.save_laws.specs.GivenFiles.{StandsTogether}
 use Rattle.save_laws.specs.Slots.{StoryEnds, whole_text}
 use Rattle.save_laws.specs.Ends.{ends_of}
 use Rattle.save_laws.specs.FastSaves.{StandsInSession}
-use Rattle.save_laws.proofs.GivenFiles.{given_files_stand, given_sections_are_saved}
+use Rattle.save_laws.proofs.Public.{given_files_stand, given_sections_are_saved}
 use Rattle.session_text.specs.AddedText.{plan_of}
 use Rattle.session_text.specs.OldUnits.{OldUnitsAreBounded}
 use Rattle.session_text.specs.SessionText.{IsSessionText, HaveFitModifiers, ArePlannedSections, unwritten_count}
-use Rattle.session_text.proofs.StartLemmas.{saved_texts_stand, saved_sections_stand}
+use Rattle.session_text.proofs.Public.{saved_texts_stand, saved_sections_stand}
 use Rattle.fast_save.specs.declared.parts.SessionParts.{SessionParts}
 use Rattle.fast_save.specs.declared.ledgers.Counts.{Counts}
 use Rattle.fast_save.specs.Ledgers.{AreCountsOf}
@@ -33,7 +33,7 @@ use Rattle.fast_save.proofs.BoundedLemmas.{end_there}
 use Rattle.fast_save.specs.Started.{IsOpenFile, IsStarted, written_places}
 use Rattle.fast_save.proofs.OpenLemmas.{given_fit}
 
--- the text of an opened file stands for its document
+-- the text of an opened file represents its document
 pub opened_stand : (opened : OpenedFile) (opening : IsOpenFile opened) →
     StandsTogether opening.is.holds.parts.text opened.document
 opened_stand opened opening = given_files_stand opening.file opened.document opening.bytes opening.is.holds

@@ -13,14 +13,13 @@ use Rattle.plain_doc.specs.Formed.{IsFormed}
 use Rattle.save_laws.specs.Ends.{ends_of}
 use Rattle.save_laws.specs.Slots.{whole_text}
 use Rattle.fast_save_layout.specs.AddedPages.{HasParagraphBins, HavePages}
-use Rattle.fast_save_layout.proofs.ReadyLemmas.{Ready, paragraphs_within, paragraphs_named, old_table_is}
+use Rattle.fast_save_layout.proofs.Public.{Ready, paragraphs_within, paragraphs_named, old_table_is}
 use Rattle.session_text.specs.SessionText.{ArePlannedSections, unwritten_count}
 use Rattle.session_text.specs.WrittenAgain.{IsWrittenAgain}
 use Rattle.session_text.specs.declared.old_pieces.OldPieces.{OldPieces}
 use Rattle.session_text.specs.declared.old_pieces.OldPieces.TheVariants.{Kept, Marking, Modified}
 use Rattle.session_text.specs.declared.session_text.SessionText.{SessionText}
-use Rattle.session_text.proofs.GrowLemmas.{sound_count, whole_length}
-use Rattle.session_text.proofs.StartLemmas.{text_counted}
+use Rattle.session_text.proofs.Public.{sound_count, whole_length, text_counted}
 use Rattle.fast_save.specs.declared.ledgers.Counts.{Counts}
 use Rattle.fast_save.specs.declared.parts.SessionParts.{SessionParts}
 use Rattle.fast_save.specs.Session.{IsSession, saved_stream}
@@ -193,7 +192,7 @@ bins_there file document parts can formed items pieces =
       table = old_table_is Papx ready;
     }
 
--- the new items can stand on pages
+-- the new items can be on pages
 pub pages_there : (file : List ℕ) (document : Document) (parts : SessionParts) (which : OldPieces) (text : SessionText) →
     IsSession file document parts → IsWrittenAgain document which parts.text text →
     HavePages text.added.base text.added.items

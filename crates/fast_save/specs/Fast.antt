@@ -18,7 +18,7 @@ use Rattle.save_laws.specs.Ends.{ends_of}
 use Rattle.save_laws.specs.Slots.{StoryEnds, story_counts}
 use Rattle.save_laws.specs.KeptPages.{KeepsBytes}
 use Rattle.save_laws.specs.Places.{fib_end}
-use Rattle.save_bounds.specs.FastSizes.{SaveCounts}
+use Rattle.save_laws.specs.FastSizes.{SaveCounts}
 use Rattle.fast_save_layout.specs.Saves.{FastSave}
 use Rattle.fast_save_layout.specs.AddedPages.{paragraph_bins, pages_behind}
 use Rattle.session_text.specs.SessionText.{HaveNoModifiers, HaveModifiersWithin, unwritten_count}
@@ -132,7 +132,7 @@ pub record IsHeldFile (file : List ℕ) (document : Document) : Type 0 where
   pub holds : HoldsDocument file document
   pub sound : IsSound document
 
--- where text may be added, whether marks stand behind the stories, where the properties of sections stand, the FIB and
+-- where text may be added, whether marks are behind the stories, where the properties of sections are, the FIB and
 -- the
 -- streams
 pub record AreFastParts {file : List ℕ} {document : Document} (holds : HoldsDocument file document)
@@ -168,7 +168,7 @@ pub record IsWithin (counts : Counts) (table_bytes : ℕ) (file wd stream : List
   pub sectors : sector_count file ≤ sector_bound counts table_bytes
 
 -- a stream with sectors of its own stays in them: the first sectors of its chain are the old ones, as many as the old
--- bytes need, and each byte behind the FIB stands where it stood in the file
+-- bytes need, and each byte behind the FIB is where it stood in the file
 abbrev pub KeepsSectors : List ℕ → List ℕ → List ℕ → Type 0
 KeepsSectors old new wd = 4096 ≤ length wd → StaysInPlace wd_name (fib_end wd) old new wd
 

@@ -1,5 +1,5 @@
 -- The ledgers of a session: numbers that the file and the commands determine, with one function an event. A count that
--- would pass 64 bits stands still.
+-- would pass 64 bits is still.
 use Rattle.std.specs.Prelude.{◌≡◌, ◌↔◌, ℕ, ◌+◌, ◌*◌, ◌/◌, ◌-◌, ◌^◌, ◌||◌, min, max, Bool, true, false, List, length}
 use Rattle.std.specs.Prelude.{map, fold, All, if◌then◌else◌}
 use Rattle.prop_map.specs.Modifiers.{no_modifier, printed_modifier}

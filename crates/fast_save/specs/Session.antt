@@ -16,7 +16,7 @@ use Rattle.save_laws.specs.Places.{PagedStream}
 use Rattle.save_laws.specs.GivenFiles.{stream_of}
 use Rattle.save_laws.specs.ByRuns.{AreBounded, text_ends}
 use Rattle.save_laws.specs.Slots.{StoryEnds, whole_text, story_counts}
-use Rattle.save_bounds.specs.SharedPages.{page_bound}
+use Rattle.save_laws.specs.SharedPages.{page_bound}
 use Rattle.session_text.specs.OldUnits.{OldUnitsAreBounded}
 use Rattle.session_text.specs.SessionText.{IsSessionText, HaveFitModifiers, HaveNoModifiers, HaveModifiersWithin}
 use Rattle.session_text.specs.SessionText.{ArePlannedSections, unwritten_count}
@@ -50,8 +50,8 @@ IsBoundedFile {document = document} held =
     AreBounded (saved_stream held) (flat_pieces held.parts.text.pieces) (text_ends (whole_text document ends))
 
 -- the file is accepted, and holds what the session held at the last save or at the start; the document is sound, and
--- carries along what that one does; its text and its sections stand in the file or are to be written, and where the
--- file is bounded the units that stand in it are; the FIB and the streams are those of the file
+-- carries along what that one does; its text and its sections are in the file or are to be written, and where the
+-- file is bounded the units that are in it are; the FIB and the streams are those of the file
 pub record IsSession (file : List ℕ) (document : Document) (parts : SessionParts) : Type 0 where
   pub bytes : AreBytes file
   pub accepted : IsAccepted file

@@ -29,7 +29,7 @@ pub record IsReadFile (contents : Contents) (fib : FibFields) : Type 0 where
   pub contents_are : contents ≡ parts.contents
   pub fib_is : fib ≡ fib_fields parts.text.wd
 
--- where the properties of sections stand, each at its fcSepx
+-- where the properties of sections are, each at its fcSepx
 abbrev pub written_places : List Sed → List (Option ℕ)
 written_places seds = map (λ sed. Some sed.sepx) seds
 

@@ -71,7 +71,7 @@ can_save {counts = counts} can = record {
   judged = can.judged;
 }
 
--- the pieces that stand in place of others, if there are some
+-- the pieces that are in place of others, if there are some
 abbrev pub pieces_after : Option PieceTable → PieceTable → List TextPiece
 pieces_after new old = (unwrap_or new old).pieces
 

@@ -12,7 +12,7 @@ use fib_form::Fib;
 use save_laws::Ends;
 use std::alloc::Global;
 
-/// Where text may be added, whether marks stand behind the stories, where the properties of sections stand, and the FIB
+/// Where text may be added, whether marks are behind the stories, where the properties of sections are, and the FIB
 /// and the streams.
 #[derive(Drop)]
 pub(crate) struct FastParts {

@@ -152,7 +152,7 @@ impl Counts {
     }
 }
 
-/// A count after some more. It stands still at its type's end.
+/// A count after some more. It is still at its type's end.
 fn saturating_sum(count: u64, more: u64) -> u64
     ensures { result ≡ raised_count count more }
 {

@@ -93,7 +93,7 @@ pub(crate) fn text_base(wd: &[u8]) -> u32
     512 * pages
 }
 
-/// Where the properties of the sections of a file stand.
+/// Where the properties of the sections of a file are.
 pub(crate) fn section_places(
     alloc: Global,
     fib: &Fib,

@@ -20,7 +20,7 @@ pub(crate) fn ends_behind(document: &ColumnDocument, fib: &Fib) -> Ends
     }
 }
 
-/// Whether a mark stands behind the texts of a story of so many CPs.
+/// Whether a mark is behind the texts of a story of so many CPs.
 fn has_end(texts: &ColumnTexts, count: u32) -> bool
     requires { length (joined_texts texts.now) < 2 ^ 32 }
     ensures { (end : Bool) → count ≡ length (story_slots texts.now end) → result ≡ end }

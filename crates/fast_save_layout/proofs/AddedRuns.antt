@@ -1,4 +1,4 @@
--- The runs of items whose units stand from a byte on, and that pages can be written of them.
+-- The runs of items whose units are from a byte on, and that pages can be written of them.
 use Rattle.std.proofs.Common.{◌≡◌, ◌∙◌, refl, ap, inl, inr, subst, sym, ℕ, ◌+◌, ◌*◌, ◌^◌, ◌<◌, ◌≤◌, List, [], ◌∷◌}
 use Rattle.std.proofs.Common.{length}
 use Rattle.std.proofs.Common.{All, arith}
@@ -8,7 +8,7 @@ use Rattle.std.proofs.lemmas.List.Elements.{All-nil}
 use Rattle.std.proofs.lemmas.Option.{none-some}
 use Rattle.std.proofs.Math.Nat.{min-le_right}
 use Rattle.doc_bits.specs.Plc.{plc_cp}
-use Rattle.doc_bits.proofs.ListLemmas.{All_at, All-from_slice_get}
+use Rattle.doc_bits.proofs.Public.{All_at, All-from_slice_get}
 use Rattle.fkp_pages.specs.declared.kind.PageKind.{PageKind}
 use Rattle.fkp_pages.specs.declared.kind.PageKind.TheVariants.{Chpx, Papx}
 use Rattle.fkp_pages.specs.Bin.{bin_count}
@@ -19,10 +19,9 @@ use Rattle.plain_doc.specs.Collected.{joined_texts}
 use Rattle.plain_doc.specs.Document.{IsFormedItem, IsFormedText}
 use Rattle.plain_doc.specs.RulesOfItems.{HasShortProperties}
 use Rattle.plain_doc.specs.Stretches.{stretches}
-use Rattle.plain_doc.proofs.CutLemmas.{are_stretches}
+use Rattle.plain_doc.proofs.Public.{are_stretches}
 use Rattle.full_save.specs.Runs.{joins_run, runs_from, text_runs}
-use Rattle.full_save.proofs.BodyLemmas.{last_fc-text_runs}
-use Rattle.full_save.proofs.StretchRuns.{IsWritableItem, AreTextRuns, text_runs_right}
+use Rattle.full_save.proofs.Public.{last_fc-text_runs, IsWritableItem, AreTextRuns, text_runs_right}
 use Rattle.fast_save_layout.specs.KeptBins.{kept_end}
 use Rattle.fast_save_layout.specs.MarkRuns.{mark_runs}
 use Rattle.fast_save_layout.proofs.MarkLemmas.{AreMade, made_are}

@@ -30,7 +30,7 @@ use Rattle.fast_save_layout.proofs.PlannedLemmas.{length-planned}
 use Rattle.fast_save_layout.proofs.ReadyLemmas.{Ready, is_valid}
 use Rattle.fast_save_layout.proofs.BodyLemmas.{text_part, text_and_pages, body_is, body_short}
 use Rattle.fast_save_layout.proofs.WrittenLemmas.{sections_fit, made_of, sizes}
-use Rattle.full_save.proofs.StreamLengths.{few_collected}
+use Rattle.full_save.proofs.Public.{few_collected}
 
 -- the units and the pages, part by part
 pub pages_made : (save : FastSave) (items : List Item) (old none first second third : List ℕ) → items ≡ save.added →

@@ -7,7 +7,7 @@ use Rattle.std.proofs.lemmas.List.{get_or_at, length-map}
 use Rattle.std.proofs.lemmas.List.Elements.{All-head}
 use Rattle.std.proofs.lemmas.Option.{same_Some, none-some, slice_get_within, get_or_from_slice_get}
 use Rattle.doc_bits.specs.Plc.{plc_cp}
-use Rattle.doc_bits.proofs.ListLemmas.{from_map, get-map, there_is}
+use Rattle.doc_bits.proofs.Public.{from_map, get-map, there_is}
 use Rattle.prop_map.specs.declared.modifiers.Modifier.{Modifier}
 use Rattle.fkp_pages.specs.declared.kind.PageKind.TheVariants.{Chpx, Papx}
 use Rattle.fkp_pages.specs.declared.lists.Bin.{Bin}
@@ -17,7 +17,7 @@ use Rattle.fkp_pages.specs.Rows.{IsInRun, IsRow}
 use Rattle.fkp_pages.specs.Runs.{IsWritableRun}
 use Rattle.fkp_pages.specs.PageBytes.{last_fc}
 use Rattle.fkp_pages.specs.Pages.{first_fc}
-use Rattle.fkp_pages.proofs.PrintedBinLemmas.{printed_table}
+use Rattle.fkp_pages.proofs.Public.{printed_table}
 use Rattle.piece_table.specs.Piece.{UnitPlace, unit_bytes}
 use Rattle.plain_doc.specs.declared.item.Mark.{Mark}
 use Rattle.plain_doc.specs.declared.item.Item.{Item}
@@ -30,9 +30,8 @@ use Rattle.save_laws.specs.KeptPages.{KeepsPages}
 use Rattle.save_laws.specs.Places.{PagedStream, Given, given_of, IsMarkedAfter}
 use Rattle.save_laws.specs.Plans.{Plan}
 use Rattle.save_laws.specs.Slots.{Slot, shown, loose, last, IsPlaced}
-use Rattle.save_laws.proofs.FullByRuns.{slot_there}
-use Rattle.save_laws.proofs.RunPlaces.{stream_of_row, ends_with_runs, run_told, told_as, upto_last, ending_bounded}
-use Rattle.save_laws.proofs.RunPlaces.{inner_bounded}
+use Rattle.save_laws.proofs.Public.{slot_there, stream_of_row, ends_with_runs, run_told, told_as, upto_last}
+use Rattle.save_laws.proofs.Public.{ending_bounded, inner_bounded}
 use Rattle.fast_save_layout.specs.Saves.{FastSave, plan_of}
 use Rattle.fast_save_layout.specs.MarkRuns.{leaves_open, longer, begun, runs_end}
 use Rattle.fast_save_layout.specs.MarkEnds.{EndsWithMark}

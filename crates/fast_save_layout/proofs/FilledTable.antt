@@ -14,7 +14,7 @@ use Rattle.fast_save_layout.specs.Appended.{old_wd, least_beside, fast_entries, 
 abbrev pub table_parts : FastSave → List ℕ → List ℕ
 table_parts save clx = entries_bytes (fast_entries save clx)
 
--- ---- what stands behind a table changes no part
+-- ---- what is behind a table changes no part
 
 range_front : (xs ys : List ℕ) (from to : ℕ) → from ≤ to → to ≤ length xs →
     slice_range (xs ++ ys) from to ≡ slice_range xs from to

@@ -6,7 +6,7 @@ use Rattle.std.proofs.Common.{cond, eqb, min, List, [], ◌∷◌, length, map, 
 use Rattle.std.proofs.lemmas.Bool.{cases_eq}
 use Rattle.std.proofs.lemmas.Option.{same_Some}
 use Rattle.cfb_sectors.specs.Chain.{fat_table}
-use Rattle.cfb_sectors.proofs.JudgeLemmas.{holds_unique}
+use Rattle.cfb_sectors.proofs.Public.{holds_unique}
 use Rattle.cfb_directory.specs.Directory.{AreSameNames}
 use Rattle.cfb_directory.specs.Reach.{entry_place}
 use Rattle.cfb_directory.specs.StreamEntries.{stream_head}
@@ -15,10 +15,9 @@ use Rattle.cfb_streams.specs.Container.{HasContents, IsStreamOf, IsLongStream}
 use Rattle.cfb_streams.specs.Names.{wd_name, table_name}
 use Rattle.cfb_in_place.specs.Change.{StreamChange, OldChains}
 use Rattle.cfb_in_place.specs.Contract.{AreNamedChains, IsSavedInPlace}
-use Rattle.file_rules.proofs.NameLemmas.{one_stream}
+use Rattle.file_rules.proofs.Public.{one_stream}
 use Rattle.doc_read.specs.CarriedParts.{is_carried, carried_streams}
-use Rattle.doc_read.proofs.CarriedLemmas.{without_chain}
-use Rattle.doc_read.proofs.NameLemmas.{wd-not_carried, table-not_carried}
+use Rattle.doc_read.proofs.Public.{without_chain, wd-not_carried, table-not_carried}
 use Rattle.fast_save_layout.specs.RenewedStreams.{chain_named}
 use Rattle.fast_save_layout.proofs.StreamLemmas.{first_named}
 

@@ -9,13 +9,12 @@ use Rattle.std.proofs.lemmas.List.{length-append}
 use Rattle.std.proofs.lemmas.List.Elements.{All-append}
 use Rattle.std.proofs.lemmas.List.FromFn.{get_or-range_with_len, length-range_with_len, length-map-range_with_len}
 use Rattle.std.proofs.lemmas.Option.{slice_get_within, get_or_from_slice_get}
-use Rattle.doc_bits.proofs.ListLemmas.{there_is, from_map, All_at, All-from_slice_get}
+use Rattle.doc_bits.proofs.Public.{there_is, from_map, All_at, All-from_slice_get}
 use Rattle.doc_bits.specs.Plc.{plc_cp}
 use Rattle.fkp_pages.specs.declared.lists.Bin.{Bin}
 use Rattle.fkp_pages.specs.Bin.{bin_count, bin_fcs, ArePrintableBins, IsBinTable}
 use Rattle.fkp_pages.specs.Rows.{AreRangesBefore, KeepsRanges}
-use Rattle.fkp_pages.proofs.BinLemmas.{bin_fcs_ascend}
-use Rattle.fkp_pages.proofs.LongerLemmas.{fc_before, fc_behind}
+use Rattle.fkp_pages.proofs.Public.{bin_fcs_ascend, fc_before, fc_behind}
 use Rattle.fast_save_layout.specs.KeptBins.{bin_of, kept_bins, kept_end}
 
 -- ---- which ranges are kept

@@ -1,24 +1,25 @@
-pub mod MarkLemmas
-pub mod MarkSteps
-pub mod MarkRunSteps
-pub mod AddedRuns
-pub mod MarkEnds
-pub mod KeptBinLemmas
-pub mod PlannedLemmas
-pub mod PlannedRuns
-pub mod StreamLemmas
-pub mod StreamSteps
-pub mod ReadyLemmas
-pub mod TableLemmas
-pub mod BodyLemmas
-pub mod FilledTable
-pub mod InPlaceLemmas
-pub mod WrittenLemmas
-pub mod SavedLemmas
-pub mod AppendSteps
-pub mod RunLengths
-pub mod StreamLengths
-pub mod SavedInPlace
-pub mod ShortLemmas
-pub mod RunTransfer
-pub mod FastByRuns
+pub mod Public
+mod MarkLemmas
+mod MarkSteps
+mod MarkRunSteps
+mod AddedRuns
+mod MarkEnds
+mod KeptBinLemmas
+mod PlannedLemmas
+mod PlannedRuns
+mod StreamLemmas
+mod StreamSteps
+mod ReadyLemmas
+mod TableLemmas
+mod BodyLemmas
+mod FilledTable
+mod InPlaceLemmas
+mod WrittenLemmas
+mod SavedLemmas
+mod AppendSteps
+mod RunLengths
+mod StreamLengths
+mod SavedInPlace
+mod ShortLemmas
+mod RunTransfer
+mod FastByRuns

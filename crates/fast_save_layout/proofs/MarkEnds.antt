@@ -5,7 +5,7 @@ use Rattle.std.proofs.Common.{Bool}
 use Rattle.std.proofs.Common.{true, false, not, cond, List, [], ◌∷◌, length, map, Option, Some, arith}
 use Rattle.std.proofs.lemmas.Bool.{cases_Bool, cases_lt, cond-true, cond-false, true≢false}
 use Rattle.std.proofs.lemmas.Option.{same_Some, none-some, slice_get_within, get_or_from_slice_get}
-use Rattle.doc_bits.proofs.ListLemmas.{get-map}
+use Rattle.doc_bits.proofs.Public.{get-map}
 use Rattle.fkp_pages.specs.declared.kind.PageKind.TheVariants.{Papx}
 use Rattle.fkp_pages.specs.declared.lists.Run.{Run}
 use Rattle.fkp_pages.specs.PageBytes.{last_fc}
@@ -15,9 +15,8 @@ use Rattle.plain_doc.specs.declared.item.Item.{Item}
 use Rattle.plain_doc.specs.Settings.{is_inside}
 use Rattle.plain_doc.specs.Stretches.{stretch_from, stretches}
 use Rattle.full_save.specs.Runs.{run_at, runs_from, text_runs}
-use Rattle.full_save.proofs.BodyLemmas.{last_fc-text_runs}
-use Rattle.full_save.proofs.StreamLengths.{length-runs_from}
-use Rattle.plain_doc.proofs.StretchLemmas.{Leads, leads}
+use Rattle.full_save.proofs.Public.{last_fc-text_runs, length-runs_from}
+use Rattle.plain_doc.proofs.Public.{Leads, leads}
 use Rattle.fast_save_layout.specs.KeptBins.{kept_end}
 use Rattle.fast_save_layout.specs.MarkRuns.{is_open, leaves_open, longer, reached, begun}
 use Rattle.fast_save_layout.specs.MarkEnds.{RunsEndWithMarks}

@@ -2,11 +2,11 @@
 use Rattle.std.proofs.Common.{◌≡◌, subst, ℕ, zero, suc, ◌+◌, ◌*◌, ◌<◌, ◌≤◌, List, [], ◌∷◌, ◌++◌, length}
 use Rattle.std.proofs.Common.{take, Option, Some, None, arith, length-append}
 use Rattle.std.proofs.lemmas.List.{length-take}
-use Rattle.doc_bits.proofs.ListLemmas.{there_is}
+use Rattle.doc_bits.proofs.Public.{there_is}
 use Rattle.plain_doc.specs.declared.item.Mark.{Mark}
 use Rattle.plain_doc.specs.declared.item.Item.{Item}
 use Rattle.full_save.specs.Alike.{HaveAlike}
-use Rattle.full_save.proofs.AlikeLemmas.{alike_fewer, text_next}
+use Rattle.full_save.proofs.Public.{alike_fewer, text_next}
 use Rattle.fast_save_layout.specs.declared.runs.ParagraphRuns.{ParagraphRuns}
 use Rattle.fast_save_layout.specs.RunsSoFar.{AreMarksSoFar, MarkEnds, MarksGoOn}
 use Rattle.fast_save_layout.proofs.MarkSteps.{one_more}

@@ -6,14 +6,14 @@ use Rattle.std.proofs.Common.{not, cond}
 use Rattle.std.proofs.Common.{List, [], ◌∷◌, ◌++◌, length, Option, Some, None, arith, length-append}
 use Rattle.std.proofs.lemmas.Bool.{cases_Bool, true≢false}
 use Rattle.std.proofs.lemmas.Option.{none-some}
-use Rattle.doc_bits.proofs.ListLemmas.{slice_get_push}
+use Rattle.doc_bits.proofs.Public.{slice_get_push}
 use Rattle.fkp_pages.specs.declared.kind.PageKind.TheVariants.{Papx}
 use Rattle.fkp_pages.specs.declared.lists.Run.{Run}
 use Rattle.plain_doc.specs.declared.item.Mark.{Mark}
 use Rattle.plain_doc.specs.declared.item.Item.{Item}
 use Rattle.plain_doc.specs.Stretches.{stretches}
 use Rattle.full_save.specs.Runs.{joins_run, runs_from, text_runs}
-use Rattle.full_save.proofs.SoFarLemmas.{paragraphs_go_on, paragraphs_end, paragraphs_none_left, paragraphs_left}
+use Rattle.full_save.proofs.Public.{paragraphs_go_on, paragraphs_end, paragraphs_none_left, paragraphs_left}
 use Rattle.fast_save_layout.specs.declared.runs.ParagraphRuns.{ParagraphRuns}
 use Rattle.fast_save_layout.specs.MarkRuns.{is_open, leaves_open, longer, reached, begun, begin_after}
 use Rattle.fast_save_layout.specs.RunsSoFar.{AreMarksSoFar}

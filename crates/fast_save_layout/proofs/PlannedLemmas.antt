@@ -12,14 +12,12 @@ use Rattle.plain_doc.specs.declared.item.Item.{Item}
 use Rattle.plain_doc.specs.Collected.{collected, entry_before, sections_of}
 use Rattle.plain_doc.specs.TextLists.{starts_from}
 use Rattle.full_save.specs.Sections.{sepx_bytes, fc_sepx, seds_from, left_from}
-use Rattle.full_save.proofs.ListLemmas.{drop_here}
+use Rattle.full_save.proofs.Public.{drop_here, length-sepx, left_here}
 use Rattle.prop_map.specs.Printing.{printed_list}
-use Rattle.full_save.proofs.StreamLengths.{length-sepx}
 use Rattle.save_laws.specs.Saves.{HasPropertiesAt}
-use Rattle.save_laws.proofs.FullSections.{FitsSepx, sections_saved}
+use Rattle.save_laws.proofs.Public.{FitsSepx, sections_saved}
 use Rattle.fast_save_layout.specs.PlannedSections.{new_sepx, planned_fc, planned_sepxes, planned_seds}
 use Rattle.fast_save_layout.specs.PlannedSections.{PlannedSections, ArePlannedUpTo}
-use Rattle.full_save.proofs.SectionLemmas.{left_here}
 
 -- ---- item by item
 
@@ -173,7 +171,7 @@ length-planned_seds start at (place ∷ places) (section ∷ sections) same =
     ap suc (length-planned_seds (section.0 + 1) (at + length (new_sepx place section.1)) places sections
     (omega (arith, same)))
 
--- the properties of a section stand in the old stream, where it has a place
+-- the properties of a section are in the old stream, where it has a place
 abbrev pub HasPlanned : List ℕ → Option ℕ → ℕ × Properties → Type 0
 HasPlanned old place section = ForSome place (λ fc. HasPropertiesAt old fc section.1)
 

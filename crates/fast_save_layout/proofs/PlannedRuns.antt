@@ -1,4 +1,4 @@
--- The sections that end in a run of what stands beside units, of which some have their properties in an old stream.
+-- The sections that end in a run of what is beside units, of which some have their properties in an old stream.
 use Rattle.std.proofs.Common.{◌≡◌, ◌∙◌, ap, sym, subst, ℕ, zero, suc, ◌+◌, ◌-◌, ◌*◌, ◌<◌, ◌≤◌, List, [], ◌∷◌, ◌++◌}
 use Rattle.std.proofs.Common.{refl, length, get_or, Option, Some, None, arith}
 use Rattle.std.specs.Prelude.{slice_get, IsSome}
@@ -11,8 +11,7 @@ use Rattle.doc_columns.specs.declared.attached.Attached.{Attached}
 use Rattle.doc_columns.specs.Attached.{attached_of}
 use Rattle.full_save.specs.Alike.{HaveAlike}
 use Rattle.full_save.specs.Sections.{left_from}
-use Rattle.full_save.proofs.AlikeLemmas.{alike_fewer, alike_rest, alike_of}
-use Rattle.full_save.proofs.ColumnLists.{there_at}
+use Rattle.full_save.proofs.Public.{alike_fewer, alike_rest, alike_of, there_at}
 use Rattle.fast_save_layout.specs.PlannedSections.{new_sepx, planned_fc, planned_seds}
 use Rattle.fast_save_layout.specs.PlannedSections.{PlannedSections, ArePlannedUpTo}
 use Rattle.fast_save_layout.specs.declared.sections.SectionPlaces.{SectionPlaces}

@@ -11,7 +11,7 @@ use Rattle.cfb_streams.specs.Names.{wd_name, table_name}
 use Rattle.fib_form.specs.Fib.{form_size, fib_form, fib_size, fib_pair, table_part}
 use Rattle.fib_form.specs.FibFields.{FibFields, pair_at}
 use Rattle.fib_form.specs.FibRules.{fib_rules}
-use Rattle.fib_form.proofs.FibLemmas.{form_size-least}
+use Rattle.fib_form.proofs.Public.{form_size-least}
 use Rattle.fib_form.specs.TableParts.{pair_of}
 use Rattle.fib_form.specs.declared.table_parts.TablePart.{TablePart}
 use Rattle.fib_form.specs.declared.table_parts.TablePart.TheVariants.{PlcfBteChpx, PlcfBtePapx}
@@ -21,27 +21,22 @@ use Rattle.fkp_pages.specs.Bin.{IsBinTable}
 use Rattle.fkp_pages.specs.Runs.{AreRuns, HasFileNumbers}
 use Rattle.fkp_pages.specs.PageBytes.{last_fc}
 use Rattle.fkp_pages.specs.Pages.{first_fc, ArePagesOf, AreWholePages}
-use Rattle.fkp_pages.proofs.PackedLemmas.{runs_have_pages}
-use Rattle.fkp_pages.proofs.WholePages.{pages_are_whole}
+use Rattle.fkp_pages.proofs.Public.{runs_have_pages, pages_are_whole}
 use Rattle.plain_doc.specs.declared.item.Item.{Item}
 use Rattle.plain_doc.specs.Document.{IsFormedText}
 use Rattle.plain_doc.specs.Formed.{IsFormed}
 use Rattle.plain_doc.specs.RightDocument.{IsValidDocument}
 use Rattle.plain_doc.specs.Stretches.{stretches}
-use Rattle.plain_doc.proofs.RightLemmas.{sound_is_valid}
+use Rattle.plain_doc.proofs.Public.{sound_is_valid}
 use Rattle.file_rules.specs.Source.{part_bytes}
 use Rattle.file_rules.specs.PairRules.{BreaksPairs, IsReadPair}
 use Rattle.file_rules.specs.FileRules.{FileText, source_of, wd_rules, table_rules}
 use Rattle.file_rules.specs.FileRules.{table_stream_name}
-use Rattle.file_rules.proofs.NameLemmas.{named_one}
-use Rattle.file_rules.proofs.PartLemmas.{part-inside, pair-read, table_part-empty}
-use Rattle.file_rules.proofs.RightPlaces.{bin_tables, hold_out}
-use Rattle.doc_read.proofs.ExistFits.{text_held}
+use Rattle.file_rules.proofs.Public.{named_one, part-inside, pair-read, table_part-empty, bin_tables, hold_out}
+use Rattle.doc_read.proofs.Public.{text_held}
 use Rattle.full_save.specs.Runs.{joins_run, text_runs}
-use Rattle.full_save.proofs.BodyLemmas.{last_fc-text_runs}
-use Rattle.full_save.proofs.StretchRuns.{IsWritableItem}
-use Rattle.full_save.proofs.StreamLengths.{length-runs_from}
-use Rattle.save_bounds.proofs.RunLemmas.{few_stretches}
+use Rattle.full_save.proofs.Public.{last_fc-text_runs, IsWritableItem, length-runs_from}
+use Rattle.save_laws.proofs.Public.{few_stretches, AreHeld, held_rules}
 use Rattle.save_laws.specs.Places.{PagedStream}
 use Rattle.save_laws.specs.GivenFiles.{stream_of}
 use Rattle.fast_save_layout.specs.Saves.{FastSave}
@@ -55,7 +50,6 @@ use Rattle.fast_save_layout.proofs.MarkLemmas.{AreMade, made_first, length-made,
 use Rattle.fast_save_layout.proofs.AddedRuns.{writable_items, text_right, text_first, kept_end_low, marks_made, no_text}
 use Rattle.fast_save_layout.proofs.AddedRuns.{no_marks, characters_right, marks_right}
 use Rattle.fast_save_layout.proofs.StreamLemmas.{named_is}
-use Rattle.save_laws.proofs.GivenFiles.{AreHeld, held_rules}
 
 -- a save that can be appended, of a well-formed document, with well-formed items
 pub record Ready : Type 0 where
@@ -184,7 +178,7 @@ characters_named r = part_named r PlcfBteChpx (omega arith)
 pub paragraphs_named : (r : Ready) → named_part r.save.fib (old_table r.save) PlcfBtePapx ≡ old_bins Papx r.save
 paragraphs_named r = part_named r PlcfBtePapx (omega arith)
 
--- ---- where the added text stands
+-- ---- where the added text is
 
 pub record IsBase (r : Ready) : Type 0 where
   pub long : form_size r.save.fib.form ≤ length (old_wd r.save)

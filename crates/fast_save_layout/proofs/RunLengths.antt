@@ -11,11 +11,9 @@ use Rattle.plain_doc.specs.Settings.{is_alike}
 use Rattle.plain_doc.specs.Stretches.{stretches}
 use Rattle.full_save.specs.Sections.{sepx_bytes}
 use Rattle.full_save.specs.Runs.{joins_run, text_runs}
-use Rattle.full_save.proofs.StreamLengths.{length-sepx, length-runs_from}
-use Rattle.save_bounds.specs.SharedPages.{pages_begun, pages_taken, page_bound}
-use Rattle.save_bounds.proofs.RunLemmas.{few_stretches}
-use Rattle.save_bounds.proofs.SharedLemmas.{bare_runs_share}
-use Rattle.save_bounds.proofs.PageBoundLemmas.{pages_upto_runs, characters_take, paragraphs_begin}
+use Rattle.full_save.proofs.Public.{length-sepx, length-runs_from}
+use Rattle.save_laws.specs.SharedPages.{pages_begun, pages_taken, page_bound}
+use Rattle.save_laws.proofs.Public.{few_stretches, bare_runs_share, pages_upto_runs, characters_take, paragraphs_begin}
 use Rattle.fast_save_layout.specs.Saves.{FastSave}
 use Rattle.fast_save_layout.specs.KeptBins.{kept_end}
 use Rattle.fast_save_layout.specs.MarkRuns.{mark_runs}

@@ -6,12 +6,12 @@ use Rattle.doc_bits.specs.Plc.{plc_cp}
 use Rattle.fkp_pages.specs.Bin.{bin_count, IsBinTable, IsBinPage, page_at}
 use Rattle.fkp_pages.specs.Fkp.{HoldsFc, page_count, page_fc}
 use Rattle.fkp_pages.specs.Rows.{KeepsRanges}
-use Rattle.fkp_pages.proofs.BinLemmas.{bin_fcs_ascend, bin_page_one}
+use Rattle.fkp_pages.proofs.Public.{bin_fcs_ascend, bin_page_one}
 use Rattle.piece_table.specs.Piece.{unit_bytes}
 use Rattle.save_laws.specs.Places.{PagedStream}
 use Rattle.save_laws.specs.KeptPages.{KeepsBytes}
 use Rattle.save_laws.specs.ByRuns.{IsRunAt, ranges_end, BeginsRun, HasBegin, StaysInRun, MeetsRuns, IsBounded}
-use Rattle.save_laws.proofs.KeptLemmas.{page_kept, named_kept}
+use Rattle.save_laws.proofs.Public.{page_kept, named_kept}
 
 -- a place with a page is before the end of all ranges
 pub named_low : (bin : List ℕ) (fc number : ℕ) → IsBinTable bin → IsBinPage bin fc number →

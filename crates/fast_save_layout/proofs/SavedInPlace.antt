@@ -9,12 +9,10 @@ use Rattle.cfb_streams.specs.Names.{wd_name}
 use Rattle.cfb_layout.specs.Sectors.{filled}
 use Rattle.cfb_in_place.specs.Change.{OldChains, grown_bytes, added_sectors, added_for, sectors_after}
 use Rattle.cfb_in_place.specs.Contract.{CanBeAppended, AreNamedChains, IsSavedInPlace, NeedsTooMany as NeedTooMany}
-use Rattle.cfb_in_place.proofs.AfterLemmas.{added_is}
-use Rattle.cfb_in_place.proofs.ContentsAgain.{grown_bytes_are}
+use Rattle.cfb_in_place.proofs.Public.{added_is, grown_bytes_are, can_append, named_bytes, has_grown}
+use Rattle.cfb_in_place.proofs.Public.{has_table as has_new_table, stays_in_place}
 use Rattle.cfb_in_place.specs.InPlace.{StaysInPlace}
-use Rattle.cfb_in_place.proofs.CallerLemmas.{can_append, named_bytes, has_grown, has_table as has_new_table}
-use Rattle.cfb_in_place.proofs.CallerLemmas.{stays_in_place}
-use Rattle.fib_form.proofs.FibLemmas.{form_size-most}
+use Rattle.fib_form.proofs.Public.{form_size-most}
 use Rattle.fib_form.specs.Fib.{form_size}
 use Rattle.fib_form.specs.FibBytes.{written_fib}
 use Rattle.save_laws.specs.Places.{fib_end}
@@ -27,7 +25,7 @@ use Rattle.fast_save_layout.proofs.InPlaceLemmas.{named_chain, carried_stay}
 use Rattle.fast_save_layout.proofs.ReadyLemmas.{Ready, form_is}
 use Rattle.fast_save_layout.proofs.StreamLengths.{has_wd, has_table}
 use Rattle.fast_save_layout.proofs.WrittenLemmas.{Made, the_save, new_fib, old_rest, sizes, table_small, fib_read}
-use Rattle.save_bounds.proofs.RenewedLemmas.{name_six}
+use Rattle.save_laws.proofs.Public.{name_six}
 use Rattle.fast_save_layout.proofs.SavedLemmas.{HasSavedStreams, fast_saved, has_contents, small_wd}
 
 -- WordDocument grows to the new one

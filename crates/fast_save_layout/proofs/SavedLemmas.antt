@@ -4,7 +4,7 @@ use Rattle.std.proofs.Common.{◌≡◌, ◌∙◌, refl, sym, ap, subst, inl, i
 use Rattle.std.proofs.Common.{List, [], ◌++◌, length, map, Some, Bool, eqb, arith}
 use Rattle.std.proofs.lemmas.List.{length-map}
 use Rattle.std.proofs.lemmas.Option.{slice_get_within}
-use Rattle.doc_bits.proofs.ListLemmas.{All_at, All-from_slice_get, there_is}
+use Rattle.doc_bits.proofs.Public.{All_at, All-from_slice_get, there_is}
 use Rattle.doc_bits.specs.declared.places.Where.TheVariants.{File}
 use Rattle.cfb_streams.specs.Contents.{Contents, NamedBytes, HasNamed, AreStreams}
 use Rattle.cfb_streams.specs.Container.{container_rules, HasContents}
@@ -12,23 +12,21 @@ use Rattle.cfb_streams.specs.Names.{wd_name, table_name}
 use Rattle.cfb_layout.specs.Counts.{Fits}
 use Rattle.cfb_layout.specs.Layout.{lengths_of, compound_file}
 use Rattle.cfb_layout.specs.Laws.{IsLayout}
-use Rattle.cfb_layout.proofs.MadeLemmas.{file_holds, file_contents}
+use Rattle.cfb_layout.proofs.Public.{file_holds, file_contents}
 use Rattle.fib_form.specs.Fib.{fib_pair, fib_which_table}
 use Rattle.fib_form.specs.FibFields.{FibFields, fib_fields, pair_at}
 use Rattle.fib_form.specs.TableEntries.{TableEntry, IsPartAt}
-use Rattle.fib_form.proofs.PairLemmas.{pair_at-fib_pairs}
+use Rattle.fib_form.proofs.Public.{pair_at-fib_pairs}
 use Rattle.fkp_pages.specs.declared.kind.PageKind.TheVariants.{Chpx, Papx}
 use Rattle.piece_table.specs.Piece.{TextPiece, UnitPlace, IsTextPiece, flat_pieces, place_of_cp, total_length}
 use Rattle.piece_table.specs.ClxRules.{FitsPages}
 use Rattle.piece_table.specs.Printing.{IsPrintable}
 use Rattle.plain_doc.specs.Collected.{sections_of}
 use Rattle.doc_read.specs.CarriedParts.{AreWithinBounds, carried_streams}
-use Rattle.doc_read.proofs.ContentsBounds.{contents-bounded}
-use Rattle.file_rules.proofs.RightPlaces.{hold_out}
-use Rattle.doc_read.proofs.PlaceLemmas.{place_at, place_in_piece}
+use Rattle.doc_read.proofs.Public.{contents-bounded, place_at, place_in_piece}
+use Rattle.file_rules.proofs.Public.{hold_out}
 use Rattle.full_save.specs.TableStream.{entries_bytes, entries_pairs}
-use Rattle.full_save.proofs.EntriesFound.{AreNumbered, entry_stands}
-use Rattle.full_save.proofs.TableNumbers.{table_numbered}
+use Rattle.full_save.proofs.Public.{AreNumbered, entry_stands, table_numbered}
 use Rattle.doc_bits.specs.Together.{AreTogether}
 use Rattle.fib_form.specs.declared.fib.KeptFib.{KeptFib}
 use Rattle.plain_doc.specs.declared.carried.Carried.{Carried}
@@ -36,7 +34,7 @@ use Rattle.save_laws.specs.Places.{Given, given_of}
 use Rattle.save_laws.specs.Slots.{Slot, shown, loose, last, IsPlaced, whole_text}
 use Rattle.save_laws.specs.Saves.{saved_entries, KeepsFields, IsFileOf}
 use Rattle.save_laws.specs.FastSaves.{StandsInEither, IsGivenBy, IsFastSaved}
-use Rattle.save_bounds.proofs.RenewedLemmas.{name_six}
+use Rattle.save_laws.proofs.Public.{name_six}
 use Rattle.fast_save_layout.specs.Saves.{plan_of}
 use Rattle.fast_save_layout.specs.Answers.{IsAppended}
 use Rattle.fast_save_layout.specs.PlannedSections.{planned_seds}
@@ -71,7 +69,7 @@ place_small r at wide (inr planned) =
     let small = (base_is r).small in
     omega (arith, here, below, len, small)
 
--- what gives something there stands there
+-- what gives something there is there
 stands_by : (r : Ready) (at : ℕ) (wide : Bool) (given : Given) →
     IsGivenBy (old_stream r.save) (plan_of r.save) at wide given →
     StandsInEither (old_stream r.save) (plan_of r.save) at wide

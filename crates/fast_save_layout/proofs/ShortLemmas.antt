@@ -5,24 +5,22 @@ use Rattle.cfb_sectors.specs.Header.{sector_count}
 use Rattle.cfb_streams.specs.Names.{wd_name}
 use Rattle.cfb_layout.specs.Counts.{sectors_needed}
 use Rattle.cfb_layout.specs.Layout.{lengths_of}
-use Rattle.cfb_layout.proofs.ShorterLemmas.{no_file_shorter}
+use Rattle.cfb_layout.proofs.Public.{no_file_shorter}
 use Rattle.fib_form.specs.Fib.{fib_pair, kept_pairs}
 use Rattle.fib_form.specs.FibFields.{fib_fields}
 use Rattle.fib_form.specs.TableEntries.{entry, IsPartAt}
 use Rattle.fib_form.specs.TableParts.{pair_of}
 use Rattle.fib_form.specs.declared.table_parts.TablePart.{TablePart}
 use Rattle.fib_form.specs.declared.table_parts.TablePart.TheVariants.{PlcfBteChpx, PlcfBtePapx}
-use Rattle.fib_form.proofs.PairLemmas.{pair_at-fib_pairs}
+use Rattle.fib_form.proofs.Public.{pair_at-fib_pairs}
 use Rattle.fkp_pages.specs.declared.kind.PageKind.TheVariants.{Chpx, Papx}
 use Rattle.piece_table.specs.Printing.{IsPrintedClx}
-use Rattle.save_bounds.specs.SectorCounts.{lengths_in, lengths_of_two}
-use Rattle.save_bounds.specs.FastSizes.{SaveCounts, reckoned_sectors}
-use Rattle.save_bounds.specs.FastFiles.{FitCounts}
-use Rattle.save_bounds.specs.FilesBehind.{AreBehind}
-use Rattle.save_bounds.proofs.RenewedLemmas.{named_streams_are_renewed}
-use Rattle.save_bounds.proofs.SizeLemmas.{counts_bound_streams}
-use Rattle.save_bounds.proofs.FileLemmas.{fast_saves_fit, fast_streams_fit}
-use Rattle.save_bounds.proofs.BehindLemmas.{saves_behind_are_few}
+use Rattle.save_laws.specs.SectorCounts.{lengths_in, lengths_of_two}
+use Rattle.save_laws.specs.FastSizes.{SaveCounts, reckoned_sectors}
+use Rattle.save_laws.specs.FastFiles.{FitCounts}
+use Rattle.save_laws.specs.FilesBehind.{AreBehind}
+use Rattle.save_laws.proofs.Public.{named_streams_are_renewed, counts_bound_streams, fast_saves_fit, fast_streams_fit}
+use Rattle.save_laws.proofs.Public.{saves_behind_are_few}
 use Rattle.fast_save_layout.specs.Saves.{FastSave}
 use Rattle.fast_save_layout.specs.OldParts.{named_pair}
 use Rattle.fast_save_layout.specs.RenewedStreams.{chain_named}

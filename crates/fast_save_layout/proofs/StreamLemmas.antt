@@ -8,26 +8,24 @@ use Rattle.std.proofs.lemmas.Bool.{cases_Bool, cases_lt, false_from_ne_true, tru
 use Rattle.std.proofs.lemmas.List.{length-map, get_or_past}
 use Rattle.std.proofs.lemmas.List.Sums.{sum_by-le}
 use Rattle.std.proofs.lemmas.Option.{same_Some, none-some}
-use Rattle.doc_bits.proofs.ListLemmas.{map-map, from_map, get-map, All-from_slice_get}
-use Rattle.doc_bits.proofs.NumberLemmas.{number_at-bound}
+use Rattle.doc_bits.proofs.Public.{map-map, from_map, get-map, All-from_slice_get, number_at-bound}
 use Rattle.doc_bits.specs.Number.{AreBytes}
 use Rattle.cfb_streams.specs.Contents.{Stream, Contents, NamedBytes, HasNamed, AreStreams}
 use Rattle.cfb_streams.specs.Container.{HasContents}
 use Rattle.cfb_directory.specs.Directory.{AreSameNames, ComesBefore}
 use Rattle.cfb_directory.specs.Reach.{entry_place}
 use Rattle.cfb_streams.specs.Names.{wd_name, first_table_name, second_table_name, is_same_name}
-use Rattle.cfb_streams.proofs.SameNameLemmas.{same_name-is}
+use Rattle.cfb_streams.proofs.Public.{same_name-is}
 use Rattle.cfb_layout.specs.Layout.{no_stream, stream_at, contents_of}
-use Rattle.file_rules.proofs.NameLemmas.{one_stream}
+use Rattle.file_rules.proofs.Public.{one_stream}
 use Rattle.doc_read.specs.CarriedParts.{is_carried, carried_streams, AreWithinBounds}
-use Rattle.doc_read.proofs.CarriedLemmas.{without_chain}
-use Rattle.doc_read.proofs.NameLemmas.{wd-not_carried, table-not_carried}
-use Rattle.full_save.proofs.PutStreams.{filter-map}
+use Rattle.doc_read.proofs.Public.{without_chain, wd-not_carried, table-not_carried}
+use Rattle.full_save.proofs.Public.{filter-map}
 use Rattle.fast_save_layout.specs.RenewedStreams.{bytes_named, chain_named, renewed_bytes, renewed_streams}
 
 -- ---- streams by name
 
--- where the first stream with a name stands: the bytes and the sectors by the name are its own
+-- where the first stream with a name is: the bytes and the sectors by the name are its own
 pub record IsFirstNamed (streams : List Stream) (name : List ℕ) : Type 0 where
   pub index : ℕ
   pub stream : Stream

@@ -5,37 +5,33 @@ use Rattle.std.proofs.Common.{List, ◌++◌, length, drop, arith, length-append
 use Rattle.std.proofs.lemmas.List.{length-map, length-drop}
 use Rattle.std.proofs.lemmas.Option.{same_Some}
 use Rattle.std.proofs.Math.Nat.{mul-le-mul_left}
-use Rattle.doc_bits.proofs.ListLemmas.{from_map, length-range}
+use Rattle.doc_bits.proofs.Public.{from_map, length-range}
 use Rattle.doc_bits.specs.Together.{AreTogether}
 use Rattle.doc_bits.specs.declared.places.Where.TheVariants.{File}
 use Rattle.cfb_streams.specs.Contents.{Stream, NamedBytes, Contents, HasNamed}
 use Rattle.cfb_streams.specs.Container.{container_rules, HasContents}
 use Rattle.cfb_streams.specs.Names.{wd_name, table_name, is_same_name}
-use Rattle.cfb_streams.proofs.SameNameLemmas.{same_name-is, same_name-false}
+use Rattle.cfb_streams.proofs.Public.{same_name-is, same_name-false}
 use Rattle.cfb_layout.specs.Sectors.{filled}
-use Rattle.cfb_layout.proofs.BytesLemmas.{length-filled}
+use Rattle.cfb_layout.proofs.Public.{length-filled}
 use Rattle.fib_form.specs.Fib.{kept_pairs, form_size}
 use Rattle.fib_form.specs.FibFields.{FibFields}
 use Rattle.fib_form.specs.FibBytes.{written_fib}
 use Rattle.fib_form.specs.declared.table_parts.TablePart.{TablePart}
 use Rattle.fib_form.specs.declared.table_parts.TablePart.TheVariants.{PlcfBteChpx, PlcfBtePapx}
-use Rattle.fib_form.proofs.WriteLemmas.{length-written_fib}
+use Rattle.fib_form.proofs.Public.{length-written_fib}
 use Rattle.fkp_pages.specs.declared.kind.PageKind.{PageKind}
 use Rattle.fkp_pages.specs.declared.kind.PageKind.TheVariants.{Chpx, Papx}
 use Rattle.piece_table.specs.Printing.{IsPrintedClx}
 use Rattle.plain_doc.specs.Collected.{sections_of}
-use Rattle.file_rules.proofs.RightPlaces.{hold_out}
+use Rattle.file_rules.proofs.Public.{hold_out}
 use Rattle.full_save.specs.WordDocument.{table_stream}
-use Rattle.full_save.proofs.EntriesFound.{entries_are_pairs}
-use Rattle.full_save.proofs.TableNumbers.{table_allowed}
+use Rattle.full_save.proofs.Public.{entries_are_pairs, table_allowed}
 use Rattle.save_laws.specs.Saves.{IsFileOf}
-use Rattle.save_bounds.specs.SectorCounts.{TwoStreams, HasBytesAnew, AreAnew, lengths_of_two}
-use Rattle.save_bounds.specs.FastSizes.{SaveCounts, WrittenLengths, AreCounted, AreAppended}
-use Rattle.save_bounds.specs.FastFiles.{AreFastStreams}
-use Rattle.save_bounds.proofs.BinLemmas.{longer_tables_are_short}
-use Rattle.save_bounds.proofs.ClxLemmas.{clx_is_short}
-use Rattle.save_bounds.proofs.RenewedLemmas.{name_six}
-use Rattle.save_bounds.proofs.TableLemmas.{tables_are_short}
+use Rattle.save_laws.specs.SectorCounts.{TwoStreams, HasBytesAnew, AreAnew, lengths_of_two}
+use Rattle.save_laws.specs.FastSizes.{SaveCounts, WrittenLengths, AreCounted, AreAppended}
+use Rattle.save_laws.specs.FastFiles.{AreFastStreams}
+use Rattle.save_laws.proofs.Public.{longer_tables_are_short, clx_is_short, name_six, tables_are_short}
 use Rattle.fast_save_layout.specs.Saves.{FastSave}
 use Rattle.fast_save_layout.specs.OldParts.{named_pair, named_part, StaysWithin}
 use Rattle.fast_save_layout.specs.PlannedSections.{planned_sepxes}

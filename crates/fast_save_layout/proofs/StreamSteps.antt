@@ -4,10 +4,10 @@ use Rattle.std.proofs.Common.{◌≡◌, ◌∙◌, refl, sym, ap, subst, ℕ, �
 use Rattle.std.proofs.Common.{List, [], ◌∷◌, ◌++◌, length, map, take, drop, get_or, Some, arith}
 use Rattle.std.proofs.lemmas.List.{drop_all, drop_more, take_more, take_all, take-map, map-append, length-map}
 use Rattle.std.proofs.lemmas.Option.{same_Some, slice_get_within, get_or_from_slice_get}
-use Rattle.doc_bits.proofs.ListLemmas.{there_is, get-map}
+use Rattle.doc_bits.proofs.Public.{there_is, get-map}
 use Rattle.cfb_streams.specs.Contents.{Stream, NamedBytes, AreStreams}
 use Rattle.cfb_streams.specs.Names.{wd_name, is_same_name}
-use Rattle.full_save.proofs.PlaceLemmas.{add_next}
+use Rattle.full_save.proofs.Public.{add_next}
 use Rattle.fast_save_layout.specs.RenewedStreams.{bytes_named, renewed_bytes, renewed_streams}
 use Rattle.fast_save_layout.proofs.StreamLemmas.{renewed}
 

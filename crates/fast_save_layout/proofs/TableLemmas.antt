@@ -5,35 +5,31 @@ use Rattle.std.proofs.Common.{List, [], ◌∷◌, length, Some, None, Option, B
 use Rattle.std.proofs.lemmas.Bool.{cases_lt, true≢false}
 use Rattle.std.proofs.lemmas.List.{length-append}
 use Rattle.std.proofs.lemmas.Option.{slice_get_within}
-use Rattle.doc_bits.proofs.ListLemmas.{from_map}
-use Rattle.doc_bits.proofs.TogetherLemmas.{beside}
+use Rattle.doc_bits.proofs.Public.{from_map, beside}
 use Rattle.fkp_pages.specs.declared.kind.PageKind.{PageKind}
 use Rattle.fkp_pages.specs.declared.kind.PageKind.TheVariants.{Chpx, Papx}
 use Rattle.fkp_pages.specs.declared.lists.Bin.{Bin}
 use Rattle.fkp_pages.specs.Bin.{ArePrintableBins, IsBinPage, bin_fcs}
 use Rattle.fkp_pages.specs.InARow.{numbered_bins}
 use Rattle.fkp_pages.specs.Rows.{KeepsRanges}
-use Rattle.fkp_pages.proofs.RowLemmas.{row_is_printable, length-numbered_bins}
+use Rattle.fkp_pages.proofs.Public.{row_is_printable, length-numbered_bins, ranges_kept, printed_table}
 use Rattle.piece_table.specs.Piece.{UnitPlace}
 use Rattle.plain_doc.specs.declared.item.Mark.{Mark}
 use Rattle.plain_doc.specs.declared.item.Item.{Item}
-use Rattle.plain_doc.proofs.MainLemmas.{main_ends, last_marked}
+use Rattle.plain_doc.proofs.Public.{main_ends, last_marked}
 use Rattle.prop_map.specs.Settings.{Properties}
 use Rattle.piece_table.specs.Piece.{flat_pieces, unit_bytes}
 use Rattle.save_laws.specs.Places.{Given, given_of, GivesAt, GivesCharacters, GivesMark, IsMarkedAfter}
 use Rattle.save_laws.specs.Slots.{shown, IsPlaced, ReadsAfter, whole_text}
 use Rattle.save_laws.specs.Saves.{HasRanges}
 use Rattle.save_laws.specs.FastSaves.{StandsInEither, IsGivenBy, StandsInSession}
-use Rattle.save_laws.proofs.PlaceLemmas.{mark_before}
-use Rattle.save_laws.proofs.SlotLemmas.{main_slot}
+use Rattle.save_laws.proofs.Public.{mark_before, main_slot}
 use Rattle.fast_save_layout.specs.Saves.{plan_of}
 use Rattle.fast_save_layout.specs.KeptBins.{kept_bins}
 use Rattle.fast_save_layout.specs.Appended.{old_bins, old_stream, added_runs, added_pages, first_page}
 use Rattle.fast_save_layout.specs.Appended.{runs_begin, bins_end, fast_bins, fast_bin_table}
 use Rattle.fast_save_layout.proofs.KeptBinLemmas.{AreFirstRanges, MayFollow, kept_are_first, first_are_before}
 use Rattle.fast_save_layout.proofs.KeptBinLemmas.{first_before_end, kept_further, printable_with}
-use Rattle.fkp_pages.proofs.LongerLemmas.{ranges_kept}
-use Rattle.fkp_pages.proofs.PrintedBinLemmas.{printed_table}
 use Rattle.fast_save_layout.proofs.ReadyLemmas.{Ready, is_valid, stream_is, old_table_is, base_is, added_are}
 use Rattle.fast_save_layout.proofs.ReadyLemmas.{none_there}
 use Rattle.fast_save_layout.proofs.ReadyLemmas.{end_low, end_high, pages_are, pages_whole, have_room}
@@ -67,7 +63,7 @@ number_room Papx r =
 length-later : (kind : PageKind) (r : Ready) → length (later kind r) ≡ length (added_pages kind r.save).starts
 length-later kind r = length-numbered_bins (first_page kind r.save) (added_pages kind r.save).starts
 
--- the page of a place that stands in the old stream is in a range that is kept
+-- the page of a place that is in the old stream is in a range that is kept
 range_kept : (kind : PageKind) (r : Ready) (at number : ℕ) → IsBinPage (old_bins kind r.save) at number →
     at < r.save.base → 0 < length (kept kind r)
 range_kept kind r at number page below =
@@ -82,7 +78,7 @@ range_kept kind r at number page below =
           absurd (omega (arith, high, from, below))
     ]
 
--- where nothing is added, each place stands in the old stream
+-- where nothing is added, each place is in the old stream
 old_gives : (r : Ready) (at : ℕ) (wide : Bool) (given : Given) → length r.save.added ≤ 0 →
     IsGivenBy (old_stream r.save) (plan_of r.save) at wide given → GivesAt (old_stream r.save) at wide given
 old_gives r at wide given none (inl gives) = gives

@@ -1,4 +1,4 @@
--- WordDocument of a save behind an old stream: what stands where.
+-- WordDocument of a save behind an old stream: what is where.
 use Rattle.std.specs.Prelude.{slice_get, slice_index, replicate}
 use Rattle.std.proofs.Common.{◌≡◌, ◌∙◌, refl, sym, ap, subst, inl, inr, ℕ, ◌+◌, ◌-◌, ◌*◌, ◌/◌, ◌<◌, ◌≤◌, ◌^◌}
 use Rattle.std.proofs.Common.{List, [], ◌++◌, length, map, drop, Some, arith, append_assoc}
@@ -7,18 +7,16 @@ use Rattle.std.proofs.lemmas.Bool.{cases_lt}
 use Rattle.std.proofs.lemmas.List.{append-nil, length-map, length-drop, get_or_append_left, get_or-append-add}
 use Rattle.std.proofs.lemmas.List.{get_or-drop}
 use Rattle.std.proofs.lemmas.Option.{slice_get_within, get_or_from_slice_get}
-use Rattle.doc_bits.proofs.ListLemmas.{All_at, get-map, from_map}
-use Rattle.doc_bits.proofs.NumberLemmas.{number_at-after, number_at-before}
+use Rattle.doc_bits.proofs.Public.{All_at, get-map, from_map, number_at-after, number_at-before}
 use Rattle.doc_bits.specs.Number.{u16_at}
 use Rattle.doc_bits.specs.Rules.{Hold}
 use Rattle.cfb_layout.specs.Sectors.{units_for, filled, padded}
-use Rattle.cfb_layout.proofs.BytesLemmas.{length-filled, entry_at, filled_at}
+use Rattle.cfb_layout.proofs.Public.{length-filled, entry_at, filled_at}
 use Rattle.fib_form.specs.Fib.{kept_pairs, form_size, fib_form, fib_size}
 use Rattle.fib_form.specs.FibFields.{FibFields, fib_fields, IsFib, AreCounts, IsKeptFlags}
 use Rattle.fib_form.specs.FibBytes.{written_fib}
 use Rattle.fib_form.specs.FibRules.{fib_rules}
-use Rattle.fib_form.proofs.FibLemmas.{read_back, sum-three, form_size-most}
-use Rattle.fib_form.proofs.WriteLemmas.{length-written_fib}
+use Rattle.fib_form.proofs.Public.{read_back, sum-three, form_size-most, length-written_fib}
 use Rattle.fkp_pages.specs.declared.kind.PageKind.{PageKind}
 use Rattle.fkp_pages.specs.declared.kind.PageKind.TheVariants.{Chpx, Papx}
 use Rattle.fkp_pages.specs.declared.lists.Bin.{Bin}
@@ -27,7 +25,7 @@ use Rattle.fkp_pages.specs.Bin.{ArePrintableBins, bin_fcs, printed_bin}
 use Rattle.fkp_pages.specs.InARow.{numbered_bins}
 use Rattle.fkp_pages.specs.Rows.{IsRow, NamesRow, row_bins}
 use Rattle.fkp_pages.specs.PageBytes.{last_fc}
-use Rattle.fkp_pages.proofs.LongerLemmas.{longer_tables_name_both}
+use Rattle.fkp_pages.proofs.Public.{longer_tables_name_both}
 use Rattle.piece_table.specs.Printing.{IsPrintedClx}
 use Rattle.plain_doc.specs.declared.item.Item.{Item}
 use Rattle.doc_bits.specs.declared.places.Where.TheVariants.{Main}
@@ -36,19 +34,16 @@ use Rattle.prop_map.specs.Settings.{Properties}
 use Rattle.plain_doc.specs.declared.carried.Carried.{Carried}
 use Rattle.plain_doc.specs.Collected.{sections_of}
 use Rattle.plain_doc.specs.Document.{IsFormedItem}
-use Rattle.plain_doc.proofs.TextListLemmas.{collected_from}
-use Rattle.save_laws.proofs.FullSections.{FitsSepx}
-use Rattle.plain_doc.proofs.MainLemmas.{main_ends}
+use Rattle.plain_doc.proofs.Public.{collected_from, main_ends}
+use Rattle.save_laws.proofs.Public.{FitsSepx, length-story_slots, length-loose_if}
 use Rattle.std.proofs.lemmas.List.Concat.{length-flat_map}
 use Rattle.full_save.specs.WordDocument.{units_bytes}
-use Rattle.full_save.proofs.StretchRuns.{IsWritableItem, character_run, paragraph_run}
-use Rattle.full_save.proofs.EntriesFound.{AreAllowed, entries_are_pairs, entries_are_wide}
-use Rattle.full_save.proofs.TableNumbers.{table_allowed}
+use Rattle.full_save.proofs.Public.{IsWritableItem, character_run, paragraph_run, AreAllowed, entries_are_pairs}
+use Rattle.full_save.proofs.Public.{entries_are_wide, table_allowed, few_collected}
 use Rattle.save_laws.specs.Places.{Given, given_of, fib_end}
 use Rattle.save_laws.specs.Plans.{AreRunsOf, HaveRow, IsWrittenPlan}
 use Rattle.save_laws.specs.KeptPages.{KeepsBytes, KeepsPages}
 use Rattle.save_laws.specs.Slots.{story_counts}
-use Rattle.save_laws.proofs.SlotLemmas.{length-story_slots, length-loose_if}
 use Rattle.fast_save_layout.specs.Saves.{FastSave, plan_of}
 use Rattle.fast_save_layout.specs.KeptBins.{kept_bins}
 use Rattle.fast_save_layout.specs.Kept.{CanBeAppended}
@@ -68,7 +63,6 @@ use Rattle.fast_save_layout.proofs.ReadyLemmas.{form_is, form_stays}
 use Rattle.fast_save_layout.proofs.ReadyLemmas.{marks_added, pages_are, pages_whole, have_room}
 use Rattle.fast_save_layout.proofs.BodyLemmas.{body_sizes}
 use Rattle.fast_save_layout.proofs.TableLemmas.{kept_low, bins_printable, begins_there, ranges_are_kept}
-use Rattle.full_save.proofs.StreamLengths.{few_collected}
 
 -- a save with the Clx of its pieces, and room for one more quick save
 pub record Made : Type 0 where
@@ -95,7 +89,7 @@ new_fib m = fast_fib (the_save m) m.clx
 abbrev pub new_wd : Made → List ℕ
 new_wd m = fast_wd (the_save m) m.clx
 
--- where the FIB ends, in the old stream and in the new one, and what stands behind it
+-- where the FIB ends, in the old stream and in the new one, and what is behind it
 abbrev pub fib_len : Made → ℕ
 fib_len m = form_size (the_save m).fib.form
 

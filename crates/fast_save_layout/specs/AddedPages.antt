@@ -11,7 +11,7 @@ use Rattle.fkp_pages.specs.Bin.{IsBinTable}
 use Rattle.plain_doc.specs.declared.item.Item.{Item}
 use Rattle.plain_doc.specs.RulesOfItems.{HasShortProperties}
 use Rattle.full_save.specs.Runs.{text_runs}
-use Rattle.save_bounds.specs.SharedPages.{pages_taken}
+use Rattle.save_laws.specs.SharedPages.{pages_taken}
 use Rattle.fast_save_layout.specs.OldParts.{StaysWithin, named_part}
 use Rattle.fast_save_layout.specs.RenewedStreams.{bytes_named}
 use Rattle.fast_save_layout.specs.MarkRuns.{mark_runs}
@@ -30,7 +30,7 @@ pub record HasParagraphBins (fib : FibFields) (contents : Contents) : Type 0 whe
   pub named : named_part fib (table_stream_of fib contents) PlcfBtePapx ≡ paragraph_bins fib contents
   pub table : IsBinTable (paragraph_bins fib contents)
 
--- the pages of items whose units stand from a byte on, behind the ranges of a table
+-- the pages of items whose units are from a byte on, behind the ranges of a table
 abbrev pub pages_behind : List ℕ → ℕ → List Item → ℕ
 pages_behind table base items =
     pages_taken Chpx (text_runs Chpx base items) + pages_taken Papx (mark_runs table base items)

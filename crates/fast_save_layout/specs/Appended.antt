@@ -84,7 +84,7 @@ added_pages kind save = pages_of kind (added_runs kind save)
 abbrev pub page_count : FastSave → ℕ
 page_count save = length (added_pages Chpx save).starts + length (added_pages Papx save).starts
 
--- the number of the first page of a kind: a page stands at 512 times its number
+-- the number of the first page of a kind: a page is at 512 times its number
 abbrev pub first_page : PageKind → FastSave → ℕ
 first_page Chpx save = units_for 512 (added_end save)
 first_page Papx save = units_for 512 (added_end save) + length (added_pages Chpx save).starts

@@ -11,8 +11,8 @@ use Rattle.piece_table.specs.Printing.{IsPrintedClx}
 use Rattle.plain_doc.specs.Document.{IsFormedText}
 use Rattle.plain_doc.specs.Formed.{IsFormed}
 use Rattle.full_save.specs.WordDocument.{table_stream}
-use Rattle.save_bounds.specs.ClxLengths.{HaveShortPrcs}
-use Rattle.save_bounds.specs.FastSizes.{SaveCounts, reckoned_sectors}
+use Rattle.save_laws.specs.ClxLengths.{HaveShortPrcs}
+use Rattle.save_laws.specs.FastSizes.{SaveCounts, reckoned_sectors}
 use Rattle.fast_save_layout.specs.declared.fault.AppendFault.TheVariants.{TooLarge}
 use Rattle.fast_save_layout.specs.Saves.{FastSave}
 use Rattle.fast_save_layout.specs.OldParts.{named_pair}

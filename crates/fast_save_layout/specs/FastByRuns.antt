@@ -1,4 +1,4 @@
--- Fast saves by the runs of their pages: where the units that stand in the old stream are bounded there, all are
+-- Fast saves by the runs of their pages: where the units that are in the old stream are bounded there, all are
 -- bounded in the new one.
 use Rattle.std.specs.Prelude.{◌≡◌, ◌<◌, ℕ, List, Bool, Some, slice_get}
 use Rattle.piece_table.specs.Piece.{UnitPlace, flat_pieces}
@@ -15,7 +15,7 @@ use Rattle.fast_save_layout.specs.Answers.{IsAppended}
 abbrev pub ends_in : FastSave → List Bool
 ends_in save = text_ends (whole_text save.document save.ends)
 
--- each unit that stands before the added text is bounded in the old stream
+-- each unit that is before the added text is bounded in the old stream
 abbrev pub AreBoundedBefore : FastSave → Type 0
 AreBoundedBefore save =
     (k : ℕ) (place : UnitPlace) (end : Bool) → slice_get (flat_pieces save.pieces) k ≡ Some place →

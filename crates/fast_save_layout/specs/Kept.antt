@@ -20,9 +20,9 @@ use Rattle.save_laws.specs.FastSaves.{StandsInSession}
 use Rattle.fast_save_layout.specs.Saves.{FastSave, plan_of}
 use Rattle.fast_save_layout.specs.Appended.{page_count, fast_table}
 
--- the old file holds a document, which has what this one carries along; each unit of the text stands in its
+-- the old file holds a document, which has what this one carries along; each unit of the text is in its
 -- WordDocument
--- or in the added text, which begins at the next page; the properties of each section stand there or are to be written;
+-- or in the added text, which begins at the next page; the properties of each section are there or are to be written;
 -- and nothing is too large for the places in a file
 pub record CanBeAppended (save : FastSave) : Type 0 where
   pub saved : Document

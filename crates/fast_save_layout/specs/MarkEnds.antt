@@ -5,7 +5,7 @@ use Rattle.fkp_pages.specs.Rows.{IsInRun}
 use Rattle.plain_doc.specs.declared.item.Item.{Item}
 use Rattle.fast_save_layout.specs.MarkRuns.{mark_runs}
 
--- the run that holds the unit of an item, which stands at a place, ends with the unit where a mark ends the item, and
+-- the run that holds the unit of an item, which is at a place, ends with the unit where a mark ends the item, and
 -- beyond it where none does
 pub record EndsWithMark (runs : List Run) (at : ℕ) (item : Item) : Type 0 where
   pub run : Run

@@ -43,7 +43,7 @@ abbrev pub runs_end : ℕ → List Run → ℕ
 runs_end place [] = place
 runs_end place (run ∷ runs) = last_fc (run ∷ runs)
 
--- the runs of items whose units stand from a place on, behind the ranges that are kept of a table
+-- the runs of items whose units are from a place on, behind the ranges that are kept of a table
 abbrev pub mark_runs : List ℕ → ℕ → List Item → List Run
 mark_runs table base items = begun (kept_end table base) (reached items (text_runs Papx base items))
 

@@ -20,7 +20,7 @@ pub record AreMarksSoFar (at : ℕ) (done : List Item) (runs : ParagraphRuns) : 
   pub open_ends : leaves_open done ≡ true → runs.from < at + 2 * length done
   pub mark_ends : leaves_open done ≡ false → runs.from ≡ at + 2 * length done
 
--- the runs go on by an item that has this mark, whose unit stands before `end`
+-- the runs go on by an item that has this mark, whose unit is before `end`
 abbrev pub MarkEnds : Mark → ℕ → ParagraphRuns → ParagraphRuns → Type 0
 MarkEnds mark end old new =
     (at : ℕ) (done : List Item) (item : Item) → end ≡ at + 2 * length (done ++ item ∷ []) → item.mark ≡ Some mark →
@@ -33,7 +33,7 @@ MarksGoOn mark count begin old new =
     HaveAlike (λ item. item.mark) mark text place count →
     AreMarksSoFar at (done ++ take place text) old → AreMarksSoFar at (done ++ take (place + count) text) new
 
--- the runs go on by a text with these runs of what stands beside its units
+-- the runs go on by a text with these runs of what is beside its units
 abbrev pub MarksGoOnBy : List (ValueRun Attached) → ℕ → ParagraphRuns → ParagraphRuns → Type 0
 MarksGoOnBy runs begin old new =
     (at : ℕ) (done text : List Item) → begin ≡ at + 2 * length done → expanded runs ≡ map attached_of text →

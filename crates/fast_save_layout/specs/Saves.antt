@@ -12,10 +12,10 @@ use Rattle.save_laws.specs.Ends.{ends_of}
 use Rattle.fast_save_layout.specs.declared.saving.SavedFile.{SavedFile}
 use Rattle.fast_save_layout.specs.declared.saving.EditedText.{EditedText}
 
--- the file that is there, its FIB and its streams; the document; the pieces of its text, and whether marks stand
+-- the file that is there, its FIB and its streams; the document; the pieces of its text, and whether marks are
 -- behind stories; the items whose units are added from a byte on; and for each section the place of its properties,
 -- where
--- they stand in the old stream
+-- they are in the old stream
 pub record FastSave : Type 0 where
   pub file : List ℕ
   pub fib : FibFields

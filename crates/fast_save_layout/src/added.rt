@@ -20,7 +20,7 @@ ghost use Rattle.fast_save_layout.specs.Bodies.{IsAddedBody};
 
 use crate::kept_bins::{keep_bins, kept_end};
 use crate::old_streams::old_part;
-use crate::runs::{UNIT_LEN, end_of, paragraph_runs};
+use crate::runs::{end_of, paragraph_runs};
 use crate::saving::{EditedText, SavedFile};
 use crate::sections::{SectionPlaces, append_sections};
 use doc_bits::{Bytes, Memory};
@@ -28,7 +28,8 @@ use doc_columns::{ColumnDocument, ColumnTexts, Columns};
 use fib_form::TablePart;
 use fkp_pages::{Bins, write_bin};
 use full_save::{
-    TableText, append_chpx_pages, append_papx_pages, append_text, character_runs, pages_for,
+    TableText, UNIT_LEN, append_chpx_pages, append_papx_pages, append_text, character_runs,
+    pages_for,
 };
 use save_laws::Ends;
 use std::alloc::Global;
@@ -85,7 +86,7 @@ struct BinTable {
     next: u32,
 }
 
-/// Appends the pages of the runs of characters of items, whose units stand from `base` on. Answers the bin table: the
+/// Appends the pages of the runs of characters of items, whose units are from `base` on. Answers the bin table: the
 /// ranges of the old one that begin before `base`, and those of the pages, the first of which has this number.
 fn add_characters(
     alloc: Global,

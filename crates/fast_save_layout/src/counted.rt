@@ -4,7 +4,7 @@ ghost use Rattle.fkp_pages.specs.declared.kind.PageKind.{PageKind};
 ghost use Rattle.fkp_pages.specs.Bin.{IsBinTable};
 ghost use Rattle.fkp_pages.specs.Runs.{AreRuns};
 ghost use Rattle.full_save.specs.Runs.{text_runs};
-ghost use Rattle.save_bounds.specs.SharedPages.{pages_taken};
+ghost use Rattle.save_laws.specs.SharedPages.{pages_taken};
 ghost use Rattle.fast_save_layout.specs.MarkRuns.{mark_runs};
 ghost use Rattle.fast_save_layout.specs.AddedPages.{HasParagraphBins, HavePages, paragraph_bins, pages_behind};
 
@@ -34,7 +34,7 @@ pub fn added_pages(alloc: Global, old: &SavedFile<'_>, text: &EditedText<'_>) ->
     Ok(characters + paragraphs)
 }
 
-/// How many pages the runs of characters of items take, whose units stand from `base` on.
+/// How many pages the runs of characters of items take, whose units are from `base` on.
 fn character_pages(alloc: Global, items: &Columns, base: u32) -> Result<u64, Memory>
     requires small { base + 2 * length items.now < 2 ^ 32 }
     requires runs { AreRuns PageKind.Chpx (text_runs PageKind.Chpx base items.now) }

@@ -23,7 +23,7 @@ pub fn runs_end_with_marks()
     ensures { RunsEndWithMarks }
 {}
 
-/// Where the units that stand in the old stream are bounded there, all units of a save are in the new one.
+/// Where the units that are in the old stream are bounded there, all units of a save are in the new one.
 pub fn fast_saves_are_bounded()
     ensures { FastSavesAreBounded }
 {}

@@ -1,4 +1,4 @@
-// The runs of items whose units stand one after the other.
+// The runs of items whose units are one after the other.
 ghost use Rattle.std.specs.Prelude.{◌≡◌, ◌+◌, ◌*◌, ◌^◌, ◌<◌, ℕ, List, [], length, Some, OnOk, IfOk};
 ghost use Rattle.fkp_pages.specs.declared.kind.PageKind.{PageKind};
 ghost use Rattle.plain_doc.specs.declared.item.Item.{Item as TextItem};
@@ -10,15 +10,13 @@ ghost use Rattle.run_lists.specs.Spread.{total_len};
 use doc_bits::Memory;
 use doc_columns::{Attached, Columns};
 use fkp_pages::PapRuns;
+use full_save::UNIT_LEN;
 use plain_doc::Mark;
 use prop_map::PropMap;
 use run_lists::Run;
 use std::alloc::Global;
 
-/// The bytes of a unit.
-pub(crate) const UNIT_LEN: u32 = 2;
-
-/// The runs of paragraphs of items whose units stand from a byte on, of which the first one begins at `start`. What no
+/// The runs of paragraphs of items whose units are from a byte on, of which the first one begins at `start`. What no
 /// mark ends is a run without a style or properties, and reaches one unit further.
 pub(crate) fn paragraph_runs(
     alloc: Global,
@@ -81,7 +79,7 @@ impl ParagraphRuns {
         self.from
     }
 
-    /// Goes on by an item that has a mark, and whose unit stands before `end`.
+    /// Goes on by an item that has a mark, and whose unit is before `end`.
     fn close(&mut self, alloc: Global, mark: &Mark, end: u32) -> Result<(), Memory>
         ensures now { OnOk result (MarkEnds mark.now end self.old self.new) }
         ensures start { OnOk result (self.new.start ≡ self.old.start) }
@@ -126,7 +124,7 @@ impl ParagraphRuns {
         }
     }
 
-    /// Goes on by the items of these runs of what stands beside them, the first of which has its unit at `begin`.
+    /// Goes on by the items of these runs of what is beside them, the first of which has its unit at `begin`.
     fn push_runs(&mut self, alloc: Global, runs: &[Run<Attached>], begin: u32) -> Result<(), Memory>
         requires { begin + 2 * total_len runs.now < 2 ^ 32 }
         ensures now { OnOk result (MarksGoOnBy runs.now begin self.old self.new) }

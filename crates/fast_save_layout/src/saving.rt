@@ -30,7 +30,7 @@ pub struct SavedFile<'a> {
 }
 
 /// The text of a document that was edited: its pieces, in the `WordDocument` that is there and in added text; whether
-/// marks stand behind its stories; the items whose units are added from a byte on; and for each section the place of
+/// marks are behind its stories; the items whose units are added from a byte on; and for each section the place of
 /// its properties, or none where they are still to be written.
 #[derive(Drop)]
 pub struct EditedText<'a> {
@@ -88,7 +88,7 @@ fn new_parts(
 }
 
 /// The file of a document that is saved behind the `WordDocument` of a file: its bytes from the FIB on stay, what was
-/// added since stands behind them, and the FIB keeps its form and counts one more quick save. Where that stream has
+/// added since is behind them, and the FIB keeps its form and counts one more quick save. Where that stream has
 /// sectors of its own the file keeps them: each old sector stays but for those of the FIB, of the tables and of the
 /// directory.
 pub fn append(

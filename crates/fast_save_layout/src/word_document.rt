@@ -4,9 +4,8 @@ ghost use Rattle.cfb_layout.specs.Sectors.{filled};
 ghost use Rattle.fib_form.specs.Fib.{form_size};
 ghost use Rattle.fib_form.specs.FibBytes.{written_fib};
 
-use doc_bits::{Bytes, Memory};
+use doc_bits::{Bytes, Memory, push_zeros};
 use fib_form::Fib;
-use full_save::push_zeros;
 use std::alloc::Global;
 
 /// The most bytes of a FIB.

@@ -17,11 +17,10 @@ use cfb_in_place::{Change, appended};
 use cfb_layout::{LayoutFault, whole};
 use cfb_sectors::CUTOFF;
 use cfb_streams::{Container, table_name, word_document};
-use doc_bits::{Bytes, Memory, Units};
-use full_save::push_zeros;
+use doc_bits::{Bytes, Memory, Units, push_zeros};
 use std::alloc::Global;
 
-/// What a save writes: the new FIB, what stands in `WordDocument` from the added text on, and the table stream.
+/// What a save writes: the new FIB, what is in `WordDocument` from the added text on, and the table stream.
 #[derive(Drop)]
 pub(crate) struct NewParts {
     pub(crate) fib: Bytes,

@@ -37,7 +37,7 @@ abbrev pub HasTail : Form → ℕ → List ℕ → Type 0
 HasTail Early quick_saves wd = u16_at wd 898 ≡ 0
 HasTail Later quick_saves wd = (u16_at wd 1018 ≡ 2) × ((u16_at wd 1020 ≡ 0x00D9) × (u16_at wd 1022 ≡ quick_saves))
 
--- the numbers that stand in a stream that begins with a written FIB
+-- the numbers that are in a stream that begins with a written FIB
 pub record IsWritten (fib : FibFields) (wd : List ℕ) : Type 0 where
   pub long : form_size fib.form ≤ length wd
   pub ident : u16_at wd 0 ≡ 0xA5EC
@@ -92,7 +92,7 @@ pub form_size-most : (form : Form) → form_size form ≤ 1024
 form_size-most Early = lit≤ tt
 form_size-most Later = lit≤ tt
 
--- the form is that whose number of pairs stands there
+-- the form is that whose number of pairs is there
 pub fib_form-by_pairs : (form : Form) (wd : List ℕ) → u16_at wd 152 ≡ form_pairs form → fib_form wd ≡ form
 fib_form-by_pairs Early wd e = rw e refl
 fib_form-by_pairs Later wd e = rw e refl

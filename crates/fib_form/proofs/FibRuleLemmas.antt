@@ -5,8 +5,7 @@ use Rattle.std.proofs.lemmas.Bool.{cases_lt}
 use Rattle.std.proofs.lemmas.List.Elements.{All-from_get_or}
 use Rattle.doc_bits.specs.Number.{u16_at}
 use Rattle.doc_bits.specs.Rules.{Hold, IsSingle, Ascends, LeastOrNone}
-use Rattle.doc_bits.proofs.RuleLemmas.{least_same}
-use Rattle.doc_bits.proofs.NumberLemmas.{number_at-bound}
+use Rattle.doc_bits.proofs.Public.{least_same, number_at-bound}
 use Rattle.fib_form.specs.Fib.{fib_pair, fib_pairs, fib_flags, fib_ccp_text, fib_ccp_ftn, fib_ccp_hdd, pair_place}
 use Rattle.fib_form.specs.FibFields.{fib_fields, pair_at, IsWidePair, IsFib}
 use Rattle.fib_form.specs.Fib.{form_pairs, fib_form, quick_saves_in}
@@ -123,7 +122,7 @@ wrong_size-form wd found csw cslw least = least_same (IsWrongForm wd) (IsWrongSi
       | inr y ↦ elim y [ inl x ↦ absurd (x.1 cslw) | inr x ↦ x ]
     ]) least
 
--- where what stands behind the pairs is that of the form, the number of quick saves is below 16
+-- where what is behind the pairs is that of the form, the number of quick saves is below 16
 quick_saves_in-bound : (form : Form) (wd : List ℕ) → ((p : ℕ) → IsWrongTail form wd p → ⊥) → quick_saves_in form wd <
     16
 quick_saves_in-bound Early wd right = omega arith

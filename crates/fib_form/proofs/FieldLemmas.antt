@@ -5,8 +5,8 @@ use Rattle.std.proofs.Common.{add-zero}
 use Rattle.std.proofs.Math.Seq.{take-append_seam, drop-append_seam}
 use Rattle.std.proofs.lemmas.List.{length-replicate, get_or_append_left, get_or-replicate}
 use Rattle.doc_bits.specs.Number.{number_at, number_bytes}
-use Rattle.doc_bits.proofs.NumberLemmas.{number_at-after, number_at-read_back, length-number_bytes}
-pub use Rattle.doc_bits.proofs.NumberLemmas.{zeros-add, length-zeros}
+use Rattle.doc_bits.proofs.Public.{number_at-after, number_at-read_back, length-number_bytes}
+pub use Rattle.doc_bits.proofs.Public.{zeros-add, length-zeros}
 use Rattle.fib_form.specs.FibBytes.{Field, zeros, spelled}
 
 pub no_zeros : (tail : List ℕ) → zeros 0 ++ tail ≡ tail
@@ -35,7 +35,7 @@ put_over_zeros front tail before place width rest number here e =
     (zeros rest ++ tail)) in
     rw (head, back) refl
 
--- fields that stand one after the other, from an offset on and to another at most
+-- fields that are one after the other, from an offset on and to another at most
 abbrev pub Follow : ℕ → List Field → ℕ → Type 0
 Follow from [] end = from ≤ end
 Follow from (f ∷ fields) end = (from ≤ f.place) × Follow (f.place + f.width) fields end
@@ -113,7 +113,7 @@ pub spelled_apart : (front tail : List ℕ) (from : ℕ) (f : Field) (fields : L
     f.number)) ++ (spelled (f.place + f.width) fields ++ tail)
 spelled_apart front tail from f fields = simp append_assoc
 
--- a number that stands somewhere is read
+-- a number that is somewhere is read
 pub read_here : (front after whole : List ℕ) (place width number : ℕ) → place ≡ length front → whole ≡ front ++
     (number_bytes width number ++ after) → number < 256 ^ width → number_at whole place width ≡ number
 read_here front after whole place width number here e fits = rw (e, here) (number_at-read_back width number front

@@ -1,6 +1,7 @@
-pub mod FieldLemmas
-pub mod PairLemmas
-pub mod FibLemmas
-pub mod WriteLemmas
-pub mod FlagLemmas
-pub mod FibRuleLemmas
+pub mod Public
+mod FieldLemmas
+mod PairLemmas
+mod FibLemmas
+mod WriteLemmas
+mod FlagLemmas
+mod FibRuleLemmas

@@ -8,7 +8,7 @@ use Rattle.std.proofs.lemmas.List.{get_or-set_other, length-set}
 use Rattle.std.specs.Prelude.{slice_set}
 use Rattle.std.proofs.lemmas.Grind.{flat_map-append}
 use Rattle.doc_bits.specs.Number.{number_at, number_bytes}
-use Rattle.doc_bits.proofs.NumberLemmas.{length-number_bytes}
+use Rattle.doc_bits.proofs.Public.{length-number_bytes}
 use Rattle.fib_form.specs.Fib.{kept_pairs, fib_pair, fib_pairs}
 use Rattle.fib_form.specs.FibFields.{pair_at, empty_pairs, ArePairs, IsWidePair}
 use Rattle.fib_form.specs.FibBytes.{pair_bytes, zeros}

@@ -71,7 +71,7 @@ drop_front front tail n size = rw (← size) (drop-append_seam front tail)
 pub take_front : (front tail : List ℕ) (n : ℕ) → length front ≡ n → take n (front ++ tail) ≡ front
 take_front front tail n size = rw (← size) (take-append_seam front tail)
 
--- zeros for the fields, for the pairs, and for what stands behind them
+-- zeros for the fields, for the pairs, and for what is behind them
 pub zeros_apart : (filled tail : List ℕ) (size : ℕ) → 898 ≤ size → filled ≡ zeros size →
     filled ++ tail ≡ zeros 154 ++ (zeros 744 ++ (zeros (size - 898) ++ tail))
 zeros_apart filled tail size least e =
@@ -86,14 +86,14 @@ clear_before filled tail size least e =
     let rest = zeros 744 ++ (zeros (size - 898) ++ tail) in
     rw (zeros_apart filled tail size least e, drop_front (zeros 154) rest 154 (length-zeros 154)) refl
 
--- what stands after the fields were put
+-- what is after the fields were put
 pub fields_put : (fields filled tail next : List ℕ) (size : ℕ) → 898 ≤ size → filled ≡ zeros size →
     next ≡ fields ++ drop 154 (filled ++ tail) → next ≡ fields ++ (zeros 744 ++ (zeros (size - 898) ++ tail))
 fields_put fields filled tail next size least e put =
     let rest = zeros 744 ++ (zeros (size - 898) ++ tail) in
     rw (put, zeros_apart filled tail size least e, drop_front (zeros 154) rest 154 (length-zeros 154)) refl
 
--- what stands behind fields and the 744 bytes of the pairs
+-- what is behind fields and the 744 bytes of the pairs
 pub behind_pairs : (fields pairs rest whole : List ℕ) → length fields ≡ 154 → length pairs ≡ 744 →
     whole ≡ fields ++ (pairs ++ rest) → drop 898 whole ≡ rest
 behind_pairs fields pairs rest whole size size_pairs e = rw (e, ← append_assoc fields pairs rest) (drop_front
@@ -126,7 +126,7 @@ pairs_left fib size pairs filled tail next last least zeroed same put put_pairs 
     fields_left put_pairs in
     rw same at left
 
--- zeros stand behind the pairs up to the end of the FIB
+-- zeros are behind the pairs up to the end of the FIB
 pub clear_tail : (fields pairs tail last : List ℕ) (size : ℕ) → 898 ≤ size → length fields ≡ 154 →
     length pairs ≡ 744 → last ≡ fields ++ (pairs ++ (zeros (size - 898) ++ tail)) →
     (drop size last ≡ tail) × (drop 898 last ≡ zeros (size - 898) ++ drop size last)

@@ -22,7 +22,7 @@ form_pairs Later = 0x6C
 abbrev pub kept_pairs : ℕ
 kept_pairs = 93
 
--- the fields that are read, judged or written, by the standard's names: FibBase, csw and FibRgW97, cslw and FibRgLw97,
+-- the fields that are read, checked or written, by the standard's names: FibBase, csw and FibRgW97, cslw and FibRgLw97,
 -- cbRgFcLcb, and behind the pairs cswNew, in the later form with nFibNew and cQuickSavesNew
 pub data FibField : Type 0 where
   WIdent : FibField
@@ -137,7 +137,7 @@ fib_ccp_ftn wd = fib_number CcpFtn wd
 abbrev pub fib_ccp_hdd : List ℕ → ℕ
 fib_ccp_hdd wd = fib_number CcpHdd wd
 
--- [MS-DOC] FibRgFcLcb97: where pair n stands
+-- [MS-DOC] FibRgFcLcb97: where pair n is
 abbrev pub pair_place : ℕ → ℕ
 pair_place n = 154 + 8 * n
 

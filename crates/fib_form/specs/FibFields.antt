@@ -39,7 +39,7 @@ empty_pairs = replicate kept_pairs (0, 0)
 abbrev pub pair_at : List (ℕ × ℕ) → ℕ → ℕ × ℕ
 pair_at pairs n = slice_index_or pairs n (0, 0)
 
--- the CP at which a story begins: the main text, the notes and the header texts stand one after the other
+-- the CP at which a story begins: the main text, the notes and the header texts are one after the other
 abbrev pub story_start : List ℕ → ℕ → ℕ
 story_start ccps story = sum (take story ccps)
 

@@ -36,20 +36,20 @@ IsOtherForm wd p =
 abbrev pub IsOverCount : List ℕ → ℕ → Type 0
 IsOverCount wd p = (p ≡ field_offset CQuickSavesNew) × (15 < fib_number CQuickSavesNew wd)
 
--- what stands behind the pairs is not that of the form
+-- what is behind the pairs is not that of the form
 abbrev pub IsWrongTail : Form → List ℕ → ℕ → Type 0
 IsWrongTail Early wd p = IsOther wd CswNew 0 p
 IsWrongTail Later wd p = IsOther wd LaterCswNew 2 p ⊎ (IsOther wd NFibNew 0x00D9 p ⊎ IsOverCount wd p)
 
--- cbRgFcLcb or what stands behind the pairs is not that of a form
+-- cbRgFcLcb or what is behind the pairs is not that of a form
 abbrev pub IsWrongForm : List ℕ → ℕ → Type 0
 IsWrongForm wd p = IsOtherForm wd p ⊎ IsWrongTail (fib_form wd) wd p
 
--- csw, cslw, cbRgFcLcb or what stands behind the pairs is not that of a form
+-- csw, cslw, cbRgFcLcb or what is behind the pairs is not that of a form
 abbrev pub IsWrongSize : List ℕ → ℕ → Type 0
 IsWrongSize wd p = IsOther wd Csw 14 p ⊎ (IsOther wd Cslw 22 p ⊎ IsWrongForm wd p)
 
--- Profile: comments, endnotes and text boxes are refused. One of their four counts, which stand
+-- Profile: comments, endnotes and text boxes are refused. One of their four counts, which are
 -- from ccpAtn on, is not 0
 abbrev pub HasOtherStory : List ℕ → ℕ → ℕ → Type 0
 HasOtherStory wd k p = (p ≡ field_offset CcpAtn + 4 * k) × (u32_at wd (field_offset CcpAtn + 4 * k) ≢ 0)

@@ -11,7 +11,7 @@ pub record TableEntry : Type 0 where
 abbrev pub entry : ℕ → List ℕ → TableEntry
 entry number bytes = record { number = number; bytes = bytes; behind = [] }
 
--- the pair, fc and lcb, names the bytes of the part, and right after them stand the others
+-- the pair, fc and lcb, names the bytes of the part, and right after them are the others
 pub record IsPartAt (table : List ℕ) (pair : ℕ × ℕ) (part : TableEntry) : Type 0 where
   pub len : pair.1 ≡ length part.bytes
   pub bytes : slice_range table pair.0 (pair.0 + pair.1) ≡ part.bytes

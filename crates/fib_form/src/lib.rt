@@ -1,4 +1,4 @@
-//! The FIB, the file information block that `WordDocument` begins with: read, judged by rules 16 to 24, and written.
+//! The FIB, the file information block that `WordDocument` begins with: read, checked by rules 16 to 24, and written.
 #![tactic(auto)]
 
 mod fault;

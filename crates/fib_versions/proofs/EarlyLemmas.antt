@@ -9,12 +9,11 @@ use Rattle.std.proofs.lemmas.List.Elements.{All-from_get_or}
 use Rattle.std.proofs.lemmas.List.FromFn.{fill_by_all, get_or-map-range_with_len, length-map-range_with_len}
 use Rattle.doc_bits.specs.Number.{AreBytes}
 use Rattle.doc_bits.specs.Rules.{Hold}
-use Rattle.doc_bits.proofs.NumberLemmas.{number_at-bound}
+use Rattle.doc_bits.proofs.Public.{number_at-bound}
 use Rattle.fib_form.specs.declared.form.Form.TheVariants.{Early}
 use Rattle.fib_form.specs.Fib.{kept_pairs, form_size, fib_flags, fib_pair, pair_place}
 use Rattle.fib_form.specs.FibFields.{pair_at, fib_fields, ArePairs, IsWidePair, IsFib}
-use Rattle.fib_form.proofs.FibLemmas.{read_back}
-use Rattle.fib_form.proofs.FlagLemmas.{kept_flags-kept}
+use Rattle.fib_form.proofs.Public.{read_back, kept_flags-kept}
 use Rattle.fib_versions.specs.Early.{part_pairs, early_pair, early_pairs, early_fields, early_wd}
 use Rattle.fib_versions.specs.VersionRules.{version_rules}
 use Rattle.fib_versions.proofs.VersionLemmas.{early_counts}

@@ -1,2 +1,3 @@
-pub mod EarlyLemmas
-pub mod VersionLemmas
+pub mod Public
+mod EarlyLemmas
+mod VersionLemmas

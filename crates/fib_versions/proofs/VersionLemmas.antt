@@ -100,7 +100,7 @@ open_fib wd (_, (ident, (older, (hidden, _)))) = record {
   obfuscated = λ e. hidden 10 (refl, inr e);
 }
 
--- all its pairs stand in the stream, and what is behind them
+-- all its pairs are in the stream, and what is behind them
 pub all_there : (wd : List ℕ) → Hold (version_rules wd) → version_size wd ≤ length wd
 all_there wd hold = elim (cases_lt (length wd) (version_size wd)) [
   | inl short ↦ absurd (hold.0 (length wd) (refl, inr (open_fib wd hold, short)))

@@ -1,4 +1,4 @@
--- The FIB of the early form that stands in front of a WordDocument in place of its own, whatever version that has: the
+-- The FIB of the early form that is in front of a WordDocument in place of its own, whatever version that has: the
 -- same counts and kept fields, and the pairs of the parts that this profile has a meaning for.
 use Rattle.std.specs.Prelude.{ℕ, ◌==◌, Bool, false, List, [], ◌∷◌, ◌++◌, length, map, drop, if◌then◌else◌}
 use Rattle.std.specs.List.{list_any, range_with_len}

@@ -12,7 +12,7 @@ use Rattle.fib_versions.specs.Versions.{pair_count, version_size, all_ccp}
 abbrev pub oldest_fib : ℕ
 oldest_fib = 0x00C0
 
--- the numbers of the FIB are those of such a program: in an older or a hidden one other things stand at their places
+-- the numbers of the FIB are those of such a program: in an older or a hidden one other things are at their places
 pub record IsOpenFib (wd : List ℕ) : Type 0 where
   pub ident : fib_number WIdent wd ≡ 0xA5EC
   pub recent : oldest_fib ≤ fib_number NFib wd

@@ -1,4 +1,4 @@
--- [MS-DOC] FIB of any program from Word 97 to Word 2007. FibBase, FibRgW97, FibRgLw97 and the first 93 pairs stand at
+-- [MS-DOC] FIB of any program from Word 97 to Word 2007. FibBase, FibRgW97, FibRgLw97 and the first 93 pairs are at
 -- the same offsets in each; behind them are as many more pairs as its own number says, cswNew, and where that is not 0
 -- the numbers of the later program. `wd` is the bytes of WordDocument.
 use Rattle.std.specs.Prelude.{ℕ, zero, suc, ◌+◌, ◌-◌, ◌*◌, ◌==◌, min, List, if◌then◌else◌}
@@ -12,7 +12,7 @@ use Rattle.fib_versions.specs.declared.further.Further.TheVariants.{Comments, En
 abbrev pub pair_count : List ℕ → ℕ
 pair_count wd = fib_number CbRgFcLcb wd
 
--- [MS-DOC] cswNew, which stands behind the pairs
+-- [MS-DOC] cswNew, which is behind the pairs
 abbrev pub csw_new : List ℕ → ℕ
 csw_new wd = u16_at wd (pair_place (pair_count wd))
 
@@ -24,7 +24,7 @@ version_size wd = pair_place (pair_count wd) + (if csw_new wd == 0 then 2 else 6
 abbrev pub next_page : List ℕ → ℕ
 next_page wd = u16_at wd 8
 
--- [MS-DOC] FibRgLw97: the stories that stand behind the header texts, by their places there
+-- [MS-DOC] FibRgLw97: the stories that are behind the header texts, by their places there
 abbrev pub further_number : Further → ℕ
 further_number Comments = 0
 further_number Endnotes = 1
@@ -55,6 +55,6 @@ all_ccp wd = early_ccp wd + further_ccps wd 4
 abbrev pub further_start : List ℕ → Further → ℕ
 further_start wd story = early_ccp wd + further_ccps wd (further_number story)
 
--- the number of CPs that the pieces cover: where a story stands behind the main text, one more paragraph mark follows
+-- the number of CPs that the pieces cover: where a story is behind the main text, one more paragraph mark follows
 abbrev pub all_text_length : List ℕ → ℕ
 all_text_length wd = all_ccp wd + min 1 (all_ccp wd - fib_ccp_text wd)

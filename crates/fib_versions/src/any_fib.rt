@@ -12,7 +12,7 @@ use fib_form::{
 };
 use std::marker::Model;
 
-const PN_NEXT: usize = 8;
+pub const PN_NEXT: usize = 8;
 
 /// The FIB that a `WordDocument` stream of Word 97 to Word 2007 begins with. It lends the stream's bytes.
 #[derive(Drop)]

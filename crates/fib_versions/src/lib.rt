@@ -1,4 +1,4 @@
-//! The FIB of any program from Word 97 to Word 2007: judged, read, and made early.
+//! The FIB of any program from Word 97 to Word 2007: checked, read, and made early.
 #![tactic(auto)]
 
 mod any_fib;
@@ -8,7 +8,7 @@ mod laws;
 mod part_names;
 mod reading;
 
-pub use any_fib::AnyFib;
+pub use any_fib::{AnyFib, PN_NEXT};
 pub use early::is_part_pair;
 pub use further::Further;
 pub use laws::first_version_fault_is_least;

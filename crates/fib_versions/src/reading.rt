@@ -1,4 +1,4 @@
-// The rules on the FIB of any program, judged.
+// The rules on the FIB of any program, checked.
 ghost use Rattle.std.specs.Prelude.{◌≡◌, ◌⊎◌, ◌<◌, ◌≤◌, length, MatchResult, IsTrue, ◌↔◌};
 ghost use Rattle.doc_bits.specs.Rules.{Hold, IsFirst, LeastOrNone};
 ghost use Rattle.fib_form.specs.declared.form.Form.TheVariants.{Early};
@@ -19,7 +19,7 @@ use fib_form::{
 /// nFib of the first program that writes this form.
 const OLDEST_FIB: u16 = 0x00C0;
 
-/// How many bytes cswNew has, and how many it has with the least that stands behind it in later programs.
+/// How many bytes cswNew has, and how many it has with the least that is behind it in later programs.
 const CSW_NEW_LEN: usize = 2;
 
 const NEW_LEN: usize = 6;
@@ -93,7 +93,7 @@ fn is_open(wd: &[u8]) -> bool
         && bit_of(flags, F_OBFUSCATED) != 1
 }
 
-/// Whether the stream ends before the pairs and what stands behind them do.
+/// Whether the stream ends before the pairs and what is behind them do.
 fn is_cut(wd: &[u8]) -> bool
     requires { form_size Early ≤ length wd.now }
     ensures cut { IsTrue result ↔ (length wd.now < version_size wd.now) }

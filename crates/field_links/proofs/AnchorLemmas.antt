@@ -69,7 +69,7 @@ from_numbers x y xs ys (inr a) (inr b) e =
     let all : 46 ∷ 102 ∷ 102 ∷ 102 ∷ 100 ∷ 46 ∷ xs ≡ 46 ∷ 102 ∷ 102 ∷ 102 ∷ 100 ∷ 46 ∷ ys = sym one ∙ (e ∙ other) in
     record { here = a ∙ sym b; more = cc (all) }
 
--- a full stop stands for no character itself
+-- a full stop represents no character itself
 no_stop : (x y : ℕ) (xs ys : List ℕ) → is_anchor_character x ≡ true → x ∷ xs ≡ (46 ∷ (hex_text y ++ 46 ∷ [])) ++ ys →
     AreSame x y xs ys
 no_stop x y xs ys stays e =

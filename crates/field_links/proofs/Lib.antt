@@ -1,7 +1,8 @@
+pub mod Public
 mod AnchorLemmas
 mod CharacterLemmas
-pub mod OpenLemmas
+mod OpenLemmas
 mod StepLemmas
-pub mod UrlLemmas
+mod UrlLemmas
 mod WaitingLemmas
 mod WordLemmas

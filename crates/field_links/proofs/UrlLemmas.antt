@@ -13,7 +13,7 @@ use Rattle.field_links.specs.Urls.{anchor_character, anchor_name, begins, fragme
 use Rattle.field_links.specs.Urls.{is_alphanumeric, is_anchor_character, is_between, is_url_character, local_url, lower}
 use Rattle.field_links.specs.Urls.{percent_byte, percent_character, percent_text, upper_hex_digit, url_of}
 use Rattle.field_links.specs.Laws.{IsLocalUrl, IsSchemeUrl, LinksAreAllowed}
-use Rattle.doc_bits.proofs.TestLemmas.{and_true, or_first, or_second}
+use Rattle.doc_bits.proofs.Public.{and_true, or_first, or_second}
 
 -- ---- characters
 
@@ -61,7 +61,7 @@ last_of_four false true c d e = absurd (cc (e))
 last_of_four false false true d e = absurd (cc (e))
 last_of_four false false false d e = e
 
--- what stands between full stops
+-- what is between full stops
 pub numbered : (code : ℕ) → is_anchor_character code ≡ false → (code < 160) ⊎ (code ≡ 65533)
 numbered code e =
     elim (and_cases (nat_le 160 code) (not (code == 65533)) (last_of_four (is_alphanumeric code) (code == 95) (code ==

@@ -10,7 +10,7 @@ pub record IsSchemeUrl (url : List ℕ) : Type 0 where
   pub scheme : has_scheme url ≡ true
   pub characters : list_all is_url_character url ≡ true
 
--- a URL in the page itself: full stops stand round the numbers of characters
+-- a URL in the page itself: full stops are round the numbers of characters
 pub record IsLocalUrl (url : List ℕ) : Type 0 where
   pub name : List ℕ
   pub begins : url ≡ 35 ∷ name

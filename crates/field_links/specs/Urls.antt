@@ -21,7 +21,7 @@ is_url_character code = is_alphanumeric code || list_any (λ mark. code == mark)
 abbrev pub upper_hex_digit : ℕ → ℕ
 upper_hex_digit number = if nat_lt number 10 then 48 + number else 65 + (number - 10)
 
--- a byte that is no character of a URL stands behind a percent sign, in two digits
+-- a byte that is no character of a URL is behind a percent sign, in two digits
 abbrev pub percent_byte : ℕ → List ℕ
 percent_byte byte =
     if is_url_character byte then byte ∷ [] else 37 ∷ upper_hex_digit (byte / 16 % 16) ∷ upper_hex_digit (byte % 16) ∷ []
@@ -33,7 +33,7 @@ percent_character code = flat_map percent_byte (encode_utf8 code)
 abbrev pub percent_text : List ℕ → List ℕ
 percent_text units = flat_map percent_character (characters units)
 
--- the characters that stand for themselves in the name of an anchor: letters, digits, _ and -, and all from U+00A0 on
+-- the characters that represent themselves in the name of an anchor: letters, digits, _ and -, and all from U+00A0 on
 abbrev pub is_anchor_character : ℕ → Bool
 is_anchor_character code =
     is_alphanumeric code || (code == 95 || (code == 45 || (nat_le 0xA0 code && not (code == 0xFFFD))))

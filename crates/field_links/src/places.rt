@@ -3,11 +3,9 @@ ghost use Rattle.std.specs.Prelude.{◌≡◌, ◌+◌, ◌^◌, ◌<◌, []};
 ghost use Rattle.field_links.specs.OpenFields.{after_unit, is_in_results, is_link, hyperlink_in};
 ghost use Rattle.field_links.specs.OpenFields.{begun, separated, ended, has_begun};
 
+use plain_doc::MAX_OPEN;
 use std::marker::Model;
 use text_codes::{FIELD_BEGIN, FIELD_END, FIELD_SEPARATOR};
-
-/// How many fields may be open at once.
-const MAX_OPEN: usize = 128;
 
 /// [MS-DOC] flt: the type of HYPERLINK.
 const HYPERLINK: u8 = 0x58;

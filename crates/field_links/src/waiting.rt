@@ -170,7 +170,7 @@ pub fn upper_hex_digit(number: u8) -> u8
     }
 }
 
-/// Whether a character stands for itself in a URL.
+/// Whether a character represents itself in a URL.
 fn is_url_character(code: u32) -> bool
     ensures { result ≡ is_url_character code }
 {
@@ -185,7 +185,7 @@ fn is_url_character(code: u32) -> bool
     }
 }
 
-/// Whether a character stands for itself in the name of an anchor.
+/// Whether a character represents itself in the name of an anchor.
 fn is_anchor_character(code: u32) -> bool
     ensures { result ≡ is_anchor_character code }
 {

@@ -7,21 +7,18 @@ ghost use Rattle.field_links.specs.Urls.{is_nil};
 ghost use Rattle.field_links.specs.Kept.{HasFirstCharacter, HasFirstUnit, HasFirstWord, IsUnitAt};
 ghost use Rattle.field_links.specs.Kept.{front, is_in_quotes, rest_of, units_of, word_of};
 
-/// The last unit that parts words.
-const SPACE: u16 = 0x20;
+use text_codes::{REPLACEMENT, SPACE};
 
 const QUOTE: u16 = 0x22;
 
 const REVERSE_SOLIDUS: u16 = 0x5C;
-
-const REPLACEMENT: u16 = 0xFFFD;
 
 /// Where a word ends in the units that it begins with.
 #[derive(Clone, Copy)]
 pub(crate) enum Extent {
     /// At a separator or a quote.
     Plain,
-    /// At a quote in front of which no reverse solidus stands.
+    /// At a quote in front of which no reverse solidus is.
     Quoted,
     /// With the units.
     Whole,
@@ -59,7 +56,7 @@ impl<'a> FieldWord<'a> {
         self.next_unit().is_none()
     }
 
-    /// Whether it stands between quotes.
+    /// Whether it is between quotes.
     pub(crate) fn is_quoted(&self) -> bool
         ensures { result ≡ is_in_quotes self.now.extent }
     {

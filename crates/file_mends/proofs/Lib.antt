@@ -1,2 +1,3 @@
-pub mod OneLemmas
-pub mod PlaceLemmas
+pub mod Public
+mod OneLemmas
+mod PlaceLemmas

@@ -6,12 +6,11 @@ use Rattle.std.proofs.lemmas.List.{get_or-replicate, get_or_past, length-replica
 use Rattle.std.proofs.lemmas.Bool.{cases_lt}
 use Rattle.std.specs.Prelude.{replicate}
 use Rattle.doc_bits.specs.Number.{AreBytes, zeros}
-use Rattle.doc_bits.proofs.ByteListLemmas.{AreBytes-take, AreBytes-drop, joined_bytes}
+use Rattle.doc_bits.proofs.Public.{AreBytes-take, AreBytes-drop, joined_bytes}
 use Rattle.cfb_streams.specs.Contents.{Contents, Stream}
 use Rattle.cfb_streams.specs.Container.{HasContents}
 use Rattle.cfb_streams.specs.Names.{wd_name}
-use Rattle.cfb_streams.proofs.SameNameLemmas.{named_place}
-use Rattle.cfb_streams.proofs.UniqueLemmas.{contents_unique}
+use Rattle.cfb_streams.proofs.Public.{named_place, contents_unique}
 use Rattle.cfb_in_place.specs.InPlace.{byte_place}
 use Rattle.fib_form.specs.Fib.{pair_place}
 use Rattle.file_mends.specs.declared.mends.FileMend.{FileMend}

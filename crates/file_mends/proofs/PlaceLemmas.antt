@@ -1,4 +1,4 @@
--- Where the part of a broken rule stands.
+-- Where the part of a broken rule is.
 use Rattle.std.proofs.Common.{◌≡◌, ◌∙◌, inl, inr, sym, subst, ℕ, List, Option, Some, None, MatchOption, arith}
 use Rattle.std.proofs.Common.{◌+◌, ◌-◌, ◌<◌, ◌≤◌, [], ◌∷◌, ◌++◌, slice_get, option_map, length, take, drop, refl, ap}
 use Rattle.std.proofs.Common.{length-take, length-drop}
@@ -8,15 +8,14 @@ use Rattle.std.proofs.lemmas.List.{drop-drop}
 use Rattle.std.proofs.lemmas.Option.{same_Some, none-some, slice_get_within}
 use Rattle.doc_bits.specs.Number.{zeros}
 use Rattle.doc_bits.specs.Rules.{Hold}
-use Rattle.doc_bits.proofs.RuleLemmas.{hold_or_first}
+use Rattle.doc_bits.proofs.Public.{hold_or_first}
 use Rattle.cfb_sectors.specs.Judged.{IsCfbFault}
 use Rattle.cfb_sectors.specs.declared.faults.CfbFault.{CfbFault}
 use Rattle.cfb_sectors.specs.declared.faults.CfbFault.TheVariants.{Rule}
 use Rattle.cfb_directory.specs.Directory.{AreSameNames}
 use Rattle.cfb_streams.specs.Contents.{Contents, Stream}
 use Rattle.cfb_streams.specs.Container.{HasContents, outer_rules}
-use Rattle.cfb_streams.proofs.SingleLemmas.{outer_single}
-use Rattle.cfb_streams.proofs.UniqueLemmas.{contents_unique}
+use Rattle.cfb_streams.proofs.Public.{outer_single, contents_unique}
 use Rattle.cfb_streams.specs.Names.{wd_name}
 use Rattle.file_mends.specs.declared.part_places.PartPlace.{PartPlace}
 use Rattle.file_mends.specs.Parts.{IsFieldPart, IsPartOfRule}

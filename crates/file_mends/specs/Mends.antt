@@ -20,7 +20,7 @@ pub record MendsRule (file : List ℕ) (rule offset : ℕ) (mend : FileMend) (me
   pub mend_is : mend ≡ PartEmptied place.pair
   pub mended_is : mended ≡ zeroed place.at place.len file
 
--- a broken rule of what is read is mended, and the mend stands behind the others
+-- a broken rule of what is read is mended, and the mend is behind the others
 pub record IsMendedBy (file : List ℕ) (rule offset : ℕ) (old new : FileCopy) (mend : FileMend) : Type 0 where
   pub mends : MendsRule (bytes_read file old) rule offset mend (bytes_read file new)
   pub list : new.mends ≡ old.mends ++ mend ∷ []

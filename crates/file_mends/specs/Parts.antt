@@ -8,7 +8,7 @@ pub record StandsIn (wd : List ℕ) (n offset : ℕ) : Type 0 where
   pub from : (fib_pair wd n).0 ≤ offset
   pub to : offset < (fib_pair wd n).0 + (fib_pair wd n).1
 
--- the first of the three tables of fields in which it stands
+-- the first of the three tables of fields in which it is
 pub record IsInNotes (wd : List ℕ) (offset : ℕ) : Type 0 where
   pub no_main : ¬ StandsIn wd 16 offset
   pub here : StandsIn wd 18 offset

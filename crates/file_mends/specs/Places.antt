@@ -1,4 +1,4 @@
--- Where the pairs of a part stand in a file.
+-- Where the pairs of a part are in a file.
 use Rattle.std.specs.Prelude.{◌≡◌, ℕ, ◌+◌, ◌*◌, ◌/◌, ◌<◌, ◌≤◌, List, ◌++◌, length, take, drop, slice_get, Some}
 use Rattle.doc_bits.specs.Number.{zeros}
 use Rattle.doc_bits.specs.Rules.{Hold}
@@ -12,7 +12,7 @@ use Rattle.fib_form.specs.Fib.{pair_place}
 use Rattle.file_mends.specs.declared.part_places.PartPlace.{PartPlace}
 use Rattle.file_mends.specs.Parts.{IsPartOfRule, pairs_from}
 
--- the pairs of a part stand in a sector of WordDocument, of a file of so many bytes
+-- the pairs of a part are in a sector of WordDocument, of a file of so many bytes
 pub record ArePairsAt (sectors : List ℕ) (file_len : ℕ) (place : PartPlace) : Type 0 where
   pub sector : pair_place place.pair / sector_len < length sectors
   pub at_is : place.at ≡ byte_place sectors (pair_place place.pair)

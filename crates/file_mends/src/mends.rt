@@ -3,7 +3,7 @@
 /// A change of the bytes of a file that is named.
 #[derive(Clone, Copy)]
 pub enum FileMend {
-    /// So many zeros stand behind the file: its last sector was cut.
+    /// So many zeros are behind the file: its last sector was cut.
     LastSectorFilled(usize),
     /// The part of this pair is empty, and with it those that are nothing without it.
     PartEmptied(usize),

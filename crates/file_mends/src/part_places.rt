@@ -1,4 +1,4 @@
-// Where the pairs of the part stand in a file whose own rule it breaks.
+// Where the pairs of the part are in a file whose own rule it breaks.
 ghost use Rattle.std.specs.Prelude.{◌≡◌, ◌<◌, IfOk, MatchOption, Some, length, slice_get};
 ghost use Rattle.cfb_streams.specs.Contents.{Stream};
 ghost use Rattle.file_mends.specs.Places.{ArePairsAt, IsPartPlace, IsPlaceAmong, IsPlaceIn};
@@ -18,7 +18,7 @@ pub(crate) struct PartPlace {
     pub(crate) len: usize,
 }
 
-/// Where the pairs of the part stand in a file whose own rule is broken at an offset of the table stream.
+/// Where the pairs of the part are in a file whose own rule is broken at an offset of the table stream.
 pub(crate) fn part_place(
     alloc: Global,
     file: &[u8],
@@ -80,7 +80,7 @@ fn place_in(
     pairs_at(sectors, pair, file_len)
 }
 
-/// Where the pairs of a part stand in a file of so many bytes, by the sectors of `WordDocument`.
+/// Where the pairs of a part are in a file of so many bytes, by the sectors of `WordDocument`.
 fn pairs_at(sectors: &[u32], pair: usize, file_len: usize) -> Option<PartPlace>
     requires { pair < 93 }
     ensures { MatchOption result

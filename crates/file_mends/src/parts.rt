@@ -48,7 +48,7 @@ pub(crate) fn part_of_rule(wd: &[u8], rule: u8, offset: u32) -> Option<usize>
     None
 }
 
-/// The first table of fields in which an offset of the table stream stands.
+/// The first table of fields in which an offset of the table stream is.
 fn field_part(wd: &[u8], offset: u32) -> Option<usize>
     requires { 4096 ≤ length wd.now }
     ensures part { MatchOption result ((n : ℕ) → ¬ IsFieldPart wd.now offset n) (IsFieldPart wd.now offset) }
@@ -78,7 +78,7 @@ fn stands_in(wd: &[u8], n: usize, offset: u32) -> bool
     fc <= offset as u64 && (offset as u64) < fc + lcb
 }
 
-/// Where pair `n` stands in `WordDocument`.
+/// Where pair `n` is in `WordDocument`.
 pub(crate) fn pair_offset(n: usize) -> usize
     requires { n < 93 }
     ensures { result ≡ 154 + 8 * n }

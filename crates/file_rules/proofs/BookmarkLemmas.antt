@@ -5,7 +5,7 @@ use Rattle.std.proofs.lemmas.Bool.{cases_lt, le-ltb}
 use Rattle.std.proofs.lemmas.List.{length-take}
 use Rattle.doc_bits.specs.declared.places.Where.TheVariants.{Wd, Table}
 use Rattle.doc_bits.specs.Rules.{Hold, Nowhere, IsLeast}
-use Rattle.doc_bits.proofs.PlaceLemmas.{upto_same}
+use Rattle.doc_bits.proofs.Public.{upto_same}
 use Rattle.fib_form.specs.Fib.{fib_pair, pair_place, table_part}
 use Rattle.fib_form.specs.TableParts.{pair_of}
 use Rattle.fib_form.specs.declared.table_parts.TablePart.TheVariants.{SttbfBkmk}

@@ -2,7 +2,7 @@
 use Rattle.std.proofs.Common.{◌≡◌, ◌<◌, ◌∙◌, ap, inl, inr, ℕ, List, take, length, slice_index, arith}
 use Rattle.std.proofs.lemmas.List.{length-take}
 use Rattle.doc_bits.specs.Number.{u32_at}
-use Rattle.doc_bits.proofs.NumberLemmas.{number_at-bound}
+use Rattle.doc_bits.proofs.Public.{number_at-bound}
 use Rattle.cfb_streams.specs.Contents.{Contents}
 use Rattle.cfb_streams.specs.Container.{HasContents}
 use Rattle.file_rules.specs.FileRules.{AreSmall}

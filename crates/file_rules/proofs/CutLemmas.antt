@@ -3,7 +3,7 @@ use Rattle.std.proofs.Common.{◌≡◌, inl, inr, ℕ, ◌+◌, ◌-◌, ◌*�
 use Rattle.std.specs.Prelude.{IsTrue, ◌==◌}
 use Rattle.std.proofs.lemmas.Bool.{eqb-true, eq-eqb}
 use Rattle.doc_bits.specs.Rules.{LeastOrNone}
-use Rattle.doc_bits.proofs.RuleLemmas.{least_same}
+use Rattle.doc_bits.proofs.Public.{least_same}
 use Rattle.doc_parts.specs.Table.{plc_part, IsEmptyOrWhole, BreaksTable}
 use Rattle.doc_parts.specs.Stories.{cut_form, cut_cps}
 use Rattle.file_rules.specs.TextCuts.{BreaksCuts}

@@ -9,13 +9,12 @@ use Rattle.std.proofs.lemmas.List.Elements.{All-from_get_or}
 use Rattle.std.proofs.lemmas.List.Folds.{list_any_none, list_any_at}
 use Rattle.std.proofs.lemmas.Grind.{get_or_after_one}
 use Rattle.doc_bits.specs.Rules.{IsLeast, Nowhere}
-use Rattle.doc_bits.proofs.RuleLemmas.{first_number}
+use Rattle.doc_bits.proofs.Public.{first_number, or_true}
 use Rattle.doc_parts.specs.declared.lists.Sed.{Sed}
 use Rattle.file_rules.specs.SectionRules.{section_begin}
 use Rattle.file_rules.specs.FormatRules.{is_end, section_ends}
 use Rattle.file_rules.specs.EndSearch.{AreInOrder, AreMet, HasNoneIn, IsSoIn, IsNextEnd}
 use Rattle.file_rules.proofs.FormatLemmas.{is_end-append, none-added}
-use Rattle.doc_bits.proofs.TestLemmas.{or_true}
 
 -- ---- none in a range, and one that is first
 

@@ -44,7 +44,7 @@ not_wrong_part story bytes at list (Some f) q read h broken =
     let least = read.judged.least q broken in
     omega arith
 
--- an entry that was read, and whose unit stands in the text, is as the rule says
+-- an entry that was read, and whose unit is in the text, is as the rule says
 not_field : (story bytes : List ℕ) (at : ℕ) (list : List Fld) (fault : Option ℕ) (k : ℕ) → IsReadOf fld_form
     (fld_cps (length story)) bytes at list fault → k < length list → ¬ (HasOtherUnit story list k) →
     ¬ (¬ (IsFieldThere story (plc_part 2 bytes) k))
@@ -93,7 +93,7 @@ least_field story bytes at list fault p read first =
       ];
     }
 
--- where all units stand in the text the rule is that of the table
+-- where all units are in the text the rule is that of the table
 pub same_field : (story bytes : List ℕ) (at : ℕ) (list : List Fld) (fault : Option ℕ) → IsReadOf fld_form
     (fld_cps (length story)) bytes at list fault → Nowhere (HasWrongRow (length list) (λ k. at + 4 * k) (HasOtherUnit
     story list)) → LeastOrNone (BreaksFields story bytes at) fault

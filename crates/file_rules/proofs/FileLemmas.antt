@@ -7,18 +7,17 @@ use Rattle.doc_bits.specs.Places.{rules_in}
 use Rattle.fib_form.specs.Fib.{fib_size, fib_pair}
 use Rattle.fib_form.specs.FibFields.{fib_fields, text_length}
 use Rattle.fib_form.specs.FibRules.{fib_rules}
-use Rattle.fib_form.proofs.FibRuleLemmas.{fib_rules-IsSingle, fib_rules-Ascends}
+use Rattle.fib_form.proofs.Public.{fib_rules-IsSingle, fib_rules-Ascends}
 use Rattle.piece_table.specs.ClxRules.{clx_rules, text_bounds}
-use Rattle.piece_table.proofs.ClxRuleLemmas.{clx_rules-IsSingle, clx_rules-Ascends}
+use Rattle.piece_table.proofs.Public.{clx_rules-IsSingle, clx_rules-Ascends}
 use Rattle.cfb_streams.specs.Contents.{Contents}
 use Rattle.cfb_streams.specs.Container.{container_rules, HasContents}
-use Rattle.cfb_streams.proofs.SingleLemmas.{container_single, container_ascends}
-use Rattle.cfb_streams.proofs.UniqueLemmas.{contents_unique}
+use Rattle.cfb_streams.proofs.Public.{container_single, container_ascends, contents_unique}
 use Rattle.fib_form.specs.declared.table_parts.TablePart.TheVariants.{Clx, PlcfBteChpx, PlcfBtePapx}
 use Rattle.fib_form.specs.TableParts.{pair_of}
 use Rattle.fkp_pages.specs.declared.kind.PageKind.TheVariants.{Chpx, Papx}
 use Rattle.direct_props.specs.PageRules.{page_rules}
-use Rattle.direct_props.proofs.LawLemmas.{page_rules-Ascends}
+use Rattle.direct_props.proofs.Public.{page_rules-Ascends}
 use Rattle.file_rules.specs.FormatRules.{judged_places, paragraph_places, rules_of_formats}
 use Rattle.file_rules.specs.SheetRules.{rules_of_sheet}
 use Rattle.file_rules.specs.Source.{DocSource, part_bytes}

@@ -7,8 +7,7 @@ use Rattle.std.proofs.lemmas.List.{append-nil, map-append, drop-drop, get_or-dro
 use Rattle.std.proofs.lemmas.List.Elements.{filter-append}
 use Rattle.std.proofs.lemmas.List.Folds.{list_any-append}
 use Rattle.file_rules.specs.FormatRules.{is_end}
-use Rattle.doc_bits.proofs.TestLemmas.{or_false}
-use Rattle.doc_bits.proofs.ListLemmas.{range_more, one_not_kept}
+use Rattle.doc_bits.proofs.Public.{or_false, range_more, one_not_kept}
 
 kept_more : (p : ℕ → Bool) (f : ℕ → ℕ) (n : ℕ) → map f (filter p (range_with_len 0 (n + 1))) ≡ map f
     (filter p (range_with_len 0 n)) ++ map f (filter p (n ∷ []))

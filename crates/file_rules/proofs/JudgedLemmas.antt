@@ -1,9 +1,9 @@
--- Sepxs that were judged.
+-- Sepxs that were checked.
 use Rattle.std.proofs.Common.{◌≡◌, ℕ, List, [], ◌∷◌, ◌++◌, refl, length, Option, Some, slice_get, get_or, arith}
 use Rattle.std.proofs.lemmas.Option.{none-some, slice_get_within, slice_get_read}
 use Rattle.doc_bits.specs.Rules.{LeastOrNone}
-use Rattle.doc_bits.proofs.TogetherLemmas.{together_joined}
-use Rattle.direct_props.proofs.KeptLemmas.{together_one}
+use Rattle.doc_bits.proofs.Public.{together_joined}
+use Rattle.direct_props.proofs.Public.{together_one}
 use Rattle.file_rules.specs.SectionRules.{AreJudgedSepxs, IsJudgedSepx, HasSepxFault}
 
 pub none_judged : (wd : List ℕ) → AreJudgedSepxs wd [] []

@@ -1,14 +1,13 @@
 -- The bookmarks of a document are formed.
-use Rattle.std.proofs.Common.{◌≡◌, inl, inr, refl, sym, subst, ℕ, zero, suc, ◌+◌, ◌*◌, ◌<◌, ◌≤◌, List, []}
-use Rattle.std.proofs.Common.{◌∷◌, length, arith}
+use Rattle.std.proofs.Common.{◌≡◌, inl, inr, refl, sym, subst, ℕ, ◌+◌, ◌*◌, ◌<◌, ◌≤◌, List, []}
+use Rattle.std.proofs.Common.{length, arith}
 use Rattle.std.specs.Prelude.{All, nat_le, nat_lt, Bool, true, false, if◌then◌else◌}
 use Rattle.std.proofs.lemmas.Bool.{cases_lt, le-ltb, lt-ltb, leb-true}
-use Rattle.std.proofs.lemmas.List.{length-append}
-use Rattle.std.proofs.lemmas.List.Elements.{All-filter, All-push, All-weaker, filter_passes}
+use Rattle.std.proofs.lemmas.List.Elements.{All-filter, All-weaker, filter_passes}
 use Rattle.doc_bits.specs.declared.places.Where.TheVariants.{Wd, Table}
 use Rattle.doc_bits.specs.Number.{u16_at}
 use Rattle.doc_bits.specs.Rules.{Hold, Nowhere}
-use Rattle.doc_bits.proofs.TestLemmas.{both_true}
+use Rattle.doc_bits.proofs.Public.{both_true}
 use Rattle.fib_form.specs.TableParts.{pair_of}
 use Rattle.fib_form.specs.declared.table_parts.TablePart.TheVariants.{SttbfBkmk}
 use Rattle.fib_form.specs.declared.stories.StoryKind.TheVariants.{Main}
@@ -18,27 +17,12 @@ use Rattle.doc_parts.specs.Tabulated.{tabulate}
 use Rattle.doc_parts.specs.Bookmarks.{bookmark_cmp, IsFormedBookmark, AreFormedBookmarks}
 use Rattle.doc_parts.specs.BookmarkParts.{BookmarkParts, name_place, bookmark_count, bookmark_at, is_kept, HasNames}
 use Rattle.doc_parts.specs.BookmarkParts.{kept_bookmarks, bookmarks_of, AreValidParts}
-use Rattle.doc_parts.proofs.BookmarkLemmas.{bookmark_total}
-use Rattle.doc_parts.proofs.BookmarkPartLemmas.{right_from_none}
-use Rattle.doc_parts.proofs.OrderLemmas.{in_order_sorted, all_in_order}
+use Rattle.doc_parts.proofs.Public.{bookmark_total, right_from_none, all_tabulated_below, length-tabulate}
+use Rattle.doc_parts.proofs.Public.{in_order_sorted, all_in_order}
 use Rattle.file_rules.specs.Source.{DocSource, part_bytes, story_length}
 use Rattle.file_rules.specs.BookmarkRules.{bookmark_parts, HasNamePair, HasLeavingPair, rules_of_bookmarks}
 use Rattle.file_rules.specs.BookmarkRules.{HasBookmarks}
 use Rattle.file_rules.proofs.BookmarkLemmas.{part-short}
-
-all_below : {A : Type 0} (P : A → Type 0) (f : ℕ → A) (n : ℕ) → ((k : ℕ) → k < n → P (f k)) → All P (tabulate f n)
-unfolding tabulate
-all_below P f zero each = λ k d low. absurd (omega (arith, low))
-all_below P f (suc n) each =
-    All-push P (tabulate f n) (f n) (all_below P f n (λ k low. each k (omega (arith, low)))) (each n (omega arith))
-
-length-tabulated : {A : Type 0} (f : ℕ → A) (n : ℕ) → length (tabulate f n) ≡ n
-unfolding tabulate
-length-tabulated f zero = refl
-length-tabulated f (suc n) =
-    let before = length-tabulated f n in
-    let both = length-append (tabulate f n) (f n ∷ []) in
-    omega (arith, before, both)
 
 -- it has 1 to 255 units
 IsNamed : Bookmark → Type 0
@@ -50,7 +34,7 @@ unfolding IsNamed
 named_at parts right k low =
     let place = name_place parts.names k in
     let whole = right.filled.whole k low in
-    let len = length-tabulated (λ i. u16_at parts.names (place + 2 + 2 * i)) (u16_at parts.names place) in
+    let len = length-tabulate (λ i. u16_at parts.names (place + 2 + 2 * i)) (u16_at parts.names place) in
     (omega (arith, whole.some, len), omega (arith, whole.short, len))
 
 -- one that is kept is within the main text
@@ -75,7 +59,8 @@ kept_formed parts len right =
     let count : ℕ = bookmark_count parts.names in
     let all : List Bookmark = tabulate (bookmark_at parts) count in
     let named : All IsNamed (kept_bookmarks parts len) =
-    All-filter (is_kept len) IsNamed all (all_below IsNamed (bookmark_at parts) count (named_at parts right)) in
+    All-filter (is_kept len) IsNamed all (all_tabulated_below IsNamed (bookmark_at parts) count (named_at parts right))
+    in
     let kept : All (λ b. is_kept len b ≡ true) (kept_bookmarks parts len) = filter_passes (is_kept len) all in
     let both : All (λ b. (is_kept len b ≡ true) × IsNamed b) (kept_bookmarks parts len) =
     λ k d low. (kept k d low, named k d low) in
@@ -90,7 +75,7 @@ of_right_parts parts len right some = record {
   in_order = in_order_sorted bookmark_cmp bookmark_total (kept_bookmarks parts len);
 }
 
-none_formed : (len : ℕ) → AreFormedBookmarks len []
+pub none_formed : (len : ℕ) → AreFormedBookmarks len []
 none_formed len = record {
   each = λ k d low. absurd (omega (arith, low));
   in_order = λ k d low below. absurd (omega (arith, below));

@@ -1,23 +1,24 @@
-pub mod ContentsLemmas
-pub mod CutLemmas
-pub mod FieldLemmas
-pub mod BookmarkLemmas
-pub mod KeptLemmas
-pub mod ListLemmas
-pub mod PartLemmas
-pub mod StoryLemmas
-pub mod RefusalLemmas
-pub mod RowLemmas
-pub mod SectionLemmas
-pub mod UnitLemmas
-pub mod NameLemmas
-pub mod OneLemmas
-pub mod TextLemmas
-pub mod FileLemmas
-pub mod RightPlaces
-pub mod StandLemmas
-pub mod PageLemmas
-pub mod FormatLemmas
-pub mod EndLemmas
-pub mod StretchLemmas
-pub mod JudgedLemmas
+pub mod Public
+mod ContentsLemmas
+mod CutLemmas
+mod FieldLemmas
+mod BookmarkLemmas
+mod KeptLemmas
+mod ListLemmas
+mod PartLemmas
+mod StoryLemmas
+mod RefusalLemmas
+mod RowLemmas
+mod SectionLemmas
+mod UnitLemmas
+mod NameLemmas
+mod OneLemmas
+mod TextLemmas
+mod FileLemmas
+mod RightPlaces
+mod StandLemmas
+mod PageLemmas
+mod FormatLemmas
+mod EndLemmas
+mod StretchLemmas
+mod JudgedLemmas

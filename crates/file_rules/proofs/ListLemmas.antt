@@ -1,4 +1,4 @@
--- The levels of lists stand within the table stream.
+-- The levels of lists are within the table stream.
 use Rattle.std.proofs.Common.{◌≡◌, inl, inr, ℕ, zero, suc, ◌+◌, ◌-◌, ◌<◌, ◌≤◌, List, [], length, drop, refl, sym, ap}
 use Rattle.std.proofs.Common.{subst, ◌∙◌, add-one, arith}
 use Rattle.std.specs.List.{slice_range}
@@ -6,7 +6,7 @@ use Rattle.std.proofs.lemmas.Bool.{cases_lt}
 use Rattle.std.proofs.lemmas.List.{length-take, nil_from_length}
 use Rattle.doc_bits.specs.Rules.{Nowhere, Hold}
 use Rattle.doc_parts.specs.Levels.{level_start, level_count, list_part, LeavesTable, level_rules, HaveLength}
-use Rattle.doc_parts.proofs.LevelLemmas.{level_start-zero, level_count-empty}
+use Rattle.doc_parts.proofs.Public.{level_start-zero, level_count-empty}
 
 -- where no level leaves the table stream, the last one ends within it
 level_start-within : (table : List ℕ) (from n : ℕ) → from ≤ length table → ((k : ℕ) → k < n →

@@ -4,7 +4,7 @@ use Rattle.std.proofs.lemmas.Option.{same_Some}
 use Rattle.cfb_directory.specs.Directory.{AreSameNames}
 use Rattle.cfb_streams.specs.Contents.{Stream, Contents, HasNamed}
 use Rattle.cfb_streams.specs.Container.{HasContents}
-use Rattle.cfb_streams.proofs.SameNameLemmas.{named_place}
+use Rattle.cfb_streams.proofs.Public.{named_place}
 
 -- streams with one name are one
 pub one_stream : (file : List ℕ) (contents : Contents) (name : List ℕ) (i j : ℕ) (one other : Stream) →

@@ -10,14 +10,14 @@ use Rattle.doc_parts.specs.Table.{plc_part}
 use Rattle.doc_parts.specs.Sections.{sed_form, sed_cps}
 use Rattle.doc_parts.specs.Fields.{fld_form, fld_cps}
 use Rattle.doc_parts.specs.Stories.{ref_form, ref_cps, cut_form, cut_cps}
-use Rattle.doc_parts.proofs.ReadBackLemmas.{AreEntries-unique}
+use Rattle.doc_parts.proofs.Public.{AreEntries-unique}
 use Rattle.fib_form.specs.declared.table_parts.TablePart.TheVariants.{Stshf, PlcffndRef, PlcffndTxt, PlcfSed, PlcfHdd}
 use Rattle.fib_form.specs.declared.table_parts.TablePart.TheVariants.{PlfLst}
 use Rattle.fib_form.specs.declared.stories.StoryKind.{StoryKind}
 use Rattle.fib_form.specs.declared.stories.StoryKind.TheVariants.{Main, Notes, Heads}
 use Rattle.file_rules.specs.Source.{DocSource, part_bytes, part_place, story_length}
 use Rattle.style_sheet.specs.Sheet.{Sheet}
-use Rattle.style_sheet.proofs.UniqueLemmas.{sheets_agree}
+use Rattle.style_sheet.proofs.Public.{sheets_agree}
 use Rattle.file_rules.specs.SectionRules.{HasSections, rules_of_sections}
 use Rattle.file_rules.specs.SheetRules.{HasSheet}
 use Rattle.file_rules.specs.FieldRules.{field_part, HasFields}

@@ -1,12 +1,12 @@
--- The rules on the pages stand before those of the parts behind, and hold where each place is right.
+-- The rules on the pages are before those of the parts behind, and hold where each place is right.
 use Rattle.std.proofs.Common.{List}
 use Rattle.doc_bits.specs.declared.places.Where.TheVariants.{Wd}
 use Rattle.doc_bits.specs.Rules.{Hold, ◌then◌}
-use Rattle.doc_bits.proofs.RuleLemmas.{hold_in}
+use Rattle.doc_bits.proofs.Public.{hold_in}
 use Rattle.doc_parts.specs.declared.lists.Sed.{Sed}
 use Rattle.fkp_pages.specs.declared.kind.PageKind.TheVariants.{Chpx, Papx}
 use Rattle.direct_props.specs.PageRules.{page_rules, AreValidPlaces}
-use Rattle.direct_props.proofs.RightLemmas.{right_places_hold}
+use Rattle.direct_props.proofs.Public.{right_places_hold}
 use Rattle.fib_form.specs.declared.table_parts.TablePart.TheVariants.{PlcfBteChpx, PlcfBtePapx}
 use Rattle.file_rules.specs.declared.fault.ReadFault.{ReadFault}
 use Rattle.file_rules.specs.Faults.{IsReadFault}

@@ -6,13 +6,13 @@ use Rattle.std.proofs.lemmas.List.{length-take, length-drop, take_all, drop_all}
 use Rattle.doc_bits.specs.Rules.{Nowhere}
 use Rattle.fib_form.specs.Fib.{fib_pair, pair_place, table_part}
 use Rattle.fib_form.specs.FibFields.{FibFields, fib_fields, pair_at}
-use Rattle.fib_form.proofs.PairLemmas.{pair_at-fib_pairs}
+use Rattle.fib_form.proofs.Public.{pair_at-fib_pairs}
 use Rattle.fib_form.specs.declared.table_parts.TablePart.{TablePart}
 use Rattle.fib_form.specs.declared.table_parts.TablePart.TheVariants.{Clx}
 use Rattle.file_rules.specs.PairRules.{IsReadPair, HasWrongPart, BreaksPairs}
 use Rattle.fib_form.specs.TableParts.{pair_of}
 
--- a part that rule 26 judges, and that is not empty, is within the table stream
+-- a part that rule 26 checks, and that is not empty, is within the table stream
 pub part-inside : (wd : List ℕ) (table_len : ℕ) (part : TablePart) → IsReadPair (pair_of part) →
     Nowhere (BreaksPairs wd table_len) → (fib_pair wd (pair_of part)).1 ≢ 0 →
     (fib_pair wd (pair_of part)).0 + (fib_pair wd (pair_of part)).1 ≤ table_len

@@ -4,7 +4,7 @@ use Rattle.doc_bits.specs.declared.places.Where.{Where}
 use Rattle.doc_bits.specs.declared.places.Where.TheVariants.{File, Wd, Table}
 use Rattle.doc_bits.specs.Rules.{Rules, Hold, ◌then◌, given, rule, Nowhere, IsLeast, IsFirst, IsSingle}
 use Rattle.doc_bits.specs.Places.{Place, Upto, rules_in}
-use Rattle.doc_bits.proofs.RuleLemmas.{first_in, hold_in, hold_or_first}
+use Rattle.doc_bits.proofs.Public.{first_in, hold_in, hold_or_first}
 use Rattle.cfb_sectors.specs.declared.faults.CfbFault.{CfbFault}
 use Rattle.cfb_sectors.specs.declared.faults.CfbFault.TheVariants as cfb
 use Rattle.cfb_streams.specs.Contents.{Contents, HasNamed, HasNoNamed}

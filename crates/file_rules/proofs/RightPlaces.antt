@@ -11,7 +11,7 @@ use Rattle.doc_parts.specs.Table.{plc_part}
 use Rattle.fkp_pages.specs.declared.kind.PageKind.TheVariants.{Chpx, Papx}
 use Rattle.fkp_pages.specs.Bin.{IsBinTable, bin_count}
 use Rattle.direct_props.specs.PageRules.{page_rules, AreValidPlaces}
-use Rattle.direct_props.proofs.RightLemmas.{right_where_hold}
+use Rattle.direct_props.proofs.Public.{right_where_hold}
 use Rattle.fib_form.specs.declared.table_parts.TablePart.TheVariants.{PlcfBteChpx, PlcfBtePapx}
 use Rattle.file_rules.specs.Source.{DocSource, part_bytes, part_place}
 use Rattle.file_rules.specs.SectionRules.{HasSections}

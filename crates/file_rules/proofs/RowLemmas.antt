@@ -5,7 +5,7 @@ use Rattle.std.proofs.lemmas.Option.{slice_get_within, get_or_from_slice_get}
 use Rattle.std.proofs.lemmas.List.{get_or-map}
 use Rattle.doc_bits.specs.Rules.{Nowhere, IsLeast, LeastOrNone}
 use Rattle.doc_parts.specs.Table.{IsWrongPart}
-use Rattle.doc_bits.proofs.RuleLemmas.{first_among, least_same}
+use Rattle.doc_bits.proofs.Public.{first_among, least_same}
 use Rattle.file_rules.specs.Rows.{IsWrongRow, HasWrongRow}
 
 -- where places ascend, the first wrong entry has the least place
@@ -30,7 +30,7 @@ pub index_of_get : {E : Type 0} (f : E → ℕ) (list : List E) (k : ℕ) (entry
 index_of_get f list k entry h =
     get_or-map f list k entry 0 (slice_get_within list k entry h) ∙ ap f (get_or_from_slice_get list k entry entry h)
 
--- a part of a wrong length breaks its rule first, where no entry stands before it
+-- a part of a wrong length breaks its rule first, where no entry is before it
 pub wrong_part : (formed : Type 0) (at : ℕ) (rows : ℕ → Type 0) → ¬ formed → ((p : ℕ) → rows p → at ≤ p) →
     IsLeast (λ a b. a ≤ b) (λ p. IsWrongPart formed at p ⊎ rows p) at
 wrong_part formed at rows not_formed after = record {

@@ -5,10 +5,10 @@ use Rattle.std.proofs.lemmas.List.{length-map}
 use Rattle.doc_parts.specs.declared.lists.Sed.{Sed}
 use Rattle.doc_bits.specs.Number.{u16_at}
 use Rattle.doc_bits.specs.Rules.{Nowhere, IsLeast}
-use Rattle.doc_bits.proofs.RuleLemmas.{least_from}
+use Rattle.doc_bits.proofs.Public.{least_from}
 use Rattle.sprm_table.specs.Sprm.{HasSprmFaultAt}
 use Rattle.doc_parts.specs.Sections.{AreSections}
-use Rattle.sprm_table.proofs.FaultLemmas.{accepted_no_fault}
+use Rattle.sprm_table.proofs.Public.{accepted_no_fault}
 use Rattle.overlapping_grpprls.specs.declared.ranges.ListRange.{ListRange}
 use Rattle.overlapping_grpprls.specs.Walks.{IsValidList}
 use Rattle.file_rules.specs.SectionRules.{section_begin, sepx_list, HasSepxFault, IsSepxPlace}
@@ -32,7 +32,7 @@ pub sections_fit : (plc : List ℕ) (main_len : ℕ) (list : List Sed) → AreSe
 sections_fit plc main_len list are some =
     let all = are.all in omega arith
 
--- the list of a Sepx, where it stands
+-- the list of a Sepx, where it is
 pub properties_none : (wd : List ℕ) (fc from to : ℕ) → from ≡ fc + 2 → to ≡ fc + 2 + u16_at wd fc →
     Nowhere (HasSprmFaultAt (slice_range wd from to) section_groups) → Nowhere (HasSepxFault wd fc)
 properties_none wd fc from to begins ends none = λ p w. (rw (begins, ends) at none) w.fault.offset w.fault.broken

@@ -1,4 +1,4 @@
--- The places of a text stand behind the FIB and within the stream, and so do those of its front.
+-- The places of a text are behind the FIB and within the stream, and so do those of its front.
 use Rattle.std.specs.Prelude.{slice_get, ℕ, List}
 use Rattle.std.specs.List.{flat_map, range_with_len}
 use Rattle.std.proofs.Common.{◌≡◌, ◌∙◌, ◌∷◌, ◌++◌, ◌+◌, ◌-◌, ◌*◌, ◌<◌, ◌≤◌, [], sym, ap, subst}
@@ -7,7 +7,7 @@ use Rattle.std.proofs.Math.Seq.{take-append_seam, drop-append_seam}
 use Rattle.std.proofs.lemmas.List.Elements.{All-nil, All-cons, All-append, All-map, All-head, All-tail, All-weaker}
 use Rattle.std.proofs.lemmas.List.Elements.{All-take, All-drop}
 use Rattle.std.proofs.lemmas.List.FromFn.{get_or-range_with_len, length-range_with_len}
-use Rattle.doc_bits.proofs.ListLemmas.{All_at}
+use Rattle.doc_bits.proofs.Public.{All_at}
 use Rattle.doc_bits.specs.Rules.{Hold}
 use Rattle.doc_bits.specs.declared.places.Where.TheVariants.{Table}
 use Rattle.fib_form.specs.Fib.{fib_size, fib_pair}
@@ -18,9 +18,7 @@ use Rattle.piece_table.specs.Piece.{TextPiece, UnitPlace, unit_bytes, unit_place
 use Rattle.piece_table.specs.Piece.{IsTextPiece, piece_end}
 use Rattle.piece_table.specs.Clx.{ClxParts, IsClx, clx_pieces, plc_place}
 use Rattle.piece_table.specs.ClxRules.{StaysInStream, clx_rules, text_bounds}
-use Rattle.piece_table.proofs.ClxLemmas.{parts_unique}
-use Rattle.piece_table.proofs.ClxRuleLemmas.{stays_of}
-use Rattle.piece_table.proofs.PieceLemmas.{All-seen, length-unit_places, get_or-unit_places}
+use Rattle.piece_table.proofs.Public.{parts_unique, stays_of, All-seen, length-unit_places, get_or-unit_places}
 use Rattle.file_rules.specs.FileRules.{clx_of, rules_of_pieces}
 use Rattle.file_rules.proofs.RightPlaces.{hold_out}
 
@@ -33,7 +31,7 @@ unit_stands : (from at len j end : ℕ) (wide : Bool) → from ≤ at → at + l
 unit_stands from at len j end true low high below = (omega (arith, low), omega (arith, high, below))
 unit_stands from at len j end false low high below = (omega (arith, low), omega (arith, high, below))
 
-below_len : (n : ℕ) → All (λ c. c < n) (range_with_len 0 n)
+pub below_len : (n : ℕ) → All (λ c. c < n) (range_with_len 0 n)
 below_len n = λ k d below.
     let len = length-range_with_len 0 n in
     let at = get_or-range_with_len 0 n k d (omega (arith, below, len)) in

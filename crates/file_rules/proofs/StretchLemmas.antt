@@ -1,13 +1,12 @@
 -- The units between two ends of sections that end a paragraph.
 use Rattle.std.proofs.Common.{◌≡◌, ◌∙◌, refl, sym, ap, ℕ, ◌+◌, ◌-◌, ◌<◌, ◌≤◌, ◌==◌, nat_lt}
-use Rattle.std.proofs.Common.{Bool, true, false, ◌||◌, ◌&&◌, inl, inr, min, List, length, drop, arith}
+use Rattle.std.proofs.Common.{Bool, true, false, ◌||◌, ◌&&◌, inl, inr, min, List, length, arith}
 use Rattle.std.specs.List.{slice_range}
 use Rattle.std.specs.Prelude.{slice_index}
 use Rattle.std.proofs.Math.Bool.{and-false}
 use Rattle.std.proofs.lemmas.Bool.{cases_lt, le-ltb, lt-ltb, false≢true, true≢false}
-use Rattle.std.proofs.lemmas.List.{get_or-drop, get_or-take}
 use Rattle.doc_bits.specs.Rules.{IsLeast}
-use Rattle.doc_bits.proofs.ListLemmas.{length-range}
+use Rattle.doc_bits.proofs.Public.{length-range, range_index}
 use Rattle.doc_parts.specs.declared.lists.Sed.{Sed}
 use Rattle.text_codes.specs.Paragraph.{is_paragraph_end}
 use Rattle.file_rules.specs.FormatRules.{is_end, section_ends, ends_section}
@@ -20,7 +19,7 @@ any_section false true r b e = refl
 any_section false false true b e = absurd (false≢true e)
 any_section false false false b e = absurd (false≢true e)
 
--- a unit that ends a paragraph wherever it stands
+-- a unit that ends a paragraph wherever it is
 bare_ends : (unit : ℕ) (b : Bool) → is_paragraph_end unit false ≡ true → is_paragraph_end unit b ≡ true
 bare_ends unit b = any_section (unit == 0x0D) (unit == 0x07) (unit == 0x0C) b
 
@@ -48,12 +47,7 @@ outer_units : (sections : List Sed) (main_len cp to : ℕ) → main_len ≤ cp �
 outer_units sections main_len cp to outside = λ k above below.
     ap (λ b. b && is_end (section_ends sections main_len) (k + 1)) (le-ltb k main_len (omega arith))
 
--- what is in a part of the units
-unit_in_part : (units : List ℕ) (cp stop j : ℕ) → j < stop - cp →
-    slice_index (slice_range units cp stop) j ≡ slice_index units (cp + j)
-unit_in_part units cp stop j below = get_or-take (stop - cp) (drop cp units) j 0 below ∙ get_or-drop cp units j 0
-
--- so many units at the front of a part end no paragraph wherever they stand
+-- so many units at the front of a part end no paragraph wherever they are
 abbrev pub AreBare : List ℕ → ℕ → Type 0
 AreBare part n = (j : ℕ) → j < n → is_paragraph_end (slice_index part j) false ≡ false
 
@@ -63,7 +57,7 @@ none_in_part : (units : List ℕ) (sections : List Sed) (main_len cp stop n : �
     HasNoneIn (ends_at units sections main_len) cp (cp + n)
 none_in_part units sections main_len cp stop n inside bare inner = λ k above below.
     let there : cp + (k - cp) ≡ k = omega arith in
-    let unit = unit_in_part units cp stop (k - cp) (omega arith) ∙ ap (slice_index units) there in
+    let unit = range_index units cp stop (k - cp) (omega arith) ∙ ap (slice_index units) there in
     ap (is_paragraph_end (slice_index units k)) (inner k above below)
     ∙ (ap (λ u. is_paragraph_end u false) (sym unit) ∙ bare (k - cp) (omega arith))
 
@@ -93,7 +87,7 @@ stretch_is sections main_len len cp stop main inside (inr (outside, all)) = reco
       ∙ sym (le-ltb cp main_len outside);
 }
 
--- the units at the front of a part that end no paragraph wherever they stand, up to one that does
+-- the units at the front of a part that end no paragraph wherever they are, up to one that does
 pub record AreBareUpTo (part : List ℕ) (n : ℕ) : Type 0 where
   pub within : n ≤ length part
   pub bare : AreBare part n
@@ -125,7 +119,7 @@ stretch_met units sections main_len from cp stop n at found above main inside en
       | inl less ↦
           let here : at ≡ cp + n = omega arith in
           let unit = ap (λ u. is_paragraph_end u false)
-          (ap (slice_index units) here ∙ sym (unit_in_part units cp stop n less)) ∙ front.ends (omega arith) in
+          (ap (slice_index units) here ∙ sym (range_index units cp stop n less)) ∙ front.ends (omega arith) in
           record {
             first = λ yes. first_so ends from (length units) at (omega arith) (omega arith)
                 (bare_ends (slice_index units at) (ends_section sections main_len at) unit) none;

@@ -2,7 +2,7 @@
 use Rattle.std.proofs.Common.{◌≡◌, ◌∙◌, sym, ap, subst, ℕ, List}
 use Rattle.piece_table.specs.Piece.{TextPiece}
 use Rattle.piece_table.specs.Clx.{IsClx}
-use Rattle.piece_table.proofs.UniqueLemmas.{clx_pieces_one}
+use Rattle.piece_table.proofs.Public.{clx_pieces_one}
 use Rattle.cfb_streams.specs.Contents.{Contents, HasNamed}
 use Rattle.cfb_streams.specs.Container.{HasContents}
 use Rattle.file_rules.specs.FileRules.{FileText, HasText, IsTextOf, table_stream_name, clx_of}

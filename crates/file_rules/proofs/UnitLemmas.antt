@@ -4,7 +4,7 @@ use Rattle.std.proofs.Common.{take, flat_map, slice_get, slice_index, Option, So
 use Rattle.std.proofs.Common.{if◌then◌else◌, refl, sym, ap, ◌∙◌, append_assoc, zero-add, add-zero, add-one, zero, suc}
 use Rattle.std.specs.List.{range_with_len}
 use Rattle.std.proofs.lemmas.List.{map-append, append-nil, take_more, length-map}
-use Rattle.piece_table.proofs.PieceLemmas.{length-flat_pieces}
+use Rattle.piece_table.proofs.Public.{length-flat_pieces}
 use Rattle.std.proofs.lemmas.List.FromFn.{map-range_with_len_more}
 use Rattle.std.proofs.lemmas.Option.{slice_get_within, get_or_from_slice_get}
 use Rattle.std.proofs.lemmas.Grind.{flat_map-append, take-set_at}
@@ -16,10 +16,10 @@ use Rattle.piece_table.specs.Piece.{total_length}
 use Rattle.file_rules.specs.Units.{unit_at, wide_unit, narrow_unit, text_of, text_piece, unit_places_in}
 use Rattle.direct_props.specs.declared.places.PlaceRow.{PlaceRow}
 use Rattle.direct_props.specs.Rows.{places_of, row_places}
-use Rattle.direct_props.proofs.RowLemmas.{places_of_push}
+use Rattle.direct_props.proofs.Public.{places_of_push}
 use Rattle.piece_table.specs.declared.pieces.Piece.{Piece}
 use Rattle.std.specs.Option.{option_map}
-use Rattle.doc_bits.proofs.ListLemmas.{map-map}
+use Rattle.doc_bits.proofs.Public.{map-map}
 
 -- the element after the first of a run
 run-more : {A : Type 0} (f : ℕ → A) (j : ℕ) (now start new : List A) → new ≡ now ++ f j ∷ [] → now ≡ start ++ map f
@@ -86,7 +86,7 @@ pub places-step : (piece : TextPiece) → map (λ place. place.at) (unit_places 
     unit_bytes piece.wide) (range_with_len 0 piece.len)
 places-step piece = map-map {A = ℕ} {B = UnitPlace} (λ place. place.at) _ (range_with_len 0 piece.len)
 
--- one row more stands for the places of one piece more
+-- one row more represents the places of one piece more
 pub rows_more : (rows : List PlaceRow) (row : PlaceRow) (pieces : List TextPiece) (i : ℕ) (piece : TextPiece) →
     slice_get pieces i ≡ Some piece →
     places_of rows ≡ unit_places_in (take i pieces) → row_places row ≡ map (λ place. place.at) (unit_places piece) →

@@ -1,4 +1,4 @@
--- Rule 57: the bookmarks. It alone judges the pairs of their three parts.
+-- Rule 57: the bookmarks. It alone checks the pairs of their three parts.
 use Rattle.std.specs.Prelude.{◌≡◌, ◌⊎◌, ℕ, ◌+◌, ◌<◌, List, [], ◌∷◌, length}
 use Rattle.doc_bits.specs.declared.places.Where.TheVariants as stands
 use Rattle.doc_bits.specs.Rules.{Rules, rule, Nowhere}

@@ -1,4 +1,4 @@
--- Rule 55: what stands after the last note, and after the last header text.
+-- Rule 55: what is after the last note, and after the last header text.
 use Rattle.std.specs.Prelude.{◌≡◌, ◌⊎◌, ℕ, ◌-◌, ◌<◌, ◌≤◌, List, length, slice_index}
 use Rattle.doc_bits.specs.declared.places.Where.TheVariants as stands
 use Rattle.doc_bits.specs.Rules.{Rules, rule, given, IsLeast}

@@ -1,4 +1,4 @@
--- Rule 52: the field characters of the three stories. Each is judged by its table, and by the unit at its CP.
+-- Rule 52: the field characters of the three stories. Each is checked by its table, and by the unit at its CP.
 use Rattle.std.specs.Prelude.{◌≡◌, ◌⊎◌, ℕ, ◌+◌, ◌*◌, List, length, slice_get, slice_index, IfSome}
 use Rattle.doc_bits.specs.declared.places.Where.TheVariants as stands
 use Rattle.doc_bits.specs.Plc.{PlcPart}
@@ -14,7 +14,7 @@ use Rattle.fib_form.specs.declared.stories.StoryKind.TheVariants.{Main, Notes, H
 use Rattle.file_rules.specs.Source.{DocSource, part_place, part_bytes, story_length, story_units}
 use Rattle.file_rules.specs.Rows.{HasWrongRow}
 
--- an entry is in order, and the unit that it says stands at its CP of the story
+-- an entry is in order, and the unit that it says is at its CP of the story
 pub record IsFieldThere (story : List ℕ) (table : PlcPart) (k : ℕ) : Type 0 where
   pub right : IsValidEntry fld_form (fld_cps (length story)) table k
   pub unit : IfSome (entry_at fld_form table k) (λ fld. slice_index story fld.cp ≡ fld.unit)
@@ -39,7 +39,7 @@ BreaksStoryFields source story =
     let part = field_part story in
     BreaksFields (story_units source story) (part_bytes source part) (part_place source part)
 
--- one of the three does; they stand in any order
+-- one of the three does; they are in any order
 abbrev pub BreaksAllFields : DocSource → ℕ → Type 0
 BreaksAllFields source place =
     BreaksStoryFields source Main place ⊎ (BreaksStoryFields source Notes place ⊎ BreaksStoryFields source Heads place)

@@ -15,7 +15,7 @@ use Rattle.fib_form.specs.declared.stories.StoryKind.TheVariants.{Main, Notes, H
 use Rattle.file_rules.specs.Source.{DocSource, part_bytes, story_length}
 use Rattle.file_rules.specs.SectionRules.{HasSections}
 
--- the number of CPs of the three stories; the paragraph mark that may follow them is not judged
+-- the number of CPs of the three stories; the paragraph mark that may follow them is not checked
 abbrev pub text_count : DocSource → ℕ
 text_count source = story_length source Main + story_length source Notes + story_length source Heads
 

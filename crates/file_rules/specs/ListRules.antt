@@ -1,4 +1,4 @@
--- Rule 56: the lists, and their levels, which stand after the part.
+-- Rule 56: the lists, and their levels, which are after the part.
 use Rattle.std.specs.Prelude.{◌≡◌, ℕ, ◌+◌, List, length, slice_range}
 use Rattle.doc_bits.specs.declared.places.Where.TheVariants as stands
 use Rattle.doc_bits.specs.Rules.{Rules}

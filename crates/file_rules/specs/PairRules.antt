@@ -3,7 +3,7 @@ use Rattle.std.specs.Prelude.{◌≡◌, ◌≢◌, ◌⊎◌, ℕ, ◌+◌, ◌
 use Rattle.doc_bits.specs.Rules.{Among}
 use Rattle.fib_form.specs.Fib.{fib_pair, pair_place}
 
--- the numbers of the pairs that this rule judges: Stshf, PlcffndRef, PlcffndTxt, PlcfSed, PlcfHdd, PlcfBteChpx,
+-- the numbers of the pairs that this rule checks: Stshf, PlcffndRef, PlcffndTxt, PlcfSed, PlcfHdd, PlcfBteChpx,
 -- PlcfBtePapx, SttbfFfn, PlcfFldMom, PlcfFldHdr, PlcfFldFtn, Dop, SttbfAssoc, Clx, PlfLst, PlfLfo
 abbrev pub read_pairs : List ℕ
 read_pairs = 1 ∷ 2 ∷ 3 ∷ 6 ∷ 11 ∷ 12 ∷ 13 ∷ 15 ∷ 16 ∷ 17 ∷ 18 ∷ 31 ∷ 32 ∷ 33 ∷ 73 ∷ 74 ∷ []

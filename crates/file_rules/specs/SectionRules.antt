@@ -19,7 +19,7 @@ use Rattle.file_rules.specs.Rows.{HasWrongRow}
 abbrev pub section_begin : List Sed → ℕ → ℕ
 section_begin list k = slice_index (map (λ sed. sed.start) list) k
 
--- where its Sepx stands in WordDocument
+-- where its Sepx is in WordDocument
 abbrev pub section_fc : List Sed → ℕ → ℕ
 section_fc list k = slice_index (map (λ sed. sed.sepx) list) k
 
@@ -61,7 +61,7 @@ abbrev pub BreaksSepxs : List ℕ → List Sed → ℕ → ℕ → Type 0
 BreaksSepxs wd list at =
     HasWrongRow (length list) (place_of_fc_sepx at (length list)) (λ k. LacksSepx wd (section_fc list k))
 
--- rule 36: the Sepxs stand in any order
+-- rule 36: the Sepxs are in any order
 abbrev pub BreaksSepxLists : List ℕ → List Sed → ℕ → Type 0
 BreaksSepxLists wd list = Among (length list) (λ k. HasSepxFault wd (section_fc list k))
 
@@ -88,6 +88,6 @@ rules_of_sections source =
 abbrev pub IsJudgedSepx : List ℕ → ℕ × ℕ → Option ℕ → Type 0
 IsJudgedSepx wd place fault = LeastOrNone (HasSepxFault wd place.0) fault
 
--- those of Sepxs that were judged, by their places
+-- those of Sepxs that were checked, by their places
 abbrev pub AreJudgedSepxs : List ℕ → List (ℕ × ℕ) → List (Option ℕ) → Type 0
 AreJudgedSepxs wd places faults = AreTogether (IsJudgedSepx wd) places faults

@@ -26,7 +26,7 @@ story_length source Main = fib_ccp_text source.wd
 story_length source Notes = fib_ccp_ftn source.wd
 story_length source Heads = fib_ccp_hdd source.wd
 
--- the CP where it begins: the stories stand one after the other
+-- the CP where it begins: the stories are one after the other
 abbrev pub story_begin : DocSource → StoryKind → ℕ
 story_begin source Main = 0
 story_begin source Notes = fib_ccp_text source.wd

@@ -1,4 +1,4 @@
--- The CPs that cut a story into its texts, as rules 53 and 54 judge them.
+-- The CPs that cut a story into its texts, as rules 53 and 54 check them.
 use Rattle.std.specs.Prelude.{◌⊎◌, ℕ, List}
 use Rattle.doc_parts.specs.Table.{plc_part, IsWrongPart, HasWrongEntry}
 use Rattle.doc_parts.specs.Stories.{cut_form, cut_cps}

@@ -16,7 +16,7 @@ const RULE_PARAGRAPH_BINS: u8 = 38;
 /// The bytes of a page number.
 const PAGE_LEN: usize = 4;
 
-/// Judges the two bin tables.
+/// Checks the two bin tables.
 pub fn check_bins(source: &Source<'_>) -> Result<(), ReadFault>
     ensures judged { MatchResult result
         (λ _. Hold (rules_of_bins source.now))

@@ -1,4 +1,4 @@
-// The rule on bookmarks, which alone judges the pairs of their parts.
+// The rule on bookmarks, which alone checks the pairs of their parts.
 ghost use Rattle.std.specs.Prelude.{MatchResult};
 ghost use Rattle.doc_bits.specs.Rules.{Hold, LeastOrNone};
 ghost use Rattle.file_rules.specs.Faults.{IsReadFault};
@@ -8,11 +8,9 @@ use crate::fault::refused_part;
 use crate::pair_rules::{FIRST_PAIR, PAIR_LEN};
 use crate::{ReadFault, Source};
 use doc_bits::{Where, lesser};
-use doc_parts::{Bookmarks, bookmarks};
+use doc_parts::{Bookmarks, RULE_BOOKMARKS, bookmarks};
 use fib_form::{StoryKind, TablePart};
 use std::alloc::Global;
-
-const RULE_BOOKMARKS: u8 = 57;
 
 /// The bytes of an SttbfBkmk without names.
 const NO_NAMES: u32 = 6;

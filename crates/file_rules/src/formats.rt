@@ -1,4 +1,4 @@
-// The rules on the pages: the units of the text, and those that end a paragraph. Who reads the properties judges the
+// The rules on the pages: the units of the text, and those that end a paragraph. Who reads the properties checks the
 // pages while it reads; this names the first broken rule.
 ghost use Rattle.std.specs.Prelude.{◌≡◌, ◌+◌, ◌-◌, ◌<◌, ◌≤◌, drop, length, slice_index, IfOk, MatchResult};
 ghost use Rattle.doc_bits.specs.Rules.{Hold};
@@ -19,7 +19,7 @@ use fib_form::{StoryKind, TablePart};
 use fkp_pages::PageKind;
 use std::alloc::Global;
 
-/// Judges the pages of a text whose sections and bin tables are right. The sections are read anew: this is called only
+/// Checks the pages of a text whose sections and bin tables are right. The sections are read anew: this is called only
 /// where something is refused.
 pub fn check_formats(alloc: Global, source: &Source<'_>) -> Result<(), ReadFault>
     requires { Hold (layout_rules source.now) }
@@ -31,7 +31,7 @@ pub fn check_formats(alloc: Global, source: &Source<'_>) -> Result<(), ReadFault
     check_pages(alloc, source, &sections)
 }
 
-/// Judges the pages of a text with these sections: those of its characters, and those of the units that end a
+/// Checks the pages of a text with these sections: those of its characters, and those of the units that end a
 /// paragraph.
 pub(crate) fn check_pages(
     alloc: Global,
@@ -48,7 +48,7 @@ pub(crate) fn check_pages(
     check_marks(alloc, source, sections)
 }
 
-/// Judges the pages of the characters: those of all units.
+/// Checks the pages of the characters: those of all units.
 pub fn check_characters(alloc: Global, source: &Source<'_>) -> Result<(), ReadFault>
     requires { Hold (rules_of_bins source.now) }
     ensures { MatchResult result
@@ -64,7 +64,7 @@ pub fn check_characters(alloc: Global, source: &Source<'_>) -> Result<(), ReadFa
     }
 }
 
-/// Judges the pages of the units that end a paragraph.
+/// Checks the pages of the units that end a paragraph.
 pub fn check_marks(alloc: Global, source: &Source<'_>, sections: &Seds) -> Result<(), ReadFault>
     requires sections { HasSections source.now sections.now }
     requires bins { Hold (rules_of_bins source.now) }

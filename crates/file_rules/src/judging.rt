@@ -1,4 +1,4 @@
-// A file is judged layer by layer. Each layer's first broken rule is named in its part.
+// A file is checked layer by layer. Each layer's first broken rule is named in its part.
 ghost use Rattle.std.specs.Prelude.{MatchResult};
 ghost use Rattle.doc_bits.specs.Rules.{Hold};
 ghost use Rattle.file_rules.specs.Faults.{IsReadFault};
@@ -10,7 +10,7 @@ use crate::{LoadedText, ReadFault, Source, load_text, read_parts};
 use cfb_streams::Container;
 use std::alloc::Global;
 
-/// Judges a file by the rules on its parts and on all that is below them.
+/// Checks a file by the rules on its parts and on all that is below them.
 pub fn check(alloc: Global, file: &[u8]) -> Result<(), ReadFault>
     ensures { MatchResult result
         (λ _. Hold (file_rules file.now))
@@ -22,7 +22,7 @@ pub fn check(alloc: Global, file: &[u8]) -> Result<(), ReadFault>
     }
 }
 
-/// Judges the streams of a file.
+/// Checks the streams of a file.
 fn check_contents(alloc: Global, container: &Container) -> Result<(), ReadFault>
     requires { AreSmall container.now }
     ensures { MatchResult result
@@ -35,7 +35,7 @@ fn check_contents(alloc: Global, container: &Container) -> Result<(), ReadFault>
     judged
 }
 
-/// Judges a text by the rules on its parts.
+/// Checks a text by the rules on its parts.
 fn check_text(alloc: Global, text: &LoadedText<'_>) -> Result<(), ReadFault>
     ensures { MatchResult result
         (λ _. Hold (part_rules (source_of text.now)))
@@ -45,7 +45,7 @@ fn check_text(alloc: Global, text: &LoadedText<'_>) -> Result<(), ReadFault>
     check_parts(alloc, &source)
 }
 
-/// Judges the parts of a text. What they hold is let go.
+/// Checks the parts of a text. What they hold is let go.
 fn check_parts(alloc: Global, source: &Source<'_>) -> Result<(), ReadFault>
     ensures { MatchResult result
         (λ _. Hold (part_rules source.now))

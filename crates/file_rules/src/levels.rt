@@ -1,4 +1,4 @@
-// The rule on lists: their levels stand after the part.
+// The rule on lists: their levels are after the part.
 ghost use Rattle.std.specs.Prelude.{MatchResult, IsErrOf};
 ghost use Rattle.doc_bits.specs.Rules.{Hold};
 ghost use Rattle.file_rules.specs.Faults.{IsReadFault};

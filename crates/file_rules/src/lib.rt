@@ -1,4 +1,4 @@
-//! Judges a Word document by the rules on its text and its parts, and reads them.
+//! Checks a Word document by the rules on its text and its parts, and reads them.
 #![tactic(auto)]
 
 mod bins;

@@ -27,7 +27,7 @@ pub const RULE_TABLE: u8 = 25;
 
 const RULE_PARTS: u8 = 26;
 
-/// Where the flags of the FIB stand, which name the table stream.
+/// Where the flags of the FIB are, which name the table stream.
 const FLAGS: u32 = 10;
 
 /// The two streams of a document, with the FIB, the pieces, and the units of the text by CP.

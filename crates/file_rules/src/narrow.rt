@@ -1,4 +1,4 @@
-// Units of one byte. Most stand for themselves, and these are put without a look at the others.
+// Units of one byte. Most represent themselves, and these are put without a look at the others.
 ghost use Rattle.std.specs.Prelude.{◌≡◌, ◌+◌, ◌<◌, ◌≤◌, ◌++◌};
 ghost use Rattle.std.specs.Prelude.{ℕ, length, map, slice_index, take};
 ghost use Rattle.std.specs.List.{range_with_len};
@@ -10,10 +10,10 @@ use text_codes::unit_of_byte;
 /// The number of bytes that are looked at together.
 const PART_LEN: usize = 64;
 
-/// Each byte below this one stands for itself.
+/// Each byte below this one represents itself.
 const FIRST_CODED: u8 = 0x80;
 
-/// Puts `len` units of one byte that stand from `at` on.
+/// Puts `len` units of one byte that are from `at` on.
 pub(crate) fn put_narrow(units: &mut [u16], cp: usize, wd: &[u8], at: usize, len: usize)
     requires end { at + len ≤ length wd.now }
     requires room { cp + len ≤ length units.old }
@@ -56,7 +56,7 @@ fn greatest(wd: &[u8], at: usize, len: usize) -> u8
     most
 }
 
-/// Puts the units of bytes that stand for themselves.
+/// Puts the units of bytes that represent themselves.
 fn put_plain(units: &mut [u16], cp: usize, wd: &[u8], at: usize, len: usize)
     requires end { at + len ≤ length wd.now }
     requires plain { (j : ℕ) → j < len → slice_index wd.now (at + j) < 0x80 }
@@ -70,7 +70,7 @@ fn put_plain(units: &mut [u16], cp: usize, wd: &[u8], at: usize, len: usize)
     }
 }
 
-/// The unit of a byte that stands for itself.
+/// The unit of a byte that represents itself.
 fn plain_unit(byte: u8) -> u16
     requires { byte < 0x80 }
     ensures { result ≡ unit_of byte }

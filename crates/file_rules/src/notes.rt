@@ -9,11 +9,9 @@ ghost use Rattle.file_rules.specs.NoteRules.{HasRefs, HasNoteCuts};
 use crate::text_cuts::{JudgedCuts, judged_cuts};
 use crate::{ReadFault, Source};
 use doc_bits::{Memory, Where, lesser, plc_of};
-use doc_parts::{Cuts, PartFault, Refs, note_refs};
+use doc_parts::{Cuts, PartFault, RULE_NOTES, Refs, note_refs};
 use fib_form::{StoryKind, TablePart};
 use std::alloc::Global;
-
-const RULE_NOTES: u8 = 53;
 
 /// The bytes of a reference beside its CP.
 const FRD_LEN: usize = 2;

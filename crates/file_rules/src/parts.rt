@@ -68,8 +68,8 @@ pub fn read_parts<'a>(alloc: Global, source: &Source<'a>) -> Result<DocParts<'a>
     read_rest(alloc, source, sections)
 }
 
-/// Reads the parts of a document, and judges its pages only where another part is refused: who reads the properties
-/// judges the pages there.
+/// Reads the parts of a document, and checks its pages only where another part is refused: who reads the properties
+/// checks the pages there.
 pub fn read_unjudged<'a>(alloc: Global, source: &Source<'a>) -> Result<DocParts<'a>, ReadFault>
     ensures { MatchResult result
         (λ parts. HoldButFormats source.now × HasPartLists source.now parts)
@@ -79,7 +79,7 @@ pub fn read_unjudged<'a>(alloc: Global, source: &Source<'a>) -> Result<DocParts<
     match read_rest(alloc, source, sections) {
         Ok(parts) => Ok(parts),
         Err(fault) => {
-            // The rules on pages stand before those of the other part.
+            // The rules on pages are before those of the other part.
             check_formats(alloc, source)?;
             Err(fault)
         }
@@ -101,7 +101,7 @@ fn read_rest<'a>(
     read_stories(alloc, source, sections, sheet)
 }
 
-/// Reads the sections, and judges the bin tables.
+/// Reads the sections, and checks the bin tables.
 fn read_layout(alloc: Global, source: &Source<'_>) -> Result<Seds, ReadFault>
     ensures { MatchResult result
         (λ sections. Hold (layout_rules source.now) × HasSections source.now sections)
@@ -147,7 +147,7 @@ struct OtherParts<'a> {
     bookmarks: Bookmarks,
 }
 
-/// Reads what stands behind the field characters, in the order of its rules.
+/// Reads what is behind the field characters, in the order of its rules.
 fn read_others<'a>(
     alloc: Global,
     source: &Source<'a>,

@@ -126,7 +126,7 @@ fn lacks_sepx(wd: &[u8], fc: u32) -> bool
     sepx(wd, fc).is_none()
 }
 
-/// The least place of a fault in the properties of a section. They stand in any order, and each Sepx is judged once:
+/// The least place of a fault in the properties of a section. They are in any order, and each Sepx is checked once:
 /// those that lie over one another in one walk.
 fn sepx_fault(alloc: Global, source: &Source<'_>, list: &Seds) -> Result<Option<u32>, Memory>
     requires { Nowhere (BreaksSepxs source.now.wd list.now (part_place source.now PlcfSed)) }
@@ -156,7 +156,7 @@ fn walked_sepxs(alloc: Global, wd: &[u8], list: &Seds) -> Result<JudgedSepxs, Me
     Ok(judged)
 }
 
-/// Where the lists of the Sepxs stand in `WordDocument`.
+/// Where the lists of the Sepxs are in `WordDocument`.
 pub fn sepx_ranges(alloc: Global, wd: &[u8], list: &Seds) -> Result<Vec<ListRange>, Memory>
     ensures { IfOk result (λ ranges. All (IsSepxRange wd.now) ranges.items) }
 {
@@ -168,7 +168,7 @@ pub fn sepx_ranges(alloc: Global, wd: &[u8], list: &Seds) -> Result<Vec<ListRang
     Ok(ranges)
 }
 
-/// Adds where the list of the Sepx at `fc` stands, if it stands there.
+/// Adds where the list of the Sepx at `fc` is, if it is there.
 fn push_range(ranges: &mut Vec<ListRange>, wd: &[u8], fc: u32) -> Result<(), Memory>
     requires { All (IsSepxRange wd.now) ranges.old.items }
     ensures { OnOk result (All (IsSepxRange wd.now) ranges.new.items) }
@@ -183,7 +183,7 @@ fn push_range(ranges: &mut Vec<ListRange>, wd: &[u8], fc: u32) -> Result<(), Mem
     Ok(())
 }
 
-/// Where the Sepx stands whose list this is. Nothing where it is that of none.
+/// Where the Sepx is whose list this is. Nothing where it is that of none.
 pub fn sepx_place(wd: &[u8], range: ListRange) -> Option<usize>
     ensures { IfSome result (IsSepxPlace wd.now range) }
 {
@@ -197,7 +197,7 @@ pub fn sepx_place(wd: &[u8], range: ListRange) -> Option<usize>
     Some(place)
 }
 
-/// The first faults of Sepxs that were judged, by their places.
+/// The first faults of Sepxs that were checked, by their places.
 #[derive(Drop)]
 struct JudgedSepxs {
     places: ListPlaces,
@@ -232,7 +232,7 @@ impl JudgedSepxs {
         Ok(())
     }
 
-    /// The first fault in the properties of a section, as `properties_fault` has it. A Sepx is judged once.
+    /// The first fault in the properties of a section, as `properties_fault` has it. A Sepx is checked once.
     fn fault(&mut self, wd: &[u8], fc: u32) -> Result<Option<u32>, Memory>
         requires there { ¬ (LacksSepx wd.now fc) }
         requires small { length wd.now < 2 ^ 32 }

@@ -1,4 +1,4 @@
-// The rule on what stands after the last text of a story.
+// The rule on what is after the last text of a story.
 ghost use Rattle.std.specs.Prelude.{◌≡◌, ◌≤◌, MatchOption, MatchResult, IsErrOf};
 ghost use Rattle.doc_bits.specs.Rules.{Hold, LeastOrNone, Nowhere, IsLeast};
 ghost use Rattle.file_rules.specs.Faults.{IsReadFault};
@@ -14,7 +14,7 @@ use text_codes::PARAGRAPH_MARK;
 
 const RULE_ENDS: u8 = 55;
 
-/// Judges the ends of the notes' story and of the header texts' story, which these CPs cut.
+/// Checks the ends of the notes' story and of the header texts' story, which these CPs cut.
 pub fn check_ends(source: &Source<'_>, notes: &Cuts, heads: &Cuts) -> Result<(), ReadFault>
     requires notes { HasNoteCuts source.now notes.now }
     requires heads { HasHeadCuts source.now heads.now }
@@ -35,7 +35,7 @@ pub fn check_ends(source: &Source<'_>, notes: &Cuts, heads: &Cuts) -> Result<(),
     }
 }
 
-/// The place of the first unit that may not stand after the last text of a story.
+/// The place of the first unit that may not be after the last text of a story.
 fn stray_unit_place(source: &Source<'_>, story: StoryKind, cuts: &Cuts) -> Option<u32>
     ensures { LeastOrNone (BreaksEnd source.now story cuts.now) result }
 {
@@ -54,7 +54,7 @@ fn last_end(cuts: &Cuts) -> u32
     cuts.get(cuts.len() - 1)
 }
 
-/// The first unit from `end` on that may not stand there.
+/// The first unit from `end` on that may not be there.
 fn stray_unit(units: &[u16], end: usize) -> Option<usize>
     ensures { MatchOption result
         (Nowhere (IsLooseUnit units.now end))

@@ -1,4 +1,4 @@
-// The rule on field characters. Their tables are judged by the units in the text too.
+// The rule on field characters. Their tables are checked by the units in the text too.
 ghost use Rattle.std.specs.Prelude.{◌≡◌, ◌+◌, ◌*◌, ◌<◌, ◌^◌};
 ghost use Rattle.std.specs.Prelude.{None, length, map, IfOk, MatchResult};
 ghost use Rattle.doc_bits.specs.Rules.{Hold, LeastOrNone};
@@ -12,11 +12,9 @@ ghost use Rattle.file_rules.specs.FieldRules.{rules_of_fields, HasFields};
 
 use crate::{ReadFault, Source};
 use doc_bits::{Memory, Where, lesser};
-use doc_parts::{Flds, LeadingFields, leading_fields};
+use doc_parts::{Flds, LeadingFields, RULE_FIELDS, leading_fields};
 use fib_form::{StoryKind, TablePart};
 use std::alloc::Global;
-
-const RULE_FIELDS: u8 = 52;
 
 /// The field characters of each story, by its CPs.
 #[derive(Drop)]

@@ -19,7 +19,7 @@ pub struct JudgedCuts {
     pub fault: Option<u32>,
 }
 
-/// Judges the CPs that cut a story of `story_len` units. `formed` says that the part has the length
+/// Checks the CPs that cut a story of `story_len` units. `formed` says that the part has the length
 /// that it has to have.
 pub fn judged_cuts(
     alloc: Global,

@@ -1,4 +1,4 @@
-// The text by CP. Whoever judges a unit reads a plain slice, and goes over the places row by row.
+// The text by CP. Whoever checks a unit reads a plain slice, and goes over the places row by row.
 ghost use Rattle.std.specs.Prelude.{◌≡◌, ◌+◌, ◌*◌, ◌^◌, ◌<◌, ◌≤◌, ◌++◌, length, map, take, All, IfOk};
 ghost use Rattle.std.specs.List.{range_with_len};
 ghost use Rattle.piece_table.specs.Piece.{IsPiece, bare_piece, piece_end, total_length, unit_bytes, unit_places};
@@ -128,7 +128,7 @@ fn put_units(units: &mut [u16], cp: usize, wd: &[u8], piece: Piece)
     }
 }
 
-/// Puts `len` units of two bytes that stand from `at` on.
+/// Puts `len` units of two bytes that are from `at` on.
 fn put_wide(units: &mut [u16], cp: usize, wd: &[u8], at: usize, len: usize)
     requires end { at + 2 * len ≤ length wd.now }
     requires room { cp + len ≤ length units.old }

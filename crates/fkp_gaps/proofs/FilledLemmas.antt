@@ -8,27 +8,26 @@ use Rattle.fkp_pages.specs.declared.lists.Bin.{Bin}
 use Rattle.fkp_pages.specs.Fkp.{HasRunAnswer}
 use Rattle.fkp_pages.specs.Bin.{IsBinTable, IsBinPage, page_at, printed_bin, ArePrintableBins}
 use Rattle.fkp_pages.specs.Properties.{IsListAnswered, HasListAt, bare_list}
-use Rattle.fkp_pages.proofs.PropertyLemmas.{run_answer_one}
-use Rattle.fkp_pages.proofs.PrintedBinLemmas.{printed_table}
+use Rattle.fkp_pages.proofs.Public.{run_answer_one, printed_table}
 use Rattle.fkp_gaps.specs.Gaps.{ArePagesWithin}
 use Rattle.fkp_gaps.specs.Filled.{AreRangesOf, IsPageFor, IsFilledBin, last_end, next_page}
 use Rattle.fkp_gaps.specs.Filled.{with_empty_run, empty_run_page}
 use Rattle.fkp_gaps.specs.Laws.{FilledPlacesHaveLists, FilledBinIsOne}
 use Rattle.fkp_gaps.proofs.GapLemmas.{page_for_one}
-use Rattle.fkp_gaps.proofs.RangeLemmas.{IsRightBefore, IsWhole, ranges_printable, printed_right, ranges_one}
+use Rattle.fkp_gaps.proofs.RangeLemmas.{IsValidBefore, IsWhole, ranges_printable, printed_right, ranges_one}
 use Rattle.fkp_gaps.proofs.PageLemmas.{page_answers, page_behind, page_before}
 
 -- ---- the table
 
-some_range : (IsRight : ℕ → ℕ → Type 0) (to : ℕ) (bins : List Bin) → 0 < to → AreRangesOf IsRight 0 bins to →
+some_range : (IsValid : ℕ → ℕ → Type 0) (to : ℕ) (bins : List Bin) → 0 < to → AreRangesOf IsValid 0 bins to →
     0 < length bins
-some_range IsRight to [] up same = absurd (omega (arith, up, same))
-some_range IsRight to (bin ∷ rest) up ranges = omega arith
+some_range IsValid to [] up same = absurd (omega (arith, up, same))
+some_range IsValid to (bin ∷ rest) up ranges = omega arith
 
-pub whole_printable : (IsRight : ℕ → ℕ → Type 0) (bins : List Bin) → IsWhole IsRight bins →
+pub whole_printable : (IsValid : ℕ → ℕ → Type 0) (bins : List Bin) → IsWhole IsValid bins →
     ArePrintableBins bins last_end
-whole_printable IsRight bins is =
-    ranges_printable IsRight 0 last_end bins is.ranges (some_range IsRight last_end bins (omega arith) is.ranges)
+whole_printable IsValid bins is =
+    ranges_printable IsValid 0 last_end bins is.ranges (some_range IsValid last_end bins (omega arith) is.ranges)
     is.numbers
 
 pub whole_filled : (kind : PageKind) (bin wd : List ℕ) (number : ℕ) (bins : List Bin) (new : List ℕ) →
@@ -57,7 +56,7 @@ filled_table kind bin wd number new is =
 -- what it names at a place
 pub filled_names : (kind : PageKind) (bin wd : List ℕ) (number : ℕ) (new : List ℕ) (fc page : ℕ) →
     IsFilledBin kind bin wd number new → IsBinPage new fc page →
-    IsRightBefore (IsPageFor kind bin wd number) last_end fc page
+    IsValidBefore (IsPageFor kind bin wd number) last_end fc page
 filled_names kind bin wd number new fc page is named =
     printed_right (IsPageFor kind bin wd number) 0 last_end is.bins is.ranges
     (filled_printable kind bin wd number new is) (omega arith) fc page

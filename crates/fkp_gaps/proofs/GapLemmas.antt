@@ -11,8 +11,7 @@ use Rattle.fkp_pages.specs.Fkp.{HasRunAnswer}
 use Rattle.fkp_pages.specs.declared.bin_table.BinRange.{BinRange}
 use Rattle.fkp_pages.specs.Bin.{bin_count, IsBinTable, IsBinPage, HasNoBin, HasBinRange, page_at}
 use Rattle.fkp_pages.specs.Properties.{IsListAnswered}
-use Rattle.fkp_pages.proofs.BinLemmas.{bin_fcs_ascend, bin_page_one}
-use Rattle.fkp_pages.proofs.PropertyLemmas.{run_answer_one}
+use Rattle.fkp_pages.proofs.Public.{bin_fcs_ascend, bin_page_one, run_answer_one}
 use Rattle.fkp_gaps.specs.Gaps.{IsGapAnswer, IsGap, ArePagesWithin}
 use Rattle.fkp_gaps.specs.Filled.{IsPageFor}
 use Rattle.fkp_gaps.specs.Laws.{GapsHaveNoList}

@@ -1,4 +1,5 @@
-pub mod GapLemmas
-pub mod RangeLemmas
-pub mod PageLemmas
-pub mod FilledLemmas
+pub mod Public
+mod GapLemmas
+mod RangeLemmas
+mod PageLemmas
+mod FilledLemmas

@@ -4,8 +4,7 @@ use Rattle.std.proofs.Common.{◌≡◌, ◌∙◌, ◌++◌, ◌∷◌, [], inl
 use Rattle.std.proofs.Common.{refl, sym, ap, arith, replicate}
 use Rattle.std.proofs.lemmas.List.{length-append, append_assoc, append-nil, length-take-le, take_all}
 use Rattle.doc_bits.specs.Number.{zeros, number_at, u16_at}
-use Rattle.doc_bits.proofs.ListLemmas.{range_mid, length-range, three_parts}
-use Rattle.doc_bits.proofs.NumberLemmas.{length-zeros, number_at-before}
+use Rattle.doc_bits.proofs.Public.{range_mid, length-range, three_parts, length-zeros, number_at-before}
 use Rattle.fkp_pages.specs.declared.kind.PageKind.{PageKind}
 use Rattle.fkp_pages.specs.declared.kind.PageKind.TheVariants.{Chpx, Papx}
 use Rattle.fkp_pages.specs.declared.kind.RunAnswer.TheVariants.{Empty}
@@ -62,7 +61,7 @@ page_answers kind fc before = (
 
 -- ---- the stream
 
--- the page stands behind it
+-- the page is behind it
 pub page_behind : (wd : List ℕ) → page_at (with_empty_run wd) (next_page wd) ≡ empty_run_page
 unfolding with_empty_run
 page_behind wd =
@@ -77,7 +76,7 @@ page_behind wd =
     range_mid (wd ++ (room ++ empty_run_page)) front empty_run_page [] (512 * number) (512 * number + 512) whole
     (sym len) (omega (arith, len, page_len))
 
--- what stands in the stream stays
+-- what is in the stream stays
 pub range_before : (xs more : List ℕ) (from to : ℕ) → from ≤ to → to ≤ length xs →
     slice_range (xs ++ more) from to ≡ slice_range xs from to
 range_before xs more from to order within =

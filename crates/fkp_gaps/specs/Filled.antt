@@ -20,11 +20,11 @@ IsPageFor kind bin wd number fc page =
 
 -- ranges that touch, from one place to before another, and whose page is right for each of their places
 abbrev pub AreRangesOf : (ℕ → ℕ → Type 0) → ℕ → List Bin → ℕ → Type 0
-AreRangesOf IsRight from [] to = from ≡ to
-AreRangesOf IsRight from (bin ∷ rest) to =
+AreRangesOf IsValid from [] to = from ≡ to
+AreRangesOf IsValid from (bin ∷ rest) to =
     (bin.first ≡ from)
     × ((next : ℕ) × ((from < next)
-    × (((fc : ℕ) → from ≤ fc → fc < next → IsRight fc bin.page) × AreRangesOf IsRight next rest to)))
+    × (((fc : ℕ) → from ≤ fc → fc < next → IsValid fc bin.page) × AreRangesOf IsValid next rest to)))
 
 -- neighbours have other pages
 abbrev pub HaveOtherPages : List Bin → Type 0
@@ -43,7 +43,7 @@ pub record IsFilledBin (kind : PageKind) (bin wd : List ℕ) (number : ℕ) (new
 unfoldable pub empty_run_page : List ℕ
 empty_run_page = zeros 4 ++ (replicate 4 255 ++ (zeros 503 ++ 1 ∷ []))
 
--- the number of the first page that stands behind a stream
+-- the number of the first page that is behind a stream
 abbrev pub next_page : List ℕ → ℕ
 next_page wd = (length wd + 511) / 512
 

@@ -6,19 +6,19 @@ use Rattle.fkp_gaps.specs.declared.bins.PageRange.{PageRange}
 use Rattle.fkp_gaps.specs.Filled.{AreRangesOf, HaveOtherPages, last_end}
 
 -- the page is right at each place of the range
-pub record IsRangeFor (IsRight : ℕ → ℕ → Type 0) (range : PageRange) : Type 0 where
+pub record IsRangeFor (IsValid : ℕ → ℕ → Type 0) (range : PageRange) : Type 0 where
   pub order : range.from < range.to
   pub end : range.to ≤ last_end
   pub page : range.page < 2 ^ 22
-  pub right : (fc : ℕ) → range.from ≤ fc → fc < range.to → IsRight fc range.page
+  pub right : (fc : ℕ) → range.from ≤ fc → fc < range.to → IsValid fc range.page
 
 -- the entry of a bin table for a range
 abbrev pub bin_of_range : PageRange → Bin
 bin_of_range range = record { first = range.from; page = range.page }
 
 -- the closed ranges reach to the one that is open, and no two neighbours have one page
-pub record AreClosed (IsRight : ℕ → ℕ → Type 0) (bins : List Bin) (open_range : PageRange) : Type 0 where
-  pub ranges : AreRangesOf IsRight 0 bins open_range.from
+pub record AreClosed (IsValid : ℕ → ℕ → Type 0) (bins : List Bin) (open_range : PageRange) : Type 0 where
+  pub ranges : AreRangesOf IsValid 0 bins open_range.from
   pub apart : HaveOtherPages (bins ++ bin_of_range open_range ∷ [])
   pub pages : All (λ bin. bin.page < 2 ^ 22) bins
 

@@ -14,7 +14,7 @@ const COUNT_AT: usize = 511;
 /// The byte of which the fc behind all places is made.
 const FC_BYTE: u8 = 0xFF;
 
-/// The number of the first page that stands behind a stream.
+/// The number of the first page that is behind a stream.
 pub fn next_page_of(wd: &[u8]) -> usize
     requires { length wd.now ≤ 1073741824 }
     ensures { result ≡ next_page wd.now }

@@ -10,16 +10,14 @@ use Rattle.std.proofs.Math.Seq.{split_at}
 use Rattle.std.proofs.lemmas.Bool.{eqb-true}
 use Rattle.std.proofs.lemmas.List.{get_or_at, drop_at}
 use Rattle.doc_bits.specs.Number.{number_bytes}
-use Rattle.doc_bits.proofs.NumberLemmas.{number_at-number_bytes, length-number_bytes}
+use Rattle.doc_bits.proofs.Public.{number_at-number_bytes, length-number_bytes, both_true}
 use Rattle.prop_map.specs.Printing.{printed_list, IsPrintOf}
-use Rattle.prop_map.proofs.EntriesLemmas.{entries-empty}
-use Rattle.prop_map.proofs.PrintLemmas.{print_is}
+use Rattle.prop_map.proofs.Public.{entries-empty, print_is}
 use Rattle.fkp_pages.specs.declared.kind.PageKind.{PageKind}
 use Rattle.fkp_pages.specs.declared.kind.PageKind.TheVariants.{Chpx, Papx}
 use Rattle.fkp_pages.specs.declared.kind.RunAnswer.TheVariants.{Found, Empty}
 use Rattle.fkp_pages.specs.declared.lists.Run.{Run}
 use Rattle.fkp_pages.specs.Fkp.{entry_size, HasRunCount, IsFirstRun, entry_byte, list_from, list_to, spelled_list}
-use Rattle.doc_bits.proofs.TestLemmas.{both_true}
 use Rattle.fkp_pages.specs.Properties.{bare_list}
 use Rattle.fkp_pages.specs.Runs.{run_groups, run_list, IsBareRun, IsWritableRun}
 use Rattle.fkp_pages.specs.Written.{is_bare, written}

@@ -102,7 +102,7 @@ page_of_bytes kind (part ∷ parts) (suc k) fits up =
 
 -- ---- one run
 
--- where a run stands: its page, its number there, and what the page has before it
+-- where a run is: its page, its number there, and what the page has before it
 pub record StandsOnPage (kind : PageKind) (runs : List Run) (parts : List (List Run)) (i : ℕ) (run : Run) : Type 0 where
   pub on : IsOnPage parts i
   pub own : get_or (page_items parts on.page) on.nth run ≡ run

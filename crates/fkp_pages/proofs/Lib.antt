@@ -1,22 +1,23 @@
-pub mod BinLemmas
-pub mod PrintedBinLemmas
-pub mod StretchLemmas
-pub mod PackingLemmas
-pub mod WrittenLemmas
-pub mod LimitLemmas
-pub mod PageLemmas
-pub mod PageSteps
-pub mod PagesSteps
-pub mod PageShape
-pub mod ListShape
-pub mod PropertyLemmas
-pub mod OrderLemmas
-pub mod FoundLemmas
-pub mod FoundPages
-pub mod RunsTested
-pub mod WholePages
-pub mod RowLemmas
-pub mod PackedLemmas
-pub mod RowTableLemmas
-pub mod LongerLemmas
-pub mod CountLemmas
+pub mod Public
+mod BinLemmas
+mod PrintedBinLemmas
+mod StretchLemmas
+mod PackingLemmas
+mod WrittenLemmas
+mod LimitLemmas
+mod PageLemmas
+mod PageSteps
+mod PagesSteps
+mod PageShape
+mod ListShape
+mod PropertyLemmas
+mod OrderLemmas
+mod FoundLemmas
+mod FoundPages
+mod RunsTested
+mod WholePages
+mod RowLemmas
+mod PackedLemmas
+mod RowTableLemmas
+mod LongerLemmas
+mod CountLemmas

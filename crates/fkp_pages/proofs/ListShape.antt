@@ -94,7 +94,7 @@ papx_list front list back page at true o p a = odd_list front list back page at 
 papx_list front list back page at false o p a =
     even_list front list back page at p a (λ e. let yes = eq-eqb (length list % 2) 1 e in absurd (cc))
 
--- a list that stands in a page as it is spelled is read there
+-- a list that is in a page as it is spelled is read there
 pub list_at : (kind : PageKind) (front list back page : List ℕ) (at : ℕ) → page ≡ front ++ (spelled_list kind list ++
     back) → length front ≡ at → IsListAt kind page at list
 list_at Chpx front list back page at p a = chpx_list front list back page at p a

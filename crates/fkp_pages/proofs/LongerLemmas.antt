@@ -5,7 +5,7 @@ use Rattle.std.proofs.Common.{map, arith}
 use Rattle.std.proofs.lemmas.Bool.{cases_lt}
 use Rattle.std.proofs.lemmas.Option.{same_Some, none-some}
 use Rattle.std.proofs.lemmas.List.{length-append}
-use Rattle.doc_bits.proofs.ListLemmas.{there_is}
+use Rattle.doc_bits.proofs.Public.{there_is}
 use Rattle.doc_bits.specs.Plc.{plc_cp}
 use Rattle.fkp_pages.specs.Bin.{ArePrintableBins, printed_bin, bin_fcs, IsBinPage}
 use Rattle.fkp_pages.proofs.PrintedBinLemmas.{printed_table, printed_fc, printed_page, printed_count}

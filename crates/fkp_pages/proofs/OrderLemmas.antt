@@ -17,7 +17,7 @@ use Rattle.fkp_pages.specs.PageBytes.{FitsPage, first_limit, last_fc, page_fcs, 
 use Rattle.fkp_pages.specs.PageBytes.{zeros}
 use Rattle.fkp_pages.specs.Found.{HasFileNumbers}
 use Rattle.doc_bits.specs.Number.{numbers}
-use Rattle.doc_bits.proofs.NumberLemmas.{number_at-numbers}
+use Rattle.doc_bits.proofs.Public.{number_at-numbers}
 use Rattle.fkp_pages.proofs.PageShape.{free_bytes, page_count-page}
 
 -- each run ends after it begins, and where the next one begins

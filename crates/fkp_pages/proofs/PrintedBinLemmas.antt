@@ -6,7 +6,7 @@ use Rattle.std.proofs.lemmas.List.Elements.{All-head, All-tail}
 use Rattle.std.specs.Prelude.{All}
 use Rattle.doc_bits.specs.Number.{number_at, numbers}
 use Rattle.doc_bits.specs.Plc.{plc_cp}
-use Rattle.doc_bits.proofs.NumberLemmas.{number_at-after, length-numbers, number_at-numbers}
+use Rattle.doc_bits.proofs.Public.{number_at-after, length-numbers, number_at-numbers}
 use Rattle.fkp_pages.specs.declared.lists.Bin.{Bin}
 use Rattle.fkp_pages.specs.Bin.{bin_count, page_number, bin_fcs, printed_bin, ArePrintableBins, IsBinTableOf}
 

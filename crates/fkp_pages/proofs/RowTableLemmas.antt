@@ -1,7 +1,7 @@
--- Runs whose pages stand in a row: the table of the row, and the list of a run through it.
+-- Runs whose pages are in a row: the table of the row, and the list of a run through it.
 use Rattle.std.proofs.Common.{sym, ap, subst, ℕ, ◌-◌, ◌^◌, ◌<◌, ◌≤◌, List, All, length, drop, arith}
 use Rattle.std.proofs.lemmas.Option.{get_or_from_slice_get}
-use Rattle.doc_bits.proofs.ListLemmas.{All_at, there_is}
+use Rattle.doc_bits.proofs.Public.{All_at, there_is}
 use Rattle.sprm_table.specs.Sprm.{IsAcceptedList}
 use Rattle.fkp_pages.specs.declared.kind.PageKind.{PageKind}
 use Rattle.fkp_pages.specs.declared.kind.PageKind.TheVariants.{Chpx, Papx}

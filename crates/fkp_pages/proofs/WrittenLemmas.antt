@@ -4,11 +4,11 @@ use Rattle.std.proofs.Common.{length, refl, sym, ap, ◌∙◌, arith, length-ap
 use Rattle.std.specs.Prelude.{if◌then◌else◌, IsTrue}
 use Rattle.std.proofs.lemmas.Bool.{eqb-true}
 use Rattle.doc_bits.specs.Number.{number_bytes}
-use Rattle.doc_bits.proofs.NumberLemmas.{length-number_bytes}
+use Rattle.doc_bits.proofs.Public.{length-number_bytes}
 use Rattle.prop_map.specs.Printing.{printed_list}
 use Rattle.std.specs.FinMap.{entries, empty, empty_of_len, len-entries}
 use Rattle.prop_map.specs.Settings.{Properties}
-use Rattle.prop_map.proofs.EntriesLemmas.{entries-empty}
+use Rattle.prop_map.proofs.Public.{entries-empty}
 use Rattle.fkp_pages.specs.declared.kind.PageKind.{PageKind}
 use Rattle.fkp_pages.specs.declared.kind.PageKind.TheVariants.{Chpx, Papx}
 use Rattle.fkp_pages.specs.declared.lists.Run.{Run}

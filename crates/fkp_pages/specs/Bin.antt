@@ -44,7 +44,7 @@ pub record HasBinRange (bin : List ℕ) (fc : ℕ) (range : BinRange) : Type 0 w
 abbrev pub HasNoBin : List ℕ → ℕ → Type 0
 HasNoBin bin fc = (k : ℕ) → ¬ (IsBinRange bin fc k)
 
--- [MS-DOC] a page stands at 512 times its number in the stream `WordDocument`
+-- [MS-DOC] a page is at 512 times its number in the stream `WordDocument`
 abbrev pub page_at : List ℕ → ℕ → List ℕ
 page_at wd number = slice_range wd (512 * number) (512 * number + 512)
 

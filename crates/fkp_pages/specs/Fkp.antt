@@ -51,7 +51,7 @@ pub record IsFirstRun (page : List ℕ) (fc run : ℕ) : Type 0 where
 abbrev pub HasNoRun : List ℕ → ℕ → Type 0
 HasNoRun page fc = (run : ℕ) → run < page_count page → ¬ (HoldsFc page run fc)
 
--- where the entry of a run stands, behind the fcs
+-- where the entry of a run is, behind the fcs
 abbrev pub entry_place : PageKind → List ℕ → ℕ → ℕ
 entry_place kind page run = 4 * (page_count page + 1) + entry_size kind * run
 
@@ -62,7 +62,7 @@ entry_byte kind page run = slice_index page (entry_place kind page run)
 -- [MS-DOC] Chpx: cb, and so many bytes. PapxInFkp: cb that is not 0, and 2 cb - 1 bytes; or 0, cb', and 2 cb' bytes.
 -- These bytes are the list: grpprl, or for a paragraph GrpPrlAndIstd, which begins with the style number
 
--- where the list begins whose properties stand at the place
+-- where the list begins whose properties are at the place
 abbrev pub list_from : PageKind → List ℕ → ℕ → ℕ
 list_from Chpx page at = at + 1
 list_from Papx page at = if slice_index page at == 0 then at + 2 else at + 1
@@ -73,12 +73,12 @@ list_to Chpx page at = at + 1 + slice_index page at
 list_to Papx page at =
     if slice_index page at == 0 then at + 2 + 2 * slice_index page (at + 1) else at + 2 * slice_index page at
 
--- the list ends before the count, which stands at 511, and has room for a paragraph's style number
+-- the list ends before the count, which is at 511, and has room for a paragraph's style number
 pub record IsListWithin (kind : PageKind) (page : List ℕ) (at : ℕ) : Type 0 where
   pub room : list_from kind page at + least_list kind ≤ list_to kind page at
   pub within : list_to kind page at ≤ 511
 
--- the same list, said by what is written: these bytes stand at the place
+-- the same list, said by what is written: these bytes are at the place
 abbrev pub spelled_list : PageKind → List ℕ → List ℕ
 spelled_list Chpx list = length list ∷ list
 spelled_list Papx list = if length list % 2 == 1 then (length list + 1) / 2 ∷ list else 0 ∷ (length list / 2 ∷ list)

@@ -19,7 +19,7 @@ pub use Rattle.fkp_pages.specs.Runs.{HasFileNumbers}
 use Rattle.fkp_pages.specs.PageBytes.{last_fc}
 use Rattle.fkp_pages.specs.Pages.{ArePagesOf}
 
--- the sprms of a list: those of a paragraph stand behind its style number
+-- the sprms of a list: those of a paragraph are behind its style number
 abbrev pub sprms_of : PageKind → List ℕ → List ℕ
 sprms_of Chpx list = list
 sprms_of Papx list = drop 2 list
@@ -54,7 +54,7 @@ RunsAreFound =
     slice_get runs i ≡ Some run → run.from ≤ fc → fc < run.to →
     IsFoundIn kind pages fc run
 
--- where pages stand: `WordDocument`, the ranges of a bin table with its end, and the range of the first one of the
+-- where pages are: `WordDocument`, the ranges of a bin table with its end, and the range of the first one of the
 -- pages
 pub record Placement : Type 0 where
   pub wd : List ℕ
@@ -70,7 +70,7 @@ range_fc placement k = slice_index (bin_fcs placement.bins placement.end) (place
 abbrev pub range_page : Placement → ℕ → ℕ
 range_page placement k = slice_index (map (λ bin. bin.page) placement.bins) (placement.first + k)
 
--- the table names the pages one after the other, by their first fcs, and they stand where it says; what it names
+-- the table names the pages one after the other, by their first fcs, and they are where it says; what it names
 -- after them
 -- begins where the last run ends, or later
 pub record ArePlaced (runs : List Run) (pages : Pages) (placement : Placement) : Type 0 where

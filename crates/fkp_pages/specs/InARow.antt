@@ -1,4 +1,4 @@
--- Pages that stand one after the other in `WordDocument`, and the ranges of a bin table that name them.
+-- Pages that are one after the other in `WordDocument`, and the ranges of a bin table that name them.
 use Rattle.std.specs.Prelude.{◌≡◌, ℕ, ◌+◌, ◌*◌, ◌<◌, ◌≤◌, ◌^◌, List, [], ◌∷◌, ◌++◌, length}
 use Rattle.fkp_pages.specs.declared.kind.PageKind.{PageKind}
 use Rattle.fkp_pages.specs.declared.lists.Bin.{Bin}
@@ -24,7 +24,7 @@ row_of runs pages number before behind = record {
   first = 0;
 }
 
--- behind so many times 512 bytes, the pages stand where the ranges say
+-- behind so many times 512 bytes, the pages are where the ranges say
 abbrev pub PagesStandInARow : Type 0
 PagesStandInARow =
     (kind : PageKind) (runs : List Run) (pages : Pages) (number : ℕ) (before behind : List ℕ) →

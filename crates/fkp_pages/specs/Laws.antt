@@ -16,7 +16,7 @@ abbrev pub BinPageIsOne : Type 0
 BinPageIsOne = (bin : List ℕ) (fc one other : ℕ) → IsBinTable bin → IsBinPage bin fc one → IsBinPage bin fc other →
     one ≡ other
 
--- the list stands at the place as it is spelled, before the count
+-- the list is at the place as it is spelled, before the count
 pub record StandsAt (kind : PageKind) (page : List ℕ) (at : ℕ) (list : List ℕ) : Type 0 where
   pub room : least_list kind ≤ length list
   pub within : at + length (spelled_list kind list) ≤ 511
@@ -27,13 +27,13 @@ pub record IsReadAt (kind : PageKind) (page : List ℕ) (at : ℕ) (list : List 
   pub within : IsListWithin kind page at
   pub list_is : slice_range page (list_from kind page at) (list_to kind page at) ≡ list
 
--- what is read at a place stands there as it is spelled
+-- what is read at a place is there as it is spelled
 abbrev pub ListIsSpelled : Type 0
 ListIsSpelled =
     (kind : PageKind) (page : List ℕ) (at : ℕ) (list : List ℕ) →
     length page ≡ 512 → IsReadAt kind page at list → StandsAt kind page at list
 
--- what stands at a place as it is spelled is read there
+-- what is at a place as it is spelled is read there
 abbrev pub SpelledListIsRead : Type 0
 SpelledListIsRead =
     (kind : PageKind) (page : List ℕ) (at : ℕ) (list : List ℕ) →

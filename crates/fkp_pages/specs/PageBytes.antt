@@ -1,5 +1,5 @@
 -- [MS-DOC] ChpxFkp, PapxFkp: the 512 bytes of a page, as its runs give them.
--- Profile: what is written for a run stands at the greatest even offset that leaves room for it below that of the
+-- Profile: what is written for a run is at the greatest even offset that leaves room for it below that of the
 -- earlier runs.
 use Rattle.std.specs.Prelude.{ℕ, ◌+◌, ◌-◌, ◌*◌, ◌/◌, ◌≤◌, List, [], ◌∷◌, ◌++◌, length, map, replicate, slice_index}
 use Rattle.std.specs.List.{flat_map}

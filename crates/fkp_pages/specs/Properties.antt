@@ -21,7 +21,7 @@ IsListAnswered kind page NoRun list = ⊥
 IsListAnswered kind page BadCount list = ⊥
 IsListAnswered kind page (Leaves entry) list = ⊥
 
--- the page that the bin table names for the place stands in `WordDocument`, and answers the list
+-- the page that the bin table names for the place is in `WordDocument`, and answers the list
 pub record HasListAt (kind : PageKind) (bin wd : List ℕ) (fc : ℕ) (list : List ℕ) : Type 0 where
   pub number : ℕ
   pub named : IsBinPage bin fc number

@@ -1,4 +1,4 @@
--- Runs whose pages stand one after the other in a WordDocument, and the bin tables that name these pages: the row's
+-- Runs whose pages are one after the other in a WordDocument, and the bin tables that name these pages: the row's
 -- own,
 -- and ones that keep ranges of an older table before them.
 use Rattle.std.specs.Prelude.{◌≡◌, ◌⊎◌, ℕ, ◌+◌, ◌*◌, ◌^◌, ◌<◌, ◌≤◌, List, ◌++◌, length, Some, All, slice_get}
@@ -21,7 +21,7 @@ pub record IsInRun (runs : List Run) (fc : ℕ) (run : Run) : Type 0 where
   pub from : run.from ≤ fc
   pub to : fc < run.to
 
--- the pages of runs stand in a row in WordDocument, from the page of a number on, behind the FIB
+-- the pages of runs are in a row in WordDocument, from the page of a number on, behind the FIB
 pub record IsRow (kind : PageKind) (wd : List ℕ) (runs : List Run) (first : ℕ) : Type 0 where
   pub pages : Pages
   pub before : List ℕ

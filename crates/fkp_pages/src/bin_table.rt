@@ -21,7 +21,7 @@ pub struct BinRange {
     pub page: u32,
 }
 
-/// The number of the page whose range holds a byte place. The page stands in `WordDocument` at 512
+/// The number of the page whose range holds a byte place. The page is in `WordDocument` at 512
 /// times its number.
 pub fn bin_at(bin: &[u8], fc: u32) -> Option<u32>
     requires { IsBinTable bin.now }

@@ -12,12 +12,12 @@ pub fn bin_page_is_one()
     ensures { BinPageIsOne }
 {}
 
-/// Where a list is read, it stands as it is spelled.
+/// Where a list is read, it is as it is spelled.
 pub fn list_is_spelled()
     ensures { ListIsSpelled }
 {}
 
-/// Where a list stands as it is spelled, it is read.
+/// Where a list is as it is spelled, it is read.
 pub fn spelled_list_is_read()
     ensures { SpelledListIsRead }
 {}

@@ -20,7 +20,7 @@ pub struct Pages {
 }
 
 impl Pages {
-    /// Appends the ranges that name the pages to those of a bin table. The pages stand one after the
+    /// Appends the ranges that name the pages to those of a bin table. The pages are one after the
     /// other in `WordDocument`, the first one at 512 times `number`.
     pub fn add_to(&self, bins: &mut Bins, number: u32) -> Result<(), Memory>
         requires { number + length self.now.starts ≤ 2 ^ 22 }

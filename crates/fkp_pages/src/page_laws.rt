@@ -40,7 +40,7 @@ pub fn places_have_lists()
     ensures { PlacesHaveLists }
 {}
 
-/// Pages that stand one after the other are where the ranges that number them say.
+/// Pages that are one after the other are where the ranges that number them say.
 pub fn pages_stand_in_a_row()
     ensures { PagesStandInARow }
 {}

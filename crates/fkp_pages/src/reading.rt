@@ -106,7 +106,7 @@ pub fn has_run_count(kind: PageKind, page: &[u8]) -> bool
     1 <= count && count <= kind.most_runs()
 }
 
-/// Where the entry of a run stands, and behind the last run where the entries end.
+/// Where the entry of a run is, and behind the last run where the entries end.
 pub fn entry_at(kind: PageKind, page: &[u8], run: usize) -> usize
     requires page { length page.now ≡ 512 }
     requires counted { HasRunCount kind page.now }
@@ -136,7 +136,7 @@ pub fn answer_of(kind: PageKind, page: &[u8], run: usize) -> RunAnswer
     }
 }
 
-/// The range of the list whose properties stand at the place, if it is in the page.
+/// The range of the list whose properties are at the place, if it is in the page.
 fn list_range(kind: PageKind, page: &[u8], at: usize) -> Option<(usize, usize)>
     requires page { length page.now ≡ 512 }
     requires place { at < 511 }
@@ -152,7 +152,7 @@ fn list_range(kind: PageKind, page: &[u8], at: usize) -> Option<(usize, usize)>
     }
 }
 
-/// Where the list begins whose properties stand at the place, and where it ends.
+/// Where the list begins whose properties are at the place, and where it ends.
 fn list_bounds(kind: PageKind, page: &[u8], at: usize) -> (usize, usize)
     requires page { length page.now ≡ 512 }
     requires place { at < 511 }
@@ -163,7 +163,7 @@ fn list_bounds(kind: PageKind, page: &[u8], at: usize) -> (usize, usize)
     let size = page[at] as usize;
     match kind {
         PageKind::Chpx => (at + 1, at + 1 + size),
-        // A zero byte stands before the size of a list of an even length.
+        // A zero byte is before the size of a list of an even length.
         PageKind::Papx => {
             if size == 0 {
                 (at + 2, at + 2 + 2 * page[at + 1] as usize)

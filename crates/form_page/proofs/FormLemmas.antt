@@ -6,10 +6,10 @@ use Rattle.page_out.specs.Printed.{Prints}
 use Rattle.html_page.specs.Pages.{Head}
 use Rattle.html_page.specs.Sources.{PageSource, source_of}
 use Rattle.html_page.specs.declared.printer.HtmlPage.{HtmlPage}
-use Rattle.html_page.proofs.PutLemmas.{places_none as html_none, places_then as html_then}
+use Rattle.html_page.proofs.Public.{places_none as html_none, places_then as html_then}
 use Rattle.markdown_page.specs.declared.printer.MarkdownPage.{MarkdownPage}
-use Rattle.markdown_page.proofs.PutLemmas.{places_none as markdown_none, places_then as markdown_then}
-use Rattle.markdown_page.proofs.PageLemmas.{page_put as markdown_put}
+use Rattle.markdown_page.proofs.Public.{places_none as markdown_none, places_then as markdown_then}
+use Rattle.markdown_page.proofs.Public.{page_put as markdown_put}
 use Rattle.markdown_page.specs.Pages.{page_text as markdown_text}
 use Rattle.markdown_page.specs.Printed.{PutsPlaces as PutsMarkdown}
 use Rattle.form_page.specs.declared.page.PageForm.{PageForm}
@@ -54,7 +54,7 @@ begun_markdown {K = K} sink a b c p q r places out page puts =
     subst (λ (at : K). PutsMarkdown sink at p c r places) out
     (subst (λ (m : MarkdownPage). PutsMarkdown sink b m c r places) page puts)
 
--- what stands before the text, the places, and what stands behind them are the page
+-- what is before the text, the places, and what is behind them are the page
 pub whole_put : {K : Type 0} (sink : Ghosts K) (a b c d : K) (p q r s : FormPage) (block : List ℕ)
     (source : PageSource) (head : Head) (places : Places) → IsFresh p block source → Begins sink a p b q head → PutsPlaces sink b q c r places →
     Ends sink c r d s → Prints sink a (page_in p) d (page_in s) (form_text (form_of p) source head places)

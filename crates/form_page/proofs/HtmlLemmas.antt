@@ -6,16 +6,16 @@ use Rattle.page_out.specs.Printed.{Prints}
 use Rattle.html_text.specs.Tokens.{Token, printed}
 use Rattle.view_paths.specs.Paths.{last_path}
 use Rattle.view_paths.specs.Events.{events_from, events_up_to, turns}
-use Rattle.view_paths.proofs.NestLemmas.{events_from-append}
+use Rattle.view_paths.proofs.Public.{events_from-append}
 use Rattle.view_places.specs.declared.element.Element.{Element}
 use Rattle.view_places.specs.Same.{same}
-use Rattle.glyph_units.specs.Units.{half_text}
 use Rattle.html_page.specs.Sources.{PageSource, source_of}
 use Rattle.html_page.specs.declared.printer.HtmlPage.{HtmlPage}
 use Rattle.html_page.specs.Pages.{Events, Head, Places, back_tokens, body_tokens, characters, front_tokens, half_of}
 use Rattle.html_page.specs.Pages.{page_text, page_tokens, style_tokens, tokens_of}
 use Rattle.html_page.specs.Printed.{PutsPlaces}
-use Rattle.html_page.proofs.PutLemmas.{half_of-append, tokens_of-append, tokens_then}
+use Rattle.html_page.proofs.Public.{half_of-append, tokens_of-append, tokens_then}
+use Rattle.text_codes.specs.Halves.{half_text}
 
 -- ---- the tokens of a page, piece by piece
 

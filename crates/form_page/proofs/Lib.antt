@@ -1,2 +1,3 @@
-pub mod HtmlLemmas
-pub mod FormLemmas
+pub mod Public
+mod HtmlLemmas
+mod FormLemmas

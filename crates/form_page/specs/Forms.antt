@@ -9,7 +9,6 @@ use Rattle.view_paths.specs.Events.{turns}
 use Rattle.view_places.specs.declared.element.Element.{Element}
 use Rattle.view_places.specs.declared.glyph.Glyph.{Glyph}
 use Rattle.view_places.specs.Same.{same}
-use Rattle.glyph_units.specs.Units.{half_text}
 use Rattle.html_page.specs.Sources.{PageSource, source_of}
 use Rattle.html_page.specs.Pages.{Head, back_tokens, characters, front_tokens, half_of, style_tokens, tokens_of}
 use Rattle.html_page.specs.Pages.{page_text as html_text}
@@ -22,6 +21,7 @@ use Rattle.form_page.specs.declared.page.PageForm.{PageForm}
 use Rattle.form_page.specs.declared.page.PageForm.TheVariants as form
 use Rattle.form_page.specs.declared.page.FormPage.{FormPage}
 use Rattle.form_page.specs.declared.page.FormPage.TheVariants.{Html, Markdown}
+use Rattle.text_codes.specs.Halves.{half_text}
 
 abbrev pub Places : Type 0
 Places = List (Place Element Glyph)
@@ -54,7 +54,7 @@ abbrev pub HasNoHalf : FormPage → Type 0
 HasNoHalf (Html html) = html.half ≡ None
 HasNoHalf (Markdown markdown) = ⊤
 
--- what stands before the text was printed
+-- what is before the text was printed
 abbrev pub Begins : {K : Type 0} → Ghosts K → K → FormPage → K → FormPage → Head → Type 0
 Begins sink before (Html html) after (Html left) head =
     Prints sink before html.page after left.page (printed (front_tokens head.language ++ (characters head.title ++ style_tokens)))
@@ -71,7 +71,7 @@ PutsPlaces sink before (Markdown markdown) after (Html left) places = ⊥
 PutsPlaces sink before (Markdown markdown) after (Markdown left) places =
     PutsMarkdown sink before markdown after left places
 
--- all was closed, and what stands behind the text was printed
+-- all was closed, and what is behind the text was printed
 abbrev pub Ends : {K : Type 0} → Ghosts K → K → FormPage → K → FormPage → Type 0
 Ends sink before (Html html) after (Html left) =
     Prints sink before html.page after left.page

@@ -42,7 +42,7 @@ impl<'a> FormPage<'a> {
         }
     }
 
-    /// Puts what stands before the text of a page with this language, by its identifier of [MS-LCID], and this title, in
+    /// Puts what is before the text of a page with this language, by its identifier of [MS-LCID], and this title, in
     /// units of UTF-16.
     pub fn begin<K: Sink>(&mut self, out: &mut K, language: Option<u16>, title: &[u16])
         requires { HasNoHalf self.old }
@@ -76,7 +76,7 @@ impl<'a> FormPage<'a> {
         }
     }
 
-    /// Closes all that is open, and puts what stands behind the text.
+    /// Closes all that is open, and puts what is behind the text.
     pub fn end<K: Sink>(&mut self, out: &mut K)
         ensures { Ends K.Sink out.old self.old out.new self.new }
     {

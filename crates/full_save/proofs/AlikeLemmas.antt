@@ -1,15 +1,14 @@
--- Items that stand in a row and have something in common: those of a run.
+-- Items that are in a row and have something in common: those of a run.
 use Rattle.std.specs.Prelude.{slice_get}
 use Rattle.std.proofs.Common.{◌≡◌, ◌∙◌, ap, sym, subst, ℕ, zero, suc, ◌+◌, ◌-◌, ◌<◌, ◌≤◌, List, [], ◌∷◌, ◌++◌, length}
 use Rattle.std.proofs.Common.{map, take}
 use Rattle.std.proofs.Common.{get_or, Some, arith, append_assoc}
 use Rattle.std.proofs.lemmas.List.{length-map, take_more}
 use Rattle.std.proofs.lemmas.Option.{slice_get_within, get_or_from_slice_get, same_Some}
-use Rattle.doc_bits.proofs.ListLemmas.{get-map}
+use Rattle.doc_bits.proofs.Public.{get-map}
 use Rattle.run_lists.specs.declared.runs.Run.{Run}
 use Rattle.run_lists.specs.Spread.{expanded, total_len}
-use Rattle.run_lists.proofs.SpreadLemmas.{length-spread, count_within}
-use Rattle.run_lists.proofs.CutLemmas.{value_in_run}
+use Rattle.run_lists.proofs.Public.{length-spread, count_within, value_in_run}
 use Rattle.plain_doc.specs.declared.item.Item.{Item}
 use Rattle.full_save.specs.Alike.{HaveAlike}
 

@@ -5,16 +5,16 @@ use Rattle.std.specs.Prelude.{All}
 use Rattle.std.specs.Prelude.{slice_index}
 use Rattle.std.proofs.lemmas.List.{append_assoc, length-append}
 use Rattle.doc_bits.specs.declared.places.Where.TheVariants.{Main}
-use Rattle.doc_bits.proofs.ListLemmas.{All_at, All-from_slice_get}
+use Rattle.doc_bits.proofs.Public.{All_at, All-from_slice_get}
 use Rattle.prop_map.specs.Formed.{section_groups}
 use Rattle.fkp_pages.specs.declared.kind.PageKind.{PageKind}
 use Rattle.fkp_pages.specs.declared.kind.PageKind.TheVariants.{Chpx, Papx}
 use Rattle.fkp_pages.specs.declared.lists.Run.{Run}
 use Rattle.fkp_pages.specs.Bin.{ArePrintableBins}
 use Rattle.fkp_pages.specs.InARow.{numbered_bins}
-use Rattle.fkp_pages.proofs.RowLemmas.{row_is_printable}
+use Rattle.fkp_pages.proofs.Public.{row_is_printable}
 use Rattle.cfb_layout.specs.Sectors.{padded}
-use Rattle.cfb_layout.proofs.BytesLemmas.{length-padded}
+use Rattle.cfb_layout.proofs.Public.{length-padded}
 use Rattle.fkp_pages.specs.PageBytes.{last_fc}
 use Rattle.plain_doc.specs.declared.item.Item.{Item}
 use Rattle.plain_doc.specs.declared.document.Document.{Document}
@@ -23,7 +23,7 @@ use Rattle.plain_doc.specs.Document.{IsFormedItem}
 use Rattle.plain_doc.specs.Formed.{IsFormed}
 use Rattle.plain_doc.specs.RightDocument.{IsValidDocument}
 use Rattle.plain_doc.specs.Stretches.{stretches}
-use Rattle.plain_doc.proofs.CutLemmas.{are_stretches}
+use Rattle.plain_doc.proofs.Public.{are_stretches}
 use Rattle.full_save.specs.declared.text.SavedText.{SavedText}
 use Rattle.full_save.specs.RunsSoFar.{IsTextOf}
 use Rattle.full_save.specs.Runs.{joins_run, run_at, runs_from, text_runs}

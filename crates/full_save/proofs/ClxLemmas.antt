@@ -6,7 +6,7 @@ use Rattle.std.proofs.lemmas.List.Elements.{All-head, All-cons, All-nil}
 use Rattle.prop_map.specs.declared.modifiers.Modifier.{Modifier}
 use Rattle.prop_map.specs.Modifiers.{no_modifier}
 use Rattle.prop_map.specs.Printing.{printed_list}
-use Rattle.prop_map.proofs.EntriesLemmas.{entries-empty}
+use Rattle.prop_map.proofs.Public.{entries-empty}
 use Rattle.piece_table.specs.Piece.{TextPiece, bare_piece, one_piece}
 use Rattle.piece_table.specs.Clx.{pcdt_bytes}
 use Rattle.piece_table.specs.ClxRules.{FitsPages}

@@ -1,4 +1,4 @@
--- Lists that are made as the runs of what stands beside a text are gone through.
+-- Lists that are made as the runs of what is beside a text are gone through.
 use Rattle.std.specs.Prelude.{slice_get, option_map, All}
 use Rattle.std.specs.Option.{ForSome}
 use Rattle.std.proofs.Common.{◌≡◌, ◌∙◌, refl, ap, sym, subst, ℕ, zero, suc, ◌+◌, ◌<◌, ◌≤◌, List, [], ◌∷◌, ◌++◌, length}
@@ -6,12 +6,12 @@ use Rattle.std.proofs.Common.{map, take}
 use Rattle.std.proofs.Common.{get_or, Option, Some, None, arith}
 use Rattle.std.proofs.lemmas.List.{length-map}
 use Rattle.std.proofs.lemmas.Option.{slice_get_within, get_or_from_slice_get}
-use Rattle.doc_bits.proofs.ListLemmas.{there_is, All_at}
+use Rattle.doc_bits.proofs.Public.{there_is, All_at}
 use Rattle.prop_map.specs.Settings.{Properties}
 use Rattle.doc_parts.specs.declared.lists.Sed.{Sed}
 use Rattle.run_lists.specs.declared.runs.Run.{Run}
 use Rattle.run_lists.specs.Spread.{expanded, total_len}
-use Rattle.run_lists.proofs.SpreadLemmas.{length-spread, extent_all, extent_more}
+use Rattle.run_lists.proofs.Public.{length-spread, extent_all, extent_more}
 use Rattle.plain_doc.specs.declared.item.Item.{Item}
 use Rattle.plain_doc.specs.Collected.{collected, field_of}
 use Rattle.doc_columns.specs.declared.attached.Attached.{Attached}
@@ -92,7 +92,7 @@ pub at_end : (text : List Item) (runs : List (Run Attached)) (k place : ℕ) →
 at_end text runs k place spelt all here =
     omega (arith, here, extent_all runs k all, length-spread runs, ap length spelt, length-map text attached_of)
 
--- a run stands in the text
+-- a run is in the text
 pub run_inside : (text : List Item) (runs : List (Run Attached)) (k place : ℕ) (run : Run Attached) →
     expanded runs ≡ map attached_of text → slice_get runs k ≡ Some run → place ≡ total_len (take k runs) →
     HaveAlike attached_of run.value text place run.count

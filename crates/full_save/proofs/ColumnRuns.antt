@@ -5,11 +5,11 @@ use Rattle.std.proofs.Common.{length}
 use Rattle.std.proofs.Common.{map, take, get_or, Option, Some, None, arith, length-append}
 use Rattle.std.proofs.lemmas.List.{append-nil, take_all, length-map, length-take}
 use Rattle.std.proofs.lemmas.Option.{slice_get_within, get_or_from_slice_get}
-use Rattle.doc_bits.proofs.ListLemmas.{there_is}
+use Rattle.doc_bits.proofs.Public.{there_is}
 use Rattle.prop_map.specs.Settings.{Properties}
 use Rattle.run_lists.specs.declared.runs.Run.{Run as ValueRun}
 use Rattle.run_lists.specs.Spread.{expanded, total_len}
-use Rattle.run_lists.proofs.SpreadLemmas.{length-spread, extent-nil, extent_all, extent_more, count_within}
+use Rattle.run_lists.proofs.Public.{length-spread, extent-nil, extent_all, extent_more, count_within}
 use Rattle.plain_doc.specs.declared.item.Mark.{Mark}
 use Rattle.plain_doc.specs.declared.item.Item.{Item}
 use Rattle.full_save.specs.declared.runs.CharacterRuns.{CharacterRuns}
@@ -73,7 +73,7 @@ characters_changed at end done text place count old new some here apart other ar
     let e : place + 1 + (count - 1) ≡ place + count = omega (arith, some) in
     subst (λ (n : ℕ). AreCharactersSoFar at (done ++ take n text) new) e rest
 
--- where the next unit stands
+-- where the next unit is
 pub next_place : {A : Type 0} (what : Item → A) (value : A) (at end : ℕ) (done text : List Item) (place count : ℕ) →
     end ≡ at + 2 * (length done + place) → HaveAlike what value text place count →
     end ≡ at + 2 * length (done ++ take place text)

@@ -1,4 +1,4 @@
--- Parts of a table stream that stand one after the other are found by their pairs.
+-- Parts of a table stream that are one after the other are found by their pairs.
 use Rattle.std.specs.Prelude.{replicate, slice_get, slice_set, slice_range, ⊤, All, ◌^◌}
 use Rattle.std.specs.List.{list_all}
 use Rattle.std.proofs.Common.{◌≡◌, ◌≢◌, inl, inr, ℕ, zero, suc, ◌+◌, ◌<◌, ◌≤◌, Bool, true, false, eqb, cond, List, []}
@@ -10,9 +10,9 @@ use Rattle.std.proofs.lemmas.List.{get_or-set_other, get_or-set_same, get_or-rep
 use Rattle.std.proofs.lemmas.List.{length-set, nil_from_length}
 use Rattle.std.proofs.lemmas.List.Elements.{All-set, All-replicate}
 use Rattle.std.proofs.lemmas.Option.{same_Some, none-some}
-use Rattle.doc_bits.proofs.ListLemmas.{range_mid}
+use Rattle.doc_bits.proofs.Public.{range_mid}
 use Rattle.fib_form.specs.FibFields.{pair_at, ArePairs, IsWidePair, empty_pairs}
-use Rattle.fib_form.proofs.PairLemmas.{empty-ArePairs}
+use Rattle.fib_form.proofs.Public.{empty-ArePairs}
 use Rattle.fib_form.specs.TableEntries.{TableEntry, entry, IsPartAt}
 use Rattle.full_save.specs.TableStream.{entry_bytes, entries_bytes, put_pair, pairs_from}
 
@@ -192,7 +192,7 @@ placed_there table parts k place part is here at whole = elim (cases_eq (length 
       (some_there table parts k place part is here at)
 ]
 
--- each part stands where its pair says
+-- each part is where its pair says
 entry_found : (table : List ℕ) (pairs : List (ℕ × ℕ)) (parts : List TableEntry) (k : ℕ) (part : TableEntry) →
     table ≡ entries_bytes parts → AreNumbered 0 parts → ((n : ℕ) → pair_at pairs n ≡ (0, 0)) →
     slice_get parts k ≡ Some part → part.number < length pairs → IsWholePart part →
@@ -283,7 +283,7 @@ pub entries_are_wide : (parts : List TableEntry) → length (entries_bytes parts
     All IsWidePair (pairs_from 0 empty_pairs parts)
 entries_are_wide parts small = wide_from 0 empty_pairs parts empty_wide (omega (arith, small))
 
--- each part of a table stream stands where its pair says
+-- each part of a table stream is where its pair says
 pub record Stands (parts : List TableEntry) (part : TableEntry) : Type 0 where
   pub below : part.number < 93
   pub there : IsPartAt (entries_bytes parts) (pair_at (pairs_from 0 empty_pairs parts) part.number) part

@@ -4,7 +4,7 @@ use Rattle.std.proofs.Common.{ℕ, ◌+◌, ◌*◌, ◌≤◌, List, [], ◌∷
 use Rattle.std.proofs.lemmas.List.{length-map}
 use Rattle.doc_bits.specs.Number.{number_bytes, numbers}
 use Rattle.doc_bits.specs.Plc.{printed_plc}
-use Rattle.doc_bits.proofs.NumberLemmas.{length-number_bytes, length-numbers}
+use Rattle.doc_bits.proofs.Public.{length-number_bytes, length-numbers}
 use Rattle.doc_parts.specs.Table.{EntryForm, printed_entries}
 
 -- entries of so many bytes at most

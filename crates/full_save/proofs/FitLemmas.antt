@@ -5,13 +5,12 @@ use Rattle.std.proofs.Common.{length, Some}
 use Rattle.std.proofs.Common.{ap, ◌∙◌, arith}
 use Rattle.std.proofs.lemmas.Bool.{cases_lt}
 use Rattle.std.proofs.lemmas.Option.{slice_get_within, get_or_from_slice_get}
-use Rattle.doc_bits.proofs.ListLemmas.{get-map}
+use Rattle.doc_bits.proofs.Public.{get-map}
 use Rattle.cfb_streams.specs.Contents.{NamedBytes}
 use Rattle.cfb_layout.specs.Counts.{Fits, sector_counts}
 use Rattle.cfb_layout.specs.Layout.{lengths_of}
-use Rattle.cfb_layout.proofs.CountLemmas.{length-sector_counts, sectors-needed, length-lengths_of, counts_stream}
-use Rattle.cfb_layout.proofs.SectorLemmas.{start_room}
-use Rattle.cfb_layout.proofs.PartLemmas.{large_is}
+use Rattle.cfb_layout.proofs.Public.{length-sector_counts, sectors-needed, length-lengths_of, counts_stream, start_room}
+use Rattle.cfb_layout.proofs.Public.{large_is}
 use Rattle.cfb_layout.specs.Sectors.{units_for}
 
 pub most_bytes : (lengths : List ℕ) (i : ℕ) → Fits lengths → i < length lengths → slice_index lengths i ≤ 7143424

@@ -6,8 +6,7 @@ use Rattle.cfb_layout.specs.Sectors.{filled}
 use Rattle.fib_form.specs.Fib.{form_size}
 use Rattle.fib_form.specs.FibFields.{FibFields, fib_fields}
 use Rattle.fib_form.specs.FibBytes.{written_fib}
-use Rattle.fib_form.proofs.PairLemmas.{length-fib_pairs}
-use Rattle.fib_form.proofs.WriteLemmas.{length-written_fib}
+use Rattle.fib_form.proofs.Public.{length-fib_pairs, length-written_fib}
 use Rattle.full_save.specs.WordDocument.{text_at}
 
 pub front_is : (fib : FibFields) (out : List ℕ) → fib_fields out ≡ fib →

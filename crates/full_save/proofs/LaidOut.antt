@@ -1,4 +1,4 @@
--- The layout of a full save: what stands where in WordDocument.
+-- The layout of a full save: what is where in WordDocument.
 use Rattle.std.specs.Prelude.{slice_get, slice_index, replicate}
 use Rattle.std.proofs.Common.{◌≡◌, ℕ, ◌+◌, ◌-◌, ◌*◌, ◌/◌, ◌^◌, ◌<◌, ◌≤◌}
 use Rattle.std.proofs.Common.{List, ◌++◌, length, map, Some, refl, sym, ap}
@@ -7,18 +7,16 @@ use Rattle.std.proofs.lemmas.List.{length-map, length-replicate}
 use Rattle.std.proofs.lemmas.Option.{slice_get_within, get_or_from_slice_get}
 use Rattle.doc_bits.specs.Number.{u16_at}
 use Rattle.doc_bits.specs.Rules.{Hold}
-use Rattle.doc_bits.proofs.ListLemmas.{All_at, get-map}
-use Rattle.doc_bits.proofs.NumberLemmas.{number_at-after, number_at-before}
+use Rattle.doc_bits.proofs.Public.{All_at, get-map, number_at-after, number_at-before}
 use Rattle.fib_form.specs.Fib.{kept_pairs}
 use Rattle.fib_form.specs.FibFields.{fib_fields, IsFib}
 use Rattle.fib_form.specs.FibRules.{fib_rules}
 use Rattle.fib_form.specs.FibBytes.{written_fib}
-use Rattle.fib_form.proofs.FibLemmas.{read_back, form_size-most}
-use Rattle.fib_form.proofs.WriteLemmas.{length-written_fib}
+use Rattle.fib_form.proofs.Public.{read_back, form_size-most, length-written_fib}
 use Rattle.fkp_pages.specs.declared.kind.PageKind.{PageKind}
 use Rattle.fkp_pages.specs.declared.kind.PageKind.TheVariants.{Chpx, Papx}
 use Rattle.cfb_layout.specs.Sectors.{units_for, filled, padded}
-use Rattle.cfb_layout.proofs.BytesLemmas.{length-filled, entry_at}
+use Rattle.cfb_layout.proofs.Public.{length-filled, entry_at}
 use Rattle.plain_doc.specs.declared.item.Item.{Item}
 use Rattle.plain_doc.specs.declared.document.Document.{Document}
 use Rattle.plain_doc.specs.Collected.{sections_of}
@@ -274,7 +272,7 @@ text_within s =
     let size = sizes s in
     omega (arith, size.text, size.all)
 
--- the Sepxes stand behind the pages
+-- the Sepxes are behind the pages
 pub record StandSepxes (s : LaidOut) : Type 0 where
   pub before : List ℕ
   pub after : List ℕ

@@ -10,10 +10,9 @@ use Rattle.std.proofs.lemmas.List.Sums.{sum_by-cons}
 use Rattle.std.proofs.lemmas.List.Elements.{All-nil, All-cons}
 use Rattle.doc_bits.specs.Number.{number_bytes, numbers}
 use Rattle.doc_bits.specs.Plc.{printed_plc}
-use Rattle.doc_bits.proofs.NumberLemmas.{length-number_bytes, length-numbers}
-use Rattle.doc_bits.proofs.PlcLemmas.{length-joined}
+use Rattle.doc_bits.proofs.Public.{length-number_bytes, length-numbers, length-joined}
 use Rattle.cfb_layout.specs.Sectors.{units_for, padded}
-use Rattle.cfb_layout.proofs.BytesLemmas.{length-table, length-padded}
+use Rattle.cfb_layout.proofs.Public.{length-table, length-padded}
 use Rattle.fib_form.specs.TableEntries.{TableEntry}
 use Rattle.fkp_pages.specs.declared.kind.PageKind.{PageKind}
 use Rattle.fkp_pages.specs.declared.kind.PageKind.TheVariants.{Chpx, Papx}
@@ -21,7 +20,7 @@ use Rattle.fkp_pages.specs.declared.lists.Bin.{Bin}
 use Rattle.fkp_pages.specs.PageBytes.{last_fc}
 use Rattle.fkp_pages.specs.Packed.{pages_of}
 use Rattle.fkp_pages.specs.InARow.{numbered_bins}
-use Rattle.fkp_pages.proofs.RowLemmas.{length-numbered_bins}
+use Rattle.fkp_pages.proofs.Public.{length-numbered_bins}
 use Rattle.piece_table.specs.Printing.{pcd_bytes, cps_of, plc_bytes}
 use Rattle.style_sheet.specs.Written.{written_sheet}
 use Rattle.doc_parts.specs.Table.{EntryForm, printed_entries}
@@ -35,8 +34,7 @@ use Rattle.doc_parts.specs.Fields.{fld_form, printed_fields}
 use Rattle.doc_parts.specs.Stories.{ref_form, cut_form, printed_refs, printed_texts}
 use Rattle.doc_parts.specs.PrintedBookmarks.{names_front, names_bytes, printed_names, ends_of, start_form, starts_of}
 use Rattle.doc_parts.specs.PrintedBookmarks.{printed_starts, printed_ends}
-use Rattle.doc_parts.proofs.NumberingLemmas.{length-ends}
-use Rattle.doc_parts.proofs.BookmarkBackLemmas.{length-front, length-starts}
+use Rattle.doc_parts.proofs.Public.{length-ends, length-front, length-starts}
 use Rattle.plain_doc.specs.declared.item.Item.{Item}
 use Rattle.plain_doc.specs.declared.item.NoteKind.{NoteKind}
 use Rattle.plain_doc.specs.declared.carried.Carried.{Carried}
@@ -45,7 +43,7 @@ use Rattle.plain_doc.specs.Collected.{joined_texts, collected, field_of, fields_
 use Rattle.plain_doc.specs.TextLists.{cuts_of}
 use Rattle.plain_doc.specs.Formed.{IsFormed}
 use Rattle.plain_doc.specs.RightDocument.{IsValidDocument}
-use Rattle.plain_doc.proofs.CollectedLemmas.{length-cuts_from}
+use Rattle.plain_doc.proofs.Public.{length-cuts_from}
 use Rattle.doc_columns.specs.Attached.{attached_of}
 use Rattle.full_save.specs.declared.measures.Measure.TheVariants.{Notes, Sections, Fields, SepxBytes}
 use Rattle.full_save.specs.declared.lengths.PageCounts.{PageCounts}

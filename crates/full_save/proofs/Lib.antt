@@ -1,30 +1,31 @@
-pub mod RunLemmas
-pub mod SoFarLemmas
-pub mod AlikeLemmas
-pub mod ColumnRuns
-pub mod TextLemmas
-pub mod ListLemmas
-pub mod SectionLemmas
-pub mod ColumnLists
-pub mod ColumnSections
-pub mod TableLemmas
-pub mod MadeLemmas
-pub mod ClxLemmas
-pub mod FrontLemmas
-pub mod StreamLemmas
-pub mod StretchRuns
-pub mod EntriesFound
-pub mod TableNumbers
-pub mod TextLaidOut
-pub mod EntryLengths
-pub mod MarkLengths
-pub mod StreamLengths
-pub mod BodyLemmas
-pub mod LaidOut
-pub mod NameOrder
-pub mod PutStreams
-pub mod FitLemmas
-pub mod LayoutLemmas
-pub mod MeasureLemmas
-pub mod LengthLemmas
-pub mod PlaceLemmas
+pub mod Public
+mod RunLemmas
+mod SoFarLemmas
+mod AlikeLemmas
+mod ColumnRuns
+mod TextLemmas
+mod ListLemmas
+mod SectionLemmas
+mod ColumnLists
+mod ColumnSections
+mod TableLemmas
+mod MadeLemmas
+mod ClxLemmas
+mod FrontLemmas
+mod StreamLemmas
+mod StretchRuns
+mod EntriesFound
+mod TableNumbers
+mod TextLaidOut
+mod EntryLengths
+mod MarkLengths
+mod StreamLengths
+mod BodyLemmas
+mod LaidOut
+mod NameOrder
+mod PutStreams
+mod FitLemmas
+mod LayoutLemmas
+mod MeasureLemmas
+mod LengthLemmas
+mod PlaceLemmas

@@ -7,10 +7,10 @@ use Rattle.doc_parts.specs.declared.lists.Fld.{Fld}
 use Rattle.plain_doc.specs.declared.item.Item.{Item}
 use Rattle.plain_doc.specs.Collected.{collected, entry_before, field_of, joined_texts, cuts_from}
 use Rattle.plain_doc.specs.TextLists.{cuts_of}
-use Rattle.plain_doc.proofs.CollectedLemmas.{collected-append}
+use Rattle.plain_doc.proofs.Public.{collected-append}
 use Rattle.full_save.specs.Lists.{fields_from, IsListedUpTo}
 
--- what is left of a list begins with what stands there
+-- what is left of a list begins with what is there
 pub drop_here : {A : Type 0} (xs : List A) (i : ℕ) (d : A) → i < length xs → drop i xs ≡ get_or xs i d ∷ drop (i + 1) xs
 drop_here xs i d h = let e : suc i ≡ i + 1 = omega arith in drop-cons xs i d h ∙ ap (λ (n : ℕ). get_or xs i d ∷ drop n
     xs) e

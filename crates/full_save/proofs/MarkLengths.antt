@@ -4,8 +4,8 @@ use Rattle.std.specs.List.{flat_map}
 use Rattle.std.proofs.Common.{◌≡◌, refl, ℕ, ◌*◌, ◌^◌, ◌≤◌, List, [], ◌∷◌, ◌++◌, length, arith, length-append}
 use Rattle.std.proofs.lemmas.List.Elements.{All-head, All-tail, All-weaker}
 use Rattle.doc_bits.specs.Number.{number_bytes}
-use Rattle.doc_bits.proofs.NumberLemmas.{length-number_bytes}
-use Rattle.cfb_layout.proofs.BytesLemmas.{length-table}
+use Rattle.doc_bits.proofs.Public.{length-number_bytes}
+use Rattle.cfb_layout.proofs.Public.{length-table}
 use Rattle.doc_parts.specs.declared.bookmark_order.Bookmark.{Bookmark}
 use Rattle.doc_parts.specs.declared.bookmark_print.Start.{Start}
 use Rattle.doc_parts.specs.Order.{in_order}
@@ -13,8 +13,7 @@ use Rattle.doc_parts.specs.Bookmarks.{IsFormedBookmark}
 use Rattle.doc_parts.specs.Stories.{cut_form}
 use Rattle.doc_parts.specs.PrintedBookmarks.{names_front, names_bytes, printed_names, ends_of, start_form}
 use Rattle.doc_parts.specs.PrintedBookmarks.{starts_of, printed_starts, printed_ends}
-use Rattle.doc_parts.proofs.NumberingLemmas.{length-ends}
-use Rattle.doc_parts.proofs.BookmarkBackLemmas.{length-front, length-starts}
+use Rattle.doc_parts.proofs.Public.{length-ends, length-front, length-starts}
 use Rattle.plain_doc.specs.declared.document.Document.{Document}
 use Rattle.plain_doc.specs.RightDocument.{IsValidDocument}
 use Rattle.full_save.specs.TableText.{FitParts}

@@ -11,16 +11,15 @@ use Rattle.std.proofs.lemmas.List.Elements.{All-weaker}
 use Rattle.std.proofs.lemmas.List.Folds.{sum_by-replicate}
 use Rattle.std.proofs.lemmas.Option.{slice_get_within, get_or_from_slice_get}
 use Rattle.doc_bits.specs.Number.{number_bytes}
-use Rattle.doc_bits.proofs.ListLemmas.{All_at, All-from_slice_get, from_map}
-use Rattle.doc_bits.proofs.NumberLemmas.{length-number_bytes}
+use Rattle.doc_bits.proofs.Public.{All_at, All-from_slice_get, from_map, length-number_bytes}
 use Rattle.prop_map.specs.Settings.{Properties}
 use Rattle.prop_map.specs.Printing.{printed_list}
 use Rattle.style_sheet.specs.Counted.{written_counted}
 use Rattle.doc_parts.specs.declared.bookmark_order.Bookmark.{Bookmark}
-use Rattle.doc_parts.proofs.NumberingLemmas.{sum_by-of_map}
+use Rattle.doc_parts.proofs.Public.{sum_by-of_map}
 use Rattle.run_lists.specs.declared.runs.Run.{Run}
 use Rattle.run_lists.specs.Spread.{expanded, total_len}
-use Rattle.run_lists.proofs.SpreadLemmas.{spread-nil, spread_push, extent_more}
+use Rattle.run_lists.proofs.Public.{spread-nil, spread_push, extent_more}
 use Rattle.plain_doc.specs.declared.item.Item.{Item}
 use Rattle.plain_doc.specs.Collected.{entry_before, collected, joined_texts}
 use Rattle.doc_columns.specs.declared.attached.Attached.{Attached}
@@ -73,7 +72,7 @@ all_measured measure runs k sum all so =
       bound = subst (λ (rs : List (Run Attached)). sum ≤ 503 * total_len rs) same so.bound;
     }
 
--- what stands beside the items of a text is measurable
+-- what is beside the items of a text is measurable
 pub attached_measurable : (measure : Measure) (text : List Item) (attachments : List Attached) → attachments ≡ map
     attached_of text →
     All (λ (item : Item). IsMeasurable measure (attached_of item)) text → All (IsMeasurable measure) attachments
@@ -84,7 +83,7 @@ attached_measurable measure text attachments is all =
     subst (IsMeasurable measure) from.1.1
     (All_at (λ (item : Item). IsMeasurable measure (attached_of item)) text k from.0 all from.1.0)))
 
--- a text counts what stands beside its items
+-- a text counts what is beside its items
 pub attached_measure : (measure : Measure) (text : List Item) (attachments : List Attached) → attachments ≡ map
     attached_of text →
     sum_by (measured measure) attachments ≡ text_measure measure text

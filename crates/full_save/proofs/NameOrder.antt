@@ -5,7 +5,7 @@ use Rattle.std.proofs.Common.{List, []}
 use Rattle.std.proofs.Common.{◌∷◌, length, sym, ap, subst, arith}
 use Rattle.std.proofs.lemmas.Bool.{cases_order, cases_eq, ne_eqb, ltb-true, false≢true, true≢false}
 use Rattle.cfb_directory.specs.Directory.{upper_case, AreSameNames, IsNameLessAt, ComesBefore}
-use Rattle.cfb_directory.proofs.OrderLemmas.{first_difference}
+use Rattle.cfb_directory.proofs.Public.{first_difference}
 use Rattle.full_save.specs.Streams.{has_less_unit, is_name_before}
 
 pub comes_other : (name other : List ℕ) → ¬ ComesBefore name other → ¬ AreSameNames name other →

@@ -13,20 +13,11 @@ use Rattle.cfb_layout.specs.Layout.{lengths_of}
 use Rattle.full_save.specs.Streams.{is_name_before, saved_streams, IsPlaceFor}
 use Rattle.full_save.proofs.NameOrder.{before_is, before_from}
 use Rattle.full_save.proofs.StreamLemmas.{streams_front, saved_in_parts}
-use Rattle.doc_bits.proofs.ListLemmas.{range_split}
+use Rattle.doc_bits.proofs.Public.{range_split}
 
 take_none : {A : Type 0} (b : ℕ) → let none : List A = [] in take b none ≡ none
 take_none zero = refl
 take_none (suc b) = refl
-
-take_split : {A : Type 0} (a b : ℕ) (xs : List A) → take (a + b) xs ≡ take a xs ++ take b (drop a xs)
-take_split zero b xs = let e : 0 + b ≡ b = omega arith in ap (λ (n : ℕ). take n xs) e
-take_split {A = A} (suc a) b [] =
-    let none : List A = [] in let whole : take (suc a + b) none ≡ none = take_none (suc a + b) in
-    whole ∙ sym (take_none b)
-take_split (suc a) b (x ∷ xs) =
-    let e : suc a + b ≡ suc (a + b) = omega arith in
-    ap (λ (n : ℕ). take n (x ∷ xs)) e ∙ ap (λ (ys : List _). x ∷ ys) (take_split a b xs)
 
 -- a part with one element more
 pub range_next : {A : Type 0} (xs : List A) (from i : ℕ) (d : A) → from ≤ i → i < length xs →
@@ -53,7 +44,7 @@ stream_is streams i d name bytes low has_name has_bytes =
     (sym here) ∙ has_bytes) in
     sym (λ k. record { name = n k; bytes = b k })
 
--- a stream more of a part that stands behind others
+-- a stream more of a part that is behind others
 pub add_next : (old others : List NamedBytes) (from i to : ℕ) (d : NamedBytes) → from ≤ i → i < to →
     to ≤ length others →
     AreStreams (old ++ slice_range others from to) → AreStreams ((old ++ slice_range others from i) ++ get_or others i

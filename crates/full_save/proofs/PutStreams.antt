@@ -9,16 +9,16 @@ use Rattle.std.proofs.lemmas.List.Sums.{sum_by-append, sum_by-cons}
 use Rattle.std.proofs.lemmas.Option.{slice_get_within, same_Some, none-some}
 use Rattle.std.proofs.lemmas.Bool.{cases_Bool}
 use Rattle.cfb_directory.specs.Directory.{AreSameNames, ComesBefore}
-use Rattle.cfb_streams.proofs.AddLemmas.{comes_before-trans}
+use Rattle.cfb_streams.proofs.Public.{comes_before-trans}
 use Rattle.cfb_streams.specs.Contents.{NamedBytes, AreStreams}
-use Rattle.doc_bits.proofs.TogetherLemmas.{in_front, in_back}
+use Rattle.doc_bits.proofs.Public.{in_front, in_back}
 use Rattle.full_save.specs.Streams.{is_name_before, put_stream}
 use Rattle.full_save.proofs.StretchRuns.{at_seam}
 use Rattle.full_save.proofs.NameOrder.{before_is, behind_is}
 
--- ---- where one stands in a list with one more
+-- ---- where one is in a list with one more
 
--- it stands in front, it is the one that was put, or it stands behind
+-- it is in front, it is the one that was put, or it is behind
 abbrev pub IsAtPut : {A : Type 0} → List A → A → List A → ℕ → A → Type 0
 IsAtPut front put back i x =
     (slice_get front i ≡ Some x)

@@ -4,16 +4,14 @@ use Rattle.std.proofs.Common.{List, [], ◌∷◌, ◌++◌, length, slice_get, 
 use Rattle.std.proofs.lemmas.List.{append_assoc, length-append, append-nil, nil_from_length}
 use Rattle.std.proofs.lemmas.Bool.{cases_lt}
 use Rattle.std.proofs.Math.Seq.{take-append_seam, drop-append_seam}
-use Rattle.doc_bits.proofs.ListLemmas.{slice_get_push, slice_get_before}
+use Rattle.doc_bits.proofs.Public.{slice_get_push, slice_get_before, from_behind}
 use Rattle.fkp_pages.specs.declared.kind.PageKind.{PageKind}
 use Rattle.fkp_pages.specs.declared.lists.Run.{Run}
 use Rattle.plain_doc.specs.declared.item.Item.{Item}
 use Rattle.plain_doc.specs.Stretches.{stretches, IsJoined, goes_over, BeginsStretch}
-use Rattle.plain_doc.proofs.StretchLemmas.{stretches-first, stretches-nil}
+use Rattle.plain_doc.proofs.Public.{stretches-first, stretches-nil, joins_nothing}
 use Rattle.full_save.specs.Runs.{joins_run, run_at, runs_from, text_runs}
 use Rattle.full_save.specs.RunsSoFar.{AreRunsSoFar}
-use Rattle.doc_bits.proofs.TogetherLemmas.{from_behind}
-use Rattle.plain_doc.proofs.CutLemmas.{joins_nothing}
 
 -- a part whose elements join, and whose last one does not join what follows, is the first stretch
 pub first_cut :

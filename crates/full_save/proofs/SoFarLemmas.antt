@@ -5,7 +5,7 @@ use Rattle.std.specs.Prelude.{is_some}
 use Rattle.std.specs.FinMap.{empty}
 use Rattle.std.proofs.lemmas.List.{length-append}
 use Rattle.std.proofs.lemmas.Option.{same_Some}
-use Rattle.doc_bits.proofs.ListLemmas.{slice_get_push, there_is}
+use Rattle.doc_bits.proofs.Public.{slice_get_push, there_is}
 use Rattle.prop_map.specs.Settings.{Properties}
 use Rattle.fkp_pages.specs.declared.kind.PageKind.{PageKind}
 use Rattle.fkp_pages.specs.declared.kind.PageKind.TheVariants.{Chpx, Papx}
@@ -14,14 +14,14 @@ use Rattle.plain_doc.specs.declared.item.Mark.{Mark}
 use Rattle.plain_doc.specs.declared.item.Item.{Item}
 use Rattle.plain_doc.specs.Settings.{is_alike, is_inside, same_properties}
 use Rattle.plain_doc.specs.Stretches.{joins_next, goes_over}
-use Rattle.plain_doc.proofs.SettingsLemmas.{same_properties-Decides}
+use Rattle.plain_doc.proofs.Public.{same_properties-Decides}
 use Rattle.full_save.specs.declared.runs.CharacterRuns.{CharacterRuns}
 use Rattle.full_save.specs.declared.runs.ParagraphRuns.{ParagraphRuns}
 use Rattle.full_save.specs.Runs.{item_properties, mark_properties, run_at, text_runs}
 use Rattle.full_save.specs.RunsSoFar.{RunsSoFar, AreRunsSoFar, EndsWith, AreCharactersSoFar, AreParagraphsSoFar}
 use Rattle.full_save.proofs.RunLemmas.{joined_more, grow_part, close_before, close_behind, all_closed, last_closed}
 
--- what stands last
+-- what is last
 last_push : {A : Type 0} (xs : List A) (x : A) → slice_get (xs ++ x ∷ []) (length (xs ++ x ∷ []) - 1) ≡ Some x
 last_push xs x =
     let e : length (xs ++ x ∷ []) - 1 ≡ length xs = omega (arith, length-append xs (x ∷ [])) in

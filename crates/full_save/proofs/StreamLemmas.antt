@@ -7,8 +7,8 @@ use Rattle.std.proofs.lemmas.List.{take_all}
 use Rattle.std.proofs.Common.{length-drop}
 use Rattle.std.proofs.lemmas.List.Sums.{sum_by-append}
 use Rattle.std.proofs.lemmas.Bool.{cases_lt, cases_eq, ne_eqb, ltb-true, true≢false}
-use Rattle.std.proofs.lemmas.Option.{slice_get_within, same_Some}
-use Rattle.doc_bits.proofs.ListLemmas.{there_is, slice_get_before}
+use Rattle.std.proofs.lemmas.Option.{same_Some}
+use Rattle.doc_bits.proofs.Public.{there_is, in_front}
 use Rattle.cfb_streams.specs.Contents.{NamedBytes, AreStreams}
 use Rattle.cfb_streams.specs.Names.{wd_name, second_table_name}
 use Rattle.full_save.specs.Streams.{has_less_unit, is_name_before, put_stream, saved_streams, IsPlaceFor}
@@ -58,7 +58,7 @@ places_ordered others first second is other = elim (cases_lt second first) [
       absurd (true≢false (sym (shorter_before here.0.name before) ∙ other.after here.0 here.1))
 ]
 
--- what stands before a place in the front of a list
+-- what is before a place in the front of a list
 take_more : {A : Type 0} (xs ys : List A) (k n : ℕ) → k ≤ n → n ≤ length xs → take k (take n xs ++ ys) ≡ take k xs
 take_more [] ys zero n h low = refl
 take_more [] ys (suc k) n h low = absurd (omega arith)
@@ -119,7 +119,7 @@ place_kept others wd first second order is low =
       ];
     }
 
--- the streams in three parts, between which the two stand
+-- the streams in three parts, between which the two are
 pub saved_in_parts :
     (table wd : List ℕ) (others : List NamedBytes) (first second : ℕ) → IsPlaceFor second_table_name others first →
     IsPlaceFor wd_name others second →
@@ -148,16 +148,13 @@ saved_in_parts table wd others first second is other =
     ∙ ap (λ (streams : List NamedBytes). slice_range others 0 first ++ (that ∷ (slice_range others first second ++
     (it ∷ streams)))) rest)))
 
-kept : {A : Type 0} (front back : List A) (i : ℕ) (x : A) → slice_get front i ≡ Some x → slice_get (front ++ back) i ≡
-    Some x
-kept front back i x here = slice_get_before front back i (slice_get_within front i x here) ∙ here
-
 -- the front of streams that are in order
 pub streams_front : (front back : List NamedBytes) → AreStreams (front ++ back) → AreStreams front
 streams_front front back are = record {
-  some = λ i s here. are.some i s (kept front back i s here);
-  short = λ i s here. are.short i s (kept front back i s here);
-  order = λ i j s later low here there. are.order i j s later low (kept front back i s here) (kept front back j later
+  some = λ i s here. are.some i s (in_front front back i s here);
+  short = λ i s here. are.short i s (in_front front back i s here);
+  order = λ i j s later low here there. are.order i j s later low (in_front front back i s here) (in_front front back j
+      later
       there);
   total = let all = sum_by-append (λ (s : NamedBytes). length s.bytes) front back in let total = are.total in
       omega (arith, all, total);

@@ -11,7 +11,7 @@ use Rattle.std.proofs.lemmas.Bool.{and_parts, cond_both}
 use Rattle.std.proofs.lemmas.List.{length-map, length-replicate}
 use Rattle.std.proofs.lemmas.List.Elements.{All-head, All-tail}
 use Rattle.doc_bits.specs.Number.{number_bytes, numbers}
-use Rattle.doc_bits.proofs.NumberLemmas.{length-number_bytes, length-numbers}
+use Rattle.doc_bits.proofs.Public.{length-number_bytes, length-numbers}
 use Rattle.prop_map.specs.Settings.{Properties}
 use Rattle.prop_map.specs.Printing.{printed_list}
 use Rattle.fib_form.specs.TableEntries.{TableEntry, entry}
@@ -21,10 +21,10 @@ use Rattle.fkp_pages.specs.declared.lists.Bin.{Bin}
 use Rattle.fkp_pages.specs.Bin.{printed_bin}
 use Rattle.fkp_pages.specs.PageBytes.{last_fc}
 use Rattle.fkp_pages.specs.InARow.{numbered_bins}
-use Rattle.fkp_pages.proofs.RowLemmas.{length-numbered_bins}
+use Rattle.fkp_pages.proofs.Public.{length-numbered_bins}
 use Rattle.piece_table.specs.Printing.{pcd_bytes, cps_of, plc_bytes}
 use Rattle.cfb_layout.specs.Sectors.{padded}
-use Rattle.cfb_layout.proofs.BytesLemmas.{length-table, length-padded}
+use Rattle.cfb_layout.proofs.Public.{length-table, length-padded}
 use Rattle.style_sheet.specs.declared.styles.Style.{Style}
 use Rattle.style_sheet.specs.Sheet.{Sheet}
 use Rattle.style_sheet.specs.Counted.{written_counted}
@@ -49,9 +49,7 @@ use Rattle.plain_doc.specs.Carried.{ArePartsShort}
 use Rattle.plain_doc.specs.Formed.{IsFormed, carried_parts}
 use Rattle.plain_doc.specs.RightDocument.{IsValidDocument}
 use Rattle.plain_doc.specs.Stretches.{stretches}
-use Rattle.plain_doc.proofs.CollectedLemmas.{length-cuts_from}
-use Rattle.plain_doc.proofs.CutLemmas.{are_stretches}
-use Rattle.plain_doc.proofs.TextListLemmas.{collected_from}
+use Rattle.plain_doc.proofs.Public.{length-cuts_from, are_stretches, collected_from}
 use Rattle.full_save.specs.Text.{text_items, text_counts}
 use Rattle.full_save.specs.Runs.{joins_run, runs_from, text_runs}
 use Rattle.full_save.specs.Sections.{is_plain_section, sepx_bytes, sepxes, seds_from}

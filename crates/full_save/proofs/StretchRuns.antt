@@ -9,12 +9,11 @@ use Rattle.std.proofs.Common.{length-append}
 use Rattle.std.proofs.lemmas.Bool.{cases_lt, true≢false}
 use Rattle.std.proofs.lemmas.List.Elements.{All-nil, All-cons, All-head, All-tail}
 use Rattle.std.proofs.lemmas.Option.{slice_get_within, same_Some, none-some}
-use Rattle.doc_bits.proofs.ListLemmas.{there_is, All_at, All-from_slice_get}
+use Rattle.doc_bits.proofs.Public.{there_is, All_at, All-from_slice_get}
 use Rattle.prop_map.specs.Settings.{Properties}
 use Rattle.prop_map.specs.Formed.{IsPropertyMap, character_groups, paragraph_groups}
 use Rattle.prop_map.specs.Printing.{printed_list}
-use Rattle.prop_map.proofs.ActingLemmas.{IsPropertyMap-empty}
-use Rattle.prop_map.proofs.EntriesLemmas.{entries-empty}
+use Rattle.prop_map.proofs.Public.{IsPropertyMap-empty, entries-empty}
 use Rattle.fkp_pages.specs.declared.kind.PageKind.{PageKind}
 use Rattle.fkp_pages.specs.declared.kind.PageKind.TheVariants.{Chpx, Papx}
 use Rattle.fkp_pages.specs.declared.lists.Run.{Run}
@@ -24,15 +23,13 @@ use Rattle.plain_doc.specs.declared.item.Item.{Item}
 use Rattle.plain_doc.specs.Collected.{joined_texts}
 use Rattle.plain_doc.specs.Stretches.{stretches, joins_next, IsJoined}
 use Rattle.plain_doc.specs.Settings.{is_alike, is_inside}
-use Rattle.plain_doc.proofs.CutLemmas.{are_stretches}
-use Rattle.plain_doc.proofs.SettingsLemmas.{same_properties-Decides}
+use Rattle.plain_doc.proofs.Public.{are_stretches, same_properties-Decides, in_joined}
 use Rattle.full_save.specs.Runs.{joins_run, mark_properties, item_properties, run_at, runs_from, text_runs}
 use Rattle.fkp_pages.specs.Rows.{IsInRun}
-use Rattle.plain_doc.proofs.TextListLemmas.{in_joined}
 
 -- ---- the part that an element is in
 
--- it stands in front or behind
+-- it is in front or behind
 abbrev pub IsAtSeam : {A : Type 0} → List A → List A → ℕ → A → Type 0
 IsAtSeam front back i x =
     (slice_get front i ≡ Some x) ⊎ ((k : ℕ) × ((i ≡ length front + k) × (slice_get back k ≡ Some x)))

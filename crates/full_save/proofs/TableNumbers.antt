@@ -22,7 +22,7 @@ no_levels lst levels are none =
     subst (λ l. AreLevelsFrom levels 0 (level_count l) (length levels)) (nil_from_length lst none) are.whole in
     whole.ends
 
--- the numbers ascend, and where there are no lists nothing stands behind them
+-- the numbers ascend, and where there are no lists nothing is behind them
 pub table_numbered : (document : Document) (text : TableText) →
     AreListsWithLevels document.carried.lst document.carried.levels → AreNumbered 0 (table_entries document text)
 table_numbered document text lists =

@@ -9,17 +9,15 @@ use Rattle.std.proofs.lemmas.List.Concat.{length-flat_map}
 use Rattle.std.proofs.lemmas.List.Elements.{All-nil, All-cons, All-append}
 use Rattle.std.proofs.lemmas.Option.{same_Some}
 use Rattle.doc_bits.specs.declared.places.Where.TheVariants.{Main, Note, Head}
-use Rattle.doc_bits.proofs.ListLemmas.{All_at, All-from_slice_get}
+use Rattle.doc_bits.proofs.Public.{All_at, All-from_slice_get}
 use Rattle.prop_map.specs.Printing.{printed_list}
-use Rattle.prop_map.proofs.ActingLemmas.{IsPropertyMap-empty}
-use Rattle.prop_map.proofs.EntriesLemmas.{entries-empty}
+use Rattle.prop_map.proofs.Public.{IsPropertyMap-empty, entries-empty}
 use Rattle.fib_form.specs.FibFields.{AreCounts}
-use Rattle.fib_form.proofs.FibLemmas.{sum-three}
+use Rattle.fib_form.proofs.Public.{sum-three}
 use Rattle.fkp_pages.specs.declared.kind.PageKind.{PageKind}
 use Rattle.fkp_pages.specs.Pages.{ArePagesOf, AreWholePages}
-use Rattle.fkp_pages.proofs.PackedLemmas.{runs_have_pages}
-use Rattle.fkp_pages.proofs.WholePages.{pages_are_whole}
-use Rattle.cfb_layout.proofs.BytesLemmas.{length-table}
+use Rattle.fkp_pages.proofs.Public.{runs_have_pages, pages_are_whole}
+use Rattle.cfb_layout.proofs.Public.{length-table}
 use Rattle.plain_doc.specs.declared.item.Mark.{Mark}
 use Rattle.plain_doc.specs.declared.item.Item.{Item}
 use Rattle.plain_doc.specs.declared.document.Document.{Document}
@@ -28,10 +26,9 @@ use Rattle.plain_doc.specs.Document.{IsFormedItem, IsFormedText}
 use Rattle.plain_doc.specs.Formed.{IsFormed}
 use Rattle.plain_doc.specs.RulesOfItems.{HasShortProperties}
 use Rattle.plain_doc.specs.RightDocument.{IsValidDocument}
-use Rattle.plain_doc.proofs.MainLemmas.{main_ends}
+use Rattle.plain_doc.proofs.Public.{main_ends, joined_all}
 use Rattle.full_save.specs.Text.{extra_mark, with_mark, note_story, head_story, text_items, text_counts}
 use Rattle.full_save.specs.WordDocument.{text_at, text_bytes, document_runs, document_pages}
-use Rattle.plain_doc.proofs.TextListLemmas.{joined_all}
 use Rattle.full_save.proofs.StretchRuns.{IsWritableItem, IsWritableMark, AreTextRuns, text_runs_right}
 
 -- ---- what can be written of its items

@@ -4,7 +4,7 @@ use Rattle.std.proofs.Common.{◌∷◌, ◌++◌, length, map, take, get_or, ar
 use Rattle.std.specs.Prelude.{nat_lt}
 use Rattle.std.proofs.lemmas.List.{append_assoc, length-append, append-nil, take_more, map-append}
 use Rattle.std.proofs.lemmas.Grind.{flat_map-append}
-use Rattle.std.proofs.lemmas.Bool.{cases_lt, ltb-true}
+use Rattle.std.proofs.lemmas.Bool.{cases_lt}
 use Rattle.doc_bits.specs.Number.{number_bytes}
 use Rattle.plain_doc.specs.declared.item.Item.{Item}
 use Rattle.plain_doc.specs.declared.document.Document.{Document}
@@ -13,6 +13,7 @@ use Rattle.full_save.specs.declared.text.TextSoFar.{TextSoFar}
 use Rattle.full_save.specs.Text.{with_mark, mark_if, note_story, head_story, text_items}
 use Rattle.full_save.specs.WordDocument.{units_bytes, items_bytes}
 use Rattle.full_save.specs.RunsSoFar.{IsTextSoFar, GoesOnBy}
+use Rattle.doc_bits.proofs.Public.{ltb_false}
 
 pub goes_on_none : (text : TextSoFar) → GoesOnBy [] text text
 goes_on_none text done so = subst (λ (items : List Item). IsTextSoFar items text) (sym (append-nil done)) so
@@ -36,9 +37,6 @@ with_mark_is (item ∷ items) =
 not_true : (b : Bool) → ¬ (b ≡ true) → b ≡ false
 not_true true h = absurd (h refl)
 not_true false h = refl
-
-pub ltb_false : (n m : ℕ) → m ≤ n → nat_lt n m ≡ false
-ltb_false n m h = not_true (nat_lt n m) (λ less. let lt = ltb-true n m less in omega (arith, lt, h))
 
 -- units came behind the first ones exactly where there are some more
 pub came_behind : (before more : ℕ) → nat_lt before (before + more) ≡ nat_lt 0 more

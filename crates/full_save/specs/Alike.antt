@@ -1,4 +1,4 @@
--- Items that stand in a row and have something in common.
+-- Items that are in a row and have something in common.
 use Rattle.std.specs.Prelude.{◌≡◌, ◌<◌, ◌≤◌, ◌+◌, ℕ, List, length, Some, slice_get}
 use Rattle.plain_doc.specs.declared.item.Item.{Item}
 

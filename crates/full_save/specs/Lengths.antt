@@ -29,7 +29,7 @@ abbrev pub sepx_length : Option Properties → ℕ
 sepx_length None = 0
 sepx_length (Some properties) = length (sepx_bytes properties)
 
--- what a unit counts, by what stands beside it
+-- what a unit counts, by what is beside it
 abbrev pub measured : Measure → Attached → ℕ
 measured Notes attached = one_if (is_some attached.note)
 measured Sections attached = one_if (is_some attached.sect)

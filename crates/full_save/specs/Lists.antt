@@ -1,4 +1,4 @@
--- The field characters of items that stand somewhere in a story, and lists that grow run by run.
+-- The field characters of items that are somewhere in a story, and lists that grow run by run.
 use Rattle.std.specs.Prelude.{◌≡◌, ℕ, ◌+◌, Option, List, [], ◌++◌, map, drop}
 use Rattle.run_lists.specs.declared.runs.Run.{Run}
 use Rattle.doc_parts.specs.declared.lists.Fld.{Fld}
@@ -17,17 +17,17 @@ field_entry entry = record { cp = entry.0; unit = entry.1.0; byte = entry.1.1 }
 abbrev pub ref_entry : ℕ × NoteKind → NoteRef
 ref_entry entry = record { cp = entry.0; auto = is_auto entry.1 }
 
--- those of items that stand from a CP on
+-- those of items that are from a CP on
 abbrev pub fields_from : ℕ → List Item → List Fld
 fields_from cp items = map (λ entry. record { cp = entry.0; unit = entry.1.0; byte = entry.1.1 }) (collected field_of
     cp items)
 
--- a list has what the items before a place have, which stand from a CP on, behind what it had
+-- a list has what the items before a place have, which are from a CP on, behind what it had
 pub record IsListedUpTo {A B : Type 0} (what : Item → Option A) (entry : ℕ × A → B) (from : ℕ) (items : List Item)
     (i : ℕ) (old new : List B) : Type 0 where
   pub rest : new ++ map entry (collected what (from + i) (drop i items)) ≡ old ++ map entry (collected what from items)
 
--- the list of field characters goes on by a run, which begins at a place of a text that stands from a CP on
+-- the list of field characters goes on by a run, which begins at a place of a text that is from a CP on
 abbrev pub FieldsGoOn : List ℕ → ℕ → Run Attached → ℕ → List Fld → List Fld → Type 0
 FieldsGoOn units cp run place old new =
     (text : List Item) (start : List Fld) → units ≡ map (λ item. item.unit) text →

@@ -27,7 +27,7 @@ item_properties kind None = (0, empty)
 item_properties Chpx (Some item) = (0, item.chp)
 item_properties Papx (Some item) = mark_properties item.mark
 
--- a part of a text as a run, where its first unit stands at a place
+-- a part of a text as a run, where its first unit is at a place
 abbrev pub run_at : PageKind → ℕ → List Item → Run
 run_at kind at part =
     let properties = item_properties kind (slice_get part (length part - 1)) in

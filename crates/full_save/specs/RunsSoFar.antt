@@ -54,7 +54,7 @@ pub record AreParagraphsSoFar (at : ℕ) (done : List Item) (runs : ParagraphRun
   pub are : AreRunsSoFar Papx at done (record { closed = runs.closed; from = runs.from; part = part })
   pub last : EndsWith (λ item. item.mark ≡ None) part
 
--- the runs go on by so many items with these properties, wherever in a text they stand; the first one has its unit at
+-- the runs go on by so many items with these properties, wherever in a text they are; the first one has its unit at
 -- `end`
 abbrev pub CharactersGoOn : Properties → ℕ → ℕ → CharacterRuns → CharacterRuns → Type 0
 CharactersGoOn chp count end old new =
@@ -68,7 +68,7 @@ CharactersGoOnBy runs start old new =
     (at : ℕ) (done text : List Item) → start ≡ at + 2 * length done → expanded runs ≡ map (λ item. item.chp) text →
     AreCharactersSoFar at done old → AreCharactersSoFar at (done ++ text) new
 
--- the runs go on by an item that has this mark, whose unit stands before `end`
+-- the runs go on by an item that has this mark, whose unit is before `end`
 abbrev pub ParagraphEnds : Mark → ℕ → ParagraphRuns → ParagraphRuns → Type 0
 ParagraphEnds mark end old new =
     (at : ℕ) (done : List Item) (item : Item) → end ≡ at + 2 * length (done ++ item ∷ []) → item.mark ≡ Some mark →
@@ -81,7 +81,7 @@ ParagraphsGoOn mark count start old new =
     HaveAlike (λ item. item.mark) mark text place count →
     AreParagraphsSoFar at (done ++ take place text) old → AreParagraphsSoFar at (done ++ take (place + count) text) new
 
--- the runs go on by a text with these runs of what stands beside its units
+-- the runs go on by a text with these runs of what is beside its units
 abbrev pub ParagraphsGoOnBy : List (ValueRun Attached) → ℕ → ParagraphRuns → ParagraphRuns → Type 0
 ParagraphsGoOnBy runs start old new =
     (at : ℕ) (done text : List Item) → start ≡ at + 2 * length done → expanded runs ≡ map attached_of text →

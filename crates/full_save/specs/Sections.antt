@@ -34,7 +34,7 @@ no_sepx = 0xFFFFFFFF
 abbrev pub fc_sepx : ℕ → Properties → ℕ
 fc_sepx place properties = if is_plain_section properties then no_sepx else place
 
--- the Seds of sections, which are given by their last CPs: the first one begins at a CP, and the Sepxes stand from a
+-- the Seds of sections, which are given by their last CPs: the first one begins at a CP, and the Sepxes are from a
 -- place on
 unfoldable pub seds_from : ℕ → ℕ → List (ℕ × Properties) → List Sed
 seds_from start place [] = []

@@ -16,11 +16,11 @@ entry_bytes part = part.bytes ++ part.behind
 abbrev pub entries_bytes : List TableEntry → List ℕ
 entries_bytes parts = flat_map entry_bytes parts
 
--- fc and lcb of a part that stands at a place; an empty part has no place
+-- fc and lcb of a part that is at a place; an empty part has no place
 abbrev pub put_pair : ℕ → TableEntry → List (ℕ × ℕ) → List (ℕ × ℕ)
 put_pair at part pairs = if length part.bytes == 0 then pairs else slice_set pairs part.number (at, length part.bytes)
 
--- the pairs of parts that stand one after the other from a place on, over other pairs
+-- the pairs of parts that are one after the other from a place on, over other pairs
 unfoldable pub pairs_from : ℕ → List (ℕ × ℕ) → List TableEntry → List (ℕ × ℕ)
 pairs_from at pairs [] = pairs
 pairs_from at pairs (part ∷ parts) = pairs_from (at + length (entry_bytes part)) (put_pair at part pairs) parts

@@ -25,7 +25,7 @@ pub record FitParts (bookmarks : List Bookmark) : Type 0 where
   pub short : All (λ bookmark. length bookmark.name ≤ 255) bookmarks
 
 -- the parts in the order of their pairs; each table of CPs ends with the count of its story, those of bookmarks with
--- that of the main text, and the levels stand right behind their lists
+-- that of the main text, and the levels are right behind their lists
 abbrev pub table_entries : Document → TableText → List TableEntry
 table_entries document text =
     let main = document.main in

@@ -34,7 +34,7 @@ note_story document = with_mark (joined_texts document.notes)
 unfoldable pub head_story : Document → List Item
 head_story document = with_mark (joined_texts document.heads)
 
--- the whole text, one item a CP; where notes or header texts are there, one more mark stands at its end
+-- the whole text, one item a CP; where notes or header texts are there, one more mark is at its end
 unfoldable pub text_items : Document → List Item
 text_items document = document.main ++ with_mark (note_story document ++ head_story document)
 

@@ -1,5 +1,5 @@
 -- The two streams that a full save makes of a document, as functions of it. No page is filled here and no list is gone
--- through: text, pages and Sepxes stand one after the other, and each number is a length.
+-- through: text, pages and Sepxes are one after the other, and each number is a length.
 use Rattle.std.specs.Prelude.{ℕ, ◌+◌, ◌*◌, true, false, List, [], ◌∷◌, ◌++◌, length, map}
 use Rattle.std.specs.List.{flat_map}
 use Rattle.doc_bits.specs.Number.{number_bytes}
@@ -54,7 +54,7 @@ document_runs kind document = text_runs kind text_at (text_items document)
 abbrev pub document_pages : PageKind → Document → Pages
 document_pages kind document = pages_of kind (document_runs kind document)
 
--- the number of the first page of characters, and of the first page of paragraphs: a page stands at 512 times its
+-- the number of the first page of characters, and of the first page of paragraphs: a page is at 512 times its
 -- number
 abbrev pub first_character_page : Document → ℕ
 first_character_page document = units_for 512 (text_end document)

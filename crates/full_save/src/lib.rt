@@ -20,7 +20,7 @@ mod word_document;
 pub use fault::SaveFault;
 pub use made_parts::write_table;
 pub use pages::{append_chpx_pages, append_papx_pages, append_units};
-pub use runs::character_runs;
+pub use runs::{UNIT_LEN, character_runs};
 pub use saving::{
     full, full_of_columns, sectors, sectors_of_columns, table_len, table_len_of_columns,
 };
@@ -28,4 +28,4 @@ pub use sections::push_counted;
 pub use table_parts::TableParts;
 pub use table_text::TableText;
 pub use text::TEXT_START;
-pub use word_document::{append_text, pages_for, push_zeros};
+pub use word_document::{append_text, pages_for};

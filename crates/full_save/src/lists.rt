@@ -1,4 +1,4 @@
-// The lists that the table stream has of the texts of a document: one step for each run of what stands beside units.
+// The lists that the table stream has of the texts of a document: one step for each run of what is beside units.
 ghost use Rattle.std.specs.Prelude.{◌≡◌, ◌+◌, ◌^◌, ◌<◌, ◌≤◌, ◌++◌, length, OnOk, IfOk};
 ghost use Rattle.plain_doc.specs.Collected.{joined_texts, refs_of, fields_of, is_auto};
 ghost use Rattle.plain_doc.specs.TextLists.{cuts_of};
@@ -59,7 +59,7 @@ pub(crate) fn fields_of(alloc: Global, text: &Columns) -> Result<Flds, Memory>
     Ok(fields)
 }
 
-/// The field characters of texts, which stand one after the other.
+/// The field characters of texts, which are one after the other.
 pub(crate) fn fields_of_texts(alloc: Global, texts: &ColumnTexts) -> Result<Flds, Memory>
     requires { length (joined_texts texts.now) < 2 ^ 32 }
     ensures { IfOk result (λ fields. fields ≡ fields_of (joined_texts texts.now)) }
@@ -74,7 +74,7 @@ pub(crate) fn fields_of_texts(alloc: Global, texts: &ColumnTexts) -> Result<Flds
     Ok(fields)
 }
 
-/// Appends the field characters of a text that stands from a CP on.
+/// Appends the field characters of a text that is from a CP on.
 fn add_fields(fields: &mut Flds, cp: u32, text: &Columns) -> Result<(), Memory>
     requires { cp + length text.now < 2 ^ 32 }
     ensures { OnOk result (fields.new ≡ fields.old ++ fields_from cp text.now) }
@@ -109,7 +109,7 @@ fn add_field_run(
     Ok(())
 }
 
-/// The CPs that cut texts which stand one after the other; none where they have no items.
+/// The CPs that cut texts which are one after the other; none where they have no items.
 pub(crate) fn cuts_of(alloc: Global, texts: &ColumnTexts) -> Result<Cuts, Memory>
     requires { length (joined_texts texts.now) < 2 ^ 32 }
     ensures { IfOk result (λ cuts. cuts ≡ cuts_of (joined_texts texts.now) texts.now) }

@@ -1,4 +1,4 @@
-// What stands beside the units of a text, counted run by run.
+// What is beside the units of a text, counted run by run.
 ghost use Rattle.std.specs.Prelude.{◌≡◌, ◌+◌, ◌*◌, ◌^◌, ◌<◌, ◌≤◌, length, All, sum_by};
 ghost use Rattle.run_lists.specs.Spread.{expanded, total_len};
 ghost use Rattle.plain_doc.specs.Collected.{joined_texts};

@@ -11,7 +11,7 @@ use doc_bits::{Bytes, Memory};
 use fkp_pages::{Bins, ChpRuns, Pages, PapRuns, write_chpx_pages, write_papx_pages};
 use std::alloc::Global;
 
-/// Appends units of 16 bits. After want of memory some of them may stand behind what was there.
+/// Appends units of 16 bits. After want of memory some of them may be behind what was there.
 pub fn append_units(out: &mut Bytes, units: &[u16]) -> Result<(), Memory>
     ensures ok { OnOk result (out.new ≡ out.old ++ units_bytes units.now) }
     ensures front { OnErr result (StartsWith out.new out.old) }
@@ -24,7 +24,7 @@ pub fn append_units(out: &mut Bytes, units: &[u16]) -> Result<(), Memory>
 
 /// Appends the pages of runs of characters, the first of which has this number, and their ranges to those of a bin
 /// table. Answers the number behind the last page. After want of memory the ranges are as they were, and pages may
-/// stand behind what was there.
+/// be behind what was there.
 pub fn append_chpx_pages(
     alloc: Global,
     out: &mut Bytes,

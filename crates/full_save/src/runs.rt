@@ -17,7 +17,7 @@ use std::alloc::Global;
 use std::mem;
 
 /// The bytes of a unit.
-pub(crate) const UNIT_LEN: u32 = 2;
+pub const UNIT_LEN: u32 = 2;
 
 /// The runs of characters of a text that begins at `base`: the maximal ranges of equal properties.
 pub fn character_runs(alloc: Global, text: &Columns, base: u32) -> Result<ChpRuns, Memory>
@@ -132,7 +132,7 @@ impl ParagraphRuns {
         }
     }
 
-    /// Goes on by an item that has a mark, and whose unit stands before `end`.
+    /// Goes on by an item that has a mark, and whose unit is before `end`.
     pub(crate) fn close(&mut self, alloc: Global, mark: &Mark, end: u32) -> Result<(), Memory>
         ensures { OnOk result (ParagraphEnds mark.now end self.old self.new) }
     {
@@ -179,7 +179,7 @@ impl ParagraphRuns {
         }
     }
 
-    /// Goes on by the items of these runs of what stands beside them, the first of which has its unit at `start`.
+    /// Goes on by the items of these runs of what is beside them, the first of which has its unit at `start`.
     pub(crate) fn push_runs(
         &mut self,
         alloc: Global,

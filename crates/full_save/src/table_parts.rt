@@ -41,7 +41,7 @@ impl TableParts {
         Ok(())
     }
 
-    /// Appends parts by their names, one right behind another. After want of memory some of them may stand there.
+    /// Appends parts by their names, one right behind another. After want of memory some of them may be there.
     pub(crate) fn put_all(&mut self, parts: &[(TablePart, &[u8])]) -> Result<(), Memory>
         requires { length self.old.bytes + length (entries_bytes (map named_entry parts.now)) < 2 ^ 32 }
         ensures { OnOk result (WritesParts (map named_entry parts.now) self.old self.new) }
@@ -52,8 +52,8 @@ impl TableParts {
         Ok(())
     }
 
-    /// Appends the lists with their levels, which stand right behind them and which no pair names. After want of memory
-    /// the pairs are as they were, and the lists may stand behind what was there.
+    /// Appends the lists with their levels, which are right behind them and which no pair names. After want of memory
+    /// the pairs are as they were, and the lists may be behind what was there.
     pub fn put_lists(&mut self, lists: &[u8], levels: &[u8]) -> Result<(), Memory>
         requires { length self.old.bytes + length lists.now + length levels.now < 2 ^ 32 }
         ensures part { OnOk result (WritesPart

@@ -16,7 +16,7 @@ use crate::runs::UNIT_LEN;
 use crate::sections::append_sepxes;
 use crate::table_text::TableText;
 use crate::text::{SavedText, TEXT_START};
-use doc_bits::{Bytes, Memory};
+use doc_bits::{Bytes, Memory, push_zeros};
 use doc_columns::{ColumnDocument, ColumnTexts};
 use doc_parts::Seds;
 use fib_form::Fib;
@@ -212,16 +212,6 @@ pub fn pages_for(len: u32) -> u32
     ensures { result ≡ units_for 512 len }
 {
     (len + (PAGE_LEN as u32 - 1)) / PAGE_LEN as u32
-}
-
-/// Appends zeros.
-pub fn push_zeros(out: &mut Bytes, count: usize) -> Result<(), Memory>
-    ensures { OnOk result (out.new ≡ out.old ++ replicate count 0) }
-{
-    for _turn in 0..count {
-        out.push_all(&[0])?;
-    }
-    Ok(())
 }
 
 /// The Clx of a text of so many units.

@@ -12,7 +12,7 @@ use Rattle.std.proofs.lemmas.List.{take_all, length-map}
 use Rattle.std.proofs.lemmas.List.Elements.{All-head, All-tail, All-cons, All-weaker}
 use Rattle.std.proofs.lemmas.List.Sums.{sum_by-cons, sum_by_more}
 use Rattle.prop_map.specs.Settings.{Properties}
-use Rattle.doc_bits.proofs.ListLemmas.{there_is, from_map, get-map}
+use Rattle.doc_bits.proofs.Public.{there_is, from_map, get-map}
 use Rattle.plain_doc.specs.declared.item.Item.{Item}
 use Rattle.plain_doc.specs.declared.item.NoteKind.{NoteKind}
 use Rattle.plain_doc.specs.Document.{HasPropertyMaps, IsFormedItem, IsFormedText}
@@ -31,7 +31,7 @@ kind_there text at attached is =
     get-map (λ (i : Item). i.note) text at item.0 item.1.0
     ∙ ap (λ (a : Attached). Some a.note) item.1.1
 
--- ---- how many references stand before an item
+-- ---- how many references are before an item
 
 one_counted : (kind : Option NoteKind) → count_by is_some (kind ∷ []) ≡ cond (is_some kind) 1 0
 one_counted kind =
@@ -93,7 +93,7 @@ All-with_kinds P change (kind ∷ kinds) (x ∷ xs) keeps all =
 
 -- ---- items
 
--- what stands beside an item changes as the item does
+-- what is beside an item changes as the item does
 noted_item : (kind : Option NoteKind) (item : Item) →
     item_of item.unit item.chp (attached_noted kind (attached_of item)) ≡ item_noted kind item
 noted_item None item = refl

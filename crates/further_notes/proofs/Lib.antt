@@ -1,4 +1,5 @@
-pub mod MeantLemmas
-pub mod KindLemmas
-pub mod SourceLemmas
-pub mod SpliceLemmas
+pub mod Public
+mod MeantLemmas
+mod KindLemmas
+mod SourceLemmas
+mod SpliceLemmas

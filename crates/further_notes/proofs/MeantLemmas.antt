@@ -6,23 +6,20 @@ use Rattle.doc_bits.specs.Rules.{Hold}
 use Rattle.cfb_streams.specs.Contents.{Contents, HasNamed}
 use Rattle.cfb_streams.specs.Container.{HasContents}
 use Rattle.cfb_streams.specs.Names.{wd_name}
-use Rattle.cfb_streams.proofs.StoredLemmas.{contents_stored}
-use Rattle.cfb_streams.proofs.UniqueLemmas.{contents_unique}
+use Rattle.cfb_streams.proofs.Public.{contents_stored, contents_unique}
 use Rattle.fib_form.specs.FibFields.{fib_fields}
 use Rattle.fib_versions.specs.Early.{early_fields, early_pairs}
 use Rattle.fib_versions.specs.VersionRules.{version_rules}
-use Rattle.fib_versions.proofs.EarlyLemmas.{early-read_back}
+use Rattle.fib_versions.proofs.Public.{early-read_back}
 use Rattle.plain_doc.specs.declared.document.Document.{Document}
 use Rattle.file_rules.specs.BinRules.{rules_of_bins}
 use Rattle.file_rules.specs.FileRules.{FileText, HasText, source_of, table_stream_name}
-use Rattle.file_rules.proofs.ContentsLemmas.{streams-small}
-use Rattle.file_rules.proofs.NameLemmas.{named_one}
-use Rattle.file_rules.proofs.RightPlaces.{hold_out}
+use Rattle.file_rules.proofs.Public.{streams-small, named_one, hold_out}
 use Rattle.doc_meaning.specs.Meaning.{MeansDocument}
-use Rattle.doc_meaning.proofs.MeaningLemmas.{meaning_is_one}
+use Rattle.doc_meaning.proofs.Public.{meaning_is_one}
 use Rattle.doc_lift.specs.LiftedRules.{lifted_wd, lifted_table_rules}
 use Rattle.doc_lift.specs.LiftedFiles.{lifted_rules}
-use Rattle.doc_lift.proofs.BinLemmas.{lifted_bins}
+use Rattle.doc_lift.proofs.Public.{lifted_bins}
 
 -- the FIB of the early form in front of a stream of the file is read back
 pub front_fields : (file : List ℕ) (contents : Contents) (name wd : List ℕ) → AreBytes file → HasContents file contents →

@@ -3,7 +3,7 @@ use Rattle.std.proofs.Common.{◌≡◌, ◌∙◌, ap, sym, ℕ, ◌+◌, List,
 use Rattle.std.specs.Option.{option_and_then, unwrap_or}
 use Rattle.std.specs.List.{filter_map}
 use Rattle.doc_parts.specs.Tabulated.{tabulate}
-use Rattle.doc_losses.proofs.ListingLemmas.{listed_more}
+use Rattle.doc_losses.proofs.Public.{listed_more}
 use Rattle.plain_doc.specs.declared.item.NoteKind.{NoteKind}
 use Rattle.doc_mends.specs.declared.mends.MadeNote.{MadeNote}
 use Rattle.further_notes.specs.declared.sources.NoteSource.{NoteSource}

@@ -12,14 +12,14 @@ use Rattle.fib_versions.specs.declared.further.Further.TheVariants.{Endnotes}
 use Rattle.fib_versions.specs.Versions.{further_count, further_start}
 use Rattle.file_rules.specs.FileRules.{table_stream_name}
 
--- [MS-DOC] FibRgLw97, FibRgFcLcb97: a number of 32 bits at its place. What stands before the endnotes is the main text,
+-- [MS-DOC] FibRgLw97, FibRgFcLcb97: a number of 32 bits at its place. What is before the endnotes is the main text,
 -- and they are the footnotes; no story of headers or comments is between
 abbrev pub count_fields : List ℕ → List (ℕ × ℕ)
 count_fields wd =
     (field_offset CcpText, further_start wd Endnotes) ∷ (field_offset CcpFtn, further_count wd Endnotes) ∷
     (field_offset CcpHdd, 0) ∷ (field_offset CcpAtn, 0) ∷ (field_offset CcpAtn + 4, 0) ∷ []
 
--- PlcfendRef, PlcfendTxt and PlcfFldEdn (46 to 48) stand for PlcffndRef, PlcffndTxt and PlcfFldFtn (2, 3, 18); PlcfHdd,
+-- PlcfendRef, PlcfendTxt and PlcfFldEdn (46 to 48) represent PlcffndRef, PlcffndTxt and PlcfFldFtn (2, 3, 18); PlcfHdd,
 -- PlcfFldHdr and SttbfBkmk (11, 17, 21) are empty
 abbrev pub part_fields : List ℕ → List (ℕ × ℕ)
 part_fields wd =

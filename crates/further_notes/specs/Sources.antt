@@ -18,11 +18,11 @@ note_kinds text = map (λ item. item.note) text
 abbrev pub kind_at : List (Option NoteKind) → ℕ → Option NoteKind
 kind_at kinds at = unwrap_or (slice_get kinds at) None
 
--- how many references stand before an item
+-- how many references are before an item
 abbrev pub notes_before : List (Option NoteKind) → ℕ → ℕ
 notes_before kinds at = count_by is_some (take at kinds)
 
--- what an item refers to, by its footnote and its endnote, and how many of each stand before it
+-- what an item refers to, by its footnote and its endnote, and how many of each are before it
 abbrev pub source_by : Option NoteKind → Option NoteKind → (footnotes endnotes : ℕ) → Option NoteSource
 source_by (Some kind) other footnotes endnotes = Some (Footnote footnotes)
 source_by None (Some kind) footnotes endnotes = Some (Endnote endnotes)

@@ -1,5 +1,5 @@
 -- A document with its endnotes as notes: the items that refer to endnotes refer to notes, and the texts of the endnotes
--- stand among the notes, in the order of the references. No item is added to the main text.
+-- are among the notes, in the order of the references. No item is added to the main text.
 use Rattle.std.specs.Prelude.{◌≡◌, ℕ, ◌<◌, ◌≤◌, ◌&&◌, false, List, [], ◌∷◌, length, Option, Some, None, is_some}
 use Rattle.doc_bits.specs.Number.{AreBytes}
 use Rattle.doc_bits.specs.Rules.{Hold}
@@ -19,7 +19,7 @@ abbrev pub item_noted : Option NoteKind → Item → Item
 item_noted None item = item
 item_noted (Some kind) item = record item { note = Some kind }
 
--- the same of what stands beside a unit
+-- the same of what is beside a unit
 abbrev pub attached_noted : Option NoteKind → Attached → Attached
 attached_noted None attached = attached
 attached_noted (Some kind) attached = record attached { note = Some kind }
@@ -33,7 +33,7 @@ with_kinds change (kind ∷ kinds) (entry ∷ entries) = change kind entry ∷ w
 abbrev pub text_noted : List (Option NoteKind) → List Item → List Item
 text_noted kinds text = with_kinds item_noted kinds text
 
--- each reference to an endnote stands in the main text, at an item that refers to no footnote, and there is one
+-- each reference to an endnote is in the main text, at an item that refers to no footnote, and there is one
 pub record HasReferences (footnotes endnotes : List (Option NoteKind)) (count : ℕ) : Type 0 where
   pub some : 1 ≤ count
   pub within : notes_before endnotes (length footnotes) ≡ count

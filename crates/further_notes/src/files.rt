@@ -133,7 +133,7 @@ fn part_fields(fib: &AnyFib<'_>) -> [(usize, u32); 9]
     ]
 }
 
-/// Where a pair of the FIB stands.
+/// Where a pair of the FIB is.
 fn pair_place(n: usize) -> usize
     requires { n < 93 }
     ensures { result ≡ place_of_pair n }

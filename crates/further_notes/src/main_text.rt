@@ -47,7 +47,7 @@ pub(crate) fn text_noted(
     Ok(Columns::from_parts(units, chps, attachments))
 }
 
-/// What stands beside its units then.
+/// What is beside its units then.
 fn attachments_noted(
     alloc: Global,
     text: &Columns,
@@ -66,7 +66,7 @@ fn attachments_noted(
     Ok(made)
 }
 
-/// What stands beside a unit whose item refers to a note of this kind, where there is one.
+/// What is beside a unit whose item refers to a note of this kind, where there is one.
 fn attached_noted(attached: Attached, kind: Option<NoteKind>) -> Attached
     ensures { result ≡ noted_of kind attached }
 {

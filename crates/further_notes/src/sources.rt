@@ -40,7 +40,7 @@ pub(crate) fn note_sources(
     Ok(list)
 }
 
-/// What an item refers to, of which so many footnotes and endnotes stand before it.
+/// What an item refers to, of which so many footnotes and endnotes are before it.
 fn source_by(
     footnote: Option<NoteKind>,
     endnote: Option<NoteKind>,

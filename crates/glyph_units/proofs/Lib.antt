@@ -1,2 +1,3 @@
-pub mod RunLemmas
-pub mod ScalarLemmas
+pub mod Public
+mod RunLemmas
+mod ScalarLemmas

@@ -1,23 +1,15 @@
 -- Units of UTF-16 one by one: a first half waits for the second one, and without it is the replacement character.
 use Rattle.std.specs.Prelude.{ℕ, List, [], ◌∷◌, ◌++◌, Option, None, Some, if◌then◌else◌}
 use Rattle.text_codes.specs.Shown.{is_pair, pair_code}
-use Rattle.text_codes.specs.Halves.{replacement, is_high, is_surrogate}
+use Rattle.text_codes.specs.Halves.{replacement, is_high, is_surrogate, half_text, first_half}
 
 -- the character of a unit that is in no pair
 abbrev pub alone : ℕ → ℕ
 alone unit = if is_surrogate unit then replacement else unit
 
--- a half that no other one follows
-abbrev pub half_text : Option ℕ → List ℕ
-half_text None = []
-half_text (Some unit) = replacement ∷ []
-
 -- a unit that no half waits for
 abbrev pub first_text : ℕ → List ℕ
 first_text unit = if is_high unit then [] else alone unit ∷ []
-
-abbrev pub first_half : ℕ → Option ℕ
-first_half unit = if is_high unit then Some unit else None
 
 -- a unit where a half waits or none
 abbrev pub unit_text : Option ℕ → ℕ → List ℕ

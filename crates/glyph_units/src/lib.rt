@@ -5,4 +5,4 @@ mod glyphs;
 mod units;
 
 pub use glyphs::unit_in;
-pub use units::{REPLACEMENT, alone, is_high, pair};
+pub use units::{REPLACEMENT, alone};

@@ -1,19 +1,10 @@
 // Units of UTF-16 one by one.
-ghost use Rattle.std.specs.Prelude.{◌≡◌, true, false, if◌then◌else◌, MatchOption};
+ghost use Rattle.std.specs.Prelude.{◌≡◌, if◌then◌else◌};
 ghost use Rattle.std.specs.Char.{IsScalar};
-ghost use Rattle.text_codes.specs.Shown.{is_pair, pair_code};
 ghost use Rattle.glyph_units.specs.Units.{alone};
-ghost use Rattle.text_codes.specs.Halves.{is_high};
 
 /// The replacement character.
 pub const REPLACEMENT: u32 = 0xFFFD;
-
-/// Whether a unit is the first half of characters.
-pub fn is_high(unit: u16) -> bool
-    ensures { result ≡ is_high unit }
-{
-    unit >= 0xD800 && unit < 0xDC00
-}
 
 /// The character of a unit that is in no pair.
 pub fn alone(unit: u16) -> u32
@@ -24,20 +15,5 @@ pub fn alone(unit: u16) -> u32
         REPLACEMENT
     } else {
         unit as u32
-    }
-}
-
-/// The character of two halves, where they are one.
-pub fn pair(first: u16, second: u16) -> Option<u32>
-    ensures { MatchOption result
-        (is_pair first second ≡ false)
-        (λ code. (is_pair first second ≡ true) × ((code ≡ pair_code first second) × IsScalar code)) }
-{
-    if first >= 0xD800 && first < 0xDC00 && second >= 0xDC00 && second < 0xE000 {
-        let high = (first - 0xD800) as u32;
-        let low = (second - 0xDC00) as u32;
-        Some(0x10000 + high * 0x400 + low)
-    } else {
-        None
     }
 }

@@ -10,7 +10,7 @@ use Rattle.html_text.specs.Tokens.{Token, Character, Tag}
 use Rattle.html_text.specs.Reading.{read}
 use Rattle.view_paths.specs.Events.{Event, Turn, Leaf, Open, Close, events_from}
 use Rattle.view_paths.specs.Laws.{AreNested}
-use Rattle.view_paths.proofs.NestLemmas.{nested-events_from}
+use Rattle.view_paths.proofs.Public.{nested-events_from}
 use Rattle.view_places.specs.declared.element.Element.{Element}
 use Rattle.view_places.specs.declared.glyph.Glyph.{Glyph}
 use Rattle.view_places.specs.declared.glyph.Glyph.TheVariants.{Unit, Tab, LineBreak, PageBreak, NoteMark, Picture}
@@ -18,7 +18,7 @@ use Rattle.view_places.specs.declared.glyph.Glyph.TheVariants.{Object}
 use Rattle.view_places.specs.Same.{same}
 use Rattle.view_places.specs.SameLaws.{same_exact}
 use Rattle.html_page.specs.Tags.{attribute, attributes_of, attributes_text, ends_line, has_tags, name_of, start_text}
-use Rattle.glyph_units.specs.Units.{half_text, unit_text}
+use Rattle.glyph_units.specs.Units.{unit_text}
 use Rattle.html_page.specs.Pages.{Events, Head, Places, characters, start, end, close_tokens, open_tokens, other_tokens}
 use Rattle.html_page.specs.Pages.{end_tokens, start_tokens}
 use Rattle.html_page.specs.Pages.{glyph_tokens, image, style_text}
@@ -33,7 +33,8 @@ use Rattle.doc_pictures.specs.Files.{ImageFiles, name_at}
 use Rattle.html_page.specs.Sources.{PageSource}
 use Rattle.html_page.specs.Languages.{language_attributes}
 use Rattle.html_page.specs.Pages.{meta_tokens}
-use Rattle.doc_bits.proofs.TestLemmas.{and_first, and_second, not_true}
+use Rattle.doc_bits.proofs.Public.{and_first, and_second, not_true}
+use Rattle.text_codes.specs.Halves.{half_text}
 
 abbrev Names : Type 0
 Names = List (List ℕ)

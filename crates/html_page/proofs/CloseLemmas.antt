@@ -8,7 +8,7 @@ use Rattle.std.proofs.lemmas.Bool.Decides.{nat_tests}
 use Rattle.std.proofs.lemmas.List.Folds.{list_all-append}
 use Rattle.html_text.specs.Tokens.{Token, Character, Tag, is_closed}
 use Rattle.html_text.specs.Reading.{read}
-use Rattle.html_text.proofs.ReadLemmas.{read_back}
+use Rattle.html_text.proofs.Public.{read_back, no_markup}
 use Rattle.view_paths.specs.Events.{Event, Turn, Leaf, Open, Close, events_from}
 use Rattle.view_places.specs.declared.element.Element.{Element}
 use Rattle.view_places.specs.declared.element.Paragraph.{Paragraph as ParagraphForm}
@@ -24,7 +24,7 @@ use Rattle.html_page.specs.Tags.{attribute, attributes_of, attributes_text, ends
 use Rattle.html_page.specs.Tags.{reach_attributes, span_attributes}
 use Rattle.view_places.specs.declared.element.Span.{Span}
 use Rattle.html_page.specs.Tags.{paragraph_attributes, paragraph_name, start_text}
-use Rattle.glyph_units.specs.Units.{half_text, unit_text}
+use Rattle.glyph_units.specs.Units.{unit_text}
 use Rattle.html_page.specs.Pages.{Events, Head, Places, characters, close_tokens, open_tokens, other_tokens, glyph_tokens}
 use Rattle.html_page.specs.Pages.{end_tokens, start_tokens}
 use Rattle.html_page.specs.Pages.{event_tokens, event_half, tokens_of, half_of, body_tokens, front_tokens, style_tokens}
@@ -34,7 +34,6 @@ use Rattle.std.specs.Prelude.{◌||◌, ◌*◌, ◌+◌, ◌-◌, ◌&&◌, sli
 use Rattle.html_page.proofs.PutLemmas.{all-slice}
 use Rattle.html_text.specs.Tokens.{escaped_text}
 use Rattle.html_text.specs.Safe.{is_safe}
-use Rattle.html_text.proofs.ReadLemmas.{no_markup}
 use Rattle.plain_doc.specs.declared.document.Document.{Document}
 use Rattle.doc_pictures.specs.declared.names.PictureName.{PictureName}
 use Rattle.doc_pictures.specs.Files.{ImageFiles, name_at}
@@ -44,7 +43,8 @@ use Rattle.field_links.specs.Urls.{anchor_name}
 use Rattle.link_targets.specs.Links.{bookmark_name, instruction_of, url_in}
 use Rattle.html_page.specs.Languages.{language_attributes, language_code, language_codes}
 use Rattle.html_page.specs.Tags.{anchor_attributes, link_attributes, plain_attributes}
-use Rattle.doc_bits.proofs.TestLemmas.{and_true, and_first, and_second}
+use Rattle.doc_bits.proofs.Public.{and_true, and_first, and_second}
+use Rattle.text_codes.specs.Halves.{half_text}
 
 -- ---- texts without >
 

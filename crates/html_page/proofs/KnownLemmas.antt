@@ -22,7 +22,7 @@ use Rattle.html_page.specs.Tags.{attribute, attributes_of, ends_line, has_tags, 
 use Rattle.html_page.specs.Tags.{span_attributes}
 use Rattle.view_places.specs.declared.element.Span.{Span}
 use Rattle.html_page.specs.Tags.{start_text}
-use Rattle.glyph_units.specs.Units.{half_text, unit_text}
+use Rattle.glyph_units.specs.Units.{unit_text}
 use Rattle.html_page.specs.Pages.{Events, Head, Places, characters, start, end, close_tokens, open_tokens, other_tokens}
 use Rattle.html_page.specs.Pages.{end_tokens, start_tokens}
 use Rattle.html_page.specs.Pages.{glyph_tokens, image, style_text}
@@ -41,10 +41,11 @@ use Rattle.html_page.specs.Sources.{PageSource}
 use Rattle.field_links.specs.Laws.{IsSchemeUrl, IsLocalUrl}
 use Rattle.field_links.specs.Urls.{anchor_name}
 use Rattle.link_targets.specs.Links.{bookmark_name, instruction_of, url_in}
-use Rattle.link_targets.proofs.UrlLemmas.{known_url}
+use Rattle.link_targets.proofs.Public.{known_url}
 use Rattle.html_page.specs.Languages.{language_attributes, language_code}
 use Rattle.html_page.specs.Pages.{meta_tokens}
 use Rattle.html_page.specs.Tags.{anchor_attributes, link_attributes, plain_attributes}
+use Rattle.text_codes.specs.Halves.{half_text}
 
 abbrev AreKnown : ImageFiles → List Token → Type 0
 AreKnown images tokens = All (IsKnown images) tokens
@@ -307,7 +308,7 @@ known-body source places =
     known-append source.images (tokens_of source None events) (characters (half_text (half_of None events))) (known-events source None events)
     (known-characters source.images (half_text (half_of None events)))
 
--- ---- what stands round the text
+-- ---- what is round the text
 
 abbrev line_end : Token
 line_end = Character 10

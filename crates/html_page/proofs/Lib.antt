@@ -1,6 +1,7 @@
-pub mod CloseLemmas
-pub mod KnownLemmas
-pub mod BracketLemmas
-pub mod PutLemmas
-pub mod UnitLemmas
-pub mod PathLemmas
+pub mod Public
+mod CloseLemmas
+mod KnownLemmas
+mod BracketLemmas
+mod PutLemmas
+mod UnitLemmas
+mod PathLemmas

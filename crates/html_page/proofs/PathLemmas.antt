@@ -8,7 +8,7 @@ use Rattle.std.proofs.lemmas.Bool.Decides.{nat_tests}
 use Rattle.std.proofs.lemmas.List.{take_more}
 use Rattle.std.proofs.lemmas.List.Concat.{flat_map-append}
 use Rattle.std.proofs.lemmas.List.Folds.{list_all-append}
-use Rattle.doc_bits.proofs.TestLemmas.{and_true, and_first, and_second}
+use Rattle.doc_bits.proofs.Public.{and_true, and_first, and_second}
 use Rattle.field_links.specs.Urls.{upper_hex_digit}
 use Rattle.html_text.specs.Tokens.{Character, escaped, escaped_text, printed}
 use Rattle.inline_pictures.specs.declared.kind.PictureKind.{PictureKind}
@@ -51,7 +51,7 @@ path-on path i within =
     ∙ (flat_map-append escaped (path_url front) (path_byte byte ++ [])
     ∙ ap (λ (last : List ℕ). escaped_text (path_url front) ++ escaped_text last) (append-nil (path_byte byte)))))
 
--- ---- the name of a picture stands for itself
+-- ---- the name of a picture represents itself
 
 abbrev IsOwn : List ℕ → Type 0
 IsOwn text = list_all is_path_byte text ≡ true

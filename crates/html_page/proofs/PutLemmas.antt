@@ -13,15 +13,14 @@ use Rattle.std.proofs.lemmas.List.Concat.{flat_map-append}
 use Rattle.doc_outer.specs.declared.sink.Sink.{Ghosts}
 use Rattle.page_out.specs.declared.page.Page.{Page}
 use Rattle.page_out.specs.Printed.{Prints}
-use Rattle.page_out.proofs.PrintLemmas.{put_then, put_none}
+use Rattle.page_out.proofs.Public.{put_then, put_none}
 use Rattle.html_text.specs.Tokens.{Token, Character, Tag, escaped, escaped_text, printed, printed_token}
 use Rattle.view_paths.specs.Paths.{Place, last_path}
 use Rattle.view_paths.specs.Events.{Event, Turn, Leaf, Open, Close, closes, opens, transition, turns, leaf}
 use Rattle.view_paths.specs.Events.{events_up_to}
 use Rattle.view_paths.specs.Turns.{IsShared, IsFront}
-use Rattle.view_paths.proofs.NestLemmas.{events_up_to-append, last_path-append}
-use Rattle.view_paths.proofs.WayLemmas.{transition-shared, closes-next, closes-none, take-closed, opens-next}
-use Rattle.view_paths.proofs.WayLemmas.{opens-none}
+use Rattle.view_paths.proofs.Public.{events_up_to-append, last_path-append, transition-shared, closes-next, closes-none}
+use Rattle.view_paths.proofs.Public.{take-closed, opens-next, opens-none}
 use Rattle.view_places.specs.declared.element.Element.{Element}
 use Rattle.view_places.specs.declared.glyph.Glyph.{Glyph}
 use Rattle.view_places.specs.declared.glyph.Glyph.TheVariants.{Unit, Tab, LineBreak, PageBreak, NoteMark, Picture}
@@ -32,14 +31,15 @@ use Rattle.glyph_units.specs.Glyphs.{unit_in}
 use Rattle.view_places.specs.declared.element.Paragraph.{Paragraph}
 use Rattle.html_page.specs.Tags.{attribute, attributes_text, optional, paragraph_attributes, reach_attributes}
 use Rattle.view_places.specs.declared.element.Span.{Span}
-use Rattle.glyph_units.specs.Units.{half_text, unit_text, unit_half}
+use Rattle.glyph_units.specs.Units.{unit_text, unit_half}
 use Rattle.html_page.specs.Pages.{Events, Places, characters, close_tokens, open_tokens, event_tokens, event_half}
 use Rattle.html_page.specs.Pages.{glyph_tokens, glyph_half, other_tokens, tokens_of, half_of}
 use Rattle.html_page.specs.Printed.{PutsEvents, PutsPlaces}
 use Rattle.doc_pictures.specs.Files.{ImageFiles, files_of}
 use Rattle.html_page.specs.declared.source.Source.{Source}
 use Rattle.html_page.specs.Sources.{PageSource, source_of}
-use Rattle.doc_bits.proofs.TestLemmas.{and_true, and_first, and_second, not_true}
+use Rattle.doc_bits.proofs.Public.{and_true, and_first, and_second, not_true}
+use Rattle.text_codes.specs.Halves.{half_text}
 
 -- ---- tokens one after another
 
@@ -220,11 +220,6 @@ open_step sink a b c html next left new to e is front prints path half source re
 
 -- ---- from a path to another one
 
-pub shared_is_front : (from to : List Element) (count : ℕ) → IsShared same from to count → IsFront (take count from) to
-shared_is_front from to count is =
-    let long : length (take count from) ≡ count = length-take-le count from is.within in
-    ap (λ (n : ℕ). take n to) long ∙ (sym is.also ∙ is.front)
-
 pub way_put : {K : Type 0} (sink : Ghosts K) (a b c : K) (html next left : HtmlPage) (to : List Element) (count : ℕ) →
     IsShared
     same html.path to count → PutsEvents sink a html b next (map Turn (closes (take count html.path) (drop count
@@ -386,7 +381,7 @@ ascii_all (code ∷ text) is (suc i) = ascii_all text (and_second (is_ascii code
 pub ascii_slice : (text : List ℕ) (from to : ℕ) → list_all is_ascii text ≡ true → IsAscii (slice_range text from to)
 ascii_slice text from to is = ascii_all (slice_range text from to) (all-slice is_ascii text from to is)
 
--- ---- digits stand for themselves
+-- ---- digits represent themselves
 
 abbrev pub is_plain : ℕ → Bool
 is_plain code = not (code == 38) && (not (code == 60) && (not (code == 62) && not (code == 34)))

@@ -4,8 +4,8 @@ use Rattle.std.proofs.Common.{map, Option, Some, None, refl, sym, ap, subst, ari
 use Rattle.std.specs.Prelude.{if◌then◌else◌, codes, slice_index, slice_range}
 use Rattle.std.specs.Char.{IsScalar}
 use Rattle.std.specs.List.{All}
-use Rattle.std.proofs.lemmas.List.{drop_more, get_or-drop, get_or-take}
-use Rattle.std.proofs.lemmas.List.Elements.{All-drop, All-from_get_or, All-get_or, All-head, All-tail, All-take}
+use Rattle.std.proofs.lemmas.List.{get_or-drop, get_or-take}
+use Rattle.std.proofs.lemmas.List.Elements.{All-from_get_or, All-get_or, All-head, All-tail}
 use Rattle.doc_outer.specs.declared.sink.Sink.{Ghosts}
 use Rattle.page_out.specs.Printed.{Prints}
 use Rattle.html_text.specs.Tokens.{Character, Token, escaped, printed}
@@ -16,32 +16,20 @@ use Rattle.view_paths.specs.Events.{events_up_to}
 use Rattle.view_places.specs.declared.element.Element.{Element}
 use Rattle.view_places.specs.Same.{same}
 use Rattle.glyph_units.specs.Glyphs.{leaves, unit_places}
-use Rattle.glyph_units.specs.Units.{half_text, unit_half, unit_text}
-use Rattle.glyph_units.proofs.RunLemmas.{events-units, last-units}
-use Rattle.glyph_units.proofs.ScalarLemmas.{scalar_half, scalar_text}
+use Rattle.glyph_units.specs.Units.{unit_half, unit_text}
+use Rattle.glyph_units.proofs.Public.{events-units, last-units, scalar_half, scalar_text}
 use Rattle.html_page.specs.declared.printer.HtmlPage.{HtmlPage}
 use Rattle.html_page.specs.Pages.{Events, characters, half_of, is_referred, tokens_of}
 use Rattle.html_page.specs.Printed.{PutsEvents, PutsPlaces}
 use Rattle.html_page.proofs.PutLemmas.{characters_then, events_then, puts_as}
+use Rattle.text_codes.specs.Halves.{half_text}
 
 -- ---- ranges
-
-pub no_units : (units : List ℕ) → length units ≡ 0 → units ≡ []
-no_units [] none = refl
-no_units (unit ∷ units) none = absurd (omega (arith, none))
-
-pub one_range : (units : List ℕ) (at : ℕ) → at < length units → slice_range units at (at + 1) ≡ slice_index units at ∷ []
-one_range units at within =
-    let one : at + 1 - at ≡ 1 = omega arith in
-    ap (λ (n : ℕ). take n (drop at units)) one ∙ ap (take 1) (drop_more units at 0 within)
 
 pub scalar_at : (units : List ℕ) (at : ℕ) → at < length units → All IsScalar units → IsScalar (slice_index units at)
 scalar_at units at within all = All-get_or IsScalar units at 0 within all
 
-pub range_scalars : (units : List ℕ) (from until : ℕ) → All IsScalar units → All IsScalar (slice_range units from until)
-range_scalars units from until all = All-take IsScalar (until - from) (drop from units) (All-drop IsScalar from units all)
-
--- ---- units that stand for themselves
+-- ---- units that represent themselves
 
 abbrev IsPlain : ℕ → Type 0
 IsPlain code = is_referred code ≡ false

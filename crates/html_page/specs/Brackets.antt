@@ -9,7 +9,7 @@ pub data TagKind : Type 0 where
   Start : List ℕ → TagKind
   End : List ℕ → TagKind
 
--- what stands before the first space of a tag
+-- what is before the first space of a tag
 abbrev pub word_of : List ℕ → List ℕ
 word_of [] = []
 word_of (code ∷ rest) = if code == 32 then [] else code ∷ word_of rest

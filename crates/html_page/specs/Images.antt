@@ -7,13 +7,13 @@ use Rattle.doc_pictures.specs.declared.names.PictureName.{PictureName}
 use Rattle.doc_pictures.specs.Names.{picture_path}
 use Rattle.html_page.specs.Tags.{attribute}
 
--- [RFC 3986] the bytes of a path that stand for themselves: letters, digits, -._~ and /
+-- [RFC 3986] the bytes of a path that represent themselves: letters, digits, -._~ and /
 -- Profile: no colon, so that no folder is a scheme
 abbrev pub is_path_byte : ℕ → Bool
 is_path_byte byte =
     is_alphanumeric byte || (byte == 45 || (byte == 46 || (byte == 95 || (byte == 126 || byte == 47))))
 
--- any other one stands behind a percent sign, in two digits
+-- any other one is behind a percent sign, in two digits
 abbrev pub coded_byte : ℕ → List ℕ
 coded_byte byte = 37 ∷ upper_hex_digit (byte / 16) ∷ upper_hex_digit (byte % 16) ∷ []
 

@@ -17,7 +17,8 @@ use Rattle.html_page.specs.Tags.{name_of, attributes_of, attribute, start_text, 
 use Rattle.html_page.specs.Languages.{language_attributes}
 use Rattle.html_page.specs.Sources.{PageSource}
 use Rattle.html_page.specs.Images.{image_attributes}
-use Rattle.glyph_units.specs.Units.{half_text, unit_text, unit_half}
+use Rattle.glyph_units.specs.Units.{unit_text, unit_half}
+use Rattle.text_codes.specs.Halves.{half_text}
 
 abbrev pub Places : Type 0
 Places = List (Place Element Glyph)
@@ -29,7 +30,7 @@ Events = List (Event Element Glyph)
 abbrev pub characters : List ℕ → List Token
 characters text = map Character text
 
--- a character that a reference stands for
+-- a character that a reference represents
 abbrev pub is_referred : ℕ → Bool
 is_referred code = code == 38 || (code == 60 || (code == 62 || code == 34))
 
@@ -70,7 +71,7 @@ picture_tokens folder (Some name) = start (codes "img") (image_attributes folder
 abbrev pub page_break_tokens : List Token
 page_break_tokens = start (codes "br") (attribute (codes "style") (codes "break-after:page") ∷ []) ∷ []
 
--- a glyph that is no unit; the number of a note stands in the link to it
+-- a glyph that is no unit; the number of a note is in the link to it
 abbrev pub other_tokens : ImageFiles → Glyph → List Token
 other_tokens images (Unit unit) = []
 other_tokens images Tab = Character 9 ∷ []
@@ -108,7 +109,7 @@ abbrev pub event_half : Option ℕ → Event Element Glyph → Option ℕ
 event_half half (Turn tag) = None
 event_half half (Leaf path glyph) = glyph_half half glyph
 
--- events where a half waits or none: so the halves of a character are one where nothing stands between them
+-- events where a half waits or none: so the halves of a character are one where nothing is between them
 unfoldable pub tokens_of : PageSource → Option ℕ → Events → List Token
 tokens_of source half [] = []
 tokens_of source half (event ∷ events) =
@@ -137,7 +138,7 @@ pub record Head : Type 0 where
   pub language : Option ℕ
   pub title : List ℕ
 
--- what stands before the title
+-- what is before the title
 abbrev pub meta_tokens : List Token
 meta_tokens =
     start (codes "head") []

@@ -52,7 +52,7 @@ name_of Lowered = codes "sub"
 name_of (Link link) = codes "a"
 name_of (Anchor number) = codes "span"
 
--- a name, and what stands between quotes behind it
+-- a name, and what is between quotes behind it
 abbrev pub attribute : List ℕ → List ℕ → List ℕ
 attribute name value = name ++ (61 ∷ 34 ∷ (value ++ 34 ∷ []))
 

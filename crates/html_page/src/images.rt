@@ -12,7 +12,7 @@ use doc_pictures::{PictureName, suffix_of};
 use field_links::{is_alphanumeric, upper_hex_digit};
 use page_out::Page;
 
-/// Puts a picture: the image of its file in a folder, or what stands for one without a file.
+/// Puts a picture: the image of its file in a folder, or what represents one without a file.
 pub(crate) fn push_picture<K: Sink>(
     page: &mut Page,
     out: &mut K,
@@ -27,7 +27,7 @@ pub(crate) fn push_picture<K: Sink>(
     }
 }
 
-/// Puts what stands for a picture without a file.
+/// Puts what represents a picture without a file.
 fn push_absent<K: Sink>(page: &mut Page, out: &mut K)
     ensures { Prints K.Sink out.old page.old out.new page.new (printed (image (codes "picture"))) }
 {
@@ -87,7 +87,7 @@ fn push_coded<K: Sink>(page: &mut Page, out: &mut K, byte: u8)
     push_character(page, out, upper_hex_digit(byte % 16) as u32);
 }
 
-/// Whether a byte of a path stands for itself.
+/// Whether a byte of a path represents itself.
 fn is_path_byte(byte: u8) -> bool
     ensures { result ≡ is_path_byte byte }
 {

@@ -15,7 +15,8 @@ ghost use Rattle.html_page.specs.Printed.{PutsEvents, PutsPlaces};
 ghost use Rattle.html_page.specs.Sources.{source_of};
 ghost use Rattle.doc_pictures.specs.Files.{files_of};
 ghost use Rattle.glyph_units.specs.Glyphs.{unit_places};
-ghost use Rattle.glyph_units.specs.Units.{first_half, first_text, half_text, unit_half, unit_text, units_text};
+ghost use Rattle.glyph_units.specs.Units.{first_text, unit_half, unit_text, units_text};
+ghost use Rattle.text_codes.specs.Halves.{half_text, first_half};
 
 use crate::source::Source;
 use crate::tokens::{
@@ -23,8 +24,9 @@ use crate::tokens::{
 };
 use crate::units::push_units;
 use doc_outer::{OutBlock, Sink, SinkFailed};
-use glyph_units::{REPLACEMENT, alone, is_high, pair, unit_in};
+use glyph_units::{REPLACEMENT, alone, unit_in};
 use page_out::Page;
+use text_codes::{is_high, pair};
 use view_paths::Path;
 use view_places::{Element, Glyph};
 
@@ -54,7 +56,7 @@ impl<'a> HtmlPage<'a> {
         }
     }
 
-    /// Puts what stands before the text of a page with this language, by its identifier of [MS-LCID], and this title, in
+    /// Puts what is before the text of a page with this language, by its identifier of [MS-LCID], and this title, in
     /// units of UTF-16.
     pub fn begin<K: Sink>(&mut self, out: &mut K, language: Option<u16>, title: &[u16])
         requires { self.old.half ≡ None }
@@ -93,7 +95,7 @@ impl<'a> HtmlPage<'a> {
         push_units(&mut self.page, out, units);
     }
 
-    /// Closes all that is open, and puts what stands behind the text.
+    /// Closes all that is open, and puts what is behind the text.
     pub fn end<K: Sink>(&mut self, out: &mut K)
         ensures { Prints K.Sink out.old self.old.page out.new self.new.page
             (printed (tokens_of (source_of self.old.source) self.old.half (turns same self.old.path [])

@@ -21,7 +21,7 @@ use html_text::reference;
 use page_out::Page;
 use view_places::{Element, Glyph};
 
-/// Puts what stands before the title of a page in a language.
+/// Puts what is before the title of a page in a language.
 pub(crate) fn push_front<K: Sink>(page: &mut Page, out: &mut K, language: Option<u16>)
     ensures { Prints K.Sink out.old page.old out.new page.new (printed (front_tokens language)) }
 {
@@ -30,7 +30,7 @@ pub(crate) fn push_front<K: Sink>(page: &mut Page, out: &mut K, language: Option
     push_metas(page, out);
 }
 
-/// Puts what stands between the language and the title.
+/// Puts what is between the language and the title.
 fn push_metas<K: Sink>(page: &mut Page, out: &mut K)
     ensures { Prints K.Sink out.old page.old out.new page.new (62 ∷ 10 ∷ printed meta_tokens) }
 {
@@ -41,7 +41,7 @@ fn push_metas<K: Sink>(page: &mut Page, out: &mut K)
     );
 }
 
-/// Puts what stands between the title and the text.
+/// Puts what is between the title and the text.
 pub(crate) fn push_style<K: Sink>(page: &mut Page, out: &mut K)
     ensures { Prints K.Sink out.old page.old out.new page.new (printed style_tokens) }
 {
@@ -56,7 +56,7 @@ pub(crate) fn push_style<K: Sink>(page: &mut Page, out: &mut K)
     );
 }
 
-/// Puts what stands behind the text.
+/// Puts what is behind the text.
 pub(crate) fn push_back<K: Sink>(page: &mut Page, out: &mut K)
     ensures { Prints K.Sink out.old page.old out.new page.new (printed back_tokens) }
 {
@@ -166,7 +166,7 @@ fn push_mark<K: Sink>(page: &mut Page, out: &mut K, number: u32)
     page.push_number(out, number as u64);
 }
 
-/// Puts what stands for an object.
+/// Puts what represents an object.
 fn push_object<K: Sink>(page: &mut Page, out: &mut K)
     ensures { Prints K.Sink out.old page.old out.new page.new (printed (image (codes "object"))) }
 {

@@ -21,7 +21,7 @@ pub(crate) fn push_units<K: Sink>(page: &mut Page, out: &mut K, units: &[u16])
     }
 }
 
-/// Puts the units from a place on that stand for themselves together, or else one, and answers where they end.
+/// Puts the units from a place on that represent themselves together, or else one, and answers where they end.
 fn push_some<K: Sink>(page: &mut Page, out: &mut K, units: &[u16], from: usize) -> usize
     requires characters { All IsScalar units.now }
     requires within { from < length units.now }
@@ -39,7 +39,7 @@ fn push_some<K: Sink>(page: &mut Page, out: &mut K, units: &[u16], from: usize) 
     end
 }
 
-/// Where the units end that stand for themselves, from a place on.
+/// Where the units end that represent themselves, from a place on.
 fn plain_end(units: &[u16], from: usize) -> usize
     requires { from ≤ length units.now }
     ensures ahead { from ≤ result }
@@ -55,7 +55,7 @@ fn plain_end(units: &[u16], from: usize) -> usize
     len
 }
 
-/// Whether a reference stands for a character.
+/// Whether a reference represents a character.
 #[inline(always)]
 fn is_referred(unit: u16) -> bool
     ensures { result ≡ is_referred unit }

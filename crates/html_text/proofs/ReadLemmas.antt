@@ -11,7 +11,7 @@ use Rattle.std.proofs.lemmas.List.Folds.{list_all-append}
 use Rattle.html_text.specs.Reading.{In_text, In_tag, In_reference, read_from}
 use Rattle.html_text.specs.Safe.{is_safe}
 use Rattle.html_text.specs.Laws.{HtmlIsReadBack, TextsAreReadBack, TextsAreNoMarkup}
-use Rattle.doc_bits.proofs.TestLemmas.{and_first, and_second, not_true}
+use Rattle.doc_bits.proofs.Public.{and_first, and_second, not_true}
 
 -- a tag is read up to its end
 read-tag : (so_far inner rest : List ℕ) → list_all (λ code. not (code == 62)) inner ≡ true → read_from (In_tag so_far)

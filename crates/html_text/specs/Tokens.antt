@@ -2,7 +2,7 @@
 use Rattle.std.specs.Prelude.{ℕ, Bool, true, not, ◌==◌, List, [], ◌∷◌, ◌++◌, codes, if◌then◌else◌}
 use Rattle.std.specs.List.{flat_map, list_all}
 
--- a character, or what stands between < and >
+-- a character, or what is between < and >
 pub data Token : Type 0 where
   Character : ℕ → Token
   Tag : List ℕ → Token

@@ -3,7 +3,7 @@ ghost use Rattle.std.specs.Prelude.{◌≡◌, ◌∷◌, [], IfSome, MatchOptio
 ghost use Rattle.std.specs.Str.{IsAscii};
 ghost use Rattle.html_text.specs.Tokens.{escaped};
 
-/// The reference that stands for a character in a page, in ASCII; none where the character stands for itself.
+/// The reference that represents a character in a page, in ASCII; none where the character represents itself.
 pub fn reference(code: u32) -> Option<&'static [u8]>
     ensures is { MatchOption result (escaped code ≡ code ∷ []) (λ text. escaped code ≡ text.now) }
     ensures ascii { IfSome result (λ text. IsAscii text.now) }

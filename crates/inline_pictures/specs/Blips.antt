@@ -1,4 +1,4 @@
--- [MS-ODRAW] OfficeArtBlip and OfficeArtFBSE: where the file of a picture stands.
+-- [MS-ODRAW] OfficeArtBlip and OfficeArtFBSE: where the file of a picture is.
 use Rattle.std.specs.Prelude.{◌≡◌, ℕ, ◌+◌, ◌-◌, ◌*◌, ◌%◌, ◌<◌, List, ◌⊎◌, Some, slice_index, if◌then◌else◌}
 use Rattle.inline_pictures.specs.Records.{record_instance, record_type, record_end, IsRecordAt}
 use Rattle.inline_pictures.specs.Kinds.{is_metafile, picture_kind}

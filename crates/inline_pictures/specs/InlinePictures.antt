@@ -1,4 +1,4 @@
--- [MS-DOC] sprmCPicLocation: the picture whose PICF stands at an offset of the stream `Data`.
+-- [MS-DOC] sprmCPicLocation: the picture whose PICF is at an offset of the stream `Data`.
 use Rattle.std.specs.Prelude.{◌≡◌, ℕ, List}
 use Rattle.inline_pictures.specs.Records.{record_type, record_end, IsRecordAt}
 use Rattle.inline_pictures.specs.Picf.{IsPicfAt, picf_end, art_at}

@@ -20,7 +20,7 @@ const TIFF: u16 = 0xF029;
 /// OfficeArtBlipJPEG, by its other type.
 const OTHER_JPEG: u16 = 0xF02A;
 
-/// The compression of a metafile that stands as it is.
+/// The compression of a metafile that is as it is.
 const NOT_COMPRESSED: u8 = 0xFE;
 
 /// The kind of a picture. The bytes of a compressed metafile are no file by themselves.

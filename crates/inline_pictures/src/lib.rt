@@ -1,4 +1,4 @@
-//! The picture of a character, in the bytes of the stream `Data`: its kind, and where the bytes of its file stand.
+//! The picture of a character, in the bytes of the stream `Data`: its kind, and where the bytes of its file are.
 #![tactic(auto)]
 
 mod kind;

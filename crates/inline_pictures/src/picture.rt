@@ -37,7 +37,7 @@ pub struct PictureFile {
     pub to: usize,
 }
 
-/// The file of the picture whose PICF stands at an offset of the stream `Data`.
+/// The file of the picture whose PICF is at an offset of the stream `Data`.
 pub fn picture_at(stream: &[u8], offset: u32) -> Option<PictureFile>
     ensures picture { MatchOption result
         ((file : PictureFile) → ¬ (IsInlinePicture stream.now offset file))

@@ -6,7 +6,7 @@ use Rattle.std.proofs.lemmas.List.{length-map, get_or-map, take_more}
 use Rattle.std.proofs.lemmas.List.Elements.{All-take}
 use Rattle.std.proofs.lemmas.Option.{none-some, same_Some, slice_get-get_or}
 use Rattle.fib_form.specs.FibFields.{IsKeptFlags}
-use Rattle.json_values.proofs.HexLemmas.{digits_one}
+use Rattle.json_values.proofs.Public.{digits_one, object_is, step_found}
 use Rattle.serde_json.specs.Data.{Data, null, array, object, Items, no_items, item, Members, no_members, member}
 use Rattle.serde_json.specs.Find.{as_array, as_object}
 use Rattle.serde_json.specs.View.{items_of, items_view}
@@ -17,7 +17,7 @@ use Rattle.edit_script.specs.Values.{bytes_of, short_number}
 use Rattle.cfb_streams.specs.Contents.{NamedBytes, AreStreams, AreStored, IsStored}
 use Rattle.plain_doc.specs.declared.carried.Carried.{Carried}
 use Rattle.plain_doc.specs.Formed.{IsFormedCarried}
-use Rattle.plain_doc.proofs.StreamLemmas.{AreStreams-take}
+use Rattle.plain_doc.proofs.Public.{AreStreams-take}
 use Rattle.json_values.specs.Digits.{bytes_json, units_json, hex_units_of}
 use Rattle.json_values.specs.Plain.{HasKeysInOrder, MembersHaveKeysInOrder}
 use Rattle.json_values.specs.Rows.{number_json, taken, need, ended}
@@ -29,7 +29,6 @@ use Rattle.json_doc.proofs.FieldLemmas.{numbers_one, bytes_are_one, units_are_on
 use Rattle.json_doc.proofs.ListLemmas.{array_is, AreGiven, given_more, given_one, given_same}
 use Rattle.json_doc.proofs.ReadLemmas.{same_items}
 use Rattle.json_doc.proofs.RowLemmas.{AreOne, then_found, need_one, need_back, taken_is, ended_is}
-use Rattle.json_values.proofs.SpeltLemmas.{object_is, step_found}
 
 -- ---- a stream
 

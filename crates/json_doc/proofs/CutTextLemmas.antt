@@ -9,14 +9,13 @@ use Rattle.std.proofs.lemmas.List.{length-map, get_or-map}
 use Rattle.std.proofs.lemmas.List.Elements.{All-append}
 use Rattle.std.proofs.lemmas.Grind.{flat_map-append}
 use Rattle.std.proofs.lemmas.Option.{same_Some, get_or_from_slice_get}
-use Rattle.doc_bits.proofs.ListLemmas.{slice_get_before}
+use Rattle.doc_bits.proofs.Public.{slice_get_before, from_behind}
 use Rattle.serde_json.specs.Data.{Data, null, array, item}
 use Rattle.serde_json.specs.View.{items_of}
 use Rattle.plain_doc.specs.declared.item.Item.{Item}
 use Rattle.plain_doc.specs.Document.{IsFormedItem, IsFormedText}
 use Rattle.plain_doc.specs.Stretches.{stretches, joins_next, IsJoined, goes_over, BeginsStretch}
-use Rattle.plain_doc.proofs.StretchLemmas.{stretches-first, stretches-nil}
-use Rattle.plain_doc.proofs.LawLemmas.{cut_into_stretches}
+use Rattle.plain_doc.proofs.Public.{stretches-first, stretches-nil, cut_into_stretches}
 use Rattle.json_values.specs.Plain.{ItemsHaveKeysInOrder}
 use Rattle.json_doc.specs.declared.pieces.Piece.{Piece}
 use Rattle.json_doc.specs.Pieces.{is_one_piece, piece_from, piece_json, stretch_json, text_json}
@@ -25,7 +24,6 @@ use Rattle.json_doc.proofs.PieceReadLemmas.{pieces_one, piece_spelt}
 use Rattle.json_doc.proofs.ReadLemmas.{All-cons, same_items}
 use Rattle.json_doc.proofs.TextReadLemmas.{from_items, formed_from, items_joined, units_again, formed_items}
 use Rattle.json_doc.proofs.TextReadLemmas.{over_behind}
-use Rattle.doc_bits.proofs.TogetherLemmas.{from_behind}
 
 -- ---- lists of items
 
@@ -88,7 +86,7 @@ AreFound [] (p ∷ ps) = ⊥
 AreFound (d ∷ ds) [] = ⊥
 AreFound (d ∷ ds) (p ∷ ps) = ((piece_of d ≡ Some p) × IsFormedPiece p) × AreFound ds ps
 
--- the values were read as these pieces, whose items stand one behind the other and are cut as they were
+-- the values were read as these pieces, whose items are one behind the other and are cut as they were
 pub record AreTaken (ds : List Data) (items : List Item) : Type 0 where
   pub pieces : List Piece
   pub found : AreFound ds pieces
@@ -292,7 +290,7 @@ cut_by (p ∷ q ∷ more) apart = (
       apart (suc i) one next here (ap (slice_get (p ∷ q ∷ more)) e ∙ there)),
 )
 
--- no formed text has a value where a piece may not stand
+-- no formed text has a value where a piece may not be
 pub text_unread : (ds : List Data) (i : ℕ) (items : List Item) → i < length ds → AreTaken (take i ds) items →
     IsNoPiece (get_or ds i null) items → (x : List Item) → IsFormedText x → array (items_of ds) ≢ text_json x
 text_unread ds i items within taken none x formed e =

@@ -42,7 +42,7 @@ use Rattle.json_doc.proofs.RowLemmas.{AreOne, taken_is, ended_is}
 use Rattle.json_doc.proofs.SheetLemmas.{sheet_known}
 use Rattle.json_doc.proofs.StyleReadLemmas.{styles_one, style_spelt}
 use Rattle.json_values.specs.Rows.{taken, ended}
-use Rattle.json_values.proofs.SpeltLemmas.{object_is, step_found}
+use Rattle.json_values.proofs.Public.{object_is, step_found}
 
 -- ---- the six values
 

@@ -10,8 +10,7 @@ use Rattle.edit_script.specs.Values.{whole_number, properties_of, bytes_of}
 use Rattle.json_values.specs.Digits.{bytes_json, units_json, hex_units_of, AreUnits}
 use Rattle.json_values.specs.Rows.{number_json}
 use Rattle.json_values.specs.Settings.{properties_json, AreSpelt}
-use Rattle.json_values.proofs.HexLemmas.{digits_one}
-use Rattle.json_values.proofs.SpeltLemmas.{properties_one}
+use Rattle.json_values.proofs.Public.{digits_one, properties_one}
 use Rattle.json_doc.proofs.RowLemmas.{AreOne}
 
 -- ---- numbers

@@ -30,8 +30,7 @@ use Rattle.doc_parts.specs.Bookmarks.{HasFileNumbers}
 use Rattle.json_values.specs.Digits.{bytes_json, units_json, AreUnits}
 use Rattle.json_values.specs.Rows.{number_json, member_if}
 use Rattle.json_values.specs.Settings.{properties_json, properties_members, AreSpelt}
-use Rattle.json_values.proofs.HexLemmas.{digits_one}
-use Rattle.json_values.proofs.SpeltLemmas.{properties_one}
+use Rattle.json_values.proofs.Public.{digits_one, properties_one}
 use Rattle.json_doc.specs.declared.pieces.Piece.{Piece}
 use Rattle.json_doc.specs.Pieces.{is_one_piece, mark_json, note_json, piece_json, piece_members, stretch_json}
 use Rattle.json_doc.specs.Pieces.{text_json}

@@ -8,13 +8,13 @@ use Rattle.plain_doc.specs.Formed.{IsFormed}
 use Rattle.plain_doc.specs.Marks.{HasFormedBookmarks}
 use Rattle.plain_doc.specs.Sound.{IsSound}
 use Rattle.json_values.specs.Plain.{HasKeysInOrder}
-use Rattle.json_values.proofs.OrderLemmas.{keys_ascend}
+use Rattle.json_values.proofs.Public.{keys_ascend}
 use Rattle.json_doc.specs.declared.fault.JsonFault.{JsonFault}
 use Rattle.json_doc.specs.declared.fault.JsonFault.TheVariants.{Json, Shape, Unsound, Memory}
 use Rattle.json_doc.specs.Documents.{json_value}
 use Rattle.json_doc.specs.Reading.{IsReadAs, IsJsonFault, IsFirstFault}
 
--- what is judged
+-- what is checked
 pub judged_told : (d : Document) (verdict : Result (Unit {0}) JsonFault) (r : Result Document JsonFault) →
     MatchResult verdict (λ _. IsSound d) (IsFirstFault d) →
     MatchResult r (λ given. (given ≡ d) × IsOk verdict) (λ fault. verdict ≡ Err fault) →

@@ -3,13 +3,13 @@ use Rattle.std.proofs.Common.{◌≡◌, ℕ, List, refl, sym, ◌∙◌, subst,
 use Rattle.std.proofs.lemmas.Option.{same_Some}
 use Rattle.serde_json.specs.Data.{Data}
 use Rattle.doc_bits.specs.Places.{Upto}
-use Rattle.doc_bits.proofs.RuleLemmas.{hold_or_first}
+use Rattle.doc_bits.proofs.Public.{hold_or_first}
 use Rattle.edit_script.specs.Json.{IsJson}
 use Rattle.plain_doc.specs.declared.document.Document.{Document}
 use Rattle.plain_doc.specs.Formed.{IsFormed}
 use Rattle.plain_doc.specs.Sound.{IsSound, NamesFirstRule, document_rules}
-use Rattle.plain_doc.proofs.SoundLemmas.{document_rules-IsSingle}
-use Rattle.json_values.proofs.TextLemmas.{plain_json}
+use Rattle.plain_doc.proofs.Public.{document_rules-IsSingle}
+use Rattle.json_values.proofs.Public.{plain_json}
 use Rattle.json_doc.specs.declared.fault.JsonFault.{JsonFault}
 use Rattle.json_doc.specs.declared.fault.JsonFault.TheVariants.{Json, Shape, Unsound, Memory}
 use Rattle.json_doc.specs.Documents.{json_value, json_text}

@@ -1,4 +1,4 @@
--- The levels of lists, which stand behind the part of the lists.
+-- The levels of lists, which are behind the part of the lists.
 use Rattle.std.proofs.Common.{◌≡◌, inl, inr, ℕ, zero, suc, ◌+◌, ◌-◌, ◌*◌, ◌<◌, ◌≤◌, List, ◌++◌, length, take}
 use Rattle.std.proofs.Common.{slice_index, refl, sym, ap, ◌∙◌, subst, arith, add-one, add-zero, length-append}
 use Rattle.std.proofs.lemmas.Bool.{cases_lt}
@@ -6,10 +6,10 @@ use Rattle.std.proofs.lemmas.List.{get_or-append-add}
 use Rattle.std.proofs.Math.Seq.{take-append_seam}
 use Rattle.doc_bits.specs.Rules.{Hold, IsFirst}
 use Rattle.doc_bits.specs.Number.{u16_at}
-use Rattle.doc_bits.proofs.NumberLemmas.{number_at-after, zero_more}
+use Rattle.doc_bits.proofs.Public.{number_at-after, zero_more}
 use Rattle.doc_parts.specs.Levels.{level_count, level_end, level_start, list_part, level_rules, HasLists}
 use Rattle.doc_parts.specs.Levels.{HaveLength}
-use Rattle.doc_parts.proofs.LevelLemmas.{level_start-zero, level_start-more}
+use Rattle.doc_parts.proofs.Public.{level_start-zero, level_start-more}
 use Rattle.plain_doc.specs.Carried.{AreListsWithLevels}
 
 -- a level behind the part ends as far behind it

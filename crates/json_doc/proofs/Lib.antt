@@ -1,21 +1,22 @@
-pub mod WrittenLemmas
-pub mod PieceLemmas
-pub mod RowLemmas
-pub mod ReadLemmas
-pub mod FieldLemmas
-pub mod PieceReadLemmas
-pub mod TextReadLemmas
-pub mod CutTextLemmas
-pub mod ValueLemmas
-pub mod ListLemmas
-pub mod StyleReadLemmas
-pub mod SheetLemmas
-pub mod LevelLemmas
-pub mod CarriedLemmas
-pub mod MarkLemmas
-pub mod GoodLemmas
-pub mod GoodParts
-pub mod DocumentLemmas
-pub mod DocumentTextLemmas
-pub mod JudgedLemmas
-pub mod LawLemmas
+pub mod Public
+mod WrittenLemmas
+mod PieceLemmas
+mod RowLemmas
+mod ReadLemmas
+mod FieldLemmas
+mod PieceReadLemmas
+mod TextReadLemmas
+mod CutTextLemmas
+mod ValueLemmas
+mod ListLemmas
+mod StyleReadLemmas
+mod SheetLemmas
+mod LevelLemmas
+mod CarriedLemmas
+mod MarkLemmas
+mod GoodLemmas
+mod GoodParts
+mod DocumentLemmas
+mod DocumentTextLemmas
+mod JudgedLemmas
+mod LawLemmas

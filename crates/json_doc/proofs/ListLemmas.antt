@@ -14,7 +14,7 @@ use Rattle.json_doc.specs.StyleReading.{list_as}
 use Rattle.json_doc.proofs.ReadLemmas.{All-cons}
 use Rattle.json_doc.proofs.RowLemmas.{AreOne, then_found, then_lost}
 use Rattle.json_doc.proofs.ValueLemmas.{more_values, at_value, all_values}
-use Rattle.json_values.proofs.SpeltLemmas.{step_found}
+use Rattle.json_values.proofs.Public.{step_found}
 
 pub array_is : (value : Data) (items : Items) → as_array value ≡ Some items → value ≡ array items
 array_is null items e = absurd (none-some items e)

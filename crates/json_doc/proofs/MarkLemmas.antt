@@ -11,7 +11,7 @@ use Rattle.doc_parts.specs.declared.bookmark_order.Bookmark.{Bookmark}
 use Rattle.doc_parts.specs.Bookmarks.{HasFileNumbers}
 use Rattle.json_values.specs.Digits.{units_json, hex_units_of, AreUnits}
 use Rattle.json_values.specs.Rows.{number_json}
-use Rattle.json_values.proofs.HexLemmas.{digits_one}
+use Rattle.json_values.proofs.Public.{digits_one, step_found}
 use Rattle.json_doc.specs.Documents.{bookmark_json, bookmarks_json}
 use Rattle.json_doc.specs.DocumentReading.{bookmark_of_items, bookmark_of}
 use Rattle.json_doc.specs.StyleReading.{list_as}
@@ -19,7 +19,6 @@ use Rattle.json_doc.proofs.FieldLemmas.{numbers_one, number_is, units_are_one}
 use Rattle.json_doc.proofs.ListLemmas.{array_is, lists_one}
 use Rattle.json_doc.proofs.RowLemmas.{AreOne, then_found}
 use Rattle.json_doc.proofs.StyleReadLemmas.{all_units}
-use Rattle.json_values.proofs.SpeltLemmas.{step_found}
 
 -- units of 16 bits, place by place
 units_all : (units : List ℕ) → AreUnits units → All (λ unit. unit < 2 ^ 16) units

@@ -6,21 +6,20 @@ use Rattle.std.specs.Prelude.{codes, nat_lt, option_map, slice_get, slice_range}
 use Rattle.std.proofs.lemmas.Bool.{lt-ltb, cases_lt}
 use Rattle.std.proofs.lemmas.List.{drop-drop, drop_all, take-map, drop-map}
 use Rattle.std.proofs.lemmas.Option.{same_Some}
-use Rattle.doc_bits.proofs.ListLemmas.{there_is}
+use Rattle.doc_bits.proofs.Public.{there_is, not_true, both_are}
 use Rattle.prop_map.specs.Settings.{Properties}
 use Rattle.serde_json.specs.Data.{Members, no_members, member}
 use Rattle.serde_json.specs.Written.{compact_text, comma_if}
 use Rattle.plain_doc.specs.declared.item.Item.{Item}
 use Rattle.plain_doc.specs.Settings.{same_properties}
 use Rattle.plain_doc.specs.Stretches.{stretches, BeginsStretch}
-use Rattle.plain_doc.proofs.LawLemmas.{equal_are_same}
-use Rattle.plain_doc.proofs.StretchLemmas.{stretches-first, stretches-nil, rest_of, part_of}
-use Rattle.bare_items.specs.Specials.{is_special}
+use Rattle.plain_doc.proofs.Public.{equal_are_same, stretches-first, stretches-nil, rest_of, part_of}
+use Rattle.doc_columns.specs.Specials.{is_special}
 use Rattle.doc_columns.specs.declared.attached.Attached.{Attached}
 use Rattle.doc_columns.specs.declared.walk.Parts.{Parts}
 use Rattle.doc_columns.specs.Attached.{attached_of, has_something}
 use Rattle.doc_columns.specs.Walks.{items_in, AreParts}
-use Rattle.doc_columns.proofs.WalkLemmas.{items_long, units_are, range_got, range_long, begins_range}
+use Rattle.doc_columns.proofs.Public.{items_long, units_are, range_got, range_long, begins_range}
 use Rattle.json_values.specs.Digits.{units_json}
 use Rattle.json_values.specs.Out.{Output, Adds}
 use Rattle.json_values.specs.Rows.{member_if}
@@ -28,14 +27,8 @@ use Rattle.json_values.specs.Settings.{properties_json}
 use Rattle.json_doc.specs.Frames.{piece_with}
 use Rattle.json_doc.specs.Pieces.{is_one_piece, mark_json, note_json, piece_json, stretch_json}
 use Rattle.json_doc.proofs.WrittenLemmas.{HasWritten, one_written, all_written}
-use Rattle.doc_bits.proofs.TestLemmas.{not_true}
 
 -- ---- what the items of a piece have in common
-
-both_true : (a b : Bool) → true ≡ (a && b) → (a ≡ true) × (b ≡ true)
-both_true true true is = (refl, refl)
-both_true true false is = absurd (cc)
-both_true false b is = absurd (cc)
 
 -- the items from a place to another have nothing beside their properties, and the same of these
 abbrev pub AreAlike : List Item → ℕ → ℕ → Properties → Type 0
@@ -60,7 +53,7 @@ pub alike_on : (items : List Item) (from to end : ℕ) (first next : Properties)
     ((k : ℕ) (item : Item) → to ≤ k → k < end → slice_get items k ≡ Some item → attached_of item ≡ attached) →
     AreAlike items from end first
 alike_on items from to end first next attached before same chps attachments = λ k item le until here.
-    let both = both_true (not (has_something attached)) (same_properties first next) same in
+    let both = both_are (not (has_something attached)) (same_properties first next) same in
     let one : first ≡ next = (equal_are_same first next).0 both.1 in
     elim (cases_lt k to) [
       | inl early ↦ before k item le early here

@@ -18,12 +18,11 @@ use Rattle.json_values.specs.Settings.{properties_json, AreSpelt}
 use Rattle.json_doc.specs.declared.pieces.Piece.{Piece}
 use Rattle.json_doc.specs.Pieces.{mark_json, note_json, piece_members, piece_json}
 use Rattle.prop_map.specs.Formed.{character_groups, paragraph_groups, section_groups}
-use Rattle.json_values.proofs.SpeltLemmas.{properties_one, object_is, step_found}
+use Rattle.json_values.proofs.Public.{properties_one, object_is, step_found, string_is}
 use Rattle.json_doc.specs.PieceReading.{mark_of, note_with_name, note_of, piece_of, IsFormedPiece}
 use Rattle.json_doc.proofs.FieldLemmas.{numbers_one, units_are_one, properties_are_one}
 use Rattle.json_doc.proofs.RowLemmas.{AreOne, then_found, need_one, need_back, may_one, may_back}
 use Rattle.json_doc.proofs.RowLemmas.{lacks_if, ended_is}
-use Rattle.json_values.proofs.HexLemmas.{string_is}
 
 -- ---- a mark
 

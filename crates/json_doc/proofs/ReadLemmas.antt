@@ -103,7 +103,7 @@ array_items _ = no_items
 pub same_items : (ds es : List Data) → array (items_of ds) ≡ array (items_of es) → ds ≡ es
 same_items ds es e = sym (back_of ds) ∙ ap (λ d. items_back (array_items d)) e ∙ back_of es
 
--- one of them stands for nothing that is so
+-- one of them represents nothing that is so
 unread_at : {A : Type 0} (json : A → Data) (Is : A → Type 0) (ds : List Data) (i : ℕ) → i < length ds →
     ((x : A) → Is x → get_or ds i null ≢ json x) → (xs : List A) → All Is xs → ds ≡ map json xs → ⊥
 unread_at json Is [] i within none xs all e = omega (arith, within)

@@ -11,7 +11,7 @@ use Rattle.edit_script.specs.declared.faults.ShapeError.TheVariants.{Shape, Memo
 use Rattle.edit_script.specs.Json.{◌>>=◌, Gives}
 use Rattle.json_values.specs.Plain.{HasKeysInOrder, MembersHaveKeysInOrder}
 use Rattle.json_values.specs.Rows.{member_if, taken, taken_if, each_if, need, may, ended}
-use Rattle.json_values.proofs.SpeltLemmas.{step_found}
+use Rattle.json_values.proofs.Public.{step_found}
 
 -- ---- steps
 

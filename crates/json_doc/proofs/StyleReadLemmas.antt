@@ -20,7 +20,7 @@ use Rattle.json_values.specs.Digits.{units_json, hex_units_of, AreUnits}
 use Rattle.json_values.specs.Plain.{HasKeysInOrder, MembersHaveKeysInOrder}
 use Rattle.json_values.specs.Rows.{number_json, member_if, taken, need, may, ended}
 use Rattle.json_values.specs.Settings.{properties_json, AreSpelt}
-use Rattle.json_values.proofs.SpeltLemmas.{properties_one, object_is, step_found}
+use Rattle.json_values.proofs.Public.{properties_one, object_is, step_found}
 use Rattle.json_doc.specs.Styles.{base_json, chp_of_kind, pap_of_kind, stk_of_kind, upxes_of_kind, lists_json}
 use Rattle.json_doc.specs.Styles.{style_json, style_members, numbers_json}
 use Rattle.json_doc.specs.StyleReading.{list_as, base_of, kind_of, read_style_of, sheet_values}

@@ -13,8 +13,8 @@ use Rattle.plain_doc.specs.declared.item.Item.{Item}
 use Rattle.plain_doc.specs.Document.{HasPropertyMaps, IsFormedItem}
 use Rattle.plain_doc.specs.Settings.{same_properties}
 use Rattle.plain_doc.specs.Stretches.{joins_next, joins_at, IsJoined, goes_over}
-use Rattle.plain_doc.proofs.SettingsLemmas.{same_properties-Decides}
-use Rattle.bare_items.specs.Specials.{is_special}
+use Rattle.plain_doc.proofs.Public.{same_properties-Decides}
+use Rattle.doc_columns.specs.Specials.{is_special}
 use Rattle.doc_columns.specs.Attached.{nothing}
 use Rattle.doc_columns.specs.Columns.{item_of, bare_items}
 use Rattle.json_doc.specs.declared.pieces.Piece.{Piece}
@@ -23,8 +23,7 @@ use Rattle.json_doc.specs.PieceReading.{piece_of, piece_items, item_with, is_spe
 use Rattle.json_doc.specs.PieceReading.{IsFormedPiece}
 use Rattle.json_doc.specs.PieceReading.{IsNoPiece, MayFollow, EndsBy, are_joined, goes_on_in}
 use Rattle.json_doc.proofs.PieceReadLemmas.{pieces_one, piece_spelt}
-use Rattle.doc_bits.proofs.TestLemmas.{neither, not_true, both_true}
-use Rattle.doc_bits.proofs.TogetherLemmas.{from_behind}
+use Rattle.doc_bits.proofs.Public.{neither, not_true, both_true, none_is, from_behind}
 
 -- ---- items that join
 
@@ -35,10 +34,6 @@ units_of items = map (λ item. item.unit) items
 -- the item with another unit
 abbrev with_unit : Item → ℕ → Item
 with_unit item unit = record item { unit = unit }
-
-none_is : {A : Type 0} (o : Option A) → is_some o ≡ false → o ≡ None
-none_is None e = refl
-none_is (Some a) e = absurd (cc (e))
 
 -- a bare item is its unit and its properties
 record IsBare (item : Item) : Type 0 where

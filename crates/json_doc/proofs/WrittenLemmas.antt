@@ -4,16 +4,16 @@ use Rattle.std.proofs.Common.{Result, Ok, Err, OnOk, drop, length, map, slice_ge
 use Rattle.std.proofs.Common.{append_assoc, arith}
 use Rattle.std.specs.Prelude.{nat_lt}
 use Rattle.std.proofs.lemmas.Bool.{lt-ltb}
-use Rattle.std.proofs.lemmas.List.{drop_more, drop_all}
-use Rattle.std.proofs.lemmas.Option.{slice_get_within, get_or_from_slice_get}
+use Rattle.std.proofs.lemmas.List.{drop_all}
 use Rattle.json.specs.Print.{quoted}
 use Rattle.serde_json.specs.Data.{Data, array, Members}
 use Rattle.serde_json.specs.View.{items_of}
 use Rattle.serde_json.specs.Written.{compact_text, comma_if, items_text, members_text}
 use Rattle.json_values.specs.Out.{Output, Adds}
 use Rattle.json_values.specs.Rows.{member_if}
-use Rattle.json_values.proofs.OutLemmas.{Adds-Adds, Adds-same}
+use Rattle.json_values.proofs.Public.{Adds-Adds, Adds-same}
 use Rattle.json_doc.specs.Frames.{later_text}
+use Rattle.run_lists.proofs.Public.{run_and_rest}
 
 -- two pieces are one
 pub adds : {a b c : Output} {one other : List ℕ} → Adds a b one → Adds b c other → Adds a c (one ++ other)
@@ -24,7 +24,7 @@ pub where_ok : {A E P Q : Type 0} (r : Result A E) → (P → Q) → OnOk r P �
 where_ok (Ok a) step p = step p
 where_ok (Err e) step p = tt
 
--- a member behind others, and what stands behind it
+-- a member behind others, and what is behind it
 joined_later : (key : List ℕ) (value : Option Data) (more : Members) →
     later_text key value ++ members_text true more ≡ members_text true (member_if key value more)
 joined_later key None more = refl
@@ -88,19 +88,14 @@ abbrev pub ArePlaced : {A : Type 0} → (A → Data) → List A → ℕ → Outp
 ArePlaced json items i old now =
     HasWritten old now (nat_lt 0 i) (left_from json items i) (compact_text (array (items_of (map json items))))
 
-next_left : {A : Type 0} (items : List A) (i : ℕ) (x : A) → slice_get items i ≡ Some x →
-    drop i items ≡ x ∷ drop (i + 1) items
-next_left items i x here =
-    drop_more items i x (slice_get_within items i x here)
-    ∙ ap (λ first. first ∷ drop (i + 1) items) (get_or_from_slice_get items i x x here)
-
 pub next_placed : {A : Type 0} (json : A → Data) (items : List A) (i : ℕ) {old now between new : Output} (x : A) →
     slice_get items i ≡ Some x → ArePlaced json items i old now → Adds now between (comma_if (nat_lt 0 i)) →
     Adds between new (compact_text (json x)) → ArePlaced json items (i + 1) old new
 next_placed json items i {old} {new = new} x here so_far comma text =
     subst (λ later. HasWritten old new later (left_from json items (i + 1)) (compact_text (array
     (items_of (map json items))))) (sym (lt-ltb 0 (i + 1) (omega arith)))
-    (one_written (json x) (left_from json items (i + 1)) (ap (map json) (next_left items i x here)) so_far comma text)
+    (one_written (json x) (left_from json items (i + 1)) (ap (map json) (run_and_rest items i x here)) so_far comma
+    text)
 
 pub all_placed : {A : Type 0} (json : A → Data) (items : List A) (i : ℕ) {old now new : Output} →
     length items ≤ i → ArePlaced json items i old now → Adds now new (93 ∷ []) →

@@ -90,13 +90,13 @@ pub record HasFields (fields : CarriedFields) (streams : List NamedBytes) (carri
   pub lst : carried.lst ≡ fields.lst
   pub others : carried.streams ≡ streams
 
--- the value is that of a stream, which stands behind the others
+-- the value is that of a stream, which is behind the others
 pub record IsStreamAdded (value : Data) (old new : List NamedBytes) : Type 0 where
   pub stream : NamedBytes
   pub read : stream_of value ≡ Some stream
   pub grown : new ≡ old ++ stream ∷ []
 
--- the value is that of no stream that may stand behind the others
+-- the value is that of no stream that may be behind the others
 abbrev pub IsNoStream : Data → List NamedBytes → Type 0
 IsNoStream value old =
     (stream : NamedBytes) → stream_of value ≡ Some stream → ¬ AreStreams (old ++ stream ∷ [])

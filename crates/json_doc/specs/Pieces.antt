@@ -1,4 +1,4 @@
--- Texts as arrays of pieces: an item with a mark, a section, a field byte or a note is one, and so are all that stand
+-- Texts as arrays of pieces: an item with a mark, a section, a field byte or a note is one, and so are all that are
 -- beside one another without these and have the same properties.
 use Rattle.std.specs.Prelude.{◌&&◌, not, Bool, List, [], ◌∷◌, map, codes}
 use Rattle.std.specs.Prelude.{option_map}
@@ -10,7 +10,7 @@ use Rattle.plain_doc.specs.declared.item.NoteKind.{NoteKind}
 use Rattle.plain_doc.specs.declared.item.NoteKind.TheVariants.{Auto, Custom}
 use Rattle.plain_doc.specs.Settings.{same_properties}
 use Rattle.plain_doc.specs.Stretches.{stretches}
-use Rattle.bare_items.specs.Specials.{is_special}
+use Rattle.doc_columns.specs.Specials.{is_special}
 use Rattle.json_values.specs.Digits.{units_json}
 use Rattle.json_values.specs.Settings.{properties_json}
 use Rattle.json_values.specs.Rows.{number_json, member_if}

@@ -1,11 +1,11 @@
--- What a reader answers of a value that is to stand for something well formed.
+-- What a reader answers of a value that is to represent something well formed.
 use Rattle.std.specs.Prelude.{◌≡◌, ◌≢◌, ⊤, Result, Ok, Err}
 use Rattle.serde_json.specs.Data.{Data}
 use Rattle.edit_script.specs.declared.faults.ShapeError.{ShapeError}
 use Rattle.edit_script.specs.declared.faults.ShapeError.TheVariants.{Shape, Memory}
 use Rattle.json_values.specs.Plain.{HasKeysInOrder}
 
--- what was found is so, and the value stands for it, where its keys are in order; or nothing that is so has this value;
+-- what was found is so, and the value represents it, where its keys are in order; or nothing that is so has this value;
 -- want of memory is free
 abbrev pub Reads : {A : Type 0} → (A → Data) → (A → Type 0) → Data → Result A ShapeError → Type 0
 Reads json Is value (Ok found) = Is found × (HasKeysInOrder value → value ≡ json found)

@@ -206,7 +206,7 @@ fn stream_from(alloc: Global, values: &[Value]) -> Result<(Units, Bytes), ShapeE
     }
 }
 
-/// Puts a stream last, where it may stand there.
+/// Puts a stream last, where it may be there.
 fn add_stream(alloc: Global, streams: &mut Streams, value: &Value) -> Result<(), ShapeError>
     ensures { MatchResult result
         (λ _. IsStreamAdded (view value.now) streams.old streams.new)

@@ -17,12 +17,15 @@ ghost use Rattle.json_doc.specs.PieceReading.{item_with, IsValidPiece, IsFormedP
 ghost use Rattle.json_doc.specs.PieceReading.{IsNoPiece, MayFollow, EndsBy, are_joined, goes_on_in};
 ghost use Rattle.json_doc.specs.ReadValues.{Reads};
 
-use crate::pieces::{Piece, has_same_properties};
+use crate::pieces::Piece;
 use doc_bits::Memory;
 use doc_columns::{ColumnTexts, Columns};
 use edit_script::{ShapeError, properties_in, short_in};
 use json_values::Row;
-use plain_doc::{Item, Mark, NoteKind, copy_mark, copy_section, has_field_byte, has_style_number};
+use plain_doc::{
+    Item, Mark, NoteKind, copy_mark, copy_section, has_field_byte, has_same_properties,
+    has_style_number,
+};
 use prop_map::{CHARACTER_GROUPS, PARAGRAPH_GROUPS, PropMap, SECTION_GROUPS};
 use serde_json::Value;
 use std::alloc::Global;
@@ -101,7 +104,7 @@ fn piece_in(alloc: Global, value: &Value) -> Result<Piece, ShapeError>
     })
 }
 
-/// Whether the maps of a piece may stand at their places, and it has as many units as it may.
+/// Whether the maps of a piece may be at their places, and it has as many units as it may.
 fn is_valid(piece: &Piece) -> bool
     ensures { IsTrue result ↔ IsValidPiece piece.now }
 {
@@ -117,7 +120,7 @@ fn is_valid(piece: &Piece) -> bool
     has_valid_len(piece)
 }
 
-/// Whether the properties of a mark may stand there.
+/// Whether the properties of a mark may be there.
 fn has_valid_mark(mark: &Option<Mark>) -> bool
     ensures { IsTrue result ↔ ForSome mark.now (λ mark. IsPropertyMap paragraph_groups mark.pap) }
 {
@@ -127,7 +130,7 @@ fn has_valid_mark(mark: &Option<Mark>) -> bool
     }
 }
 
-/// Whether the properties of a section may stand there.
+/// Whether the properties of a section may be there.
 fn has_valid_section(sect: &Option<PropMap>) -> bool
     ensures { IsTrue result ↔ ForSome sect.now (IsPropertyMap section_groups) }
 {

@@ -17,7 +17,7 @@ use crate::leaves::{write_byte, write_short};
 use doc_bits::{Memory, Units};
 use doc_columns::{Alike, ColumnTexts, Columns, Parts, Walk, alike_from};
 use json_values::{JsonOut, push_comma, write_properties, write_units};
-use plain_doc::{Mark, NoteKind};
+use plain_doc::{Mark, NoteKind, has_same_properties};
 use prop_map::PropMap;
 use std::alloc::Global;
 
@@ -114,13 +114,6 @@ fn goes_on(first: &Alike<'_>, next: &Alike<'_>) -> bool
     ensures { result ≡ (not (has_something next.now.attached.now) && same_properties first.now.chp.now next.now.chp.now) }
 {
     !next.attached.is_something() && has_same_properties(first.chp, next.chp)
-}
-
-/// Whether two maps have the same codes and values.
-pub(crate) fn has_same_properties(one: &PropMap, other: &PropMap) -> bool
-    ensures { result ≡ same_properties one.now other.now }
-{
-    one.equal(other)
 }
 
 /// Writes a piece: what its items have in common, and their units.

@@ -20,11 +20,11 @@ use crate::carried_reading::carried_in;
 use crate::piece_reading::{text_in, texts_in};
 use crate::style_reading::sheet_in;
 use doc_bits::keep_if_ok;
-use doc_columns::{ColumnDocument, ColumnTexts, Columns, columns_are_formed, is_sound};
+use doc_columns::{CheckFault, ColumnDocument, ColumnTexts, Columns, check, columns_are_formed};
 use doc_parts::{Bookmark, Bookmarks, Name};
 use edit_script::{ShapeError, position_in, short_in};
 use json_values::{Row, hex_units_in};
-use plain_doc::{Document, check};
+use plain_doc::{DocFault, Document};
 use serde_json::{Error, Value};
 use std::alloc::Global;
 
@@ -80,7 +80,7 @@ fn fault_of(error: &Error) -> JsonFault
     }
 }
 
-/// A document that is judged.
+/// A document that is checked.
 fn check_read(alloc: Global, document: ColumnDocument) -> Result<ColumnDocument, JsonFault>
     requires { HasFormedBookmarks document }
     ensures { MatchResult result (λ sound. (sound ≡ document) × IsSound document) (IsFirstFault document) }
@@ -89,32 +89,17 @@ fn check_read(alloc: Global, document: ColumnDocument) -> Result<ColumnDocument,
     keep_if_ok(document, verdict)
 }
 
-/// Whether a document is sound. Where its columns do not tell, its items are put one by one.
+/// Whether a document is sound.
 fn verdict_on(alloc: Global, document: &ColumnDocument) -> Result<(), JsonFault>
     requires { HasFormedBookmarks document.now }
     ensures { MatchResult result (λ _. IsSound document.now) (IsFirstFault document.now) }
 {
-    if is_sound(alloc, document)? {
-        return Ok(());
-    }
-    let items = document.expand(alloc)?;
-    let verdict = verdict_by_items(&items);
-    drop(items);
-    verdict
-}
-
-/// Whether a document is sound, item by item.
-fn verdict_by_items(document: &Document) -> Result<(), JsonFault>
-    requires { HasFormedBookmarks document.now }
-    ensures { MatchResult result (λ _. IsSound document.now) (IsFirstFault document.now) }
-{
-    match check(document) {
+    match check(alloc, document) {
         Ok(()) => Ok(()),
-        Err(fault) => Err(JsonFault::Unsound {
-            rule: fault.rule,
-            place: fault.place,
-            at: fault.at,
-        }),
+        Err(CheckFault::Rule(DocFault { rule, place, at })) => {
+            Err(JsonFault::Unsound { rule, place, at })
+        }
+        Err(CheckFault::Memory) => Err(JsonFault::Memory),
     }
 }
 
@@ -253,7 +238,7 @@ pub struct ReadTexts {
     pub heads: ColumnTexts,
 }
 
-/// The texts and the bookmarks that the values stand for.
+/// The texts and the bookmarks that the values represent.
 fn texts_of(alloc: Global, parts: &Parts<'_>) -> Result<ReadTexts, ShapeError>
     ensures { MatchResult result
         (AreTextsOf (record {
@@ -285,7 +270,7 @@ fn texts_of(alloc: Global, parts: &Parts<'_>) -> Result<ReadTexts, ShapeError>
     })
 }
 
-/// The document that a value stands for.
+/// The document that a value represents.
 fn document_in(alloc: Global, value: &Value) -> Result<ColumnDocument, ShapeError>
     ensures { MatchResult result
         (λ document. HasFormedBookmarks document

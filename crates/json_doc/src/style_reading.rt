@@ -210,7 +210,7 @@ fn is_valid_base(base: &Option<u16>) -> bool
     }
 }
 
-/// Whether the properties of a kind may stand there, or its stk is 3 or 4 and it has 15 property lists at most.
+/// Whether the properties of a kind may be there, or its stk is 3 or 4 and it has 15 property lists at most.
 fn is_valid_kind(kind: &Kind) -> bool
     ensures { IsTrue result ↔ IsFormedKind kind.now }
 {

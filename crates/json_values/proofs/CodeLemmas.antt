@@ -7,7 +7,7 @@ use Rattle.std.specs.Cmp.Lexicographic.{slice_cmp}
 use Rattle.std.specs.declared.cmp.Ordering.TheVariants.{Less}
 use Rattle.std.proofs.lemmas.Bool.{cases_lt}
 use Rattle.text_codes.specs.Shown.{hex_digit}
-use Rattle.prop_map.proofs.EntriesLemmas.{cmp_less, cmp_equal}
+use Rattle.prop_map.proofs.Public.{cmp_less, cmp_equal}
 use Rattle.text_codes.specs.Digits.{byte_text, word_text}
 use Rattle.json_values.proofs.HexLemmas.{hex_small, hex_large}
 
@@ -41,7 +41,7 @@ upper_decides : (a b : ℕ) (rest : Ordering) → (a / 16 < b / 16) ⊎ (b / 16 
 upper_decides a b rest (inl less) h next = inl less
 upper_decides a b rest (inr more) h next = inr (omega (arith, more, h), next more (omega (arith, more, h)))
 
--- the digits of two bytes and what stands behind them
+-- the digits of two bytes and what is behind them
 byte_step : (a b : ℕ) (xs ys : List ℕ) → Decides a b (slice_cmp nat_cmp xs ys) →
     slice_cmp nat_cmp (byte_text a ++ xs) (byte_text b ++ ys) ≡ Less
 byte_step a b xs ys (inl less) =

@@ -15,9 +15,9 @@ use Rattle.json.specs.Print.{escape, escape_byte, quoted}
 use Rattle.text_codes.specs.Shown.{hex_digit}
 use Rattle.json_values.specs.Digits.{units_of_bytes}
 use Rattle.json_values.proofs.HexLemmas.{hex_small, hex_large}
-use Rattle.edit_script.proofs.HexLemmas.{two}
+use Rattle.edit_script.proofs.Public.{two}
 
--- ---- digits stand for themselves in a text
+-- ---- digits represent themselves in a text
 
 pub plain_byte : (x : ℕ) → 48 ≤ x → (x ≡ 92 → ⊥) → escape_byte x ≡ x ∷ []
 unfolding escape_byte

@@ -19,10 +19,9 @@ use Rattle.text_codes.specs.Digits.{byte_text, word_text}
 use Rattle.json_values.specs.Digits.{bytes_json, units_json, units_of_bytes, hex_units_of}
 use Rattle.json_values.specs.Digits.{AreUnits}
 use Rattle.json_values.specs.Digits.{DigitsAreOne}
-use Rattle.doc_bits.proofs.TestLemmas.{both_true}
-use Rattle.doc_bits.proofs.ByteListLemmas.{no_bytes}
-use Rattle.text_codes.proofs.DigitLemmas.{hex_ascii}
-use Rattle.edit_script.proofs.SettingsLemmas.{steps_found}
+use Rattle.doc_bits.proofs.Public.{both_true, no_bytes}
+use Rattle.text_codes.proofs.Public.{hex_ascii}
+use Rattle.edit_script.proofs.Public.{steps_found}
 
 -- ---- a digit
 

@@ -1,9 +1,10 @@
-pub mod PlainLemmas
-pub mod OutLemmas
-pub mod DigitLemmas
-pub mod HexLemmas
-pub mod SettingsLemmas
-pub mod OrderLemmas
-pub mod CodeLemmas
-pub mod SpeltLemmas
-pub mod TextLemmas
+pub mod Public
+mod PlainLemmas
+mod OutLemmas
+mod DigitLemmas
+mod HexLemmas
+mod SettingsLemmas
+mod OrderLemmas
+mod CodeLemmas
+mod SpeltLemmas
+mod TextLemmas

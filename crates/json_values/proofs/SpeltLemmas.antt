@@ -4,10 +4,10 @@ use Rattle.std.proofs.Common.{Option, Some, None, refl, sym, ap, ◌∙◌, subs
 use Rattle.std.specs.Prelude.{⊤}
 use Rattle.std.specs.List.{All}
 use Rattle.std.specs.Option.{unwrap_or}
-use Rattle.std.specs.Ordering.{nat_cmp, ordering_then}
+use Rattle.std.specs.Ordering.{nat_cmp}
 use Rattle.std.specs.Cmp.{nat_cmp_total}
 use Rattle.std.specs.Cmp.Lexicographic.{slice_cmp}
-use Rattle.std.specs.declared.cmp.Ordering.TheVariants.{Equal, Greater}
+use Rattle.std.specs.declared.cmp.Ordering.TheVariants.{Greater}
 use Rattle.std.specs.FinMap.{get}
 use Rattle.std.proofs.Common.{get_or}
 use Rattle.prop_map.specs.Formed.{IsPropertyMap}
@@ -17,7 +17,8 @@ use Rattle.std.proofs.lemmas.Bool.{cases_order}
 use Rattle.serde_json.specs.Data.{Data, null, boolean, number, string, array, object, Members, no_members, member}
 use Rattle.serde_json.specs.Find.{as_object}
 use Rattle.prop_map.specs.Settings.{Properties}
-use Rattle.prop_map.proofs.EntriesLemmas.{less_from, both_first, both_second, cmp_equal, cmp_greater, entries-empty}
+use Rattle.prop_map.proofs.Public.{less_from, both_first, both_second, cmp_greater, entries-empty, get-entry}
+use Rattle.prop_map.proofs.Public.{same_bytes}
 use Rattle.edit_script.specs.Json.{◌>>=◌}
 use Rattle.edit_script.specs.Hex.{code_of_digits}
 use Rattle.edit_script.specs.Values.{bytes_of, properties_put, properties_of}
@@ -29,8 +30,7 @@ use Rattle.json_values.proofs.PlainLemmas.{AreBelow, Follow, joined, Follow-join
 use Rattle.json_values.proofs.HexLemmas.{code_back, code_is, digits_back, bytes_are, steps_find}
 use Rattle.json_values.proofs.HexLemmas.{bytes_utf8, code_utf8}
 use Rattle.json_values.proofs.CodeLemmas.{word_less}
-use Rattle.prop_map.proofs.PrintLemmas.{get-entry}
-use Rattle.edit_script.proofs.SettingsLemmas.{steps_found}
+use Rattle.edit_script.proofs.Public.{steps_found}
 
 abbrev Entries : Type 0
 Entries = List (ℕ × List ℕ)
@@ -121,10 +121,6 @@ read_back set spelt =
 
 -- ---- what is read was written so
 
-same_keys : (key : List ℕ) → slice_cmp nat_cmp key key ≡ Equal
-same_keys [] = refl
-same_keys (x ∷ xs) = ap (λ o. ordering_then o (slice_cmp nat_cmp xs xs)) (cmp_equal x) ∙ same_keys xs
-
 -- a key that is above another has a code above the other's
 over : (code other : ℕ) → (other ≡ code) ⊎ ((other < code) ⊎ (code < other)) →
     slice_cmp nat_cmp (word_text code) (word_text other) ≡ Greater → other < code
@@ -132,7 +128,7 @@ over code other (inl same) greater =
     absurd (cc (
       greater,
       ap (λ n. slice_cmp nat_cmp (word_text code) (word_text n)) same,
-      same_keys (word_text code),
+      same_bytes (word_text code),
     ))
 over code other (inr (inl less)) greater = less
 over code other (inr (inr more)) greater = absurd (cc (greater, word_less code other more))

@@ -8,11 +8,11 @@ use Rattle.edit_script.specs.Json.{◌>>=◌}
 use Rattle.edit_script.specs.Values.{bytes_of}
 use Rattle.json_values.specs.Plain.{HasTexts}
 
--- the value that stands for bytes
+-- the value that represents bytes
 abbrev pub bytes_json : List ℕ → Data
 bytes_json bytes = string (flat_map byte_text bytes)
 
--- the value that stands for units
+-- the value that represents units
 abbrev pub units_json : List ℕ → Data
 units_json units = string (flat_map word_text units)
 
@@ -22,7 +22,7 @@ units_of_bytes [] = Some []
 units_of_bytes (one ∷ []) = None
 units_of_bytes (high ∷ low ∷ rest) = option_map (λ units. (256 * high + low) ∷ units) (units_of_bytes rest)
 
--- the units that a value stands for
+-- the units that a value represents
 abbrev pub hex_units_of : Data → Option (List ℕ)
 hex_units_of value = bytes_of value >>= units_of_bytes
 
@@ -30,7 +30,7 @@ hex_units_of value = bytes_of value >>= units_of_bytes
 abbrev pub AreUnits : List ℕ → Type 0
 AreUnits units = (i : ℕ) → slice_index units i < 2 ^ 16
 
--- bytes have one value that stands for them, a text, and so have units; other values stand for none
+-- bytes have one value that represents them, a text, and so have units; other values represent none
 pub record DigitsAreOne : Type 0 where
   pub bytes_back : (bytes : List ℕ) → AreBytes bytes → bytes_of (bytes_json bytes) ≡ Some bytes
   pub bytes_one : (value : Data) (bytes : List ℕ) → bytes_of value ≡ Some bytes →

@@ -17,7 +17,7 @@ output_code =
     (λ p. record { text = p.0; len = p.1.0; most = p.1.1 })
     (λ _. refl)
 
--- the text has this piece more: it is counted, and it stands behind the rest where the whole is short enough
+-- the text has this piece more: it is counted, and it is behind the rest where the whole is short enough
 pub record Adds (old new : Output) (piece : List ℕ) : Type 0 where
   pub same : new.most ≡ old.most
   pub counted : new.len ≡ old.len + length piece

@@ -20,11 +20,11 @@ abbrev pub properties_members : List Prl → Members
 properties_members [] = no_members
 properties_members (prl ∷ more) = member (word_text prl.0) (bytes_json prl.1) (properties_members more)
 
--- the value that stands for properties
+-- the value that represents properties
 abbrev pub properties_json : Properties → Data
 properties_json set = object (properties_members (entries set))
 
--- the text of an entry, behind a comma where one stands before it
+-- the text of an entry, behind a comma where one is before it
 abbrev pub entry_text : Bool → Prl → List ℕ
 entry_text later prl = comma_if later ++ (quoted (word_text prl.0) ++ 58 ∷ compact_text (bytes_json prl.1))
 
@@ -37,7 +37,7 @@ pub record IsSpeltEntry (prl : Prl) : Type 0 where
 abbrev pub AreSpelt : Properties → Type 0
 AreSpelt set = All IsSpeltEntry (entries set)
 
--- properties have one value that stands for them, whose text is read back; other values whose keys ascend stand for
+-- properties have one value that represents them, whose text is read back; other values whose keys ascend represent
 -- none; the properties that a place may hold are such
 pub record PropertiesAreOne : Type 0 where
   pub back : (set : Properties) → AreSpelt set → properties_of (properties_json set) ≡ Some set

@@ -17,7 +17,7 @@ use std::alloc::Global;
 use std::str;
 use text_codes::hex_digit;
 
-/// The units that a text of digits stands for, four digits each.
+/// The units that a text of digits represents, four digits each.
 pub fn hex_units_in(alloc: Global, value: &Value) -> Result<Units, ShapeError>
     ensures { Gives result (hex_units_of (view value.now)) }
 {
@@ -48,7 +48,7 @@ fn add(units: &mut Units, high: u8, low: u8) -> Result<(), Memory>
     units.push_all(&[256 * high as u16 + low as u16])
 }
 
-/// Writes the value that stands for bytes.
+/// Writes the value that represents bytes.
 pub fn write_bytes(out: &mut JsonOut, bytes: &[u8]) -> Result<(), Memory>
     ensures { OnOk result (Adds out.old out.new (compact_text (bytes_json bytes.now))) }
 {
@@ -59,7 +59,7 @@ pub fn write_bytes(out: &mut JsonOut, bytes: &[u8]) -> Result<(), Memory>
     out.push("\"")
 }
 
-/// Writes the value that stands for units.
+/// Writes the value that represents units.
 pub fn write_units(out: &mut JsonOut, units: &[u16]) -> Result<(), Memory>
     ensures { OnOk result (Adds out.old out.new (compact_text (units_json units.now))) }
 {
@@ -93,7 +93,7 @@ fn push_byte(out: &mut JsonOut, byte: u8) -> Result<(), Memory>
     out.push(str::from_utf8(&digits).unwrap())
 }
 
-/// The lower-case hexadecimal digit of a number below 16, which stands for itself in a text of JSON.
+/// The lower-case hexadecimal digit of a number below 16, which represents itself in a text of JSON.
 fn digit(number: u8) -> u8
     requires { number < 16 }
     ensures value { result ≡ hex_digit number }

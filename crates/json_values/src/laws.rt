@@ -13,7 +13,7 @@ pub fn plain_texts_are_json()
     ensures { PlainTextsAreJson }
 {}
 
-/// Bytes have one value that stands for them, and units have one; each is read as what it stands for.
+/// Bytes have one value that represents them, and units have one; each is read as what it represents.
 pub fn digits_are_one()
     ensures { DigitsAreOne }
 {}
@@ -23,7 +23,7 @@ pub fn read_keys_ascend()
     ensures { ReadKeysAscend }
 {}
 
-/// Properties have one value that stands for them, and are read from it; its text is read back as the value.
+/// Properties have one value that represents them, and are read from it; its text is read back as the value.
 pub fn properties_are_one()
     ensures { PropertiesAreOne }
 {}

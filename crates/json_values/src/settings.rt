@@ -9,7 +9,7 @@ use crate::digits::{push_word, write_bytes};
 use doc_bits::Memory;
 use prop_map::PropMap;
 
-/// Writes the value that stands for properties.
+/// Writes the value that represents properties.
 pub fn write_properties(out: &mut JsonOut, set: &PropMap) -> Result<(), Memory>
     ensures { OnOk result (Adds out.old out.new (compact_text (properties_json set.now))) }
 {
@@ -23,7 +23,7 @@ pub fn write_properties(out: &mut JsonOut, set: &PropMap) -> Result<(), Memory>
     out.push("}")
 }
 
-/// Writes an entry, behind a comma where one stands before it.
+/// Writes an entry, behind a comma where one is before it.
 fn push_entry(out: &mut JsonOut, later: bool, code: u16, value: &[u8]) -> Result<(), Memory>
     ensures { OnOk result (Adds out.old out.new (entry_text later (code, value.now))) }
 {
@@ -34,7 +34,7 @@ fn push_entry(out: &mut JsonOut, later: bool, code: u16, value: &[u8]) -> Result
     write_bytes(out, value)
 }
 
-/// Writes a comma where something stands before.
+/// Writes a comma where something is before.
 pub fn push_comma(out: &mut JsonOut, later: bool) -> Result<(), Memory>
     ensures { OnOk result (Adds out.old out.new (comma_if later)) }
 {

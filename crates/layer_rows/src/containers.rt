@@ -66,7 +66,7 @@ pub(crate) fn container_of(alloc: Global, streams: &Streams) -> Result<Bytes, La
     whole(alloc, streams, CLSID)
 }
 
-/// The sum by which two copies of a file are told apart (Adler-32).
+/// The sum by which two copies of a file are distinguished (Adler-32).
 fn sum_of(bytes: &[u8]) -> u32 {
     let mut low = 1u32;
     let mut high = 0u32;

@@ -8,7 +8,7 @@ const PLC: [u8; 22] = [
     2, 0, 0, 0, 5, 0, 0, 0, 9, 0, 0, 0, 20, 0, 0, 0, 0x13, 33, 0x14, 0xFF, 0x15, 0x80,
 ];
 
-/// The characters of a part that stands at 100.
+/// The characters of a part that is at 100.
 fn read(alloc: Global, plc: &[u8]) -> Result<Flds, PartFault> {
     if plc.len() > 22 {
         return Err(PartFault::Memory);

@@ -5,7 +5,8 @@ use crate::versions::{EARLY, Numbers, stream_of};
 use cfb_layout::LayoutFault;
 use cfb_streams::{Container, OuterContainer, Streams, WORD_DOCUMENT, table_name};
 use doc_bits::{Memory, Text, put16, put32};
-use fib_versions::AnyFib;
+use fib_form::CCP_ATN;
+use fib_versions::{AnyFib, PN_NEXT};
 use loss_report::report;
 use std::alloc::Global;
 use std::test::Fail;
@@ -17,11 +18,6 @@ const NUMBERS: Numbers = Numbers {
     csw_new: 2,
     ..EARLY
 };
-
-/// Where pnNext and ccpAtn stand.
-const PN_NEXT: usize = 8;
-
-const CCP_ATN: usize = 92;
 
 /// The parts Clx, which is read, and DggInfo and PlcfTch, which are not; the lengths of each.
 const PARTS: [(usize, u32); 3] = [(33, 5), (50, 9), (93, 7)];

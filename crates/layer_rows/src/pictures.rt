@@ -5,7 +5,7 @@ use std::test::Fail;
 /// The bytes of the stream of a row.
 const LEN: usize = 160;
 
-/// Where its PICF stands.
+/// Where its PICF is.
 const OFFSET: u32 = 4;
 
 /// A PNG of 4 bytes at 149: in a blip at 124, embedded in an OfficeArtFBSE at 80, behind a shape at 72.
@@ -33,7 +33,7 @@ const JPEG: [(usize, u16); 8] = [
     (86, 36),
 ];
 
-/// An EMF of 2 bytes at 138: in a blip at 80, behind a shape at 72. Its compression stands at 136.
+/// An EMF of 2 bytes at 138: in a blip at 80, behind a shape at 72. Its compression is at 136.
 const EMF: [(usize, u16); 8] = [
     (4, 136),
     (8, 68),

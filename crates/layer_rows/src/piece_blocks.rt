@@ -197,7 +197,7 @@ fn is_byte(piece: Piece) -> bool {
     piece.at == BYTE.at && !piece.wide && piece.len == BYTE.len
 }
 
-/// Whether a unit of one byte stands first where it is put there; then it is taken out again.
+/// Whether a unit of one byte is first where it is put there; then it is taken out again.
 fn takes_a_byte(list: &mut PieceList) -> Result<bool, Memory> {
     list.reserve(6)?;
     if list.total() > 500_000 {

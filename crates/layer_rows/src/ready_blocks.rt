@@ -21,7 +21,7 @@ impl Measured for Mark {
     }
 }
 
-/// Puts a mark before that of this number, where a block stands ready.
+/// Puts a mark before that of this number, where a block is ready.
 fn put(list: &mut BlockList<Mark>, i: usize, number: usize) {
     let len = list.len();
     if i <= len && len < 1000 && 1 <= list.spare() {
@@ -38,7 +38,7 @@ fn fill(list: &mut BlockList<Mark>, count: usize) -> Result<(), Memory> {
     Ok(())
 }
 
-/// The items, the place of one more, and the blocks that stand ready before it and after it.
+/// The items, the place of one more, and the blocks that are ready before it and after it.
 struct Row(usize, usize, usize, usize);
 
 const ROWS: [Row; 8] = [
@@ -62,7 +62,7 @@ fn has_thousand(marks: &[Mark]) -> bool {
     false
 }
 
-/// Whether the blocks of a row are taken, and the mark stands in the list.
+/// Whether the blocks of a row are taken, and the mark is in the list.
 fn takes(list: &mut BlockList<Mark>, row: &Row) -> Result<bool, Memory> {
     fill(list, row.0)?;
     list.reserve(row.2)?;

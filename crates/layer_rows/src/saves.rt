@@ -40,7 +40,7 @@ const OTHER: [u16; 13] = [0x78; 13];
 /// The bytes of the new front, which differ from the old ones.
 const FRONT: usize = 32;
 
-/// The table stream stands in sectors 0 to 7, `WordDocument` in 8 to 15, the directory in 16 and the FAT in 17.
+/// The table stream is in sectors 0 to 7, `WordDocument` in 8 to 15, the directory in 16 and the FAT in 17.
 const SMALL: &[Stream] = &[Stream::Table(4_096), Stream::Main(4_096)];
 
 /// Behind these come 13,818 sectors of another stream, and 13,944 in all, 109 of them of the FAT.

@@ -27,7 +27,7 @@ fn fills(code: u16, list: &[u8], value: Option<(usize, usize)>) -> bool {
     operand(Code(code), rest) == value && list_fault(list, 0x22) == fault
 }
 
-/// A code and its bytes, how many bytes stand behind it, and the range of the value, where these are enough.
+/// A code and its bytes, how many bytes are behind it, and the range of the value, where these are enough.
 struct Row(u16, [u8; 2], usize, Option<(usize, usize)>);
 
 const ROWS: [Row; 4] = [

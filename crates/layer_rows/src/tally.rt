@@ -12,7 +12,7 @@ pub(crate) struct Tally<A: Account> {
 }
 
 impl<A: Account> Tally<A> {
-    /// A tally that has counted nothing. The blank stands for the account of the type.
+    /// A tally that has counted nothing. The blank represents the account of the type.
     pub(crate) fn new(blank: Blank) -> Tally<A>
         requires name { blank.name ≡ A.name }
         requires parts { blank.parts ≡ A.parts }

@@ -138,7 +138,7 @@ const ROWS: [Row; 11] = [
     Row("boxes", BOXES, (0, 93)),
 ];
 
-/// One that ends before what stands behind cswNew.
+/// One that ends before what is behind cswNew.
 const CUT: Numbers = Numbers {
     len: 1_623,
     pairs: 183,

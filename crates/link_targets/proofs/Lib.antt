@@ -1,1 +1,2 @@
-pub mod UrlLemmas
+pub mod Public
+mod UrlLemmas

@@ -4,7 +4,7 @@ use Rattle.std.specs.Prelude.{if◌then◌else◌}
 use Rattle.field_links.specs.Instructions.{target_of}
 use Rattle.field_links.specs.Laws.{IsSchemeUrl, IsLocalUrl}
 use Rattle.field_links.specs.Urls.{url_text}
-use Rattle.field_links.proofs.UrlLemmas.{allowed}
+use Rattle.field_links.proofs.Public.{allowed}
 use Rattle.link_targets.specs.Links.{is_plain, url_in}
 
 -- each URL of an instruction is allowed

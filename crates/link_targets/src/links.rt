@@ -4,10 +4,8 @@ ghost use Rattle.link_targets.specs.Links.{between, bookmark_name, instruction_o
 
 use doc_columns::ColumnDocument;
 use field_links::{LinkText, link_of};
+use text_codes::FIELD_BEGIN;
 use view_places::Link;
-
-/// [MS-DOC] The unit that begins a field.
-const FIELD_BEGIN: u16 = 0x13;
 
 /// The instruction of a link.
 pub fn instruction_of(document: &ColumnDocument, link: Link) -> &[u16]

@@ -1,45 +1,16 @@
 -- The values of the styles of a chain, one after the other.
-use Rattle.std.proofs.Common.{◌≡◌, ℕ, ◌+◌, ◌-◌, ◌<◌, List, [], ◌∷◌, ◌++◌, length, take, Some, refl, sym, ap, ◌∙◌, subst}
-use Rattle.std.proofs.Common.{arith}
+use Rattle.std.proofs.Common.{◌≡◌, ℕ, ◌+◌, ◌-◌, List, [], ◌∷◌, ◌++◌, take, Some, refl, sym, ap, ◌∙◌, subst}
 use Rattle.std.specs.Prelude.{slice_get, slice_index}
-use Rattle.std.proofs.lemmas.List.{get_or-take, length-take-le}
 use Rattle.std.proofs.lemmas.Option.{get_or_from_slice_get, slice_get_within}
 use Rattle.prop_map.specs.Settings.{Properties}
 use Rattle.style_sheet.specs.Sheet.{Sheet, style_at}
-use Rattle.style_sheet.specs.Chain.{base_at, AreOfOneKind, IsBaseChain}
-use Rattle.style_sheet.proofs.OneChainLemmas.{base_chains_agree}
+use Rattle.style_sheet.specs.Chain.{IsBaseChain}
+use Rattle.style_sheet.proofs.Public.{base_chains_agree, chain_front}
 use Rattle.effective_props.specs.Layers.{paragraph_properties, properties_of_styles}
-use Rattle.effective_props.proofs.LayerLemmas.{styles_more}
+use Rattle.effective_props.proofs.Public.{styles_more}
 use Rattle.list_numbers.specs.declared.mark_values.MarkValues.{MarkValues}
 use Rattle.list_numbers.specs.MarkValues.{AreStyleValues, own_values, over, values_in}
 use Rattle.list_numbers.proofs.MarkValueLemmas.{values_more}
-
--- the front of a chain is the chain of its last style
-chain_front : (sheet : Sheet) (istd : ℕ) (chain : List ℕ) (i : ℕ) → IsBaseChain sheet istd chain → i < length chain →
-    IsBaseChain sheet (slice_index chain i) (take (i + 1) chain)
-chain_front sheet istd chain i is within =
-    let front : List ℕ = take (i + 1) chain in
-    let len : length front ≡ i + 1 = length-take-le (i + 1) chain (omega (arith, within)) in
-    let same : (k : ℕ) → k < i + 1 → slice_index front k ≡ slice_index chain k =
-    (λ k below. get_or-take (i + 1) chain k 0 below) in
-    let end : length front - 1 ≡ i = omega (arith, len) in
-    record {
-      some = omega (arith, len);
-      last = ap (slice_index front) end ∙ same i (omega arith);
-      root = ap (base_at sheet) (same 0 (omega arith)) ∙ is.root;
-      links = λ k below.
-          ap (base_at sheet) (same (k + 1) (omega (arith, below, len)))
-          ∙ is.links k (omega (arith, below, len, within))
-          ∙ ap Some (sym (same k (omega (arith, below, len))));
-      kind = λ k below.
-          let own = is.kind i within in
-          let other = is.kind k (omega (arith, below, len, within)) in
-          subst (AreOfOneKind sheet (slice_index chain i)) (sym (same k (omega (arith, below, len))))
-          (record { properties = rw own.same own.properties; same = other.same ∙ sym own.same });
-      once = λ j k less below both.
-          is.once j k less (omega (arith, below, len, within))
-          (sym (same j (omega (arith, less, below, len))) ∙ both ∙ same k (omega (arith, below, len)));
-    }
 
 -- the properties of the styles up to a place of a chain
 abbrev properties_upto : Sheet → List ℕ → ℕ → List Properties

@@ -5,7 +5,7 @@ use Rattle.std.specs.Prelude.{slice_get}
 use Rattle.std.proofs.lemmas.Bool.{cases_lt}
 use Rattle.std.proofs.lemmas.List.{get_or-replicate, length-replicate, length-map}
 use Rattle.std.proofs.lemmas.Option.{same_Some, none-some, slice_get_within, get_or_from_slice_get}
-use Rattle.doc_bits.proofs.ListLemmas.{slice_get_push, slice_get_before}
+use Rattle.doc_bits.proofs.Public.{slice_get_push, slice_get_before}
 use Rattle.style_sheet.specs.Sheet.{Sheet}
 use Rattle.style_sheet.specs.Chain.{kind_at}
 use Rattle.plain_doc.specs.declared.item.Item.{Item}
@@ -13,18 +13,13 @@ use Rattle.plain_doc.specs.declared.item.Mark.{Mark}
 use Rattle.plain_doc.specs.declared.document.Document.{Document}
 use Rattle.plain_doc.specs.Paragraphs.{IsParagraphEnd}
 use Rattle.plain_doc.specs.Sound.{IsSound}
-use Rattle.plain_doc.proofs.MainLemmas.{main_right}
-use Rattle.plain_doc.proofs.RightLemmas.{sound_is_valid}
+use Rattle.plain_doc.proofs.Public.{main_right, sound_is_valid}
 use Rattle.list_numbers.specs.declared.mark_values.MarkValues.{MarkValues}
 use Rattle.list_numbers.specs.MarkValues.{AreMarkValues, AreKnownValues}
 use Rattle.list_numbers.specs.Places.{paragraphs, AreParagraphValues, IsMarkAt}
 use Rattle.list_numbers.specs.Numbers.{AreDocumentValues}
 use Rattle.list_numbers.proofs.ParagraphLemmas.{BeginsParagraph, first_begins, next_begins, paragraph_there, none_left}
 use Rattle.list_numbers.proofs.ParagraphLemmas.{paragraph_from, last_of_paragraph, few_paragraphs}
-
--- the document that its columns are seen as is sound
-pub sound_seen : (seen document : Document) → seen ≡ document → IsSound document → IsSound seen
-sound_seen seen document is sound = subst (λ (d : Document). IsSound d) (sym is) sound
 
 -- no style was met
 pub none_known : (sheet : Sheet) (count : ℕ) → AreKnownValues sheet (replicate count None)

@@ -20,7 +20,7 @@ pub all_from_first : (lists : List ListFormat) (tree : BTreeMap ℕ ℕ) → Are
     get nat_cmp tree number ≡ position_from (λ (list : ListFormat). list.number == number) 0 lists
 all_from_first lists tree h number = h.firsts number
 
--- a list before those stands before them
+-- a list before those is before them
 pub first_more : (lists : List ListFormat) (tree new : BTreeMap ℕ ℕ) (k : ℕ) (list : ListFormat) →
     AreFirstFrom lists tree k → 0 < k → slice_get lists (k - 1) ≡ Some list →
     Updates nat_cmp tree new list.number (Some (k - 1)) → AreFirstFrom lists new (k - 1)

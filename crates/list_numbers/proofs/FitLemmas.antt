@@ -4,7 +4,7 @@ use Rattle.std.proofs.Common.{refl, subst, arith}
 use Rattle.std.specs.Prelude.{slice_get, nat_le}
 use Rattle.std.proofs.lemmas.Bool.{leb-true}
 use Rattle.std.proofs.lemmas.Option.{same_Some, none-some, slice_get_within}
-use Rattle.doc_bits.proofs.ListLemmas.{from_map}
+use Rattle.doc_bits.proofs.Public.{from_map}
 use Rattle.list_numbers.specs.declared.list_format.ListFormat.{ListFormat}
 use Rattle.list_numbers.specs.declared.list_place.ListPlace.{ListPlace}
 use Rattle.list_numbers.specs.declared.mark_values.MarkValues.{MarkValues}

@@ -3,10 +3,10 @@ use Rattle.std.proofs.Common.{◌≡◌, ◌∙◌, refl, sym, ap, ℕ, zero, su
 use Rattle.std.proofs.Common.{◌∷◌, length, map, Option, Some, None, arith}
 use Rattle.std.specs.Prelude.{if◌then◌else◌, nat_lt}
 use Rattle.std.proofs.lemmas.Bool.{lt-ltb}
-use Rattle.std.proofs.lemmas.Bool.Decides.{nat_tests}
 use Rattle.symbol_fonts.specs.declared.characters.SymbolFont.{SymbolFont}
 use Rattle.symbol_fonts.specs.Characters.{shown_unit}
 use Rattle.list_numbers.specs.LevelFonts.{ends_at, font_by, font_from, prl_end}
+use Rattle.doc_bits.proofs.Public.{or_true, ltb_false}
 
 pub nothing_left : (list : List ℕ) (count at : ℕ) (font : Option ℕ) → count ≡ 0 → font ≡ font_from count list at font
 unfolding font_from
@@ -30,10 +30,6 @@ ended list count at font some ends =
 off : (b : Bool) → (true || b) ≡ true
 off b = refl
 
-on : (a : Bool) → (a || true) ≡ true
-on true = refl
-on false = refl
-
 pub cut_code : (list : List ℕ) (count at : ℕ) (font : Option ℕ) → 0 < count → length list < at + 2 →
     font ≡ font_from count list at font
 cut_code list count at font some cut =
@@ -44,10 +40,7 @@ pub cut_operand : (list : List ℕ) (count at : ℕ) (font : Option ℕ) → 0 <
     font ≡ font_from count list at font
 cut_operand list count at font some cut =
     ended list count at font some ((λ i. nat_lt (length list) (at + 2) || lt-ltb (length list) (prl_end list at) cut i)
-    ∙ on (nat_lt (length list) (at + 2)))
-
-not_below : (a b : ℕ) → b ≤ a → nat_lt a b ≡ false
-not_below a b h = grind (arith, nat_tests)
+    ∙ or_true (nat_lt (length list) (at + 2)))
 
 -- a property more
 pub next_font : (list : List ℕ) (count at end : ℕ) (font : Option ℕ) → 0 < count → at + 2 ≤ length list →
@@ -55,7 +48,8 @@ pub next_font : (list : List ℕ) (count at end : ℕ) (font : Option ℕ) → 0
     font_from count list at font ≡ font_from (count - 1) list end (font_by list at font)
 next_font list count at end font some code is whole =
     let ends : ends_at list at ≡ false =
-    λ i. not_below (length list) (at + 2) code i || not_below (length list) (prl_end list at) (omega (arith, is, whole)) i
+    λ i. ltb_false (length list) (at + 2) code i || ltb_false (length list) (prl_end list at) (omega (arith, is, whole))
+    i
     in
     ap (λ n. font_from n list at font) (suc_of count some) ∙ (one_more list (count - 1) at font
     ∙ ((λ i. if ends i then font else font_from (count - 1) list (prl_end list at) (font_by list at font))

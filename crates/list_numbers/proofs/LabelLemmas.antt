@@ -19,8 +19,9 @@ use Rattle.list_numbers.specs.MarkValues.{no_values}
 use Rattle.list_numbers.specs.Numbers.{at_entry}
 use Rattle.list_numbers.specs.ParagraphValues.{label_at_place, values_with}
 use Rattle.list_numbers.proofs.NumberedLemmas.{place_taken}
-use Rattle.list_numbers.proofs.TabulatedLemmas.{tabulate_zero, tabulate_more}
+use Rattle.list_numbers.proofs.TabulatedLemmas.{tabulate_zero}
 use Rattle.doc_parts.specs.Tabulated.{tabulate}
+use Rattle.doc_parts.proofs.Public.{tabulate-next}
 
 -- ---- units
 
@@ -109,6 +110,6 @@ one_made fonts lists places values made counts new k place label own h there low
     record {
       values_made =
           ap (λ l. l ++ values_with own label ∷ []) h.values_made
-          ∙ (ap (λ v. tabulate f k ++ v ∷ []) one ∙ sym (tabulate_more f k));
+          ∙ (ap (λ v. tabulate f k ++ v ∷ []) one ∙ sym (tabulate-next f k));
       counted = subst (λ ps. HaveCounted ps (length lists) new) (sym taken) counted;
     }

@@ -1,18 +1,19 @@
-pub mod TabulatedLemmas
-pub mod ListLemmas
-pub mod MarkValueLemmas
-pub mod FirstLemmas
-pub mod CountLemmas
-pub mod CounterLemmas
-pub mod KnownLemmas
-pub mod ChainValueLemmas
-pub mod AlikeLemmas
-pub mod NumberedLemmas
-pub mod OneLemmas
-pub mod RomanLemmas
-pub mod ParagraphLemmas
-pub mod DocumentValueLemmas
-pub mod FitLemmas
-pub mod OutlineLemmas
-pub mod LabelLemmas
-pub mod FontLemmas
+pub mod Public
+mod TabulatedLemmas
+mod ListLemmas
+mod MarkValueLemmas
+mod FirstLemmas
+mod CountLemmas
+mod CounterLemmas
+mod KnownLemmas
+mod ChainValueLemmas
+mod AlikeLemmas
+mod NumberedLemmas
+mod OneLemmas
+mod RomanLemmas
+mod ParagraphLemmas
+mod DocumentValueLemmas
+mod FitLemmas
+mod OutlineLemmas
+mod LabelLemmas
+mod FontLemmas

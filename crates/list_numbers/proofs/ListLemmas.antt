@@ -7,12 +7,13 @@ use Rattle.std.proofs.lemmas.List.{nil_from_length}
 use Rattle.std.specs.Prelude.{Bool, ◌%◌, ◌==◌, if◌then◌else◌, slice_index}
 use Rattle.doc_bits.specs.Number.{u16_at, u32_at, number_at}
 use Rattle.doc_parts.specs.Levels.{levels_before, levels_of_list, level_start, level_end}
-use Rattle.doc_parts.proofs.LevelLemmas.{level_start-zero, level_start-more, levels_before-zero, levels_before-more}
+use Rattle.doc_parts.proofs.Public.{level_start-zero, level_start-more, levels_before-zero, levels_before-more}
+use Rattle.doc_parts.proofs.Public.{tabulate-next, length-tabulate}
 use Rattle.plain_doc.specs.Carried.{AreListsWithLevels}
 use Rattle.list_numbers.specs.declared.level.Level.{Level}
 use Rattle.list_numbers.specs.declared.list_format.ListFormat.{ListFormat}
 use Rattle.list_numbers.specs.Lists.{HaveWholeLevels, level_at, levels_from, list_at}
-use Rattle.list_numbers.proofs.TabulatedLemmas.{tabulate_zero, tabulate_more, length-tabulate}
+use Rattle.list_numbers.proofs.TabulatedLemmas.{tabulate_zero}
 use Rattle.doc_parts.specs.Tabulated.{tabulate}
 
 -- a part of no bytes counts no lists
@@ -75,7 +76,7 @@ next_is_whole bytes from count at j levels whole h low = rw (h.at, ← level_sta
 pub level_read : (bytes : List ℕ) (from at j : ℕ) (levels : List Level) → HasReadLevels bytes from levels at j →
     HasReadLevels bytes from (levels ++ level_at bytes at ∷ []) (level_end bytes at) (j + 1)
 level_read bytes from at j levels h = record {
-  levels = rw (h.levels, h.at) (sym (tabulate_more (λ i. level_at bytes (level_start bytes from i)) j));
+  levels = rw (h.levels, h.at) (sym (tabulate-next (λ i. level_at bytes (level_start bytes from i)) j));
   at = rw h.at (sym (level_start-more bytes from j));
 }
 
@@ -103,7 +104,7 @@ pub list_read : (lst levels : List ℕ) (lists : List ListFormat) (at end k numb
 list_read lst levels lists at end k number count simple made h n s c m e =
     let all : count ≡ levels_of_list lst k = c ∙ ap (λ (b : Bool). if b then 1 else 9) s in
     record {
-      lists = rw (h.lists, n, s, m, all, h.at) (sym (tabulate_more (list_at lst levels) k));
+      lists = rw (h.lists, n, s, m, all, h.at) (sym (tabulate-next (list_at lst levels) k));
       at = e ∙ (ap (level_start levels at) all ∙ (ap (λ a. level_start levels a (levels_of_list lst k)) h.at
           ∙ (level_start-add levels 0 (levels_before lst k) (levels_of_list lst k) ∙ ap (level_start levels 0)
           (sym (levels_before-more lst k)))));

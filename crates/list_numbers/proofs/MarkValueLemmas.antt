@@ -7,12 +7,11 @@ use Rattle.std.specs.FinMap.{get, empty}
 use Rattle.prop_map.specs.Settings.{Properties}
 use Rattle.effective_props.specs.Values.{effective_value}
 use Rattle.effective_props.specs.ValueSteps.{layer_over}
-use Rattle.effective_props.proofs.ValueLemmas.{effective_more, none_put}
+use Rattle.effective_props.proofs.Public.{effective_more, none_put, match_now}
 use Rattle.doc_bits.specs.Number.{number_at, u16_at}
 use Rattle.style_sheet.specs.declared.styles.Style.{Style}
 use Rattle.style_sheet.specs.Sheet.{Sheet, style_at}
 use Rattle.effective_props.specs.Layers.{paragraph_properties}
-use Rattle.effective_props.proofs.LayerLemmas.{match_now}
 use Rattle.list_numbers.specs.declared.mark_values.MarkValues.{MarkValues}
 use Rattle.list_numbers.specs.MarkValues.{values_in, own_values, over, no_values, word_in, byte_in}
 

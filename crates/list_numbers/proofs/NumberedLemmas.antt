@@ -10,8 +10,9 @@ use Rattle.list_numbers.specs.declared.list_place.ListPlace.{ListPlace}
 use Rattle.list_numbers.specs.Counts.{count_at}
 use Rattle.list_numbers.specs.Counters.{HaveCounted}
 use Rattle.list_numbers.specs.Numbers.{number_at_place, at_entry}
-use Rattle.list_numbers.proofs.TabulatedLemmas.{tabulate_zero, tabulate_more}
+use Rattle.list_numbers.proofs.TabulatedLemmas.{tabulate_zero}
 use Rattle.doc_parts.specs.Tabulated.{tabulate}
+use Rattle.doc_parts.proofs.Public.{tabulate-next}
 
 -- no counter is above the number of places
 pub few_counted : (places : List (Option ListPlace)) (lists : ℕ) (counts : List ℕ) → HaveCounted places lists counts →
@@ -72,6 +73,6 @@ one_numbered lists places made counts new k place number h there low counted is 
     let f : ℕ → Option (List ℕ) = own_number lists places in
     let own : number ≡ f k = number_is_own lists places k place number there low is in
     record {
-      numbers = ap (λ l. l ++ number ∷ []) h.numbers ∙ (ap (λ n. tabulate f k ++ n ∷ []) own ∙ sym (tabulate_more f k));
+      numbers = ap (λ l. l ++ number ∷ []) h.numbers ∙ (ap (λ n. tabulate f k ++ n ∷ []) own ∙ sym (tabulate-next f k));
       counted = subst (λ ps. HaveCounted ps (length lists) new) (sym (place_taken places k place there low)) counted;
     }

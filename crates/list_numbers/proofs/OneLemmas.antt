@@ -3,7 +3,7 @@ use Rattle.std.proofs.Common.{◌≡◌, ◌<◌, List, ◌∷◌, [], ◌++◌,
 use Rattle.std.specs.Prelude.{get_or}
 use Rattle.std.proofs.lemmas.List.{same_lists}
 use Rattle.std.proofs.lemmas.Option.{same_Some, slice_get-get_or}
-use Rattle.style_sheet.proofs.OneChainLemmas.{base_chains_agree}
+use Rattle.style_sheet.proofs.Public.{base_chains_agree}
 use Rattle.style_sheet.specs.Sheet.{Sheet}
 use Rattle.effective_props.specs.Layers.{paragraph_properties, properties_of_styles}
 use Rattle.plain_doc.specs.declared.item.Item.{Item}

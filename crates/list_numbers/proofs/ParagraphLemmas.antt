@@ -7,7 +7,7 @@ use Rattle.std.specs.Option.{MatchOption}
 use Rattle.std.proofs.lemmas.Bool.{cases_lt}
 use Rattle.std.proofs.lemmas.List.{drop-drop, drop_all, length-take-le, take-take, take-map, drop-map}
 use Rattle.std.proofs.lemmas.Option.{slice_get_within, slice_get-get_or, get_or_from_slice_get}
-use Rattle.doc_bits.proofs.TogetherLemmas.{got_drop}
+use Rattle.doc_bits.proofs.Public.{got_drop}
 use Rattle.plain_doc.specs.declared.item.Item.{Item}
 use Rattle.plain_doc.specs.declared.item.Mark.{Mark}
 use Rattle.plain_doc.specs.declared.document.Document.{Document}
@@ -15,10 +15,8 @@ use Rattle.plain_doc.specs.Paragraphs.{IsParagraphEnd, HasNoParagraphEnd}
 use Rattle.plain_doc.specs.Settings.{is_inside}
 use Rattle.plain_doc.specs.Sound.{IsSound}
 use Rattle.plain_doc.specs.Stretches.{stretches, joins_next, joins_at, BeginsStretch}
-use Rattle.plain_doc.proofs.MainLemmas.{some_end}
-use Rattle.plain_doc.proofs.RightLemmas.{sound_is_valid}
-use Rattle.plain_doc.proofs.StretchLemmas.{one_more, stretches-first, stretches-nil}
-use Rattle.doc_columns.proofs.EndLemmas.{EndsAt}
+use Rattle.plain_doc.proofs.Public.{some_end, sound_is_valid, one_more, stretches-first, stretches-nil}
+use Rattle.doc_columns.proofs.Public.{EndsAt}
 use Rattle.list_numbers.specs.Places.{paragraphs, EndsBefore}
 use Rattle.list_numbers.specs.Outline.{bare_units}
 
@@ -69,7 +67,7 @@ ends_here : (item : Item) (next : Option Item) → is_some item.mark ≡ true �
 ends_here item None marked = refl
 ends_here item (Some next) marked = ap not marked
 
--- what stands in the rest of a text
+-- what is in the rest of a text
 in_rest : (items : List Item) (at k : ℕ) (d : Item) → at + k < length items →
     slice_get (drop at items) k ≡ Some (get_or items (at + k) d)
 in_rest items at k d low =

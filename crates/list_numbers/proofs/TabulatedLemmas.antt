@@ -1,19 +1,15 @@
 -- Lists by their places.
 use Rattle.std.proofs.Common.{◌≡◌, inl, inr, ℕ, zero, suc, ◌+◌, ◌<◌, [], ◌∷◌, ◌++◌, length, Some, refl, sym, ap, ◌∙◌}
-use Rattle.std.proofs.Common.{subst, add-one, arith, length-append}
+use Rattle.std.proofs.Common.{subst, arith}
 use Rattle.std.specs.Prelude.{slice_get}
 use Rattle.std.proofs.lemmas.Bool.{cases_lt}
-use Rattle.doc_bits.proofs.ListLemmas.{slice_get_push, slice_get_before}
+use Rattle.doc_bits.proofs.Public.{slice_get_push, slice_get_before}
 use Rattle.doc_parts.specs.Tabulated.{tabulate}
+use Rattle.doc_parts.proofs.Public.{tabulate-next, length-tabulate}
 
 pub tabulate_zero : {A : Type 0} (f : ℕ → A) → tabulate f 0 ≡ []
 unfolding tabulate
 tabulate_zero f = refl
-
--- one place more
-pub tabulate_more : {A : Type 0} (f : ℕ → A) (n : ℕ) → tabulate f (n + 1) ≡ tabulate f n ++ f n ∷ []
-unfolding tabulate
-tabulate_more f n = rw add-one refl
 
 -- functions that agree give the same list
 pub tabulate_same : {A : Type 0} (f g : ℕ → A) (n : ℕ) → ((i : ℕ) → i < n → f i ≡ g i) → tabulate f n ≡ tabulate g n
@@ -22,15 +18,7 @@ tabulate_same f g zero same = refl
 tabulate_same f g (suc n) same =
     rw (tabulate_same f g n (λ i h. same i (omega arith)), same n (omega arith)) refl
 
-pub length-tabulate : {A : Type 0} (f : ℕ → A) (n : ℕ) → length (tabulate f n) ≡ n
-unfolding tabulate
-length-tabulate f zero = refl
-length-tabulate f (suc n) =
-    let size = length-append (tabulate f n) (f n ∷ []) in
-    let rest = length-tabulate f n in
-    omega arith
-
--- what stands at a place
+-- what is at a place
 pub slice_get-tabulate : {A : Type 0} (f : ℕ → A) (n i : ℕ) → i < n → slice_get (tabulate f n) i ≡ Some (f i)
 unfolding tabulate
 slice_get-tabulate f zero i low = absurd (omega arith)
@@ -47,4 +35,4 @@ slice_get-tabulate f (suc n) i low =
     ]
 
 -- both ends of a tabulated list
-pub ruleset tabulate_steps = (tabulate_zero, tabulate_more)
+pub ruleset tabulate_steps = (tabulate_zero, tabulate-next)

@@ -11,7 +11,7 @@ use Rattle.list_numbers.specs.LevelFonts.{font_in}
 use Rattle.list_numbers.specs.NumberKind.{kind_of}
 use Rattle.doc_parts.specs.Tabulated.{tabulate}
 
--- [MS-DOC] LVL: the text stands behind an LVLF of 28 bytes and two lists of properties, whose lengths are at 25 and 24
+-- [MS-DOC] LVL: the text is behind an LVLF of 28 bytes and two lists of properties, whose lengths are at 25 and 24
 abbrev pub level_text_place : List ℕ → ℕ → ℕ
 level_text_place bytes at = at + 28 + slice_index bytes (at + 25) + slice_index bytes (at + 24)
 
@@ -40,7 +40,7 @@ levels_from bytes at count = tabulate (λ j. level_at bytes (level_start bytes a
 abbrev pub HaveWholeLevels : List ℕ → ℕ → ℕ → Type 0
 HaveWholeLevels bytes at count = (j : ℕ) → j < count → level_start bytes at (j + 1) ≤ length bytes
 
--- [MS-DOC] LSTF: lsid at 0, and fSimpleList in bit 0 of byte 26; the levels of a list stand behind those of the lists
+-- [MS-DOC] LSTF: lsid at 0, and fSimpleList in bit 0 of byte 26; the levels of a list are behind those of the lists
 -- before it
 abbrev pub list_at : List ℕ → List ℕ → ℕ → ListFormat
 list_at lst levels k = record {

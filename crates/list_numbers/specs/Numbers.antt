@@ -28,7 +28,7 @@ abbrev pub level_number : Option Level → ℕ → List ℕ
 level_number None count = []
 level_number (Some level) count = text_within level.kind level count
 
--- [MS-DOC] Xst of a level: a unit below 9 stands for the number of that level, where it is not above the level itself
+-- [MS-DOC] Xst of a level: a unit below 9 represents the number of that level, where it is not above the level itself
 abbrev pub placed_unit : List Level → ℕ → (ℕ → ℕ) → ℕ → List ℕ
 placed_unit levels own counts unit =
     if nat_lt unit 9 then (if nat_le unit own then level_number (slice_get levels unit) (counts unit) else []) else

@@ -1,4 +1,4 @@
--- Where a paragraph stands: in which list, and at which level.
+-- Where a paragraph is: in which list, and at which level.
 use Rattle.std.specs.Prelude.{◌≡◌, ℕ, ◌-◌, ◌==◌, nat_le, if◌then◌else◌, List, Option, Some, None, slice_get}
 use Rattle.std.specs.Prelude.{length}
 use Rattle.std.specs.List.{position_from}

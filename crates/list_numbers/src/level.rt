@@ -9,7 +9,7 @@ pub(crate) struct Level {
     pub(crate) start: i32,
     /// [MS-DOC] LVLF.nfc.
     pub(crate) kind: NumberKind,
-    /// [MS-DOC] Xst: the units of the number; those below 9 stand for the numbers of levels.
+    /// [MS-DOC] Xst: the units of the number; those below 9 represent the numbers of levels.
     pub(crate) text: Units,
     /// [MS-DOC] sprmCRgFtc2 of LVL.grpprlChpx: the number of the font of its units.
     pub(crate) font: Option<u16>,

@@ -12,7 +12,7 @@ use crate::numeral::push_number;
 use doc_bits::{Memory, Units};
 use std::alloc::Global;
 
-/// Units from here on stand for themselves.
+/// Units from here on represent themselves.
 const PLACEHOLDERS: u16 = 9;
 
 /// The units of a number at a level of a list.
@@ -72,7 +72,7 @@ fn push_text(
     Ok(())
 }
 
-/// Appends what a unit of a text stands for.
+/// Appends what a unit of a text represents.
 pub(crate) fn push_placed(
     alloc: Global,
     units: &mut Units,
@@ -105,7 +105,7 @@ fn count_in(counts: &[u32], level: usize) -> u32
     }
 }
 
-/// Appends the number of a level as it stands within another.
+/// Appends the number of a level as it is within another.
 fn push_within(alloc: Global, units: &mut Units, level: &Level, count: u32) -> Result<(), Memory>
     ensures { OnOk result (units.new ≡ units.old ++ text_within level.now.kind level.now count) }
 {

@@ -1,4 +1,4 @@
-// Where a paragraph stands.
+// Where a paragraph is.
 
 /// A list and a level in it.
 #[derive(Clone, Copy)]

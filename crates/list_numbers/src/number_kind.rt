@@ -15,7 +15,7 @@ pub(crate) enum NumberKind {
     Decimal,
     Roman(LetterCase),
     Letters(LetterCase),
-    /// A bullet: the text of the level as it stands.
+    /// A bullet: the text of the level as it is.
     Bullet,
     /// No number.
     Nothing,

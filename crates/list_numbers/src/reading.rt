@@ -119,7 +119,7 @@ fn characters(bytes: &[u8], at: usize) -> &[u8]
     &bytes[at + LVLF_LEN + paragraph..text_place(bytes, at)]
 }
 
-/// Where the text of a level stands.
+/// Where the text of a level is.
 fn text_place(bytes: &[u8], at: usize) -> usize
     requires { level_end bytes.now at ≤ length bytes.now }
     ensures { result ≡ level_text_place bytes.now at }

@@ -22,7 +22,7 @@ pub data Feature : Type 0 where
   PartOf : (pair len : ℕ) → Feature
   -- a story behind the header texts
   StoryOf : (story : Further) → (units : List ℕ) → Feature
-  -- [MS-DOC] pnNext: a FIB of AutoText stands at this page
+  -- [MS-DOC] pnNext: a FIB of AutoText is at this page
   AutoText : (page : ℕ) → Feature
 
 abbrev pub stream_features : List Stream → List Feature

@@ -17,9 +17,9 @@ use Rattle.view_places.specs.declared.element.Element.TheVariants.{SmallCaps, Ca
 use Rattle.view_places.specs.declared.glyph.Glyph.{Glyph}
 use Rattle.view_places.specs.Same.{same}
 use Rattle.glyph_units.specs.Glyphs.{unit_in}
-use Rattle.glyph_units.specs.Units.{half_text, unit_text}
+use Rattle.glyph_units.specs.Units.{unit_text}
 use Rattle.link_targets.specs.Links.{instruction_of, url_in}
-use Rattle.link_targets.proofs.UrlLemmas.{known_url}
+use Rattle.link_targets.proofs.Public.{known_url}
 use Rattle.markdown_text.specs.declared.line.LineState.{LineState}
 use Rattle.markdown_text.specs.declared.line.LineState.TheVariants.{Start}
 use Rattle.markdown_text.specs.Lines.{is_special}
@@ -37,7 +37,8 @@ use Rattle.markdown_page.specs.Pieces.{other_pieces, pieces_tokens}
 use Rattle.markdown_page.specs.Shape.{Places, all_shaped}
 use Rattle.markdown_page.proofs.RightLemmas.{AreSafe, is_safe, page_read, safe-pieces, safe-text}
 use Rattle.std.specs.List.{list_all}
-use Rattle.doc_bits.proofs.TestLemmas.{and_first, and_second}
+use Rattle.doc_bits.proofs.Public.{and_first, and_second}
+use Rattle.text_codes.specs.Halves.{half_text}
 
 abbrev AreAllowed : List Token → Type 0
 AreAllowed tokens = All IsAllowed tokens

@@ -1,7 +1,8 @@
-pub mod TokenLemmas
-pub mod PutLemmas
-pub mod RightLemmas
-pub mod PageLemmas
-pub mod ShapeLemmas
-pub mod AllowedLemmas
-pub mod RunLemmas
+pub mod Public
+mod TokenLemmas
+mod PutLemmas
+mod RightLemmas
+mod PageLemmas
+mod ShapeLemmas
+mod AllowedLemmas
+mod RunLemmas

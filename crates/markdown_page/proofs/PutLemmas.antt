@@ -6,18 +6,16 @@ use Rattle.doc_outer.specs.declared.sink.Sink.{Ghosts}
 use Rattle.page_out.specs.Printed.{Prints}
 use Rattle.markdown_text.specs.declared.line.LineState.{LineState}
 use Rattle.markdown_text.specs.Tokens.{Token, Character, after_tokens, printed_from}
-use Rattle.markdown_text.proofs.ReadLemmas.{after_tokens-append}
+use Rattle.markdown_text.proofs.Public.{after_tokens-append}
 use Rattle.view_paths.specs.Paths.{Place, last_path}
 use Rattle.view_paths.specs.Events.{Event, Turn, Leaf, Open, Close, closes, opens, turns, leaf, events_up_to}
 use Rattle.view_paths.specs.Turns.{IsShared, IsFront}
-use Rattle.view_paths.proofs.NestLemmas.{events_up_to-append, last_path-append}
-use Rattle.view_paths.proofs.WayLemmas.{transition-shared, closes-next, closes-none, take-closed, opens-next}
-use Rattle.view_paths.proofs.WayLemmas.{opens-none}
+use Rattle.view_paths.proofs.Public.{events_up_to-append, last_path-append, transition-shared, closes-next, closes-none}
+use Rattle.view_paths.proofs.Public.{take-closed, opens-next, opens-none}
 use Rattle.view_places.specs.declared.element.Element.{Element}
 use Rattle.view_places.specs.declared.glyph.Glyph.{Glyph}
 use Rattle.view_places.specs.Same.{same}
 use Rattle.glyph_units.specs.Glyphs.{unit_in}
-use Rattle.glyph_units.specs.Units.{half_text}
 use Rattle.plain_doc.specs.declared.document.Document.{Document}
 use Rattle.markdown_page.specs.declared.pen.Pen.{Pen}
 use Rattle.markdown_page.specs.declared.context.Context.{Context}
@@ -35,7 +33,7 @@ use Rattle.markdown_page.specs.Pieces.{given, piece_tokens, pieces_tokens}
 use Rattle.markdown_page.specs.Printed.{PutsEvents, PutsPlaces, PutsTokens, state_in}
 use Rattle.markdown_page.specs.Shape.{Places, all_shaped, inner_kind, shaped, shaped_glyph, shaped_path}
 use Rattle.markdown_page.proofs.TokenLemmas.{tokens_as, tokens_none, tokens_then}
-use Rattle.text_codes.specs.Halves.{replacement}
+use Rattle.text_codes.specs.Halves.{replacement, half_text}
 
 -- ---- events one after another
 
@@ -192,11 +190,6 @@ open_step sink a b c page next left new to e is front puts path document context
 
 -- ---- from a path to another one
 
-pub shared_is_front : (from to : List Element) (count : ℕ) → IsShared same from to count → IsFront (take count from) to
-shared_is_front from to count is =
-    let long : length (take count from) ≡ count = length-take-le count from is.within in
-    ap (λ (n : ℕ). take n to) long ∙ (sym is.also ∙ is.front)
-
 pub way_put : {K : Type 0} (sink : Ghosts K) (a b c : K) (page next left : MarkdownPage) (to : List Element)
     (count : ℕ) → IsShared same page.path to count →
     PutsEvents sink a page b next (map Turn (closes (take count page.path) (drop count page.path)))
@@ -282,7 +275,7 @@ places_then sink a b c p q r xs ys one other =
     (events_then sink a b c p q r (events_up_to same p.path front) (events_up_to same (last_path p.path front) back)
     (last_path p.path front) (last_path (last_path p.path front) back) one second)
 
--- pieces that stand behind a half that waits
+-- pieces that are behind a half that waits
 pub behind_put : {K : Type 0} (sink : Ghosts K) (a b c : K) (page next : MarkdownPage) (left : Pen)
     (pieces : LineState → Context → Pieces) (chosen : Pieces) →
     PutsTokens sink a page.pen b next.pen (half_tokens page.context) → next.context ≡ without_half page.context →
@@ -297,7 +290,7 @@ behind_put sink a b c page next left pieces chosen half context is put =
     (tokens_as sink b c next.pen left (pieces_tokens chosen) (pieces_tokens (pieces (after_tokens page.pen.line
     (half_tokens page.context)) (without_half page.context))) same put)
 
--- and what stands there of a link
+-- and what is there of a link
 pub turn_put : {K : Type 0} (sink : Ghosts K) (a b c : K) (page : MarkdownPage) (p left : Pen) (front : List Token)
     (document : Document) (chosen : Document → List Token) → PutsTokens sink a page.pen b p front →
     document ≡ page.document.now → PutsTokens sink b p c left (chosen document) →

@@ -11,7 +11,7 @@ use Rattle.markdown_text.specs.declared.line.LineState.TheVariants.{Start, Digit
 use Rattle.markdown_text.specs.Lines.{is_among}
 use Rattle.markdown_text.specs.Tokens.{Token, Character, Markup, Tag, Destination, after_token, after_tokens, are_valid}
 use Rattle.markdown_text.specs.Tokens.{is_valid}
-use Rattle.markdown_text.proofs.ReadLemmas.{are_valid-append, read_back}
+use Rattle.markdown_text.proofs.Public.{are_valid-append, read_back}
 use Rattle.plain_doc.specs.declared.document.Document.{Document}
 use Rattle.view_paths.specs.Events.{Event, Turn, Leaf, Open, Close, events_up_to, turns}
 use Rattle.view_paths.specs.Events.{Tag as PathTag}
@@ -20,7 +20,7 @@ use Rattle.view_places.specs.declared.element.Element.{Element}
 use Rattle.view_places.specs.declared.glyph.Glyph.{Glyph}
 use Rattle.view_places.specs.Same.{same}
 use Rattle.glyph_units.specs.Glyphs.{unit_in}
-use Rattle.glyph_units.specs.Units.{half_text, unit_text}
+use Rattle.glyph_units.specs.Units.{unit_text}
 use Rattle.markdown_page.specs.declared.marks.Mark.{Mark}
 use Rattle.markdown_page.specs.declared.marks.Mark.TheVariants as mark
 use Rattle.markdown_page.specs.declared.marks.TagName.{TagName}
@@ -41,9 +41,10 @@ use Rattle.markdown_page.specs.Pages.{turn_pieces, without_half}
 use Rattle.markdown_page.specs.Pieces.{characters, given, markup, marks_text, other_pieces, piece_tokens, pieces_tokens, rule_text}
 use Rattle.markdown_page.specs.Shape.{Places, all_shaped}
 use Rattle.markdown_page.specs.Laws.{PagesAreReadBack}
-use Rattle.doc_bits.proofs.TestLemmas.{and_true, and_first, and_second}
+use Rattle.doc_bits.proofs.Public.{and_true, and_first, and_second}
+use Rattle.text_codes.specs.Halves.{half_text}
 
--- ---- tokens that are right wherever they stand
+-- ---- tokens that are right wherever they are
 
 abbrev is_safe_code : ℕ → Bool
 is_safe_code code = not (is_among (codes "\\&<(") code)
@@ -174,7 +175,7 @@ safe-pieces pieces =
 
 -- ---- events
 
--- tokens that are right wherever they stand
+-- tokens that are right wherever they are
 abbrev AreValid : List Token → Type 0
 AreValid tokens = (line : LineState) → are_valid line tokens ≡ true
 
@@ -206,7 +207,7 @@ right-front : (address : Option (List ℕ)) → AreValid (front_tokens address)
 right-front None = λ line. refl
 right-front (Some url) = λ line. refl
 
--- a destination stands behind a bracket
+-- a destination is behind a bracket
 right_end : (line : LineState) (url : List ℕ) → are_valid line (Markup 93 ∷ Destination url ∷ []) ≡ true
 right_end Start url = refl
 right_end Digits url = refl

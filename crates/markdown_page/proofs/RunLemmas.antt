@@ -5,7 +5,7 @@ use Rattle.std.specs.Prelude.{codes, filter, get_or, if◌then◌else◌, slice_
 use Rattle.std.specs.Char.{IsScalar}
 use Rattle.std.specs.List.{All, list_any}
 use Rattle.std.proofs.lemmas.List.{append-nil, drop_more, get_or-drop, get_or-take, map-append, take_more}
-use Rattle.std.proofs.lemmas.List.Elements.{All-drop, All-from_get_or, All-head, All-tail, All-take}
+use Rattle.std.proofs.lemmas.List.Elements.{All-from_get_or, All-head, All-tail}
 use Rattle.std.proofs.lemmas.List.Folds.{list_any-append}
 use Rattle.std.proofs.lemmas.Option.{slice_get-get_or}
 use Rattle.std.proofs.Math.Seq.{take-add}
@@ -25,8 +25,7 @@ use Rattle.view_places.specs.declared.glyph.Glyph.{Glyph}
 use Rattle.view_places.specs.declared.glyph.Glyph.TheVariants.{Unit}
 use Rattle.view_places.specs.Same.{same as same_element}
 use Rattle.glyph_units.specs.Glyphs.{leaves, unit_place, unit_places}
-use Rattle.glyph_units.proofs.RunLemmas.{last-on, leaves-on}
-use Rattle.glyph_units.proofs.ScalarLemmas.{scalar_half, scalar_text}
+use Rattle.glyph_units.proofs.Public.{last-on, leaves-on, scalar_half, scalar_text}
 use Rattle.markdown_page.specs.declared.context.Context.{Context}
 use Rattle.markdown_page.specs.declared.context.Seam.{Seam}
 use Rattle.markdown_page.specs.declared.context.Seam.TheVariants.{Other, Word, Closed}
@@ -44,14 +43,7 @@ use Rattle.markdown_page.specs.Shape.{Places, all_shaped, inner_kind, is_from_no
 use Rattle.markdown_page.specs.Shape.{shown_glyph}
 use Rattle.markdown_page.proofs.PutLemmas.{places_then, puts_as}
 use Rattle.markdown_page.proofs.TokenLemmas.{tokens_put}
-
-pub and_first : (a b : Bool) → (a && b) ≡ true → a ≡ true
-and_first true b e = refl
-and_first false b e = e
-
-pub and_second : (a b : Bool) → (a && b) ≡ true → b ≡ true
-and_second true b e = e
-and_second false b e = absurd (cc (e))
+use Rattle.doc_bits.proofs.Public.{and_first, and_second, not_true}
 
 or_first : (a b : Bool) → (a || b) ≡ false → a ≡ false
 or_first true b e = absurd (cc (e))
@@ -61,20 +53,7 @@ or_second : (a b : Bool) → (a || b) ≡ false → b ≡ false
 or_second true b e = absurd (cc (e))
 or_second false b e = e
 
-not_off : (b : Bool) → not b ≡ true → b ≡ false
-not_off true e = absurd (cc (e))
-not_off false e = refl
-
 -- ---- ranges
-
-pub no_units : (units : List ℕ) → length units ≡ 0 → units ≡ []
-no_units [] none = refl
-no_units (unit ∷ units) none = absurd (omega (arith, none))
-
-pub one_range : (units : List ℕ) (at : ℕ) → at < length units → slice_range units at (at + 1) ≡ slice_index units at ∷ []
-one_range units at within =
-    let one : at + 1 - at ≡ 1 = omega arith in
-    ap (λ (n : ℕ). take n (drop at units)) one ∙ ap (take 1) (drop_more units at 0 within)
 
 pub range_next : (units : List ℕ) (at end : ℕ) → at < length units → at < end → slice_range units at end ≡ slice_index
     units at ∷ slice_range units (at + 1) end
@@ -93,9 +72,6 @@ places_more path units at end ahead =
     sym (map-append {B = Place Element Glyph} (unit_place path) (take at units) (slice_range units at end))
     ∙ ap (unit_places path) (front_range units at end ahead)
 
-pub range_scalars : (units : List ℕ) (from until : ℕ) → All IsScalar units → All IsScalar (slice_range units from until)
-range_scalars units from until all = All-take IsScalar (until - from) (drop from units) (All-drop IsScalar from units all)
-
 pub range_plain : (in_emphasis space : Bool) (units : List ℕ) (from until : ℕ) → until ≤ length units → ((k : ℕ) → from < k
     → k < until → goes_on in_emphasis space (slice_index units k) ≡ true) → All IsPlain (slice_range units (from + 1) until)
 range_plain in_emphasis space units from until within are =
@@ -107,7 +83,7 @@ range_plain in_emphasis space units from until within are =
     (and_first (is_plain unit) (not in_emphasis || (if space then is_white unit else not (is_white unit))) (are (from + 1 + i)
     (omega arith) (omega (arith, inside)))))
 
--- ---- the elements that a unit stands in
+-- ---- the elements that a unit is in
 
 pub emphasis_next : (path : List Element) (i : ℕ) (element : Option Element) → i < length path → has_emphasis (take i path)
     ≡ false → element ≡ slice_get path i → is_emphasis_in element ≡ false → has_emphasis (take (i + 1) path) ≡ false
@@ -160,10 +136,10 @@ within_is Colon e = absurd (cc (e))
 
 not_special : (code : ℕ) → is_plain code ≡ true → is_special Within code ≡ false
 not_special code plain =
-    not_off (is_special Within code) (and_first (not (is_special Within code)) (not (code == 58)) plain)
+    not_true (is_special Within code) (and_first (not (is_special Within code)) (not (code == 58)) plain)
 
 no_colon : (code : ℕ) → is_plain code ≡ true → (code == 58) ≡ false
-no_colon code plain = not_off (code == 58) (and_second (not (is_special Within code)) (not (code == 58)) plain)
+no_colon code plain = not_true (code == 58) (and_second (not (is_special Within code)) (not (code == 58)) plain)
 
 either_same : (b : Bool) (none : Option (List ℕ)) → (if b then none else none) ≡ none
 either_same true none = refl
@@ -314,7 +290,8 @@ open_seam : (line : LineState) (context : Context) → is_open line context ≡ 
     then Word else Other)
 open_seam line context clear =
     let more = and_second (is_within line) (is_none context.half && not (is_closed context.seam)) clear in
-    seam_is context.seam (not_off (is_closed context.seam) (and_second (is_none context.half) (not (is_closed context.seam))
+    seam_is context.seam (not_true (is_closed context.seam) (and_second (is_none context.half) (not (is_closed
+    context.seam))
     more))
 
 state_open : (page : MarkdownPage) → is_open page.pen.line page.context ≡ true → state_in page ≡ within_line
@@ -402,7 +379,7 @@ some_put sink a b c page mid left to in_emphasis space units from end none shown
     k) (omega arith) (omega (arith, inside))))
     ∙ sym there in
     let shape : all_shaped (unit_places to rest) ≡ unit_places mid.path rest =
-    unit_shaped to mid.path rest (not_off (is_from_note (inner_kind to)) shown) same in
+    unit_shaped to mid.path rest (not_true (is_from_note (inner_kind to)) shown) same in
     let other : PutsPlaces sink b mid c left (unit_places to rest) =
     puts_as sink b c mid left (leaves mid.path rest) (events_up_to same_element mid.path (all_shaped (unit_places to rest)))
     mid.path (last_path mid.path (all_shaped (unit_places to rest)))

@@ -8,14 +8,14 @@ use Rattle.std.proofs.lemmas.List.{append-nil, map-append, take_more}
 use Rattle.doc_outer.specs.declared.sink.Sink.{Ghosts}
 use Rattle.page_out.specs.declared.page.Page.{Page}
 use Rattle.page_out.specs.Printed.{Prints}
-use Rattle.page_out.proofs.PrintLemmas.{put_none, put_then, three_put}
+use Rattle.page_out.proofs.Public.{put_none, put_then, three_put}
 use Rattle.markdown_text.specs.declared.line.LineState.{LineState}
 use Rattle.markdown_text.specs.Lines.{after_character, after_markups, after_tag}
 use Rattle.markdown_text.specs.declared.line.LineState.TheVariants.{Within}
 use Rattle.markdown_text.specs.Tokens.{Token, Character, Markup, Tag, Destination, after_tokens, destination_text, escaped}
 use Rattle.markdown_text.specs.Tokens.{escaped_by, printed_from}
-use Rattle.markdown_text.proofs.ReadLemmas.{after_tokens-append, after_tokens-markup, printed_from-append}
-use Rattle.markdown_text.proofs.ReadLemmas.{printed_from-markup}
+use Rattle.markdown_text.proofs.Public.{after_tokens-append, after_tokens-markup, printed_from-append}
+use Rattle.markdown_text.proofs.Public.{printed_from-markup}
 use Rattle.markdown_page.specs.declared.pen.Pen.{Pen}
 use Rattle.markdown_page.specs.Pieces.{characters, markup, marks_text}
 use Rattle.markdown_page.specs.declared.marks.Mark.{Mark}

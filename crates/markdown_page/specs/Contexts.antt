@@ -1,4 +1,4 @@
--- What stands before a place of a page, besides the line: behind characters, and behind elements that are opened and
+-- What is before a place of a page, besides the line: behind characters, and behind elements that are opened and
 -- closed.
 use Rattle.std.specs.Prelude.{ℕ, ◌+◌, ◌-◌, ◌==◌, nat_le, nat_lt, Bool, true, false, not, ◌&&◌, ◌||◌, Option, None}
 use Rattle.std.specs.Prelude.{List, [], ◌∷◌, if◌then◌else◌}

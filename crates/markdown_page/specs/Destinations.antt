@@ -9,7 +9,7 @@ use Rattle.view_places.specs.declared.element.Link.{Link}
 use Rattle.link_targets.specs.Links.{instruction_of, url_in}
 use Rattle.markdown_text.specs.Tokens.{Token, Markup, Destination}
 
--- a number sign stands first
+-- a number sign is first
 abbrev pub is_local : List ℕ → Bool
 is_local [] = false
 is_local (code ∷ url) = code == 35
@@ -21,7 +21,7 @@ address_in (Some url) = if is_local url then None else Some url
 abbrev pub address_of : Document → Link → Option (List ℕ)
 address_of document link = address_in (url_in (instruction_of document link))
 
--- what stands before the text of a link, and behind it
+-- what is before the text of a link, and behind it
 abbrev pub front_tokens : Option (List ℕ) → List Token
 front_tokens None = []
 front_tokens (Some url) = Markup 91 ∷ []

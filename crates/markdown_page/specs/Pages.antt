@@ -10,7 +10,7 @@ use Rattle.view_places.specs.declared.element.Element.{Element}
 use Rattle.view_places.specs.declared.glyph.Glyph.{Glyph}
 use Rattle.view_places.specs.Same.{same}
 use Rattle.glyph_units.specs.Glyphs.{unit_in}
-use Rattle.glyph_units.specs.Units.{half_text, unit_half, unit_text}
+use Rattle.glyph_units.specs.Units.{unit_half, unit_text}
 use Rattle.markdown_page.specs.declared.context.Seam.{Seam}
 use Rattle.markdown_page.specs.declared.context.Seam.TheVariants.{Other}
 use Rattle.markdown_page.specs.declared.context.CellLine.TheVariants.{Outside}
@@ -23,13 +23,14 @@ use Rattle.markdown_page.specs.Destinations.{link_tokens}
 use Rattle.markdown_page.specs.Contexts.{character_seam, closed, cut, is_parted, opened}
 use Rattle.markdown_page.specs.Pieces.{closing, given, opening, other_pieces, piece_tokens, pieces_tokens}
 use Rattle.markdown_page.specs.Shape.{Places, all_shaped}
+use Rattle.text_codes.specs.Halves.{half_text}
 
 abbrev pub Events : Type 0
 Events = List (Event Element Glyph)
 
 -- ---- characters
 
--- a character; where it goes on with a word behind an emphasis, a comment stands between
+-- a character; where it goes on with a word behind an emphasis, a comment is between
 abbrev pub character_tokens : Seam → ℕ → List Token
 character_tokens seam code = piece_tokens (given (is_parted seam code) (Insert tag.Comment)) ++ Character code ∷ []
 
@@ -43,7 +44,7 @@ text_seam seam (code ∷ text) = text_seam (character_seam code) text
 
 -- ---- events
 
--- what stands before a place of a page of a document
+-- what is before a place of a page of a document
 pub record State : Type 0 where
   pub document : Document
   pub line : LineState
@@ -125,12 +126,12 @@ event_context context (Leaf path glyph) = glyph_shown context (unit_in glyph)
 abbrev pub behind_event : State → Event Element Glyph → State
 behind_event state event = behind_tokens state (event_tokens state event) (event_context state.context event)
 
--- events behind others: so the halves of a character are one where nothing stands between them
+-- events behind others: so the halves of a character are one where nothing is between them
 unfoldable pub tokens_of : State → Events → List Token
 tokens_of state [] = []
 tokens_of state (event ∷ events) = event_tokens state event ++ tokens_of (behind_event state event) events
 
--- what stands behind them
+-- what is behind them
 unfoldable pub state_of : State → Events → State
 state_of state [] = state
 state_of state (event ∷ events) = state_of (behind_event state event) events

@@ -86,7 +86,7 @@ given there piece = if there then piece else Nothing
 abbrev pub indent : Context → Piece
 indent context = given context.in_note (given (not context.begun) (Write mark.Indent))
 
--- an item stands behind the markers of those that it stands in, where its line has none of theirs
+-- an item is behind the markers of those that it is in, where its line has none of theirs
 abbrev pub item_front : Context → Pieces
 item_front context = three (indent context) (given (not context.begun) (Levels context.levels)) (Write mark.Item)
 
@@ -102,7 +102,7 @@ emphasis context mark = two (comment context.seam) (Write mark)
 abbrev pub numbered : ℕ → Mark → Pieces
 numbered number end = three (Write mark.NoteFront) (Number number) (Write end)
 
--- cells beyond the columns of a table stand in the last one, each on its own line
+-- cells beyond the columns of a table are in the last one, each on its own line
 abbrev pub cell_front : Context → Piece
 cell_front context =
     if context.cells == 0 then Write mark.FirstCell else

@@ -31,7 +31,7 @@ abbrev pub is_emphasis_in : Option Element → Bool
 is_emphasis_in None = false
 is_emphasis_in (Some element) = is_emphasis (kind_of element)
 
--- white space stands outside of an element
+-- white space is outside of an element
 abbrev pub has_emphasis : List Element → Bool
 has_emphasis path = list_any (λ element. is_emphasis (kind_of element)) path
 

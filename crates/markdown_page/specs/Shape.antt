@@ -77,7 +77,7 @@ is_to_note Emphasis = false
 is_to_note Tagged = false
 is_to_note Unmarked = false
 
--- what a place stands in by its innermost element: a reference to a note has no format
+-- what a place is in by its innermost element: a reference to a note has no format
 abbrev pub keeps : Kind → Bool → Kind → Bool
 keeps inner space Block = true
 keeps inner space ToNote = true
@@ -89,7 +89,7 @@ keeps inner space Unmarked = false
 abbrev pub shaped_path : Option Glyph → List Element → List Element
 shaped_path glyph path = filter (λ element. keeps (inner_kind path) (is_space glyph) (kind_of element)) path
 
--- the number of a note stands in the markup of the note, and of references to it
+-- the number of a note is in the markup of the note, and of references to it
 abbrev pub without_number : Glyph → Option Glyph
 without_number (Unit unit) = Some (Unit unit)
 without_number Tab = Some Tab

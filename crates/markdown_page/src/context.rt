@@ -1,4 +1,4 @@
-// What stands before a place of a page, besides the line.
+// What is before a place of a page, besides the line.
 ghost use Rattle.std.specs.Prelude.{◌≡◌, false, None};
 ghost use Rattle.markdown_page.specs.Contexts.{cell_closed, cell_opened, character_seam, closed, cut, emphasis_closed};
 ghost use Rattle.markdown_page.specs.Contexts.{is_parted, is_word, item_closed, item_opened, line_begun, more_cells};
@@ -31,7 +31,7 @@ pub enum CellLine {
     Next,
 }
 
-/// What stands before a place.
+/// What is before a place.
 #[derive(Clone, Copy)]
 pub struct Context {
     /// The first half of a character, which waits for the other one.
@@ -68,10 +68,10 @@ impl Context {
     }
 }
 
-/// The most columns of a table that are told apart.
+/// The most columns of a table that are distinguished.
 pub(crate) const MAX_COLUMNS: usize = 255;
 
-/// The most items, one in another, that are told apart.
+/// The most items, one in another, that are distinguished.
 pub(crate) const MAX_LEVELS: usize = 255;
 
 impl Context {

@@ -47,7 +47,7 @@ fn address_in(instruction: &[u16]) -> Option<LinkText<'_>>
     }
 }
 
-/// Whether a number sign stands first.
+/// Whether a number sign is first.
 fn is_local(url: LinkText<'_>) -> bool
     ensures { result ≡ is_local url.entry }
 {

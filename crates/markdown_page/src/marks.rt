@@ -23,7 +23,7 @@ pub enum Mark {
     BlockEnd,
     /// Before a line inside of a note.
     Indent,
-    /// Before an item, for each item that it stands in.
+    /// Before an item, for each item that it is in.
     Level,
     Item,
     Heading1,
@@ -44,7 +44,7 @@ pub enum TagName {
     Lowered,
     LoweredEnd,
     LineBreak,
-    /// An empty comment: it parts an emphasis from a word that it stands in, and from another one.
+    /// An empty comment: it parts an emphasis from a word that it is in, and from another one.
     Comment,
 }
 
@@ -79,7 +79,7 @@ pub(crate) fn mark_text(mark: Mark) -> &'static [u8]
     }
 }
 
-/// What stands between the angles of a tag.
+/// What is between the angles of a tag.
 pub(crate) fn tag_text(tag: TagName) -> &'static [u8]
     ensures is { result.now ≡ tag_text tag }
     ensures ascii { IsAscii result.now }

@@ -156,7 +156,7 @@ impl Pen {
         self.put_markup(out, mark_text(mark));
     }
 
-    /// Puts what stands for what is not shown, as characters.
+    /// Puts what represents what is not shown, as characters.
     fn put_sign<K: Sink>(&mut self, out: &mut K, text: &[u8])
         requires { IsAscii text.now }
         ensures { PutsTokens K.Sink out.old self.old out.new self.new (characters text.now) }
@@ -184,14 +184,14 @@ impl Pen {
         }
     }
 
-    /// Puts what stands before the text of a link.
+    /// Puts what is before the text of a link.
     pub(crate) fn put_link_front<K: Sink>(&mut self, out: &mut K)
         ensures { PutsTokens K.Sink out.old self.old out.new self.new (Markup 91 ∷ []) }
     {
         self.put_markup(out, b"[");
     }
 
-    /// Puts what stands behind it.
+    /// Puts what is behind it.
     pub(crate) fn put_link_end<K: Sink>(&mut self, out: &mut K, url: LinkText<'_>)
         ensures { PutsTokens K.Sink out.old self.old out.new self.new (Markup 93 ∷ Destination url.entry ∷ []) }
     {

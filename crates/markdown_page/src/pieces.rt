@@ -21,13 +21,13 @@ pub enum Piece {
     Tab,
     /// A number, as markup.
     Number(usize),
-    /// What stands before an item in so many others.
+    /// What is before an item in so many others.
     Levels(usize),
     /// The line below the heads of so many columns.
     Rule(usize),
-    /// What stands for a picture.
+    /// What represents a picture.
     Picture,
-    /// What stands for an object.
+    /// What represents an object.
     Object,
 }
 
@@ -112,7 +112,7 @@ pub(crate) fn opening(context: &Context, element: Element) -> Pieces
     }
 }
 
-/// What stands before a line of a note that has no marker.
+/// What is before a line of a note that has no marker.
 fn indent(context: &Context) -> Piece
     ensures { result ≡ indent context.now }
 {

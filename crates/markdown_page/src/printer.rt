@@ -10,7 +10,7 @@ ghost use Rattle.view_paths.specs.Events.{closes, opens, turns, Turn, Open, Clos
 ghost use Rattle.view_paths.specs.Turns.{IsFront};
 ghost use Rattle.view_places.specs.Same.{same};
 ghost use Rattle.glyph_units.specs.Glyphs.{leaves, unit_in, unit_places};
-ghost use Rattle.glyph_units.specs.Units.{first_half, first_text, unit_half, unit_text};
+ghost use Rattle.glyph_units.specs.Units.{first_text, unit_half, unit_text};
 ghost use Rattle.markdown_page.specs.Pages.{closing_tokens, fresh, glyph_shown, glyph_tokens, half_tokens};
 ghost use Rattle.std.specs.List.{All};
 ghost use Rattle.markdown_page.specs.Runs.{IsPlain, has_emphasis, is_open};
@@ -19,6 +19,7 @@ ghost use Rattle.markdown_page.specs.Destinations.{address_at, end_tokens, front
 ghost use Rattle.markdown_page.specs.Pages.{text_seam, text_tokens, turn_tokens, turned};
 ghost use Rattle.markdown_page.specs.Pages.{unit_shown, unit_tokens, without_half};
 ghost use Rattle.markdown_page.specs.Printed.{PutsEvents, PutsPlaces, PutsTokens, state_in};
+ghost use Rattle.text_codes.specs.Halves.{first_half};
 
 use crate::context::{Context, character_seam};
 use crate::destinations::address_at;
@@ -29,11 +30,12 @@ use crate::runs::{is_open, run_end};
 use crate::shape::{has_emphasis, inner_kind, is_from_note, is_white, shaped_glyph, shaped_path};
 use doc_columns::ColumnDocument;
 use doc_outer::{OutBlock, Sink, SinkFailed};
-use glyph_units::{REPLACEMENT, alone, is_high, pair, unit_in};
+use glyph_units::{REPLACEMENT, alone, unit_in};
+use text_codes::{is_high, pair};
 use view_paths::Path;
 use view_places::{Element, Glyph};
 
-/// A page on its way to a sink: the elements that are open, and what stands before the next place.
+/// A page on its way to a sink: the elements that are open, and what is before the next place.
 #[derive(Drop)]
 pub struct MarkdownPage<'a> {
     pub pen: Pen,
@@ -219,7 +221,7 @@ impl<'a> MarkdownPage<'a> {
         self.put_link_front(out, element);
     }
 
-    /// Puts what stands before the text of a link that leads somewhere.
+    /// Puts what is before the text of a link that leads somewhere.
     fn put_link_front<K: Sink>(&mut self, out: &mut K, element: Element)
         ensures puts { PutsTokens K.Sink out.old self.old.pen out.new self.new.pen
             (front_tokens (address_at self.old.document.now element)) }
@@ -233,7 +235,7 @@ impl<'a> MarkdownPage<'a> {
         }
     }
 
-    /// Puts what stands behind the text of a link that leads somewhere.
+    /// Puts what is behind the text of a link that leads somewhere.
     fn put_link_end<K: Sink>(&mut self, out: &mut K, element: Element)
         ensures puts { PutsTokens K.Sink out.old self.old.pen out.new self.new.pen
             (end_tokens (address_at self.old.document.now element)) }

@@ -7,7 +7,7 @@ use crate::context::{Context, Seam};
 use crate::shape::is_white;
 use markdown_text::LineState;
 
-/// Whether a line and what stands before a place let units be written as they are.
+/// Whether a line and what is before a place let units be written as they are.
 pub(crate) fn is_open(line: LineState, context: &Context) -> bool
     ensures { result ≡ is_open line context.now }
 {

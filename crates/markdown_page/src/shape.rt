@@ -8,7 +8,7 @@ ghost use Rattle.markdown_page.specs.Shape.{shaped_glyph, shaped_path, without_n
 use view_paths::{MAX_DEPTH, Path};
 use view_places::{Element, Glyph};
 
-/// What an element is to what stands in it.
+/// What an element is to what is in it.
 #[derive(Clone, Copy)]
 pub enum Kind {
     /// It is no format.
@@ -24,7 +24,7 @@ pub enum Kind {
     Unmarked,
 }
 
-/// What an element is to what stands in it.
+/// What an element is to what is in it.
 fn kind_of(element: Element) -> Kind
     ensures { result ≡ kind_of element }
 {
@@ -105,7 +105,7 @@ fn is_to_note(kind: Kind) -> bool
     }
 }
 
-/// The elements that a glyph stands in.
+/// The elements that a glyph is in.
 pub(crate) fn shaped_path(glyph: Option<Glyph>, to: &Path<Element>) -> Path<Element>
     ensures { result ≡ shaped_path glyph to.now }
 {
@@ -133,7 +133,7 @@ fn push_kept(path: &mut Path<Element>, element: Option<Element>, inner: Kind, sp
     }
 }
 
-/// Whether white space stands outside of an element of a path.
+/// Whether white space is outside of an element of a path.
 pub(crate) fn has_emphasis(path: &Path<Element>) -> bool
     ensures { result ≡ false → has_emphasis path.now ≡ false }
 {
@@ -145,7 +145,7 @@ pub(crate) fn has_emphasis(path: &Path<Element>) -> bool
     false
 }
 
-/// Whether it stands outside of an element.
+/// Whether it is outside of an element.
 fn is_emphasis_in(element: Option<Element>) -> bool
     ensures { result ≡ is_emphasis_in element }
 {

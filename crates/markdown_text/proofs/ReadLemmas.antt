@@ -14,7 +14,7 @@ use Rattle.markdown_text.specs.Tokens.{destination_code, destination_text, escap
 use Rattle.markdown_text.specs.Tokens.{is_destination_markup, is_valid, printed_from, printed_token, reference}
 use Rattle.markdown_text.specs.Reading.{In_text, In_tag, In_destination, all_as_read, as_read, read_from}
 use Rattle.markdown_text.specs.Laws.{MarkdownIsReadBack, TextsAreReadBack}
-use Rattle.doc_bits.proofs.TestLemmas.{and_true, and_first, and_second, not_true}
+use Rattle.doc_bits.proofs.Public.{and_true, and_first, and_second, not_true}
 
 -- none of four
 record NoneOf (a b c d : Bool) : Type 0 where

@@ -6,7 +6,7 @@ use Rattle.markdown_text.specs.declared.line.LineState.{LineState}
 use Rattle.markdown_text.specs.declared.line.LineState.TheVariants.{Start, Digits, Within, Bracket, Colon}
 use Rattle.markdown_text.specs.Lines.{is_among, is_special, after_character, after_markup, after_tag}
 
--- a character of the document, a character of markup, what stands between < and >, or the destination of a link
+-- a character of the document, a character of markup, what is between < and >, or the destination of a link
 pub data Token : Type 0 where
   Character : ℕ → Token
   Markup : ℕ → Token
@@ -83,7 +83,7 @@ is_bracket Within = false
 is_bracket Bracket = true
 is_bracket Colon = false
 
--- markup begins no escape, reference, tag or destination by itself, a tag has no > of its own, and a destination stands
+-- markup begins no escape, reference, tag or destination by itself, a tag has no > of its own, and a destination is
 -- behind a bracket
 abbrev pub is_valid : LineState → Token → Bool
 is_valid state (Character code) = true

@@ -7,7 +7,7 @@ ghost use Rattle.markdown_text.specs.Tokens.{break_reference, is_destination_mar
 
 const COLON: u32 = 0x3A;
 
-/// What stands before a place in its line: it decides which characters are markup there.
+/// What is before a place in its line: it decides which characters are markup there.
 #[derive(Clone, Copy)]
 pub enum LineState {
     /// Nothing but markup, so that a block may begin.
@@ -23,7 +23,7 @@ pub enum LineState {
 }
 
 impl LineState {
-    /// The reference that stands for a character there, in ASCII; none where the character is written, behind a
+    /// The reference that represents a character there, in ASCII; none where the character is written, behind a
     /// reverse solidus where it is special.
     pub fn reference(self, code: u32) -> Option<&'static [u8]>
         ensures is { option_map (λ text. text.now) result ≡ reference self code }
@@ -181,7 +181,7 @@ fn break_reference(code: u32) -> &'static [u8]
     if code == 0x0A { b"&#10;" } else { b"&#13;" }
 }
 
-/// Whether a character stands behind a reverse solidus in the destination of a link.
+/// Whether a character is behind a reverse solidus in the destination of a link.
 pub fn is_escaped_in_destination(code: u32) -> bool
     ensures { result ≡ is_destination_markup code }
 {

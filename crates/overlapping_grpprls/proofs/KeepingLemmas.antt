@@ -14,13 +14,13 @@ use Rattle.std.proofs.lemmas.List.Concat.{flat_map-append}
 use Rattle.std.proofs.lemmas.Option.{slice_get_within, get_or_from_slice_get}
 use Rattle.std.proofs.lemmas.List.Elements.{All-nil, All-cons, All-head, All-tail, All-push, All-map, All-filter}
 use Rattle.std.proofs.lemmas.List.Elements.{All-weaker, filter-append}
-use Rattle.doc_bits.proofs.ListLemmas.{All_at}
+use Rattle.doc_bits.proofs.Public.{All_at}
 use Rattle.sprm_table.specs.Codes.{is_held, class_of, is_property, is_clear, IsRefusedIn}
 use Rattle.sprm_table.specs.Sprm.{Prl, IsPrl, spelling, SpellsSprmList, IsAcceptedList}
 use Rattle.prop_map.specs.Settings.{Properties}
 use Rattle.prop_map.specs.Formed.{IsPropertyMap}
 use Rattle.prop_map.specs.Acting.{is_kept, sets_code, left_by, value_after, ArePropertiesAfter}
-use Rattle.prop_map.proofs.ActingLemmas.{value_after-append}
+use Rattle.prop_map.proofs.Public.{value_after-append}
 use Rattle.overlapping_grpprls.specs.declared.ranges.ListRange.{ListRange}
 use Rattle.overlapping_grpprls.specs.declared.walk.WalkEntry.{WalkEntry}
 use Rattle.overlapping_grpprls.specs.Walks.{prl_of, list_at, IsEntry, ComesBy}
@@ -62,7 +62,7 @@ one_behind stream from xs entry order =
     ap (λ b. map (prl_of stream) (cond b (entry ∷ []) [])) (le-leb from entry.at order) in
     kept_from-append stream from xs (entry ∷ []) ∙ ap (λ l. kept_from stream from xs ++ l) one
 
--- one that stands before the place
+-- one that is before the place
 pub none_behind : (stream : List ℕ) (from : ℕ) (xs : List WalkEntry) (entry : WalkEntry) → entry.at < from →
     kept_from stream from (xs ++ entry ∷ []) ≡ kept_from stream from xs
 none_behind stream from xs entry before =
@@ -74,7 +74,7 @@ none_behind stream from xs entry before =
     kept_from-append stream from xs (entry ∷ []) ∙ (ap (λ l. kept_from stream from xs ++ l) none
     ∙ append-nil (kept_from stream from xs))
 
--- all stand before the place
+-- all are before the place
 none_from : (stream : List ℕ) (from : ℕ) (xs : List WalkEntry) → All (λ (e : WalkEntry). e.at < from) xs →
     kept_from stream from xs ≡ []
 none_from stream from [] all = refl

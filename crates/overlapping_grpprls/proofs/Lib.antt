@@ -1,2 +1,2 @@
-pub mod WalkLemmas
-pub mod KeepingLemmas
+mod WalkLemmas
+mod KeepingLemmas

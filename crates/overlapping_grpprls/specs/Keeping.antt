@@ -26,7 +26,7 @@ IsWalkedMap stream groups walked = IsMadeBy (list_at stream walked.range) groups
 abbrev pub kept_from : List ℕ → ℕ → List WalkEntry → List Prl
 kept_from stream from kept = map (prl_of stream) (filter (λ entry. leb from entry.at) kept)
 
--- an entry that was kept stands before the place
+-- an entry that was kept is before the place
 pub record IsKeptEntry (stream : List ℕ) (groups at : ℕ) (entry : WalkEntry) : Type 0 where
   pub is : IsEntry stream groups entry.at entry
   pub before : entry.at < at
@@ -52,7 +52,7 @@ pub record IsForgotten (old : List WalkEntry) (code : ℕ) (rest : List WalkEntr
   pub is : rest ≡ front ++ back
   pub code_of : All (λ entry. entry.code.0 ≡ code) gone
 
--- an entry of the code stands there
+-- an entry of the code is there
 pub record HasCode (kept : List WalkEntry) (code number : ℕ) : Type 0 where
   pub entry : WalkEntry
   pub here : slice_get kept number ≡ Some entry

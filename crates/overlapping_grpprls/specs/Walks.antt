@@ -19,7 +19,7 @@ IsValidList stream groups range = IsAcceptedList (list_at stream range) groups
 abbrev pub prl_of : List ℕ → WalkEntry → Prl
 prl_of stream entry = (entry.code.0, slice_range stream entry.from entry.to)
 
--- the entry stands at the place, and is not refused
+-- the entry is at the place, and is not refused
 pub record IsEntry (stream : List ℕ) (groups at : ℕ) (entry : WalkEntry) : Type 0 where
   pub place : entry.at ≡ at
   pub here : IsPrlAt stream at entry.code.0 entry.from entry.to

@@ -1,4 +1,4 @@
-// Lists that lie over one another, judged at once.
+// Lists that lie over one another, checked at once.
 ghost use Rattle.std.specs.Prelude.{IfOk, OnOk};
 ghost use Rattle.std.specs.List.{All};
 ghost use Rattle.overlapping_grpprls.specs.Walks.{IsValidList, IsWalk};
@@ -41,7 +41,7 @@ pub fn right_lists(
     Ok(right)
 }
 
-/// Judges lists that lie over one another.
+/// Checks lists that lie over one another.
 fn check_group(
     alloc: Global,
     lists: &Lists<'_>,
@@ -68,7 +68,7 @@ fn check_group(
     Ok(())
 }
 
-/// Judges the lists that one walk comes by.
+/// Checks the lists that one walk comes by.
 fn check_walk(
     alloc: Global,
     lists: &Lists<'_>,
@@ -94,7 +94,7 @@ fn check_walk(
     Ok(())
 }
 
-/// Judges a list that may end where the walk is.
+/// Checks a list that may end where the walk is.
 fn check(
     lists: &Lists<'_>,
     end: End,

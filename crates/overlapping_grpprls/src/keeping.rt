@@ -1,4 +1,4 @@
-// The entries that a walk keeps: of each code the last, in the order in which they stand.
+// The entries that a walk keeps: of each code the last, in the order in which they are.
 ghost use Rattle.std.specs.Prelude.{◌≡◌, ◌++◌, ◌∷◌, [], ℕ, IfSome, IfOk, OnOk};
 ghost use Rattle.std.specs.List.{All, flat_map};
 ghost use Rattle.std.specs.FinMap.{empty};
@@ -117,7 +117,7 @@ fn bytes_from(
     Ok(bytes)
 }
 
-/// Appends the bytes of an entry that stands at a place or behind it.
+/// Appends the bytes of an entry that is at a place or behind it.
 fn push_entry(
     bytes: &mut Bytes,
     lists: &Lists<'_>,

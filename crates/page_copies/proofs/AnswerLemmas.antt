@@ -3,8 +3,8 @@ use Rattle.std.proofs.Common.{◌≡◌, inl, inr, ℕ, ◌+◌, ◌*◌, ◌<�
 use Rattle.std.proofs.Common.{slice_index}
 use Rattle.std.proofs.Common.{slice_range, refl, sym, ap, ◌∙◌, subst, arith}
 use Rattle.std.proofs.lemmas.List.{get_or-take}
-use Rattle.doc_bits.proofs.NumberLemmas.{number_at-same}
-use Rattle.sprm_table.proofs.SprmLemmas.{spells_end}
+use Rattle.doc_bits.proofs.Public.{number_at-same}
+use Rattle.sprm_table.proofs.Public.{spells_end}
 use Rattle.prl_skips.specs.Skips.{SkipsRefused}
 use Rattle.fkp_pages.specs.declared.kind.PageKind.{PageKind}
 use Rattle.fkp_pages.specs.declared.kind.PageKind.TheVariants.{Chpx, Papx}

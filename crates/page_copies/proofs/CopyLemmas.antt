@@ -5,20 +5,18 @@ use Rattle.std.proofs.Common.{slice_range, map, refl, sym, ap, ◌∙◌, subst,
 use Rattle.std.proofs.lemmas.Bool.{cases_lt}
 use Rattle.std.proofs.lemmas.List.{drop-drop}
 use borrow.Rule.Slice.PartMut.{put_mid}
-use Rattle.doc_bits.proofs.ListLemmas.{length-range, range_index}
+use Rattle.doc_bits.proofs.Public.{length-range, range_index}
 use Rattle.std.specs.List.{flat_map}
 use Rattle.sprm_table.specs.Sprm.{spelling}
-use Rattle.sprm_table.proofs.SprmLemmas.{spelt_unique}
+use Rattle.sprm_table.proofs.Public.{spelt_unique}
 use Rattle.prl_skips.specs.Skips.{skipped, SkipsRefused, SkipsOrStays, PutsSkipped}
-use Rattle.prl_skips.proofs.SkipLemmas.{skipped_again, accepted_skips}
-use Rattle.prl_skips.proofs.OneLemmas.{rest_one}
+use Rattle.prl_skips.proofs.Public.{skipped_again, accepted_skips, rest_one, range_same, front_same, drop_range}
+use Rattle.prl_skips.proofs.Public.{put_length, put_before, put_after, put_range}
 use Rattle.fkp_pages.specs.declared.kind.PageKind.{PageKind}
 use Rattle.fkp_pages.specs.Fkp.{page_count, entry_place, entry_byte, least_list}
 use Rattle.page_copies.specs.declared.places.ListPlace.{ListPlace}
 use Rattle.page_copies.specs.Places.{IsPlaceOf, HasListsApart}
 use Rattle.page_copies.specs.Copies.{SkipsList, IsCopyOf, SkipsRun}
-use Rattle.prl_skips.proofs.RangeLemmas.{range_same, front_same, drop_range, put_length}
-use Rattle.prl_skips.proofs.RangeLemmas.{put_before, put_after, put_range}
 use Rattle.page_copies.proofs.PlaceLemmas.{ChangesLists, place_by_at, clear_of, in_order, count_stays, place_stays}
 use Rattle.page_copies.proofs.PlaceLemmas.{place_stood, front_stays}
 
@@ -74,7 +72,7 @@ copied_none kind old = record {
   done = λ run p low is. absurd (omega arith);
 }
 
--- what stands in a range before the numbers that are put
+-- what is in a range before the numbers that are put
 range_at : (now new : List ℕ) (from to : ℕ) (mid : List ℕ) (place i : ℕ) → place ≤ length now → i < to - from →
     from + i < place → new ≡ take place now ++ (mid ++ drop to now) →
     slice_index (slice_range new from to) i ≡ slice_index (slice_range now from to) i
@@ -129,7 +127,7 @@ list_put kind run old mid p least size is same skips len =
       puts = subst (λ n. PutsSkipped old (put_mid from (p.to - from) old mid) (p.from + n) p.to) same puts;
     })
 
--- a list that stands apart from the one that is put stays as it is
+-- a list that is apart from the one that is put stays as it is
 apart_stays : (kind : PageKind) (now new : List ℕ) (run other : ℕ) (p q : ListPlace) → length now ≡ 512 →
     IsPlaceOf kind now run p → IsPlaceOf kind now other q → (p.to ≤ q.at) ⊎ (q.to ≤ p.at) →
     PutsSkipped now new (p.from + least_list kind) p.to → slice_range new q.from q.to ≡ slice_range now q.from q.to

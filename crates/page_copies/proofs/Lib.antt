@@ -1,7 +1,8 @@
-pub mod PlaceLemmas
-pub mod CopyLemmas
-pub mod AnswerLemmas
-pub mod NameLemmas
-pub mod PageLemmas
-pub mod ListLemmas
-pub mod OneLemmas
+pub mod Public
+mod PlaceLemmas
+mod CopyLemmas
+mod AnswerLemmas
+mod NameLemmas
+mod PageLemmas
+mod ListLemmas
+mod OneLemmas

@@ -5,7 +5,7 @@ use Rattle.prop_map.specs.declared.acting.Acted.{Acted}
 use Rattle.prop_map.specs.Settings.{Properties}
 use Rattle.prop_map.specs.Acting.{IsActedBy}
 use Rattle.prl_skips.specs.Skips.{SkipsOrStays, HoldsNoPictures}
-use Rattle.prl_skips.proofs.SkipLemmas.{act_skips}
+use Rattle.prl_skips.proofs.Public.{act_skips}
 use Rattle.fkp_pages.specs.declared.kind.PageKind.{PageKind}
 use Rattle.fkp_pages.specs.declared.kind.PageKind.TheVariants.{Chpx, Papx}
 use Rattle.fkp_pages.specs.declared.kind.RunAnswer.{RunAnswer}

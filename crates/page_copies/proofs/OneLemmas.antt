@@ -4,8 +4,7 @@ use Rattle.std.proofs.Common.{◌≡◌, inl, inr, ℕ, ◌+◌, ◌-◌, ◌*�
 use Rattle.std.proofs.Common.{slice_index, Option, Some, None, sym, ◌∙◌, arith}
 use Rattle.std.proofs.lemmas.Bool.{cases_lt, cases_eq}
 use Rattle.std.proofs.lemmas.List.{ext_get_or, take-append-drop}
-use Rattle.prl_skips.proofs.RangeLemmas.{byte_of_range}
-use Rattle.prl_skips.proofs.OneLemmas.{or_one}
+use Rattle.prl_skips.proofs.Public.{byte_of_range, or_one}
 use Rattle.fkp_pages.specs.declared.kind.PageKind.{PageKind}
 use Rattle.fkp_pages.specs.Fkp.{least_list}
 use Rattle.fkp_pages.specs.Bin.{page_at}

@@ -5,8 +5,8 @@ use Rattle.std.proofs.Common.{subst, arith}
 use Rattle.std.proofs.lemmas.Bool.{cases_lt}
 use Rattle.std.proofs.lemmas.List.{drop-drop}
 use borrow.Rule.Slice.PartMut.{put_mid}
-use Rattle.doc_bits.proofs.ListLemmas.{length-range}
-use Rattle.prl_skips.proofs.RangeLemmas.{range_same, put_length, put_before, put_after, put_range}
+use Rattle.doc_bits.proofs.Public.{length-range}
+use Rattle.prl_skips.proofs.Public.{range_same, put_length, put_before, put_after, put_range}
 use Rattle.fkp_pages.specs.declared.kind.PageKind.{PageKind}
 use Rattle.fkp_pages.specs.declared.kind.PageKind.TheVariants.{Chpx, Papx}
 use Rattle.fkp_pages.specs.Bin.{page_at}

@@ -1,4 +1,4 @@
--- Where lists stand in a page, and in one that differs in ranges of lists alone.
+-- Where lists are in a page, and in one that differs in ranges of lists alone.
 use Rattle.std.proofs.Common.{◌≡◌, inl, inr, ℕ, ◌+◌, ◌*◌, ◌<◌, ◌≤◌, ◌==◌, true, false, List, length}
 use Rattle.std.proofs.Common.{slice_index, refl, sym, ap, ◌∙◌, subst, arith}
 use Rattle.std.specs.Prelude.{if◌then◌else◌}
@@ -41,7 +41,7 @@ heads_same Papx old now at same =
       | false ↦ λ e. rw (first, e) (refl, refl)
     ] refl
 
--- a run's list stands at one place
+-- a run's list is at one place
 same_place : (one other : ListPlace) → one.at ≡ other.at → one.from ≡ other.from → one.to ≡ other.to → one ≡ other
 same_place one other a b c =
     let first : one ≡ record { at = other.at; from = one.from; to = one.to } =
@@ -64,7 +64,7 @@ pub place_one : (kind : PageKind) (page : List ℕ) (run : ℕ) (p q : ListPlace
     IsPlaceOf kind page run q → p ≡ q
 place_one kind page run p q a b = place_by_at kind page run run p q a b (a.at ∙ sym b.at)
 
--- each list of the page stands clear
+-- each list of the page is clear
 pub clear_of : (kind : PageKind) (page : List ℕ) (run : ℕ) (p : ListPlace) → HasListsApart kind page →
     run < page_count page → IsPlaceOf kind page run p → StandsClear kind page p
 clear_of kind page run p apart low is = elim (apart run low) [
@@ -72,7 +72,7 @@ clear_of kind page run p apart low is = elim (apart run low) [
   | inr has ↦ subst (StandsClear kind page) (place_one kind page run has.place p has.is is) has.clear
 ]
 
--- its head stands before it, and it ends before the count
+-- its head is before it, and it ends before the count
 pub record IsInOrder (kind : PageKind) (p : ListPlace) : Type 0 where
   pub head : p.at < p.from
   pub order : p.from + least_list kind ≤ p.to
@@ -121,7 +121,7 @@ head_outside kind old run p i apart low is from to other q there at =
 pub count_stays : (kind : PageKind) (old now : List ℕ) → ChangesLists kind old now → page_count now ≡ page_count old
 count_stays kind old now c = c.outside 511 (count_outside kind old)
 
--- the entries stand one after the other
+-- the entries are one after the other
 pub entry_low : (kind : PageKind) (page : List ℕ) (run : ℕ) → run < page_count page →
     entry_place kind page run < entry_place kind page (page_count page)
 entry_low Chpx page run low = omega arith
@@ -140,7 +140,7 @@ entry_stays kind old now run c apart low =
     ∙ c.outside (entry_place kind old run)
     (front_outside kind old (entry_place kind old run) apart (entry_low kind old run low))
 
--- a list stands where it stood
+-- a list is where it stood
 pub place_stays : (kind : PageKind) (old now : List ℕ) (run : ℕ) (p : ListPlace) → ChangesLists kind old now →
     HasListsApart kind old → run < page_count old → IsPlaceOf kind old run p → IsPlaceOf kind now run p
 place_stays kind old now run p c apart low is =
@@ -163,7 +163,7 @@ place_stays kind old now run p c apart low is =
       };
     }
 
--- and stood where it stands
+-- and stood where it is
 pub place_stood : (kind : PageKind) (old now : List ℕ) (run : ℕ) (p : ListPlace) → ChangesLists kind old now →
     HasListsApart kind old → run < page_count old → IsPlaceOf kind now run p → IsPlaceOf kind old run p
 place_stood kind old now run p c apart low is = elim (apart run low) [

@@ -1,4 +1,4 @@
--- A page with the codes that are not read skipped: its fcs, its entries, and where its lists stand are as they were.
+-- A page with the codes that are not read skipped: its fcs, its entries, and where its lists are are as they were.
 use Rattle.std.specs.Prelude.{◌≡◌, ◌⊎◌, ℕ, ◌+◌, ◌-◌, ◌<◌, List, length, take, drop, slice_index}
 use Rattle.std.specs.Prelude.{slice_range}
 use Rattle.prl_skips.specs.Skips.{SkipsOrStays, PutsSkipped}

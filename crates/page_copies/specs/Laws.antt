@@ -54,7 +54,7 @@ pub record ActsTheSame (kind : PageKind) (old new : List ℕ) : Type 0 where
 abbrev pub ListCopiesActTheSame : Type 0
 ListCopiesActTheSame = (kind : PageKind) (old new : List ℕ) → IsListCopy kind old new → ActsTheSame kind old new
 
--- a list whose copy is this one stands at the place, in a page that does not lie over the FIB
+-- a list whose copy is this one is at the place, in a page that does not lie over the FIB
 pub record HasListBefore (kind : PageKind) (bin wd : List ℕ) (fc : ℕ) (made : List ℕ) : Type 0 where
   pub list : List ℕ
   pub has : HasListAt kind bin wd fc list

@@ -10,7 +10,7 @@ use Rattle.page_copies.specs.Names.{names_page}
 use Rattle.page_copies.specs.Places.{HasListsApart}
 use Rattle.page_copies.specs.Copies.{IsCopyOf}
 
--- the codes of a page can be skipped: its last byte is a number of runs, and its lists stand apart
+-- the codes of a page can be skipped: its last byte is a number of runs, and its lists are apart
 abbrev pub IsSkippable : PageKind → List ℕ → Type 0
 IsSkippable kind page = HasRunCount kind page × HasListsApart kind page
 

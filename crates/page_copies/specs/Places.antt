@@ -1,4 +1,4 @@
--- Where the lists of a page stand.
+-- Where the lists of a page are.
 use Rattle.std.specs.Prelude.{◌≡◌, ◌⊎◌, ℕ, ◌*◌, ◌<◌, ◌≤◌, List}
 use Rattle.fkp_pages.specs.declared.kind.PageKind.{PageKind}
 use Rattle.fkp_pages.specs.Fkp.{page_count, entry_place, entry_byte, IsListOf}
@@ -8,7 +8,7 @@ use Rattle.page_copies.specs.declared.places.ListPlace.{ListPlace}
 abbrev pub HasNoList : PageKind → List ℕ → ℕ → Type 0
 HasNoList kind page run = (from to : ℕ) → ¬ (IsListOf kind page run from to)
 
--- the properties of the run stand there, with the list
+-- the properties of the run are there, with the list
 pub record IsPlaceOf (kind : PageKind) (page : List ℕ) (run : ℕ) (place : ListPlace) : Type 0 where
   pub at : place.at ≡ 2 * entry_byte kind page run
   pub list : IsListOf kind page run place.from place.to
@@ -17,16 +17,16 @@ pub record IsPlaceOf (kind : PageKind) (page : List ℕ) (run : ℕ) (place : Li
 abbrev pub StandApart : ListPlace → ListPlace → Type 0
 StandApart one other = (one.at ≡ other.at) ⊎ ((one.to ≤ other.at) ⊎ (other.to ≤ one.at))
 
--- the list stands so to that of a run
+-- the list is so to that of a run
 abbrev pub IsApartFrom : PageKind → List ℕ → ListPlace → ℕ → Type 0
 IsApartFrom kind page place run = (other : ListPlace) → IsPlaceOf kind page run other → StandApart place other
 
--- a list stands behind the entries, and so to those of all runs
+-- a list is behind the entries, and so to those of all runs
 pub record StandsClear (kind : PageKind) (page : List ℕ) (place : ListPlace) : Type 0 where
   pub behind : entry_place kind page (page_count page) ≤ place.at
   pub apart : (run : ℕ) → run < page_count page → IsApartFrom kind page place run
 
--- the run has no properties, or its list is in the page and stands so
+-- the run has no properties, or its list is in the page as it was
 pub record HasClearList (kind : PageKind) (page : List ℕ) (run : ℕ) : Type 0 where
   pub place : ListPlace
   pub is : IsPlaceOf kind page run place

@@ -1,4 +1,4 @@
-// Where the lists of a page stand, and whether they stand apart.
+// Where the lists of a page are, and whether they are apart.
 ghost use Rattle.std.specs.Prelude.{◌≡◌, ◌<◌, ◌↔◌, IsTrue, MatchOption, length};
 ghost use Rattle.fkp_pages.specs.Fkp.{HasRunCount, page_count};
 ghost use Rattle.page_copies.specs.Places.{HasNoList, IsPlaceOf, StandApart, IsApartFrom, StandsClear, IsApart};
@@ -6,7 +6,7 @@ ghost use Rattle.page_copies.specs.Places.{HasListsApart};
 
 use fkp_pages::{PAGE_LEN, PageKind, RunAnswer, answer_of, entry_at};
 
-/// Where the properties of a run stand in its page, and the range of its list.
+/// Where the properties of a run are in its page, and the range of its list.
 #[derive(Clone, Copy)]
 pub struct ListPlace {
     pub at: usize,
@@ -22,7 +22,7 @@ pub(crate) fn run_count(page: &[u8]) -> usize
     page[PAGE_LEN - 1] as usize
 }
 
-/// Where the list of a run stands, where it has one in the page.
+/// Where the list of a run is, where it has one in the page.
 pub(crate) fn list_place(kind: PageKind, page: &[u8], run: usize) -> Option<ListPlace>
     requires page { length page.now ≡ 512 }
     requires counted { HasRunCount kind page.now }
@@ -46,7 +46,7 @@ fn stand_apart(one: ListPlace, other: ListPlace) -> bool
     one.at == other.at || one.to <= other.at || other.to <= one.at
 }
 
-/// Whether a list stands apart from that of a run.
+/// Whether a list is apart from that of a run.
 fn is_apart_from(kind: PageKind, page: &[u8], place: ListPlace, run: usize) -> bool
     requires page { length page.now ≡ 512 }
     requires counted { HasRunCount kind page.now }
@@ -59,7 +59,7 @@ fn is_apart_from(kind: PageKind, page: &[u8], place: ListPlace, run: usize) -> b
     }
 }
 
-/// Whether a list stands behind the entries, and apart from those of all runs.
+/// Whether a list is behind the entries, and apart from those of all runs.
 fn is_clear(kind: PageKind, page: &[u8], place: ListPlace) -> bool
     requires page { length page.now ≡ 512 }
     requires counted { HasRunCount kind page.now }
@@ -77,7 +77,7 @@ fn is_clear(kind: PageKind, page: &[u8], place: ListPlace) -> bool
     true
 }
 
-/// Whether a run has no properties, or its list is in the page, and stands so.
+/// Whether a run has no properties, or its list is in the page as it was.
 fn is_apart(kind: PageKind, page: &[u8], run: usize) -> bool
     requires page { length page.now ≡ 512 }
     requires counted { HasRunCount kind page.now }
@@ -93,7 +93,7 @@ fn is_apart(kind: PageKind, page: &[u8], run: usize) -> bool
     }
 }
 
-/// Whether the lists of all runs are in the page and stand behind its entries, and two of them are one or apart.
+/// Whether the lists of all runs are in the page and are behind its entries, and two of them are one or apart.
 pub fn has_lists_apart(kind: PageKind, page: &[u8]) -> bool
     requires page { length page.now ≡ 512 }
     requires counted { HasRunCount kind page.now }

@@ -1,4 +1,4 @@
--- How the bytes of characters come to stand in a block.
+-- How the bytes of characters come to be in a block.
 use Rattle.std.proofs.Common.{◌≡◌, ◌∙◌, ℕ, ◌+◌, ◌-◌, ◌<◌, ◌≤◌, List, [], ◌∷◌, ◌++◌, length, take, drop, refl, sym, ap, subst}
 use Rattle.std.proofs.Common.{append_assoc, append-nil, arith, length-take, length-drop}
 use Rattle.std.specs.Prelude.{encode_utf8, encode_utf8_all, slice_index}

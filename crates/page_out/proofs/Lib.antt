@@ -1,2 +1,3 @@
-pub mod PrintLemmas
-pub mod EncodingLemmas
+pub mod Public
+mod PrintLemmas
+mod EncodingLemmas

@@ -8,8 +8,8 @@ use Rattle.std.proofs.lemmas.Str.{encodes-append, encodes-IsAscii}
 use Rattle.doc_outer.specs.Counts.{Rose, GoesOn}
 use Rattle.doc_outer.specs.Written.{Appends, AppendsPrefix, Sends}
 use Rattle.doc_outer.specs.declared.sink.Sink.{Ghosts}
-use Rattle.doc_outer.proofs.CountLemmas.{Rose-after}
-use Rattle.doc_outer.proofs.BlockLemmas.{Sends-waits, Sends-append, Sends-fails, AppendsPrefix-more}
+use Rattle.doc_outer.proofs.Public.{Rose-after, count_stays, count_on, Sends-waits, Sends-append, Sends-fails}
+use Rattle.doc_outer.proofs.Public.{AppendsPrefix-more}
 use Rattle.std.specs.Fmt.{decimal}
 use Rattle.std.proofs.lemmas.Fmt.{decimal_digit, decimal_step}
 use Rattle.page_out.specs.declared.page.Page.{Page}
@@ -18,15 +18,6 @@ use Rattle.page_out.specs.Printed.{FailsIn, PutsBytes, PrintsBytes, Prints}
 pub flag_cases : (b : Bool) → (b ≡ true) ⊎ (b ≡ false)
 flag_cases true = inl refl
 flag_cases false = inr refl
-
-count_stays : (n : ℕ) → GoesOn n n
-count_stays n = record { not_fallen = omega arith; not_beyond = λ h. h }
-
-count_on : (a b c : ℕ) → GoesOn a b → GoesOn b c → GoesOn a c
-count_on a b c one other = record {
-  not_fallen = (let p = one.not_fallen in let q = other.not_fallen in omega (arith, p, q));
-  not_beyond = λ h. other.not_beyond (one.not_beyond h);
-}
 
 -- nothing was put
 pub nothing_put : {K : Type 0} (sink : Ghosts K) (at : K) (page : Page) → PrintsBytes sink at page at page []

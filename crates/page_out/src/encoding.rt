@@ -13,7 +13,7 @@ const CHARACTER_LEN: usize = 4;
 /// The first unit that is not ASCII.
 const PAST_ASCII: u16 = 0x80;
 
-/// How many characters at the front of a list a block has room for, and how many bytes they take. These stand at its
+/// How many characters at the front of a list a block has room for, and how many bytes they take. These are at its
 /// front then.
 pub(crate) fn encode_front(units: &[u16], block: &mut [u8]) -> (usize, usize)
     requires room { PART_LEN ≤ length block.old }

@@ -1,4 +1,5 @@
-pub mod PrcLemmas
-pub mod StyleLemmas
-pub mod SheetLemmas
-pub mod OneLemmas
+pub mod Public
+mod PrcLemmas
+mod StyleLemmas
+mod SheetLemmas
+mod OneLemmas

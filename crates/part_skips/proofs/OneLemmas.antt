@@ -5,11 +5,10 @@ use Rattle.std.proofs.Common.{slice_index, flat_map, refl, sym, ap, ◌∙◌, s
 use Rattle.std.proofs.lemmas.Bool.{cases_lt, cases_eq}
 use Rattle.std.proofs.lemmas.List.{ext_get_or, length-append, drop-drop}
 use borrow.Rule.Slice.PartMut.{put_mid}
-use Rattle.prl_skips.proofs.RangeLemmas.{byte_of_range}
-use Rattle.prl_skips.proofs.OneLemmas.{puts_one, or_one}
+use Rattle.prl_skips.proofs.Public.{byte_of_range, puts_one, or_one}
 use Rattle.doc_bits.specs.Number.{u16_at}
 use Rattle.piece_table.specs.Clx.{prc_bytes}
-use Rattle.piece_table.proofs.ClxLemmas.{prcs_unique}
+use Rattle.piece_table.proofs.Public.{prcs_unique}
 use Rattle.style_sheet.specs.Counted.{counted_end, counted_bytes}
 use Rattle.style_sheet.specs.StyleDefinition.{upx_place}
 use Rattle.style_sheet.specs.Stsh.{cstd, std_base, slot_place}

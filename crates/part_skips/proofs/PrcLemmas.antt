@@ -10,22 +10,21 @@ use Rattle.std.proofs.lemmas.Option.{slice_get_within}
 use Rattle.std.proofs.Math.Seq.{take-append_seam, drop-append_seam}
 use borrow.Rule.Slice.PartMut.{put_mid}
 use Rattle.doc_bits.specs.Number.{AreBytes, number_bytes}
-use Rattle.doc_bits.proofs.ByteListLemmas.{back_bytes}
-use Rattle.doc_bits.proofs.NumberLemmas.{length-number_bytes}
-use Rattle.doc_bits.proofs.ListLemmas.{there_is, slice_get_push, slice_get_before, All-from_slice_get, All_at}
+use Rattle.doc_bits.proofs.Public.{back_bytes, length-number_bytes, there_is, slice_get_push, slice_get_before}
+use Rattle.doc_bits.proofs.Public.{All-from_slice_get, All_at}
 use Rattle.sprm_table.specs.Sprm.{Prl, SpellsSprmList}
-use Rattle.sprm_table.proofs.SprmLemmas.{spelt_unique}
+use Rattle.sprm_table.proofs.Public.{spelt_unique}
 use Rattle.prop_map.specs.declared.modifiers.Modifier.{Modifier}
 use Rattle.prop_map.specs.Modifiers.{IsModifierOf, IsSpeltModifier}
 use Rattle.prl_skips.specs.Skips.{skipped, SkipsRefused, SkipsOrStays}
-use Rattle.prl_skips.proofs.SkipLemmas.{modify_skips}
+use Rattle.prl_skips.proofs.Public.{modify_skips}
 use Rattle.piece_table.specs.Piece.{TextPiece}
 use Rattle.piece_table.specs.declared.pcd.Prm.{Prm}
 use Rattle.piece_table.specs.declared.pcd.Prm.TheVariants.{Nothing, Sprm, Prc}
 use Rattle.piece_table.specs.PrmLists.{NamesSprms, IsPrmModifier}
 use Rattle.piece_table.specs.Clx.{IsGrpprl, IsClx, SpellsClx, BeginsPrc, ClxParts, prc_bytes, pcdt_bytes, pcd_prm}
 use Rattle.piece_table.specs.Front.{IsPrcFront}
-use Rattle.piece_table.proofs.ClxLemmas.{prcs_unique, pcdt_no_prc, prc_of_front, front_of_prc}
+use Rattle.piece_table.proofs.Public.{prcs_unique, pcdt_no_prc, prc_of_front, front_of_prc}
 use Rattle.part_skips.specs.Prcs.{IsListSkipped, AreListsSkipped, SkipsPrcs}
 
 -- ---- what the pieces' modifiers are
@@ -160,7 +159,7 @@ clx_skips old new pieces s = (clx_before old new pieces s, clx_after old new pie
 
 -- ---- one Prc after the other
 
--- whole Prcs stand before the place, skipped, and the bytes from there on are as they were
+-- whole Prcs are before the place, skipped, and the bytes from there on are as they were
 pub record SkipsFront (old now : List ℕ) (at : ℕ) : Type 0 where
   pub prcs : List (List ℕ)
   pub made : List (List ℕ)
@@ -264,7 +263,7 @@ rewritten done list mid more len =
     ap (λ l. l ++ (mid ++ drop (length list) (drop (length done + 3) now))) taken
     ∙ (ap (λ l. front ++ (mid ++ l)) behind ∙ made)
 
--- one Prc more, once it is known what stands at the place
+-- one Prc more, once it is known what is at the place
 one_more : (old now list mid more : List ℕ) (at : ℕ) (front : SkipsFront old now at) →
     front.rest ≡ prc_bytes list ++ more → IsGrpprl list → IsListSkipped list mid →
     SkipsFront old (put_mid (at + 3) (length list) now mid) (at + 3 + length list)

@@ -4,11 +4,10 @@ use Rattle.std.proofs.Common.{Some, None, slice_index, slice_range, take, drop, 
 use Rattle.std.proofs.Common.{add-zero, add-one}
 use Rattle.std.proofs.lemmas.Bool.{cases_lt}
 use Rattle.doc_bits.specs.Number.{number_at, u16_at}
-use Rattle.doc_bits.proofs.NumberLemmas.{number_at-same}
+use Rattle.doc_bits.proofs.Public.{number_at-same, length-range}
 use borrow.Rule.Slice.PartMut.{put_mid}
 use Rattle.std.proofs.lemmas.List.{drop-drop}
-use Rattle.doc_bits.proofs.ListLemmas.{length-range}
-use Rattle.prl_skips.proofs.RangeLemmas.{range_same, put_length, put_before, put_after, put_range}
+use Rattle.prl_skips.proofs.Public.{range_same, put_length, put_before, put_after, put_range}
 use Rattle.style_sheet.specs.declared.styles.Style.{Style}
 use Rattle.style_sheet.specs.Sheet.{Sheet, style_at}
 use Rattle.style_sheet.specs.Counted.{even_up, counted_end, counted_bytes, IsCountedPart}
@@ -21,7 +20,7 @@ use Rattle.part_skips.proofs.StyleLemmas.{style_before, style_after}
 
 -- ---- places of slots
 
--- a slot stands behind those before it
+-- a slot is behind those before it
 slots_up : (part : List ℕ) (i n : ℕ) → slot_place part i ≤ slot_place part (i + n)
 slots_up part i zero = rw (add-zero i) (omega arith)
 slots_up part i (suc n) =
@@ -40,7 +39,7 @@ slot_behind part i j low =
     let next = slot_low part (suc i) j (omega arith) in
     omega arith
 
--- ---- what stands at a place in two parts
+-- ---- what is at a place in two parts
 
 pub word_there : (old new : List ℕ) (at : ℕ) →
     ((i : ℕ) → i < 2 → slice_index new (at + i) ≡ slice_index old (at + i)) → u16_at new at ≡ u16_at old at

@@ -2,16 +2,15 @@
 use Rattle.std.proofs.Common.{◌≡◌, ◌≢◌, ◌↔◌, inl, inr, ℕ, ◌+◌, ◌-◌, ◌*◌, ◌%◌, ◌/◌, ◌<◌, ◌≤◌, List, length, take, drop}
 use Rattle.std.proofs.Common.{slice_index, slice_range, map, refl, sym, ap, ◌∙◌, subst, arith}
 use Rattle.doc_bits.specs.Number.{number_at, u16_at}
-use Rattle.doc_bits.proofs.NumberLemmas.{number_at-same}
+use Rattle.doc_bits.proofs.Public.{number_at-same}
 use Rattle.sprm_table.specs.Sprm.{SpellsSprmList}
-use Rattle.sprm_table.proofs.SprmLemmas.{spelt_unique}
+use Rattle.sprm_table.proofs.Public.{spelt_unique}
 use Rattle.std.specs.FinMap.{empty}
 use Rattle.prop_map.specs.Settings.{Properties}
 use Rattle.prop_map.specs.Acting.{ArePropertiesAfter}
 use Rattle.prop_map.specs.Formed.{character_groups, paragraph_groups}
 use Rattle.prl_skips.specs.Skips.{skipped, SkipsOrStays, PutsSkipped, HoldsNoPictures}
-use Rattle.prl_skips.proofs.SkipLemmas.{make_skips}
-use Rattle.prl_skips.proofs.RangeLemmas.{range_same, drop_range, put_length, put_before, put_after, put_range}
+use Rattle.prl_skips.proofs.Public.{make_skips, range_same, drop_range, put_length, put_before, put_after, put_range}
 use Rattle.style_sheet.specs.declared.styles.Style.{Style}
 use Rattle.style_sheet.specs.declared.styles.Kind.{Kind}
 use Rattle.style_sheet.specs.declared.styles.Kind.TheVariants.{Para, Char, Other}

@@ -27,7 +27,7 @@ pub record SkipsPrcs (old new : List ℕ) : Type 0 where
   pub skips : AreListsSkipped prcs made
   pub no_more : ¬ BeginsPrc rest
 
--- the Prcs of the Clx that stands in this range of a stream are skipped, and nothing else changes
+-- the Prcs of the Clx that is in this range of a stream are skipped, and nothing else changes
 pub record PutsPrcs (from to : ℕ) (old new : List ℕ) : Type 0 where
   pub clx : List ℕ
   pub skips : SkipsPrcs (slice_range old from to) clx

@@ -68,7 +68,7 @@ pub record StaysSheet (old new : List ℕ) : Type 0 where
 abbrev pub SkipsSheet : List ℕ → List ℕ → Type 0
 SkipsSheet old new = SkipsSlots old new ⊎ StaysSheet old new
 
--- the sheet that stands in this range of a stream is skipped, and nothing else changes
+-- the sheet that is in this range of a stream is skipped, and nothing else changes
 pub record PutsSheet (from to : ℕ) (old new : List ℕ) : Type 0 where
   pub sheet : List ℕ
   pub skips : SkipsSheet (slice_range old from to) sheet

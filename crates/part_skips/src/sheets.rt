@@ -80,7 +80,7 @@ fn skip_std(std: &mut [u8], base: usize)
     }
 }
 
-/// Skips the codes of the list that stands behind so many bytes of what is counted at a place.
+/// Skips the codes of the list that is behind so many bytes of what is counted at a place.
 fn skip_counted(bytes: &mut [u8], at: usize, head: usize)
     requires counted { IsCountedPart bytes.old at }
     requires head { head ≤ u16_at bytes.old at }

@@ -5,9 +5,8 @@ use Rattle.std.proofs.Common.{arith, append_assoc, length-append, length-take, l
 use Rattle.std.proofs.Math.Seq.{take-append_seam, drop-append_seam}
 use Rattle.std.proofs.lemmas.List.{take-append-drop}
 use Rattle.doc_bits.specs.Number.{number_at, number_bytes, AreBytes}
-use Rattle.doc_bits.proofs.ByteListLemmas.{number_bytes-number_at}
-use Rattle.doc_bits.proofs.ListLemmas.{same_front}
-use Rattle.doc_bits.proofs.NumberLemmas.{number_at-after, number_at-number_bytes, length-number_bytes}
+use Rattle.doc_bits.proofs.Public.{number_bytes-number_at, same_front, number_at-after, number_at-number_bytes}
+use Rattle.doc_bits.proofs.Public.{length-number_bytes}
 use Rattle.piece_table.specs.Clx.{sized_bytes}
 
 -- a size and a body at the front are spelled
@@ -51,7 +50,7 @@ spelt_front clxt width body more bytes fits e =
     ) in
     rw e (refl, (moved ∙ number, omega arith))
 
--- the body stands behind its size
+-- the body is behind its size
 pub spelt_body : (clxt width : ℕ) (body more bytes : List ℕ) → bytes ≡ sized_bytes clxt width body ++ more →
     take (length body) (drop (suc width) bytes) ≡ body
 spelt_body clxt width body more bytes e =

@@ -12,7 +12,7 @@ use Rattle.piece_table.specs.Clx.{prc_bytes, pcdt_bytes, IsGrpprl, IsPlcPcd, Beg
 use Rattle.piece_table.specs.Clx.{SpellsClx, IsWrongAt}
 use Rattle.piece_table.specs.Front.{IsPrcFront, IsPcdtFront, ArePrcs, AreAllPrcs, AreParts}
 use Rattle.doc_bits.specs.Number.{AreBytes}
-use Rattle.doc_bits.proofs.ByteListLemmas.{AreBytes-drop}
+use Rattle.doc_bits.proofs.Public.{AreBytes-drop}
 use Rattle.piece_table.proofs.ByteLemmas.{front_spelt, spelt_front, spelt_body, sized_unique}
 
 pub prc_unique : (a b x y : List ℕ) → IsGrpprl a → IsGrpprl b → prc_bytes a ++ x ≡ prc_bytes b ++ y → (a ≡ b) × (x ≡ y)

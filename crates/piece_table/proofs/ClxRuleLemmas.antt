@@ -3,8 +3,7 @@ use Rattle.std.proofs.Common.{◌≡◌, ℕ, ◌+◌, ◌*◌, ◌≤◌, ◌�
 use Rattle.std.proofs.Common.{◌++◌, All, flat_map, length-append, arith, lit<, lit≤}
 use Rattle.doc_bits.specs.Rules.{IsSingle, Ascends, IsLeast, IsFirst, Hold, Nowhere, Among, From, rule}
 use Rattle.doc_bits.specs.Number.{number_bytes}
-use Rattle.doc_bits.proofs.NumberLemmas.{length-number_bytes}
-use Rattle.doc_bits.proofs.RuleLemmas.{least_of_all}
+use Rattle.doc_bits.proofs.Public.{length-number_bytes, least_of_all}
 use Rattle.piece_table.specs.declared.fault.ClxFault.{ClxFault}
 use Rattle.piece_table.specs.declared.fault.ClxFault.TheVariants.{Rule, Memory}
 use Rattle.sprm_table.specs.Prms.{code_of_isprm}

@@ -8,7 +8,7 @@ use Rattle.std.proofs.lemmas.List.{drop-set, drop_more, length-take-le}
 use Rattle.std.proofs.lemmas.List.Elements.{All-get_or, All-append, All-take, All-drop, All-cons, All-map, All-weaker}
 use Rattle.std.proofs.lemmas.List.Sums.{sum_by-cons, sum_by-append, sum_by_more}
 use Rattle.std.proofs.lemmas.Option.{slice_get_within, get_or_from_slice_get, slice_get-get_or}
-use Rattle.doc_bits.proofs.ListLemmas.{get-map}
+use Rattle.doc_bits.proofs.Public.{get-map}
 use Rattle.prop_map.specs.declared.modifiers.Modifier.{Modifier}
 use Rattle.piece_table.specs.declared.pieces.Entry.{Entry}
 use Rattle.piece_table.specs.declared.pieces.Spot.{Spot}

@@ -9,7 +9,7 @@ use Rattle.std.specs.Ordering.{nat_cmp}
 use Rattle.std.specs.FinMap.{get, get-empty, entries, entries_sorted}
 use Rattle.doc_bits.specs.Number.{number_bytes}
 use Rattle.doc_bits.specs.Rules.{Among, Nowhere}
-use Rattle.doc_bits.proofs.NumberLemmas.{length-number_bytes}
+use Rattle.doc_bits.proofs.Public.{length-number_bytes, All-from_slice_get}
 use Rattle.sprm_table.specs.declared.operands.OperandSize.{OperandSize}
 use Rattle.sprm_table.specs.declared.operands.OperandSize.TheVariants.{Fixed, CountedByByte, CountedByWord}
 use Rattle.sprm_table.specs.Codes.{class_of, is_held, is_property, is_clear}
@@ -21,10 +21,7 @@ use Rattle.prop_map.specs.Formed.{character_groups, paragraph_groups}
 use Rattle.prop_map.specs.Printing.{printed_list}
 use Rattle.prop_map.specs.declared.modifiers.Modifier.{Modifier}
 use Rattle.prop_map.specs.Modifiers.{no_modifier, IsModifierOf}
-use Rattle.prop_map.proofs.ActingLemmas.{sets_not_clears}
-use Rattle.prop_map.proofs.EntriesLemmas.{rises, entries-empty}
-use Rattle.prop_map.proofs.PrintLemmas.{get-entry}
-use Rattle.prop_map.proofs.LawLemmas.{modifier_one}
+use Rattle.prop_map.proofs.Public.{sets_not_clears, rises, entries-empty, get-entry, modifier_one}
 use Rattle.piece_table.specs.declared.pcd.Prm.{Prm}
 use Rattle.piece_table.specs.declared.pcd.Prm.TheVariants.{Nothing, Sprm, Prc}
 use Rattle.piece_table.specs.Piece.{TextPiece, bare_piece, one_piece}
@@ -33,7 +30,6 @@ use Rattle.std.proofs.lemmas.List.Elements.{All-nil, All-cons}
 use Rattle.piece_table.specs.Printing.{IsPrintable}
 use Rattle.piece_table.specs.PrmLists.{IsPrmModifier}
 use Rattle.piece_table.specs.ClxRules.{IsLongPrc, FitsPages}
-use Rattle.piece_table.proofs.NumberingLemmas.{All-from_slice_get}
 use Rattle.piece_table.proofs.PieceLemmas.{length-clx_pieces}
 use Rattle.piece_table.proofs.SprmModifierLemmas.{none_does}
 

@@ -1,25 +1,26 @@
-pub mod ByteLemmas
-pub mod ClxLemmas
-pub mod ClxRuleLemmas
-pub mod PieceLemmas
-pub mod PrcLemmas
-pub mod MarkLemmas
-pub mod SprmModifierLemmas
-pub mod NumberingLemmas
-pub mod UniqueLemmas
-pub mod FitLemmas
-pub mod PrcPrintLemmas
-pub mod PlcPrintLemmas
-pub mod ClxPrintLemmas
-pub mod PlcBackLemmas
-pub mod ReadBackLemmas
-pub mod PrintedClxLemmas
-pub mod FlatLemmas
-pub mod CutLemmas
-pub mod RenumberLemmas
-pub mod SpliceLemmas
-pub mod PrcListLemmas
-pub mod RenewalLemmas
-pub mod BlockLemmas
-pub mod PartLemmas
-pub mod RangeLemmas
+pub mod Public
+mod ByteLemmas
+mod ClxLemmas
+mod ClxRuleLemmas
+mod PieceLemmas
+mod PrcLemmas
+mod MarkLemmas
+mod SprmModifierLemmas
+mod NumberingLemmas
+mod UniqueLemmas
+mod FitLemmas
+mod PrcPrintLemmas
+mod PlcPrintLemmas
+mod ClxPrintLemmas
+mod PlcBackLemmas
+mod ReadBackLemmas
+mod PrintedClxLemmas
+mod FlatLemmas
+mod CutLemmas
+mod RenumberLemmas
+mod SpliceLemmas
+mod PrcListLemmas
+mod RenewalLemmas
+mod BlockLemmas
+mod PartLemmas
+mod RangeLemmas

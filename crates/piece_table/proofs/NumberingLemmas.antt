@@ -10,7 +10,7 @@ use Rattle.std.proofs.lemmas.Bool.{cases_lt}
 use Rattle.std.proofs.lemmas.Option.{slice_get_within, slice_get-get_or, get_or_from_slice_get}
 use Rattle.std.proofs.lemmas.List.Elements.{All-push}
 use Rattle.std.proofs.lemmas.List.{ext_get_or}
-use Rattle.doc_bits.proofs.ListLemmas.{slice_get_before}
+use Rattle.doc_bits.proofs.Public.{slice_get_before, All-from_slice_get}
 use Rattle.prop_map.specs.declared.modifiers.Modifier.{Modifier}
 use Rattle.prop_map.specs.Modifiers.{no_modifier, IsFormedModifier}
 use Rattle.piece_table.specs.declared.pieces.Piece.{Piece}
@@ -70,11 +70,6 @@ met_put prcs list numbers new prm modifier met formed does here others =
     }
 
 -- ---- entries
-
--- what holds at each place holds of all
-pub All-from_slice_get : {A : Type 0} (P : A → Type 0) (xs : List A) → ((k : ℕ) (x : A) → slice_get xs k ≡ Some x →
-    P x) → All P xs
-All-from_slice_get P xs each = λ k d low. each k (get_or xs k d) (slice_get-get_or xs k d low)
 
 -- the entries stay right where modifiers follow
 pub entries_extend : (parts : ClxParts) (old new : List Modifier) (n : ℕ) (entries : List Entry) → Extends old new →

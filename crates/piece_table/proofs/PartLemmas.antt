@@ -7,7 +7,7 @@ use Rattle.std.proofs.lemmas.List.{length-take-le, get_or_append_left, get_or-ta
 use Rattle.std.proofs.lemmas.List.{get_or-append_right}
 use Rattle.std.proofs.lemmas.List.Sums.{sum_by-cons, sum_by-append, sum_by_more}
 use Rattle.std.proofs.lemmas.Option.{slice_get_within, get_or_from_slice_get}
-use Rattle.chunked_list.proofs.RangeLemmas.{take-append}
+use Rattle.chunked_list.proofs.Public.{take-append}
 use Rattle.piece_table.specs.declared.pieces.Entry.{Entry}
 use Rattle.piece_table.specs.Cuts.{entry_units, front_entry, back_entry, no_entry, entry_at, IsPart}
 

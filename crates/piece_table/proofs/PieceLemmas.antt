@@ -14,7 +14,7 @@ use Rattle.prop_map.specs.Modifiers.{no_modifier}
 use Rattle.piece_table.proofs.SprmModifierLemmas.{none_formed}
 use Rattle.doc_bits.specs.Number.{number_at}
 use Rattle.doc_bits.specs.Plc.{PlcPart, plc_cp, plc_entry}
-use Rattle.doc_bits.proofs.NumberLemmas.{number_at-range}
+use Rattle.doc_bits.proofs.Public.{number_at-range}
 use Rattle.std.specs.Prelude.{slice_range}
 use Rattle.piece_table.specs.declared.pieces.Piece.{Piece}
 use Rattle.piece_table.specs.Clx.{IsPlcPcd, pcd_place, clx_piece, clx_pieces}
@@ -106,7 +106,7 @@ pub total_of_pieces : (plc : PlcPart) (text_len : ℕ) (pieces : List TextPiece)
 total_of_pieces plc text_len pieces cps are = sym (bare_length-is pieces) ∙ (ap bare_length are ∙ total_of plc
     text_len cps)
 
--- pieces of a Clx that was judged
+-- pieces of a Clx that was checked
 pub pieces_sound : (plc : PlcPart) (text_len : ℕ) (pieces : List TextPiece) → AscendsTo plc text_len →
     EndsWithin plc (2 ^ 32 - 1) → text_len ≤ 500001 → map bare_piece pieces ≡ clx_pieces plc →
     All (λ (p : TextPiece). IsFormedModifier p.modifier) pieces → ArePieces pieces × (text_len ≡ total_length pieces)

@@ -11,9 +11,8 @@ use Rattle.std.proofs.lemmas.Grind.{flat_map-append}
 use Rattle.std.proofs.lemmas.Option.{get_or_from_slice_get}
 use Rattle.doc_bits.specs.Number.{number_bytes, number_at}
 use Rattle.doc_bits.specs.Plc.{PlcPart, plc_cp, plc_entry}
-use Rattle.doc_bits.proofs.NumberLemmas.{number_at-read_back, length-number_bytes}
+use Rattle.doc_bits.proofs.Public.{number_at-read_back, length-number_bytes, printed-HasPlc}
 use Rattle.doc_bits.specs.Plc.{printed_plc, HasPlc}
-use Rattle.doc_bits.proofs.PlcLemmas.{printed-HasPlc}
 use Rattle.piece_table.specs.declared.pieces.Piece.{Piece}
 use Rattle.piece_table.specs.Clx.{IsPlcPcd, fc_compressed, pcd_fc, prm_word}
 use Rattle.piece_table.specs.Printing.{cps_of, plc_bytes, pcd_bytes, fc_number}
@@ -88,7 +87,7 @@ plc_table lens pcds some few count sized = record {
   fits = omega (arith, length-plc_bytes lens pcds count sized);
 }
 
--- a Pcd stands in its place
+-- a Pcd is in its place
 entry_back : (lens : List ℕ) (pcds : List (List ℕ)) (k : ℕ) → 0 < length lens → sum lens < 2 ^ 32 →
     length pcds ≡ length lens → All (λ pcd. length pcd ≡ 8) pcds → k < length lens → plc_entry (printed_part lens
     pcds) k ≡ slice_index_or pcds k []

@@ -8,9 +8,7 @@ use Rattle.std.proofs.lemmas.List.Sums.{sum_by-append, sum_by-cons}
 use Rattle.std.proofs.lemmas.List.FromFn.{length-map-range_with_len, map-range_with_len_more}
 use Rattle.std.proofs.lemmas.Grind.{flat_map-append}
 use Rattle.doc_bits.specs.Number.{number_bytes}
-use Rattle.doc_bits.proofs.NumberLemmas.{length-number_bytes}
-use Rattle.doc_bits.proofs.NumberLemmas.{length-numbers}
-use Rattle.doc_bits.proofs.PlcLemmas.{length-joined}
+use Rattle.doc_bits.proofs.Public.{length-number_bytes, length-numbers, length-joined}
 use Rattle.std.proofs.lemmas.List.Elements.{All-nil, All-cons}
 use Rattle.piece_table.specs.declared.pieces.Piece.{Piece}
 use Rattle.piece_table.specs.declared.pieces.Entry.{Entry}

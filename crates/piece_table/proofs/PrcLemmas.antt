@@ -1,17 +1,15 @@
 -- The Prcs that pieces name: their places, and their first fault.
 use Rattle.std.proofs.Common.{◌≡◌, ℕ, zero, suc, ◌+◌, ◌*◌, ◌<◌, ◌≤◌, List, [], ◌∷◌, ◌++◌, length, take, flat_map}
-use Rattle.std.proofs.Common.{slice_get, Some, refl, inl, inr, sym, ap, subst, ◌∙◌, arith, length-append, length-drop}
+use Rattle.std.proofs.Common.{slice_get, Some, refl, inl, inr, ap, subst, ◌∙◌, arith, length-append, length-drop}
 use Rattle.std.proofs.lemmas.List.{take_more, append-nil, take_all}
 use Rattle.std.proofs.lemmas.Bool.{cases_lt}
 use Rattle.std.proofs.lemmas.Grind.{flat_map-append}
 use Rattle.std.proofs.lemmas.Option.{slice_get_within, get_or_from_slice_get}
 use Rattle.doc_bits.specs.Number.{number_bytes}
 use Rattle.doc_bits.specs.Rules.{IsLeast, Among, Nowhere}
-use Rattle.doc_bits.proofs.NumberLemmas.{length-number_bytes}
-use Rattle.doc_bits.proofs.RuleLemmas.{first_among, none_among}
+use Rattle.doc_bits.proofs.Public.{length-number_bytes, first_among, none_among, same_entry}
 use Rattle.sprm_table.specs.Sprm.{HasSprmFaultAt, IsAcceptedList, spelling}
-use Rattle.sprm_table.proofs.SprmLemmas.{length-spelling}
-use Rattle.sprm_table.proofs.FaultLemmas.{accepted_no_fault}
+use Rattle.sprm_table.proofs.Public.{length-spelling, accepted_no_fault}
 use Rattle.prop_map.specs.Formed.{prc_groups}
 use Rattle.prop_map.specs.declared.modifiers.Modifier.{Modifier}
 use Rattle.prop_map.specs.Modifiers.{IsSpeltModifier}
@@ -85,7 +83,7 @@ prc_ends prcs i grpprl there =
 
 -- ---- rule 31
 
--- a fault stands within its list
+-- a fault is within its list
 pub fault_within : (grpprl : List ℕ) (groups at : ℕ) → HasSprmFaultAt grpprl groups at → at < length grpprl
 fault_within grpprl groups at (inl cut) = let word = cut.here.word in omega (arith, length-drop at grpprl)
 fault_within grpprl groups at (inr refused) =
@@ -97,9 +95,6 @@ fault_within grpprl groups at (inr refused) =
       length-append (spelling refused.here.prl) refused.here.more,
       length-spelling refused.here.prl,
     )
-
-same_list : {A : Type 0} (xs : List A) (i : ℕ) (x y : A) → slice_get xs i ≡ Some x → slice_get xs i ≡ Some y → x ≡ y
-same_list xs i x y a b = sym (get_or_from_slice_get xs i x x a) ∙ get_or_from_slice_get xs i y x b
 
 -- the faults of a Prc come before those of later ones
 faults_rise : (parts : ClxParts) (at j k a b : ℕ) → j < k → IsFaultyPrc parts at j a → IsFaultyPrc parts at k b → a ≤ b
@@ -138,7 +133,7 @@ first_faulty parts at i offset grpprl before there named first =
         };
       };
       least = λ p other.
-          let same = same_list parts.prcs i other.grpprl grpprl other.there there in
+          let same = same_entry parts.prcs i other.grpprl grpprl other.there there in
           let low = first.least other.fault.offset (subst (λ g. HasSprmFaultAt g prc_groups other.fault.offset) same
           other.fault.broken) in
           let here = other.fault.here in
@@ -159,7 +154,7 @@ accepted_more parts i grpprl before there here = λ number other low named is.
       | inr more ↦
           let e : number ≡ i = omega arith in
           let at_i : slice_get parts.prcs i ≡ Some other = subst (λ n. slice_get parts.prcs n ≡ Some other) e is in
-          subst IsAcceptedPrc (same_list parts.prcs i grpprl other there at_i) (here (subst (IsNamedPrc parts.plc) e
+          subst IsAcceptedPrc (same_entry parts.prcs i grpprl other there at_i) (here (subst (IsNamedPrc parts.plc) e
           named))
     ]
 

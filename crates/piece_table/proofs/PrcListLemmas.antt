@@ -8,16 +8,12 @@ use Rattle.std.specs.Cmp.Lexicographic.{slice_cmp}
 use Rattle.std.specs.Map.{lookup}
 use Rattle.std.specs.BTreeMap.{insert_entry}
 use Rattle.std.proofs.lemmas.Map.Lookups.{exact_bytes}
-use Rattle.prop_map.proofs.EntriesLemmas.{cmp_equal}
 use Rattle.piece_table.specs.PrcLists.{prm_of_list, PutsPrm}
-
-bytes_equal : (list : List ℕ) → slice_cmp nat_cmp list list ≡ Equal
-bytes_equal [] = refl
-bytes_equal (x ∷ xs) = rw (cmp_equal x) (bytes_equal xs)
+use Rattle.prop_map.proofs.Public.{same_bytes}
 
 -- a key of the same bytes is found
 key_found : (list key : List ℕ) → list ≡ key → is_eq (slice_cmp nat_cmp list key) ≡ true
-key_found list key e = subst (λ k. is_eq (slice_cmp nat_cmp list k) ≡ true) e (ap is_eq (bytes_equal list))
+key_found list key e = subst (λ k. is_eq (slice_cmp nat_cmp list k) ≡ true) e (ap is_eq (same_bytes list))
 
 -- and no other
 key_missed : (list key : List ℕ) → list ≢ key → is_eq (slice_cmp nat_cmp list key) ≡ false
@@ -32,10 +28,10 @@ key_missed list key apart = elim (slice_cmp nat_cmp list key) as (λ o. slice_cm
 pub bytes_eq-cases : (a b : List ℕ) → (a ≡ b) ⊎ (a ≢ b)
 bytes_eq-cases a b = elim (slice_cmp nat_cmp a b) as (λ o. slice_cmp nat_cmp a b ≡ o → (a ≡ b) ⊎ (a ≢ b)) [
   | Less ↦ λ e. inr (λ same. let equal : Less ≡ Equal = sym e ∙ (ap (λ l. slice_cmp nat_cmp a l) (sym same) ∙
-      bytes_equal a) in cc (equal))
+      same_bytes a) in cc (equal))
   | Equal ↦ λ e. inl (exact_bytes a b e)
   | Greater ↦ λ e. inr (λ same. let equal : Greater ≡ Equal = sym e ∙ (ap (λ l. slice_cmp nat_cmp a l) (sym same) ∙
-      bytes_equal a) in cc (equal))
+      same_bytes a) in cc (equal))
 ] refl
 
 abbrev found : {K : Type 0} → (K → List ℕ) → List ℕ → K → Bool

@@ -9,13 +9,12 @@ use Rattle.std.proofs.lemmas.List.{append-nil, get_or-set_same, get_or-set_other
 use Rattle.std.proofs.lemmas.Grind.{flat_map-append}
 use Rattle.std.proofs.lemmas.Option.{slice_get_within, get_or_from_slice_get}
 use Rattle.std.proofs.lemmas.List.Elements.{All-push, All-nil, Contains-get_or}
-use Rattle.doc_bits.proofs.ListLemmas.{slice_get_before, slice_get_push}
+use Rattle.doc_bits.proofs.Public.{slice_get_before, slice_get_push}
 use Rattle.sprm_table.specs.Sprm.{IsAcceptedList, SpellsSprmList, spelling}
 use Rattle.prop_map.specs.Formed.{prc_groups}
 use Rattle.prop_map.specs.declared.modifiers.Modifier.{Modifier}
 use Rattle.prop_map.specs.Modifiers.{no_modifier, printed_modifier, style_prls, clear_prls, IsSpeltModifier}
-use Rattle.prop_map.proofs.LawLemmas.{modifier_one}
-use Rattle.prop_map.proofs.PrintedLemmas.{length-printed_modifier, length-style, length-clear}
+use Rattle.prop_map.proofs.Public.{modifier_one, length-printed_modifier, length-style, length-clear}
 use Rattle.piece_table.specs.declared.pieces.Entry.{Entry}
 use Rattle.piece_table.specs.Piece.{TextPiece}
 use Rattle.piece_table.specs.Clx.{prc_bytes}

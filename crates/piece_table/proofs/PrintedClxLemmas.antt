@@ -9,7 +9,7 @@ use Rattle.std.proofs.lemmas.List.FromFn.{length-map-range_with_len, get_or-map-
 use Rattle.std.proofs.lemmas.Option.{slice_get-get_or}
 use Rattle.doc_bits.specs.Rules.{Nowhere, Hold}
 use Rattle.doc_bits.specs.Plc.{plc_cp}
-use Rattle.doc_bits.proofs.RuleLemmas.{none_among}
+use Rattle.doc_bits.proofs.Public.{none_among}
 use Rattle.prop_map.specs.Modifiers.{no_modifier, printed_modifier}
 use Rattle.piece_table.specs.declared.pieces.TextBounds.{TextBounds}
 use Rattle.piece_table.specs.Piece.{TextPiece, bare_piece, ArePieces, total_length, flat_pieces}

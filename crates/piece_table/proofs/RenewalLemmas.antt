@@ -8,8 +8,7 @@ use Rattle.std.proofs.lemmas.Option.{get_or_from_slice_get}
 use Rattle.std.proofs.lemmas.List.Elements.{All-nil, All-cons, All-head, All-tail, All-append, All-map}
 use Rattle.std.proofs.lemmas.List.Sums.{sum_by-cons}
 use Rattle.doc_bits.specs.Together.{AreTogether}
-use Rattle.doc_bits.proofs.ListLemmas.{All_at, All-from_slice_get}
-use Rattle.doc_bits.proofs.TogetherLemmas.{in_front, from_behind}
+use Rattle.doc_bits.proofs.Public.{All_at, All-from_slice_get, in_front, from_behind}
 use Rattle.prop_map.specs.declared.modifiers.Modifier.{Modifier}
 use Rattle.prop_map.specs.Modifiers.{no_modifier}
 use Rattle.piece_table.specs.declared.pieces.Entry.{Entry}
@@ -71,7 +70,7 @@ first_together : {A B : Type 0} (P : A → B → Type 0) (x : A) (xs : List A) (
     AreTogether P (x ∷ xs) (y ∷ ys) → P x y
 first_together P x xs y ys together = together.each 0 x y refl refl
 
-others_together : {A B : Type 0} (P : A → B → Type 0) (x : A) (xs : List A) (y : B) (ys : List B) →
+pub others_together : {A B : Type 0} (P : A → B → Type 0) (x : A) (xs : List A) (y : B) (ys : List B) →
     AreTogether P (x ∷ xs) (y ∷ ys) → AreTogether P xs ys
 others_together P x xs y ys together = record {
   len = omega (arith, together.len);

@@ -16,8 +16,7 @@ use Rattle.std.proofs.lemmas.List.Elements.{All-weaker}
 use Rattle.std.proofs.lemmas.List.Sums.{sum_by-cons, sum_by-append, sum_by-take-drop}
 use Rattle.std.proofs.lemmas.Option.{slice_get_within, get_or_from_slice_get}
 use Rattle.std.proofs.lemmas.Slice.Zip.{AllZip-long}
-use Rattle.doc_bits.proofs.ListLemmas.{range_mid}
-use Rattle.doc_bits.proofs.ListLemmas.{slice_get_before}
+use Rattle.doc_bits.proofs.Public.{range_mid, slice_get_before}
 use Rattle.prop_map.specs.declared.modifiers.Modifier.{Modifier}
 use Rattle.prop_map.specs.Modifiers.{no_modifier, IsComposed, StaysFormedModifier, IsFormedModifier}
 use Rattle.piece_table.specs.declared.pieces.Entry.{Entry}

@@ -7,11 +7,11 @@ use Rattle.sprm_table.specs.Operands.{size_of, operand_bytes}
 use Rattle.sprm_table.specs.Codes.{IsRefusedIn}
 use Rattle.sprm_table.specs.Prms.{IsPrmCode}
 use Rattle.sprm_table.specs.Sprm.{Prl, IsPrl, SpellsSprmList, IsAcceptedList, spelling}
-use Rattle.sprm_table.proofs.SprmLemmas.{spells_joined}
+use Rattle.sprm_table.proofs.Public.{spells_joined}
 use Rattle.prop_map.specs.Formed.{prc_groups}
 use Rattle.prop_map.specs.Modifiers.{IsModifierOf, IsFormedModifier, no_modifier}
 use Rattle.prop_map.specs.Formed.{character_groups, paragraph_groups}
-use Rattle.prop_map.proofs.ActingLemmas.{IsPropertyMap-empty}
+use Rattle.prop_map.proofs.Public.{IsPropertyMap-empty}
 
 -- the bytes of the sprm
 pub sprm_spelt : (code operand : ℕ) (bytes : List ℕ) → IsPrmCode code → bytes ≡ number_bytes 2 code ++ operand ∷ [] →

@@ -7,10 +7,10 @@ use Rattle.std.proofs.lemmas.Bool.{cases_lt}
 use Rattle.std.proofs.lemmas.Option.{get_or_from_slice_get, slice_get-get_or}
 use Rattle.doc_bits.specs.Rules.{Nowhere}
 use Rattle.sprm_table.specs.Sprm.{Prl, SpellsSprmList}
-use Rattle.sprm_table.proofs.SprmLemmas.{spelt_unique}
+use Rattle.sprm_table.proofs.Public.{spelt_unique}
 use Rattle.prop_map.specs.declared.modifiers.Modifier.{Modifier}
 use Rattle.prop_map.specs.Modifiers.{no_modifier, IsModifierOf}
-use Rattle.prop_map.proofs.LawLemmas.{modifier_one}
+use Rattle.prop_map.proofs.Public.{modifier_one}
 use Rattle.piece_table.specs.declared.pcd.Prm.{Prm}
 use Rattle.piece_table.specs.declared.pcd.Prm.TheVariants.{Nothing, Sprm, Prc}
 use Rattle.piece_table.specs.Piece.{TextPiece, bare_piece}

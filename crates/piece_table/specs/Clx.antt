@@ -33,14 +33,14 @@ pub record IsPlcPcd (plc : PlcPart) : Type 0 where
   pub some : 1 ≤ plc.count
   pub fits : length plc.bytes < 2 ^ 32
 
--- a Prc stands at the front
+-- a Prc is at the front
 pub record BeginsPrc (bytes : List ℕ) : Type 0 where
   pub grpprl : List ℕ
   pub more : List ℕ
   pub size : IsGrpprl grpprl
   pub spelt : bytes ≡ prc_bytes grpprl ++ more
 
--- a Pcdt stands at the front
+-- a Pcdt is at the front
 pub record BeginsPcdt (bytes : List ℕ) : Type 0 where
   pub plc : PlcPart
   pub more : List ℕ
@@ -59,7 +59,7 @@ pub record SpellsClx (clx : List ℕ) (parts : ClxParts) : Type 0 where
   pub table : IsPlcPcd parts.plc
   pub spelt : clx ≡ flat_map prc_bytes parts.prcs ++ (pcdt_bytes parts.plc.bytes ++ more)
 
--- after some Prcs stands neither a Prc nor a Pcdt
+-- after some Prcs is neither a Prc nor a Pcdt
 pub record IsWrongAt (clx : List ℕ) (offset : ℕ) : Type 0 where
   pub prcs : List (List ℕ)
   pub left : List ℕ
@@ -93,7 +93,7 @@ prm_of number =
     if number % 2 == 1 then Prc (number / 2) else (if number / 2 % 128 == 0 then Nothing else Sprm (number / 2 % 128)
     (number / 256))
 
--- where the Pcd of a piece stands in its Plc
+-- where the Pcd of a piece is in its Plc
 abbrev pub pcd_place : PlcPart → ℕ → ℕ
 pcd_place plc k = 4 * (plc.count + 1) + 8 * k
 

@@ -12,7 +12,7 @@ use Rattle.piece_table.specs.Clx.{ClxParts, prm_of, pcd_prm, clx_piece}
 use Rattle.piece_table.specs.PrmLists.{IsPrmModifier}
 use Rattle.piece_table.specs.ClxRules.{IsNamedPrc}
 
--- a piece as it is seen: its number stands for a modifier of the list
+-- a piece as it is seen: its number represents a modifier of the list
 abbrev pub text_piece : List Modifier → Entry → TextPiece
 text_piece modifiers entry = record {
   at = entry.piece.at;

@@ -31,7 +31,7 @@ pub record IsNoLarger (old new : PieceTable) : Type 0 where
   pub blocks : new.blocks ≤ old.blocks
   pub room : new.room ≤ old.room
 
--- where a unit stands: its first byte in WordDocument, and whether it has two; and the modifier of its piece
+-- where a unit is: its first byte in WordDocument, and whether it has two; and the modifier of its piece
 pub record UnitPlace : Type 0 where
   pub at : ℕ
   pub wide : Bool

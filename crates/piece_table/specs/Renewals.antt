@@ -1,4 +1,4 @@
--- Pieces that stand at new places, in text of two bytes a unit and without a modifier, and others that stay.
+-- Pieces that are at new places, in text of two bytes a unit and without a modifier, and others that stay.
 use Rattle.std.specs.Prelude.{ℕ, ◌+◌, ◌*◌, ◌^◌, ◌<◌, List, [], ◌∷◌, true, Option, Some, None}
 use Rattle.std.specs.Option.{ForSome}
 use Rattle.prop_map.specs.Modifiers.{no_modifier}
@@ -11,7 +11,7 @@ abbrev pub renewed_piece : Option ℕ → TextPiece → TextPiece
 renewed_piece None piece = piece
 renewed_piece (Some at) piece = record { at = at; wide = true; len = piece.len; modifier = no_modifier }
 
--- each piece with the place that stands beside it
+-- each piece with the place that is beside it
 abbrev pub renewed_pieces : List (Option ℕ) → List TextPiece → List TextPiece
 renewed_pieces [] pieces = pieces
 renewed_pieces (place ∷ places) [] = []

@@ -19,7 +19,7 @@ const MODIFIERS_KEPT: usize = 64;
 const SPLICE_PIECES: usize = 3;
 
 impl PieceList {
-    /// Takes memory for the blocks that so many further pieces may divide, less those that stand ready.
+    /// Takes memory for the blocks that so many further pieces may divide, less those that are ready.
     pub fn reserve(&mut self, n: usize) -> Result<(), Memory>
         ensures ok { OnOk result (n ≤ self.new.spare) }
         ensures pieces { self.new.pieces ≡ self.old.pieces }

@@ -1,4 +1,4 @@
-// The pieces of a Clx that was judged.
+// The pieces of a Clx that was checked.
 ghost use Rattle.std.specs.Prelude.{◌≡◌, ◌-◌, ◌^◌, ◌<◌};
 ghost use Rattle.std.specs.Prelude.{◌≤◌, length, map, IfOk, OnOk};
 ghost use Rattle.piece_table.specs.Piece.{bare_piece};

@@ -134,7 +134,7 @@ fn is_read(prm: Prm, prcs: usize) -> bool
     }
 }
 
-/// Where the Pcd of a piece stands in its Plc.
+/// Where the Pcd of a piece is in its Plc.
 fn pcd_offset(plc: &Plc<'_>, k: usize) -> u32
     requires table { IsPlcPcd plc.now }
     requires place { length plc.now.bytes < 2 ^ 32 }

@@ -1,4 +1,4 @@
-//! The piece table of a document: read from the Clx, judged by rules 27 to 32, and written again.
+//! The piece table of a document: read from the Clx, checked by rules 27 to 32, and written again.
 #![tactic(auto)]
 
 mod changes;

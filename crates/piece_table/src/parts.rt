@@ -84,7 +84,7 @@ pub struct Parts<'a> {
     pub plc: Plc<'a>,
 }
 
-/// The parts of a Clx that stands at `at` in the table stream.
+/// The parts of a Clx that is at `at` in the table stream.
 pub fn parts_of(alloc: Global, clx: &[u8], at: u32) -> Result<Parts<'_>, ClxFault>
     requires place { at + length clx.now < 2 ^ 32 }
     ensures { MatchResult result
@@ -119,7 +119,7 @@ fn prcs_of(alloc: Global, clx: &[u8]) -> Result<(Prcs<'_>, usize), Memory>
     Ok((prcs, at))
 }
 
-/// The length of the sprm list of a Prc that stands at the front.
+/// The length of the sprm list of a Prc that is at the front.
 pub fn prc_front(bytes: &[u8]) -> Option<usize>
     ensures { MatchOption result ((size : ℕ) → ¬ IsPrcFront bytes.now size) (IsPrcFront bytes.now) }
 {
@@ -133,7 +133,7 @@ pub fn prc_front(bytes: &[u8]) -> Option<usize>
     Some(size)
 }
 
-/// The Plc of a Pcdt that stands at the front.
+/// The Plc of a Pcdt that is at the front.
 fn pcdt_front(bytes: &[u8]) -> Option<Plc<'_>>
     ensures { MatchOption result ((plc : PlcPart) → ¬ IsPcdtFront bytes.now plc) (IsPcdtFront bytes.now) }
 {

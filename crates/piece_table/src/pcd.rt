@@ -1,10 +1,10 @@
-// [MS-DOC] Pcd: what stands beside the CPs of a piece.
+// [MS-DOC] Pcd: what is beside the CPs of a piece.
 ghost use Rattle.std.specs.Prelude.{◌≡◌, ◌<◌};
 ghost use Rattle.piece_table.specs.Clx.{fc_compressed, prm_of, pcd_fc, pcd_prm, prm_word as prm_word_of, IsPlcPcd};
 
 use doc_bits::{Plc, get16, get32};
 
-/// Where the units of a piece stand.
+/// Where the units of a piece are.
 #[derive(Clone, Copy)]
 pub struct FcCompressed {
     /// The first byte, from the start of `WordDocument`.

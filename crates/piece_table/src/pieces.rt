@@ -41,7 +41,7 @@ pub struct Spot {
     pub within: u32,
 }
 
-/// Where text may stand in `WordDocument`: from the end of the FIB to the end of the stream, in bytes.
+/// Where text may be in `WordDocument`: from the end of the FIB to the end of the stream, in bytes.
 #[derive(Clone, Copy)]
 pub struct TextBounds {
     pub from: u32,

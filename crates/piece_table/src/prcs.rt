@@ -77,7 +77,7 @@ pub fn faulty_prc(parts: &Parts<'_>, marks: &[bool], at: u32) -> Option<u32>
     None
 }
 
-/// Where the first sprm fault of a Prc stands in its list.
+/// Where the first sprm fault of a Prc is in its list.
 fn sprm_fault(list: &[u8]) -> Option<usize>
     ensures least { LeastOrNone (HasSprmFaultAt list.now prc_groups) result }
     ensures accepted { IfNone result (IsAcceptedList list.now prc_groups) }

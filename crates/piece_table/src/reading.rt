@@ -16,8 +16,8 @@ use std::alloc::Global;
 
 const RULE_SPRM: u8 = 31;
 
-/// Reads the pieces of a Clx that stands at `at` in the table stream. `wd_len` is the length of `WordDocument` in
-/// bytes, `text_len` the number of CPs, `from` the size of the FIB in bytes: text stands behind it.
+/// Reads the pieces of a Clx that is at `at` in the table stream. `wd_len` is the length of `WordDocument` in
+/// bytes, `text_len` the number of CPs, `from` the size of the FIB in bytes: text is behind it.
 pub fn read_clx(
     alloc: Global,
     clx: &[u8],

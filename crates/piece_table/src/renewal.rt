@@ -1,4 +1,4 @@
-// Pieces that stand at new places: a text that is written again names its new units.
+// Pieces that are at new places: a text that is written again names its new units.
 ghost use Rattle.std.specs.Prelude.{◌≡◌, length, IfOk};
 ghost use Rattle.piece_table.specs.Renewals.{AreNewPlaces, renewed_pieces, moved_entry, moved_entries};
 

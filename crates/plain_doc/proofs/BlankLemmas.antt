@@ -11,8 +11,7 @@ use Rattle.std.proofs.lemmas.List.{get_or_past, replicate-append-replicate, appe
 use Rattle.std.proofs.lemmas.List.Elements.{All-append, All-nil, All-cons, All-replicate}
 use Rattle.std.proofs.lemmas.List.Sums.{AllPass-from_list_all}
 use Rattle.prop_map.specs.Formed.{IsPropertyMap, character_groups, paragraph_groups, section_groups}
-use Rattle.prop_map.proofs.ActingLemmas.{IsPropertyMap-empty}
-use Rattle.prop_map.proofs.LawLemmas.{stay_formed}
+use Rattle.prop_map.proofs.Public.{IsPropertyMap-empty, stay_formed}
 use Rattle.style_sheet.specs.declared.styles.Style.{Style}
 use Rattle.style_sheet.specs.Sheet.{Sheet}
 use Rattle.cfb_streams.specs.Contents.{AreStreams}
@@ -23,7 +22,7 @@ use Rattle.plain_doc.specs.NothingCarried.{empty_parts_are_short, no_lists, no_f
 use Rattle.plain_doc.specs.Blank.{blank_item, one_property, normal_style, heading_style, default_font_style}
 use Rattle.plain_doc.specs.Blank.{blank_sheet, word_clsid, blank_carried, blank_document}
 use Rattle.doc_bits.specs.Number.{AreBytes}
-use Rattle.doc_bits.proofs.ByteListLemmas.{no_bytes, one_byte}
+use Rattle.doc_bits.proofs.Public.{no_bytes, one_byte}
 use Rattle.plain_doc.specs.Formed.{carried_parts, IsFormed}
 use Rattle.plain_doc.proofs.FormedLemmas.{All-one, HasPropertyMaps-from_parts}
 

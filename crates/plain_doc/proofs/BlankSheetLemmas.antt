@@ -10,7 +10,7 @@ use Rattle.std.proofs.lemmas.Option.{same_Some, none-some}
 use Rattle.doc_bits.specs.Number.{number_bytes}
 use Rattle.sprm_table.specs.Sprm.{spelling}
 use Rattle.prop_map.specs.Printing.{printed_list}
-use Rattle.prop_map.proofs.EntriesLemmas.{entries-empty}
+use Rattle.prop_map.proofs.Public.{entries-empty}
 use Rattle.style_sheet.specs.declared.styles.Style.{Style}
 use Rattle.style_sheet.specs.Sheet.{style_at}
 use Rattle.style_sheet.specs.Chain.{kind_at, kind_in, base_at, AreOfOneKind, IsBaseChain, HasSoundBases}
@@ -32,7 +32,7 @@ one_printed code byte =
 
 -- ---- the slots
 
--- the styles stand in the slots 0, 1 and 10
+-- the styles are in the slots 0, 1 and 10
 abbrev IsSlot : ℕ → Type 0
 IsSlot istd = (istd ≡ 0) ⊎ ((istd ≡ 1) ⊎ ((istd ≡ 10) ⊎ (style_at blank_sheet istd ≡ None)))
 

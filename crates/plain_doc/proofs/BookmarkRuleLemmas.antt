@@ -1,9 +1,9 @@
--- The rule on bookmarks, as it is judged.
+-- The rule on bookmarks, as it is checked.
 use Rattle.std.proofs.Common.{inl, inr, refl, sym, ℕ, ◌<◌, ◌≤◌, length, arith}
 use Rattle.doc_bits.specs.declared.places.Where.TheVariants.{Main}
 use Rattle.doc_bits.specs.Places.{Upto}
 use Rattle.doc_bits.specs.Rules.{Nowhere, IsLeast}
-use Rattle.doc_bits.proofs.PlaceLemmas.{upto_same}
+use Rattle.doc_bits.proofs.Public.{upto_same}
 use Rattle.doc_parts.specs.Names.{HasSameName}
 use Rattle.plain_doc.specs.declared.document.Document.{Document}
 use Rattle.plain_doc.specs.Marks.{most_bookmarks, HasWrongBookmarks}

@@ -71,7 +71,7 @@ before-append : {A : Type 0} (o : Option A) (cp : ℕ) (xs ys : List (ℕ × A))
 before-append None cp xs ys = refl
 before-append (Some v) cp xs ys = refl
 
--- what two texts have that stand one after the other
+-- what two texts have that are one after the other
 pub collected-append : {A : Type 0} (what : Item → Option A) (from : ℕ) (xs ys : List Item) →
     collected what from (xs ++ ys) ≡ collected what from xs ++ collected what (from + length xs) ys
 unfolding collected

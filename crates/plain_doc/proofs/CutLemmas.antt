@@ -10,6 +10,7 @@ use Rattle.std.proofs.lemmas.List.Elements.{All-head, All-tail, All-cons}
 use Rattle.plain_doc.specs.Stretches.{stretch_from, stretches, joins_next, BeginsStretch}
 use Rattle.plain_doc.specs.Stretches.{IsJoined, goes_over, AreStretches}
 use Rattle.plain_doc.proofs.StretchLemmas.{joins_at-tail, stretches-first, stretches-nil}
+use Rattle.doc_bits.proofs.Public.{slice_get_before}
 
 -- no part goes over into the next one
 abbrev AreApart : {A : Type 0} → (A → A → Bool) → List (List A) → Type 0
@@ -98,12 +99,6 @@ are_stretches joins [] = record {
 }
 are_stretches joins (x ∷ xs) = cut_step joins x xs (stretches joins xs) (are_stretches joins xs)
 
--- the elements of a list before another one, and the first after it
-slice_get-front : {A : Type 0} (xs ys : List A) (i : ℕ) → i < length xs → slice_get (xs ++ ys) i ≡ slice_get xs i
-slice_get-front [] ys i h = absurd (omega arith)
-slice_get-front (x ∷ xs) ys zero h = refl
-slice_get-front (x ∷ xs) ys (suc i) h = slice_get-front xs ys i (omega arith)
-
 slice_get-after : {A : Type 0} (xs ys : List A) → slice_get (xs ++ ys) (length xs) ≡ slice_get ys 0
 slice_get-after [] ys = refl
 slice_get-after (x ∷ xs) ys = slice_get-after xs ys
@@ -120,7 +115,7 @@ over_rest : {A : Type 0} (joins : A → A → Bool) (part : List A) (more : List
 over_rest joins part [] some apart = joins_nothing joins (slice_get part (length part - 1))
 over_rest joins part (next ∷ others) some apart =
     let h = All-head (λ part. 0 < length part) next others some in
-    ap (joins_next joins (slice_get part (length part - 1))) (slice_get-front next (flat_map (λ p. p) others) 0 h)
+    ap (joins_next joins (slice_get part (length part - 1))) (slice_get_before next (flat_map (λ p. p) others) 0 h)
     ∙ apart 0 part next refl refl
 
 begins : {A : Type 0} (joins : A → A → Bool) (part : List A) (rest : List A) → 0 < length part → IsJoined joins part →
@@ -130,12 +125,12 @@ begins joins part rest some joined over = record {
   some = some;
   within = omega (arith, length-append part rest);
   joined = λ k h.
-      ap (λ o. joins_next joins o (slice_get (part ++ rest) (k + 1))) (slice_get-front part rest k (omega arith))
-      ∙ (ap (joins_next joins (slice_get part k)) (slice_get-front part rest (k + 1) h) ∙ joined k h);
+      ap (λ o. joins_next joins o (slice_get (part ++ rest) (k + 1))) (slice_get_before part rest k (omega arith))
+      ∙ (ap (joins_next joins (slice_get part k)) (slice_get_before part rest (k + 1) h) ∙ joined k h);
   ends =
       let e : length part - 1 + 1 ≡ length part = omega arith in
       ap (λ o. joins_next joins o (slice_get (part ++ rest) (length part - 1 + 1)))
-      (slice_get-front part rest (length part - 1) (omega arith))
+      (slice_get_before part rest (length part - 1) (omega arith))
       ∙ (ap (λ i. joins_next joins (slice_get part (length part - 1)) (slice_get (part ++ rest) i)) e
       ∙ (ap (joins_next joins (slice_get part (length part - 1))) (slice_get-after part rest) ∙ over));
 }

@@ -44,7 +44,7 @@ characters_more text i item h is =
 one_character : (item : Item) → is_some item.fld ≡ true → field_characters (item ∷ []) ≡ item.unit ∷ []
 one_character item e = rw e refl
 
-no_character : (item : Item) → is_some item.fld ≡ false → field_characters (item ∷ []) ≡ []
+pub no_character : (item : Item) → is_some item.fld ≡ false → field_characters (item ∷ []) ≡ []
 no_character item e = rw e refl
 
 -- what is open after an item that is a field character, and after one that is none

@@ -1,7 +1,7 @@
 -- The terms of the laws, for crates above.
 use Rattle.std.proofs.Common.{◌∙◌, sym}
 use Rattle.doc_bits.specs.Places.{Upto}
-use Rattle.doc_bits.proofs.RuleLemmas.{least_of_all}
+use Rattle.doc_bits.proofs.Public.{least_of_all}
 use Rattle.plain_doc.specs.Sound.{document_rules, FirstDocFaultIsLeast, SoundSheetIsWritable}
 use Rattle.plain_doc.specs.RightDocument.{SoundDocumentsAreValid}
 use Rattle.plain_doc.specs.Settings.{EqualPropertiesAreSame}

@@ -1,30 +1,31 @@
-pub mod FormedLemmas
-pub mod StreamLemmas
-pub mod WithBytesLemmas
-pub mod MarkLemmas
-pub mod WalkLemmas
-pub mod EndLemmas
-pub mod NestingLemmas
-pub mod FieldLemmas
-pub mod ItemLemmas
-pub mod RowLemmas
-pub mod PlaceLemmas
-pub mod TextPlaceLemmas
-pub mod StyleLemmas
-pub mod SheetLemmas
-pub mod TextWalkLemmas
-pub mod SoundLemmas
-pub mod BlankLemmas
-pub mod BlankSheetLemmas
-pub mod StretchLemmas
-pub mod CutLemmas
-pub mod SettingsLemmas
-pub mod DecisionLemmas
-pub mod RightLemmas
-pub mod MainLemmas
-pub mod MarkedLemmas
-pub mod LawLemmas
-pub mod CollectedLemmas
-pub mod TextListLemmas
-pub mod BookmarkRuleLemmas
-pub mod JudgedLemmas
+pub mod Public
+mod FormedLemmas
+mod StreamLemmas
+mod WithBytesLemmas
+mod MarkLemmas
+mod WalkLemmas
+mod EndLemmas
+mod NestingLemmas
+mod FieldLemmas
+mod ItemLemmas
+mod RowLemmas
+mod PlaceLemmas
+mod TextPlaceLemmas
+mod StyleLemmas
+mod SheetLemmas
+mod TextWalkLemmas
+mod SoundLemmas
+mod BlankLemmas
+mod BlankSheetLemmas
+mod StretchLemmas
+mod CutLemmas
+mod SettingsLemmas
+mod DecisionLemmas
+mod RightLemmas
+mod MainLemmas
+mod MarkedLemmas
+mod LawLemmas
+mod CollectedLemmas
+mod TextListLemmas
+mod BookmarkRuleLemmas
+mod JudgedLemmas

@@ -1,11 +1,12 @@
 -- Items with and without marks, one after the other.
-use Rattle.std.proofs.Common.{ℕ, refl, sym, ap, subst, arith, ◌≡◌, ◌∙◌, ◌+◌, ◌<◌, ◌≤◌, List, length, get_or, true}
-use Rattle.std.proofs.Common.{false, inl, inr}
-use Rattle.std.specs.Prelude.{is_some}
+use Rattle.std.proofs.Common.{ℕ, refl, sym, ap, subst, arith, ◌≡◌, ◌∙◌, ◌+◌, ◌<◌, ◌≤◌, List, length, get_or, true, not}
+use Rattle.std.proofs.Common.{false, inl, inr, None}
+use Rattle.std.specs.Prelude.{is_some, IsSome}
 use Rattle.std.proofs.lemmas.Bool.{cases_lt}
 use Rattle.std.proofs.lemmas.Option.{get_or_from_slice_get, slice_get_past, slice_get_read}
 use Rattle.plain_doc.specs.declared.item.Item.{Item}
 use Rattle.plain_doc.specs.Paragraphs.{EndsParagraph, HasNoParagraphEnd}
+use Rattle.plain_doc.specs.Settings.{is_inside}
 
 -- no item of a range has a mark
 abbrev pub HasNoMark : List Item → ℕ → ℕ → Type 0
@@ -47,3 +48,9 @@ HasNoMark-all items from to none end at after ends =
       | inl less ↦ none at after less ends
       | inr not_less ↦ absurd (grind (arith, sym ends.here ∙ slice_get_past items at (omega arith)))
     ]
+
+pub a_mark : (x y : Item) → IsSome x.mark → is_inside x y ≡ false
+a_mark x y some = ap not some
+
+pub no_mark : (x y : Item) → x.mark ≡ None → is_inside x y ≡ true
+no_mark x y none = ap (λ m. not (is_some m)) none

@@ -1,4 +1,4 @@
--- In a right text a mark stands exactly where a paragraph ends.
+-- In a right text a mark is exactly where a paragraph ends.
 use Rattle.std.proofs.Common.{◌≡◌, ◌⊎◌, inl, inr, ℕ, Bool, true, false, List, length, Some, refl, sym, subst}
 use Rattle.std.specs.Prelude.{is_some, IsTrue, IsSome, slice_get}
 use Rattle.std.proofs.lemmas.Bool.{cases_eq, ne_eqb, false≢true}

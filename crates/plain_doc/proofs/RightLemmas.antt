@@ -22,7 +22,7 @@ use Rattle.plain_doc.specs.RulesOfSheet.{HasShortKind, note_count, head_count, i
 use Rattle.plain_doc.specs.Marks.{most_bookmarks, HasWrongBookmarks}
 use Rattle.plain_doc.specs.Sound.{IsSound, document_rules}
 use Rattle.plain_doc.specs.RightDocument.{HoldsAtItems, IsValidText, IsValidDocument}
-use Rattle.style_sheet.proofs.BaseLemmas.{unbroken_bases}
+use Rattle.style_sheet.proofs.Public.{unbroken_bases}
 use Rattle.plain_doc.proofs.WalkLemmas.{after_all}
 use Rattle.plain_doc.proofs.NestingLemmas.{nest_passes}
 use Rattle.plain_doc.proofs.FieldLemmas.{nothing_open}

@@ -22,10 +22,10 @@ stops_at_row : (row : Bool) (item : Item) (others : List Item) →
 stops_at_row true item others = refl
 stops_at_row false item others = refl
 
-one_more : (row cell : Bool) (n : ℕ) → cond row 0 (cond cell 1 0 + n) ≡ cond row 0 (cond cell (n + 1) n)
-one_more true cell n = refl
-one_more false true n = omega arith
-one_more false false n = omega arith
+pub one_cell_more : (row cell : Bool) (n : ℕ) → cond row 0 (cond cell 1 0 + n) ≡ cond row 0 (cond cell (n + 1) n)
+one_cell_more true cell n = refl
+one_cell_more false true n = omega arith
+one_cell_more false false n = omega arith
 
 cells_onto : (item : Item) (others : List Item) →
     count_by is_cell_mark (take_while (λ item. not (is_row_mark item)) (item ∷ others)) ≡ cells_after
@@ -36,7 +36,7 @@ cells_onto item others =
     ap (count_by is_cell_mark) (take_while-cons such item others)
     ∙ stops_at_row (is_row_mark item) item inside
     ∙ ap (λ n. cond (is_row_mark item) 0 n) (sum_by-cons (λ x. cond (is_cell_mark x) 1 0) item inside)
-    ∙ one_more (is_row_mark item) (is_cell_mark item) (count_by is_cell_mark inside)
+    ∙ one_cell_more (is_row_mark item) (is_cell_mark item) (count_by is_cell_mark inside)
 
 -- after one item more
 pub open_cells_more : (text : List Item) (i : ℕ) (item : Item) → i < length text → item ≡ get_or text i item →

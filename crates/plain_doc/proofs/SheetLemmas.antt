@@ -10,7 +10,7 @@ use Rattle.plain_doc.specs.declared.document.Document.{Document}
 use Rattle.plain_doc.specs.RulesOfSheet.{InSheet}
 use Rattle.doc_bits.specs.Places.{LeastPlaceOrNone}
 use Rattle.plain_doc.specs.RulesOfTexts.{InTexts}
-use Rattle.doc_bits.proofs.PlaceLemmas.{upto_later, upto_same, least_first, least_second}
+use Rattle.doc_bits.proofs.Public.{upto_later, upto_same, least_first, least_second}
 
 pub first_style : (breaks : ℕ → Type 0) (istd : ℕ) → IsLeast (λ a b. a ≤ b) breaks istd →
     IsLeast Upto (InSheet breaks) (Sheet, istd)

@@ -1,8 +1,8 @@
 -- The numbers of the rules on documents ascend, and none of them speaks of an object.
-use Rattle.std.proofs.Common.{lit≤, lit<}
+use Rattle.std.proofs.Common.{lit≤, lit<, ◌≡◌, sym, subst}
 use Rattle.doc_bits.specs.Rules.{IsSingle, Ascends}
 use Rattle.plain_doc.specs.declared.document.Document.{Document}
-use Rattle.plain_doc.specs.Sound.{document_rules, text_rules, count_rules, size_rules}
+use Rattle.plain_doc.specs.Sound.{document_rules, text_rules, count_rules, size_rules, IsSound}
 
 pub document_rules-IsSingle : (document : Document) → IsSingle (document_rules document)
 document_rules-IsSingle document = ((tt, (tt, (tt, (tt, tt)))), (tt, ((tt, (tt, (tt, tt))), (tt, tt))))
@@ -93,3 +93,7 @@ document_rules-Ascends document = (
     ),
   ),
 )
+
+-- the document that its columns are seen as is sound
+pub sound_seen : (seen document : Document) → seen ≡ document → IsSound document → IsSound seen
+sound_seen seen document is sound = subst (λ (d : Document). IsSound d) (sym is) sound

@@ -1,4 +1,4 @@
--- Lists of named streams: what stands at a place, and the front of a list.
+-- Lists of named streams: what is at a place, and the front of a list.
 use Rattle.std.proofs.Common.{ℕ, sym, ap, arith, ◌≡◌, ◌∙◌, ◌+◌, ◌<◌, List, [], ◌∷◌, ◌++◌, length, take}
 use Rattle.std.proofs.Common.{Option, Some, None}
 use Rattle.std.specs.Prelude.{slice_get}
@@ -6,7 +6,7 @@ use Rattle.std.specs.Option.{option_map, unwrap_or}
 use Rattle.std.proofs.lemmas.List.{take_more, take_more_same}
 use Rattle.std.proofs.lemmas.List.Sums.{sum_by-take-le}
 use Rattle.std.proofs.lemmas.Option.{get_or_from_slice_get, slice_get-get_or}
-use Rattle.doc_bits.proofs.ListLemmas.{slice_get-take}
+use Rattle.doc_bits.proofs.Public.{slice_get-take}
 use Rattle.cfb_streams.specs.Contents.{NamedBytes, AreStreams}
 
 -- a stream is its name and its bytes

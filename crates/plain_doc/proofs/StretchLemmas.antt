@@ -49,7 +49,7 @@ alone joins x (y ∷ ys) e =
     let apart : joins x y ≡ false = e in
     rw (next.is, apart) refl
 
--- an element joins the next one wherever both stand
+-- an element joins the next one wherever both are
 pub joins_at-tail : {A : Type 0} (joins : A → A → Bool) (x : A) (xs : List A) (k : ℕ) →
     joins_at joins (x ∷ xs) (suc k) ≡ joins_at joins xs k
 joins_at-tail joins x xs k =

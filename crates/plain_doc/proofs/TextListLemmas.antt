@@ -7,11 +7,11 @@ use Rattle.std.proofs.lemmas.List.{nil_from_length, length-append, append-nil, t
 use Rattle.std.proofs.lemmas.List.Concat.{flat_map-cons}
 use Rattle.std.proofs.lemmas.List.Elements.{All-nil, All-append}
 use Rattle.std.proofs.lemmas.Option.{same_Some, none-some, slice_get_within}
-use Rattle.doc_bits.proofs.TogetherLemmas.{in_front, in_back}
+use Rattle.doc_bits.proofs.Public.{in_front, in_back}
 use Rattle.prop_map.specs.Settings.{Properties}
 use Rattle.doc_parts.specs.Cps.{AreCpsInOrder}
 use Rattle.doc_parts.specs.Stories.{cut_cps}
-use Rattle.doc_parts.proofs.CpLemmas.{Rise, rise_lower, Climb, climb_lower, climb_in_order}
+use Rattle.doc_parts.proofs.Public.{Rise, rise_lower, Climb, climb_lower, climb_in_order}
 use Rattle.plain_doc.specs.declared.item.Item.{Item}
 use Rattle.plain_doc.specs.Collected.{joined_texts, entry_before, collected, cuts_from}
 use Rattle.plain_doc.specs.TextLists.{cuts_of, starts_from}
@@ -176,7 +176,7 @@ cut_at cp (text ∷ texts) (suc k) within =
     let e : cp + length text + length (joined_texts (take k texts)) ≡ cp + length (joined_texts (text ∷ take k texts)) =
     omega arith in later ∙ e
 
--- an item of a text stands in the joined texts, behind those before it
+-- an item of a text is in the joined texts, behind those before it
 pub in_joined : (texts : List (List Item)) (k : ℕ) (text : List Item) (i : ℕ) (item : Item) →
     slice_get texts k ≡ Some text → slice_get text i ≡ Some item →
     slice_get (joined_texts texts) (length (joined_texts (take k texts)) + i) ≡ Some item

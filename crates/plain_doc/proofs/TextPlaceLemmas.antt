@@ -12,7 +12,7 @@ use Rattle.plain_doc.specs.declared.rules_texts.Side.TheVariants.{Notes, Heads}
 use Rattle.doc_bits.specs.Places.{LeastPlaceOrNone}
 use Rattle.plain_doc.specs.RulesOfTexts.{InTexts, text_of}
 use Rattle.plain_doc.specs.TextRules.{InList}
-use Rattle.doc_bits.proofs.PlaceLemmas.{upto_later, upto_same, least_first, least_second, same_places}
+use Rattle.doc_bits.proofs.Public.{upto_later, upto_same, least_first, least_second, same_places}
 
 module _ (document : Document) (breaks : Where → List Item → ℕ → Type 0) where
   abbrev InMain : Place → Type 0

@@ -28,7 +28,7 @@ use Rattle.plain_doc.proofs.WalkLemmas.{after_all}
 use Rattle.plain_doc.proofs.FieldLemmas.{open_after, open_still, nothing_open}
 use Rattle.plain_doc.proofs.RowLemmas.{RightIn, open_cells-nil, open_cells_more, no_row_open}
 use Rattle.plain_doc.proofs.ItemLemmas.{right_there, wrong_within}
-use Rattle.doc_parts.proofs.ApartLemmas.{one_at_most}
+use Rattle.doc_parts.proofs.Public.{one_at_most}
 
 open_by : (has : Bool) (text : List Item) (i : ℕ) (item : Item) (fields next : Open) → i < length text →
     item ≡ get_or text i item → is_some item.fld ≡ has →

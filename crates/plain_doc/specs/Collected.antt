@@ -1,4 +1,4 @@
--- What the items of a text have, listed by their CPs, and the CPs that cut texts which stand one after the other.
+-- What the items of a text have, listed by their CPs, and the CPs that cut texts which are one after the other.
 use Rattle.std.specs.Prelude.{ℕ, ◌+◌, Bool, true, false, List, [], ◌∷◌, length, map, option_map, Option, Some, None}
 use Rattle.std.specs.List.{flat_map}
 use Rattle.prop_map.specs.Settings.{Properties}
@@ -17,7 +17,7 @@ abbrev pub entry_before : {A : Type 0} → Option A → ℕ → List (ℕ × A) 
 entry_before None cp rest = rest
 entry_before (Some value) cp rest = (cp, value) ∷ rest
 
--- of items that stand from a CP on, the CPs of those that have such a thing, each with what it has
+-- of items that are from a CP on, the CPs of those that have such a thing, each with what it has
 unfoldable pub collected : {A : Type 0} → (Item → Option A) → ℕ → List Item → List (ℕ × A)
 collected what cp [] = []
 collected what cp (item ∷ items) = entry_before (what item) cp (collected what (cp + 1) items)
@@ -42,7 +42,7 @@ is_auto Custom = false
 abbrev pub refs_of : List Item → List NoteRef
 refs_of main = map (λ entry. record { cp = entry.0; auto = is_auto entry.1 }) (collected (λ item. item.note) 0 main)
 
--- the CPs at which texts begin that stand from a CP on, and the one where the last of them ends
+-- the CPs at which texts begin that are from a CP on, and the one where the last of them ends
 unfoldable pub cuts_from : ℕ → List (List Item) → List ℕ
 cuts_from cp [] = cp ∷ []
 cuts_from cp (text ∷ texts) = cp ∷ cuts_from (cp + length text) texts

@@ -1,8 +1,8 @@
--- Lists of what stands at the CPs of a text: a CP, and what stands there.
+-- Lists of what is at the CPs of a text: a CP, and what is there.
 use Rattle.std.specs.Prelude.{ℕ, ◌==◌, ◌<◌, ◌≡◌, List, Option, Some, option_map, slice_get}
 use Rattle.std.specs.List.{find}
 
--- what stands at a CP, where something does
+-- what is at a CP, where something does
 abbrev pub entry_at : {A : Type 0} → List (ℕ × A) → ℕ → Option A
 entry_at entries cp = option_map (λ entry. entry.1) (find (λ entry. entry.0 == cp) entries)
 

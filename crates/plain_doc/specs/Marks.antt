@@ -8,7 +8,7 @@ use Rattle.doc_parts.specs.Names.{HasSameName}
 use Rattle.plain_doc.specs.declared.item.Item.{Item}
 use Rattle.plain_doc.specs.declared.document.Document.{Document}
 
--- each is within the main text and has a name, and they stand in their order
+-- each is within the main text and has a name, and they are in their order
 abbrev pub HasFormedBookmarks : Document → Type 0
 HasFormedBookmarks document = AreFormedBookmarks (length document.main) document.bookmarks
 

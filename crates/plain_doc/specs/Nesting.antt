@@ -1,4 +1,4 @@
--- [MS-DOC] Fields: 0x13, an instruction, perhaps 0x14 and a result, 0x15. Fields may stand in both parts. No stack is
+-- [MS-DOC] Fields: 0x13, an instruction, perhaps 0x14 and a result, 0x15. Fields may be in both parts. No stack is
 -- walked here: the field characters of a text are fields one after another, at most so deep.
 use Rattle.std.specs.Prelude.{◌≡◌, ◌⊎◌, ℕ, suc, zero, ◌+◌, ◌<◌, List, [], ◌∷◌, ◌++◌, length, take, map, filter}
 use Rattle.std.specs.Prelude.{is_some, Option, Some, None}

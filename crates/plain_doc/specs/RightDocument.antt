@@ -20,7 +20,7 @@ use Rattle.plain_doc.specs.Sound.{IsSound}
 abbrev pub HoldsAtItems : List Item → (ℕ → Item → Type 0) → Type 0
 HoldsAtItems text such = (i : ℕ) (item : Item) → slice_get text i ≡ Some item → such i item
 
--- the text ends right, its items are right where they stand, its fields nest, and no row is open at its end
+-- the text ends right, its items are right where they are, its fields nest, and no row is open at its end
 pub record IsValidText (sheet : Sheet) (part : Where) (text : List Item) : Type 0 where
   pub ends : EndsRight part text
   pub placed : HoldsAtItems text (IsPlacedRight part (length text))

@@ -47,7 +47,7 @@ HasCells None cells = ⊥
 HasCells (Some value) cells = slice_get value 0 ≡ Some cells
 
 -- an item that is right where the open row has so many cells: a row mark gives their number, and a mark outside of
--- tables stands where there are none
+-- tables is where there are none
 pub record FitsRow (cells : ℕ) (item : Item) : Type 0 where
   pub row : IsTrue (is_row_mark item) → HasCells (paragraph_value item 0xD608) cells
   pub outside : IsTrue (is_mark_outside item) → cells ≡ 0

@@ -14,7 +14,7 @@ pub record IsWrongItem (right : ℕ → Item → Type 0) (text : List Item) (pla
   pub there : slice_get text place ≡ Some item
   pub wrong : ¬ (right place item)
 
--- a mark stands exactly on 0x0D, on 0x07, and where a section ends
+-- a mark is exactly on 0x0D, on 0x07, and where a section ends
 abbrev pub HasMarkRight : Item → Type 0
 HasMarkRight item = IsSome item.mark ↔ ((item.unit ≡ paragraph_mark) ⊎ ((item.unit ≡ cell_mark) ⊎ IsSome item.sect))
 
@@ -24,7 +24,7 @@ pub record HasSectionRight (part : Where) (len place : ℕ) (item : Item) : Type
   pub alone : IsSome item.sect → (part ≡ Main) × ((place + 1 ≡ len) ⊎ (item.unit ≡ section_mark))
   pub last : part ≡ Main → place + 1 ≡ len → IsSome item.sect
 
--- the byte of a field character stands on 0x13 to 0x15 alone
+-- the byte of a field character is on 0x13 to 0x15 alone
 abbrev pub HasFieldRight : Item → Type 0
 HasFieldRight item = IsSome item.fld → (0x13 ≤ item.unit) × (item.unit ≤ 0x15)
 
@@ -32,7 +32,7 @@ HasFieldRight item = IsSome item.fld → (0x13 ≤ item.unit) × (item.unit ≤ 
 abbrev pub HasNoteRight : Where → Item → Type 0
 HasNoteRight part item = IsSome item.note → part ≡ Main
 
--- what the item has stands where it may
+-- what the item has is where it may
 pub record IsPlacedRight (part : Where) (len place : ℕ) (item : Item) : Type 0 where
   pub mark : HasMarkRight item
   pub section : HasSectionRight part len place item

@@ -1,4 +1,4 @@
--- The rules that are judged style by style, as the code names them.
+-- The rules that are checked style by style, as the code names them.
 use Rattle.std.specs.Prelude.{ℕ}
 use Rattle.style_sheet.specs.Sheet.{Sheet}
 use Rattle.plain_doc.specs.declared.rules_sheet.StyleRule.{StyleRule}

@@ -1,4 +1,4 @@
--- The rules that are judged text by text, as the code names them.
+-- The rules that are checked text by text, as the code names them.
 use Rattle.std.specs.Prelude.{◌≡◌, ℕ, List, length, slice_get, Some}
 use Rattle.doc_bits.specs.declared.places.Where.{Where}
 use Rattle.doc_bits.specs.declared.places.Where.TheVariants.{Note, Head}

@@ -29,7 +29,7 @@ pub record IsPlain (item : Item) : Type 0 where
   pub paragraph : item.unit ≢ paragraph_mark
   pub cell : item.unit ≢ cell_mark
 
--- the item breaks no rule where it stands, and what the walk carries after it
+-- the item breaks no rule where it is, and what the walk carries after it
 pub record PassesItem (sheet : Sheet) (part : Where) (len place : ℕ) (item : Item) (before after : TextWalk) :
     Type 0 where
   pub right : (rule : ItemRule) → IsValidItem rule sheet part len place item

@@ -19,7 +19,7 @@ pub struct Carried {
     pub assoc: Bytes,
     /// [MS-DOC] PlfLst, the lists.
     pub lst: Bytes,
-    /// [MS-DOC] the LVLs that stand after PlfLst.
+    /// [MS-DOC] the LVLs that are after PlfLst.
     pub levels: Bytes,
     /// [MS-DOC] PlfLfo, the uses of lists.
     pub lfo: Bytes,

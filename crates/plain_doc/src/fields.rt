@@ -10,7 +10,7 @@ use std::marker::Model;
 use text_codes::{FIELD_BEGIN, FIELD_END, FIELD_SEPARATOR};
 
 /// The most fields that may be open at once.
-const MAX_OPEN: usize = 128;
+pub const MAX_OPEN: usize = 128;
 
 /// The fields that are open: for each, the outermost first, whether its separator has been met.
 #[derive(Drop)]

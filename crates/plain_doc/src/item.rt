@@ -1,5 +1,6 @@
 // One place of a text, with what the formatting says of it.
 ghost use Rattle.std.specs.Prelude.{◌≡◌, ◌↔◌, IsTrue, IfOk};
+ghost use Rattle.plain_doc.specs.Settings.{same_properties};
 
 use doc_bits::Memory;
 use prop_map::PropMap;
@@ -128,4 +129,11 @@ pub fn same_section(sect: &Option<PropMap>, other: &Option<PropMap>) -> bool
         (Some(map), Some(other)) => map.equal(other),
         _ => false,
     }
+}
+
+/// Whether two maps have the same codes and values.
+pub fn has_same_properties(one: &PropMap, other: &PropMap) -> bool
+    ensures { result ≡ same_properties one.now other.now }
+{
+    one.equal(other)
 }

@@ -1,4 +1,4 @@
-// The rules on documents, judged in their order. No memory is taken.
+// The rules on documents, checked in their order. No memory is taken.
 ghost use Rattle.std.specs.Prelude.{◌≡◌, MatchResult};
 ghost use Rattle.doc_bits.specs.Rules.{Hold, Nowhere, rule as rule_of};
 ghost use Rattle.doc_bits.specs.Places.{LeastPlaceOrNone};
@@ -57,19 +57,19 @@ pub struct DocFault {
     pub at: u32,
 }
 
-/// Judges a document by the rules 60 to 71. One whose bookmarks are formed, and that breaks none, is sound.
+/// Checks a document by the rules 60 to 71. One whose bookmarks are formed, and that breaks none, is sound.
 pub fn check(document: &Document) -> Result<(), DocFault>
     requires { HasFormedBookmarks document.now }
     ensures { MatchResult result (λ _. IsSound document.now) (NamesFirstRule (document_rules document.now)) }
 {
-    // Only where one walk over the texts finds something wrong they are judged rule by rule.
+    // Only where one walk over the texts finds something wrong they are checked rule by rule.
     match right_counts(document) {
         Some(counts) => check_beside(document, counts),
         None => check_each(document),
     }
 }
 
-/// Judges a document whose texts break no rule on texts.
+/// Checks a document whose texts break no rule on texts.
 fn check_beside(document: &Document, counts: Counts) -> Result<(), DocFault>
     requires right { AreTextsRight document.now }
     requires counts { HasCounts document.now.main counts }
@@ -94,7 +94,7 @@ fn check_each(document: &Document) -> Result<(), DocFault>
     Ok(())
 }
 
-/// Judges the texts by the rules 60 to 64.
+/// Checks the texts by the rules 60 to 64.
 fn check_texts(document: &Document) -> Result<(), DocFault>
     ensures { MatchResult result (λ _. Hold (text_rules document.now)) (NamesFirstRule (text_rules document.now)) }
 {
@@ -106,7 +106,7 @@ fn check_texts(document: &Document) -> Result<(), DocFault>
     Ok(())
 }
 
-/// Judges the texts by a rule, which has this number.
+/// Checks the texts by a rule, which has this number.
 fn check_text_rule(document: &Document, number: u8, rule: TextRule) -> Result<(), DocFault>
     ensures { MatchResult result
         (λ _. Nowhere (InTexts document.now (BreaksText rule document.now.sheet)))
@@ -118,7 +118,7 @@ fn check_text_rule(document: &Document, number: u8, rule: TextRule) -> Result<()
     }
 }
 
-/// Judges the bases of styles, rule 65.
+/// Checks the bases of styles, rule 65.
 fn check_bases(document: &Document) -> Result<(), DocFault>
     ensures { MatchResult result (λ _. Hold (base_rules document.now)) (NamesFirstRule (base_rules document.now)) }
 {
@@ -128,7 +128,7 @@ fn check_bases(document: &Document) -> Result<(), DocFault>
     }
 }
 
-/// Judges the numbers of texts, items and bookmarks, and the names of these, rules 66 to 69.
+/// Checks the numbers of texts, items and bookmarks, and the names of these, rules 66 to 69.
 fn check_counts(document: &Document, counts: Counts) -> Result<(), DocFault>
     requires counts { HasCounts document.now.main counts }
     requires bookmarks { HasFormedBookmarks document.now }
@@ -149,7 +149,7 @@ fn check_counts(document: &Document, counts: Counts) -> Result<(), DocFault>
     Ok(())
 }
 
-/// Judges the number of bookmarks and their names, rule 69.
+/// Checks the number of bookmarks and their names, rule 69.
 fn check_bookmarks(document: &Document) -> Result<(), DocFault>
     requires { HasFormedBookmarks document.now }
     ensures { MatchResult result

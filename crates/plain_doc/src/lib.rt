@@ -24,8 +24,11 @@ mod texts;
 pub use blank_parts::blank;
 pub use carried::Carried;
 pub use document::{Document, equal};
+pub use fields::MAX_OPEN;
 pub use formed::{blank_is_formed, documents_are_formed};
-pub use item::{Item, Mark, NoteKind, copy_mark, copy_section, same_mark, same_section};
+pub use item::{
+    Item, Mark, NoteKind, copy_mark, copy_section, has_same_properties, same_mark, same_section,
+};
 pub use items::Items;
 pub use judge::{DocFault, MAX_BOOKMARKS, RULE_ITEMS, RULE_SETTINGS, RULE_STD, check};
 pub use laws::{
@@ -34,6 +37,7 @@ pub use laws::{
 };
 pub use paragraphs::paragraph_end;
 pub use ranges::{has_field_byte, has_style_number, is_byte, is_word};
+pub use rows::value_at;
 pub use rules_counts::{Counts, HEADERS_PER_SECTION, SEPARATORS, all_items, notes_in, sections_in};
 pub use rules_items::MAX_CHPX_GRPPRL;
 pub use rules_sheet::is_valid_sheet;

@@ -1,11 +1,11 @@
 // The rows of tables.
-ghost use Rattle.std.specs.Prelude.{◌≡◌, ◌+◌, ◌^◌, ◌<◌, ◌≤◌};
+ghost use Rattle.std.specs.Prelude.{◌≡◌, ◌+◌, ◌^◌, ◌<◌, ◌≤◌, option_map, Some, None};
 ghost use Rattle.std.specs.Prelude.{◌↔◌, length, IsTrue, option_map};
 ghost use Rattle.doc_bits.specs.Rules.{LeastOrNone};
 ghost use Rattle.plain_doc.specs.Rows.{paragraph_value, is_on, is_row_mark, is_mark_outside, HasCells, FitsRow};
-ghost use Rattle.plain_doc.specs.Rows.{BreaksRows, cells_after};
+ghost use Rattle.plain_doc.specs.Rows.{BreaksRows, cells_after, value_in};
 
-use crate::Item;
+use crate::{Item, Mark};
 use sprm_table::{Code, SPRM_P_F_IN_TABLE, SPRM_P_F_TTP, SPRM_T_DEF_TABLE};
 use text_codes::CELL_MARK;
 
@@ -28,7 +28,7 @@ pub(crate) fn wrong_row(text: &[Item]) -> Option<u32>
     }
 }
 
-/// Whether an item may stand where the open row has so many cells.
+/// Whether an item may be where the open row has so many cells.
 pub(crate) fn fits_row(cells: usize, item: &Item) -> bool
     ensures { IsTrue result ↔ FitsRow cells item.now }
 {
@@ -92,6 +92,16 @@ fn paragraph_property(item: &Item, code: Code) -> Option<&[u8]>
     ensures { option_map (λ v. v.now) result ≡ paragraph_value item.now code.0 }
 {
     match &item.mark {
+        None => None,
+        Some(mark) => mark.pap.get(code),
+    }
+}
+
+/// The value that the mark, where there is one, has at the code.
+pub fn value_at(mark: &Option<Mark>, code: Code) -> Option<&[u8]>
+    ensures { option_map (λ v. v.now) result ≡ value_in mark.now code.0 }
+{
+    match mark {
         None => None,
         Some(mark) => mark.pap.get(code),
     }

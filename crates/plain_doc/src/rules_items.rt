@@ -22,7 +22,7 @@ const MAX_PAPX_GRPPRL: u64 = 480;
 /// The most bytes of the printed properties of a section.
 const MAX_SEPX_GRPPRL: u64 = 500;
 
-/// Whether what the item has stands where it may, in a text of so many items.
+/// Whether what the item has is where it may, in a text of so many items.
 pub(crate) fn is_placed_right(part: Where, len: usize, place: usize, item: &Item) -> bool
     requires { place < 2 ^ 32 }
     ensures { IsTrue result ↔ IsPlacedRight part len place item.now }
@@ -33,7 +33,7 @@ pub(crate) fn is_placed_right(part: Where, len: usize, place: usize, item: &Item
         && has_note_right(part, item)
 }
 
-/// Whether a mark stands exactly where a paragraph ends.
+/// Whether a mark is exactly where a paragraph ends.
 fn has_mark_right(item: &Item) -> bool
     ensures { IsTrue result ↔ HasMarkRight item.now }
 {
@@ -58,7 +58,7 @@ fn has_section_right(part: Where, len: usize, place: usize, item: &Item) -> bool
     }
 }
 
-/// Whether the byte of a field stands on a field character alone.
+/// Whether the byte of a field is on a field character alone.
 fn has_field_right(item: &Item) -> bool
     ensures { IsTrue result ↔ HasFieldRight item.now }
 {

@@ -1,4 +1,4 @@
-// The rules on texts, judged text by text in the order of their places.
+// The rules on texts, checked text by text in the order of their places.
 ghost use Rattle.std.specs.Prelude.{◌≡◌, ◌^◌, ◌<◌, ◌↔◌, length, IsTrue};
 ghost use Rattle.doc_bits.specs.Rules.{LeastOrNone};
 ghost use Rattle.doc_bits.specs.Places.{LeastPlaceOrNone};
@@ -19,7 +19,7 @@ use text_codes::PARAGRAPH_MARK;
 /// A rule on each item of a text.
 #[derive(Clone, Copy)]
 pub enum ItemRule {
-    /// What the item has stands where it may.
+    /// What the item has is where it may.
     Placing,
     /// The style of a mark is one of paragraphs.
     Styles,

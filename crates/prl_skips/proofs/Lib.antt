@@ -1,5 +1,6 @@
-pub mod PutLemmas
-pub mod RangeLemmas
-pub mod SkipLemmas
-pub mod WalkLemmas
-pub mod OneLemmas
+pub mod Public
+mod PutLemmas
+mod RangeLemmas
+mod SkipLemmas
+mod WalkLemmas
+mod OneLemmas

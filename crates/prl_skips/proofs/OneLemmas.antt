@@ -7,7 +7,7 @@ use Rattle.std.proofs.Math.Nat.{zero-div}
 use Rattle.std.proofs.Math.Seq.{drop-append_seam}
 use Rattle.sprm_table.specs.Codes.{sgc, is_held}
 use Rattle.sprm_table.specs.Sprm.{Prl, spelling, SpellsSprmList, IsAcceptedList}
-use Rattle.sprm_table.proofs.SprmLemmas.{spelt_unique}
+use Rattle.sprm_table.proofs.Public.{spelt_unique}
 use Rattle.prl_skips.specs.Skips.{skipped, SkipsRefused, SkipsOrStays, PutsSkipped}
 
 -- a place that holds no group refuses no code

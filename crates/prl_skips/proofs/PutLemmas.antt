@@ -2,7 +2,7 @@
 use Rattle.std.proofs.Common.{◌≡◌, ℕ, ◌+◌, ◌-◌, ◌≤◌, List, ◌++◌, length, take, drop, slice_range, ap, ◌∙◌, arith}
 use Rattle.std.proofs.lemmas.List.{drop-drop}
 use borrow.Rule.Slice.PartMut.{put_mid}
-use Rattle.doc_bits.proofs.ListLemmas.{length-range}
+use Rattle.doc_bits.proofs.Public.{length-range}
 use Rattle.prl_skips.specs.Skips.{SkipsOrStays, PutsSkipped}
 
 pub range_put : (old mid : List ℕ) (from to : ℕ) → from ≤ to → to ≤ length old →

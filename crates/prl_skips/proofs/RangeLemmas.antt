@@ -3,7 +3,7 @@ use Rattle.std.proofs.Common.{◌≡◌, ℕ, ◌+◌, ◌-◌, ◌<◌, ◌≤�
 use Rattle.std.proofs.Common.{slice_range, sym, ap, ◌∙◌, arith, length-append, length-drop}
 use Rattle.std.proofs.lemmas.List.{ext_get_or, get_or-take, get_or-drop, get_or_append_left, get_or-append_right}
 use Rattle.std.proofs.lemmas.List.{length-take-le, drop-take, drop-drop, append_assoc}
-use Rattle.doc_bits.proofs.ListLemmas.{length-range, range_mid, range_index}
+use Rattle.doc_bits.proofs.Public.{length-range, range_mid, range_index}
 
 -- what a range has, its bytes have
 pub byte_of_range : (a b : List ℕ) (from to i : ℕ) → from ≤ i → i < to →

@@ -13,7 +13,7 @@ use Rattle.sprm_table.specs.Codes.{sgc, is_held, is_among, toggles, refused_code
 use Rattle.sprm_table.specs.Codes.{is_style, IsRefusedIn}
 use Rattle.sprm_table.specs.Operands.{size_of, IsSizeOf}
 use Rattle.sprm_table.specs.Sprm.{Prl, IsPrl, IsAcceptedList}
-use Rattle.sprm_table.proofs.SprmLemmas.{spelt_unique}
+use Rattle.sprm_table.proofs.Public.{spelt_unique}
 use Rattle.prop_map.specs.declared.acting.Acted.{Acted}
 use Rattle.prop_map.specs.declared.modifiers.Modifier.{Modifier}
 use Rattle.prop_map.specs.Settings.{Properties}
@@ -22,6 +22,7 @@ use Rattle.prop_map.specs.Acting.{is_kept, concerns_code, left_by, value_after, 
 use Rattle.prop_map.specs.Acting.{ArePropertiesAfter, IsActed, IsActedBy}
 use Rattle.prop_map.specs.Modifiers.{IsModifierOf, IsSpeltModifier}
 use Rattle.prl_skips.specs.Skips.{picture_code, skipped_code, skipped, SkipsRefused, HoldsNoPictures}
+use Rattle.doc_bits.proofs.Public.{first_false}
 
 -- ---- the nine codes
 
@@ -205,9 +206,6 @@ clears_none : (held : Bool) (class : Class) → class ≡ Refused → (held && i
 clears_none true class e = rw e refl
 clears_none false class e = refl
 
-unheld_one : (held first : Bool) → held ≡ false → (held && first) ≡ false
-unheld_one held first e = rw e refl
-
 no_concern : (groups code : ℕ) → HoldsNoPictures groups → PassesNone (concerns_code groups code)
 no_concern groups code none prl among = (
   concerns_none (is_held groups prl.0) (code == prl.0) (is_kept code) (class_of prl.0) (refused_class prl.0 among),
@@ -219,14 +217,14 @@ no_concern groups code none prl among = (
 no_name : (groups : ℕ) → HoldsNoPictures groups → PassesNone (names_style groups)
 no_name groups none prl among = (
   names_none (is_held groups prl.0) (class_of prl.0) (refused_class prl.0 among),
-  unheld_one (is_held groups (picture_code prl.0)) (is_style (class_of (picture_code prl.0)))
+  first_false (is_held groups (picture_code prl.0)) (is_style (class_of (picture_code prl.0)))
       (not_held groups prl.0 none among),
 )
 
 no_clear : PassesNone (λ prl. is_held character_groups prl.0 && is_clear (class_of prl.0))
 no_clear prl among = (
   clears_none (is_held character_groups prl.0) (class_of prl.0) (refused_class prl.0 among),
-  unheld_one (is_held character_groups (picture_code prl.0)) (is_clear (class_of (picture_code prl.0)))
+  first_false (is_held character_groups (picture_code prl.0)) (is_clear (class_of (picture_code prl.0)))
       (not_held character_groups prl.0 refl among),
 )
 

@@ -8,10 +8,10 @@ use Rattle.std.proofs.lemmas.List.Elements.{All-nil, All-cons, All-append}
 use Rattle.std.proofs.lemmas.Grind.{flat_map-append}
 use Rattle.std.proofs.Math.Seq.{drop-append_seam, take-append_seam}
 use Rattle.doc_bits.specs.Number.{number_bytes}
-use Rattle.doc_bits.proofs.NumberLemmas.{length-number_bytes}
+use Rattle.doc_bits.proofs.Public.{length-number_bytes}
 use Rattle.sprm_table.specs.Operands.{size_of, operand_bytes}
 use Rattle.sprm_table.specs.Sprm.{Prl, IsPrl, spelling, EndsSprmList, SpellsSprmList, IsAcceptedList}
-use Rattle.sprm_table.proofs.SprmLemmas.{drop-spelling}
+use Rattle.sprm_table.proofs.Public.{drop-spelling}
 use Rattle.sprm_table.specs.Cursor.{SprmCursor, Gives, Takes}
 use Rattle.prl_skips.specs.Skips.{skipped_code, skipped, SkipsRefused}
 use Rattle.prl_skips.specs.Fronts.{HasFirst}
@@ -69,7 +69,7 @@ front_none old list = record {
   left = list.spelt;
 }
 
--- what stands at the place, and before it
+-- what is at the place, and before it
 pub rest_there : (old now : List ℕ) (at : ℕ) (front : SkipsFront old now at) → drop at now ≡ front.rest
 rest_there old now at front =
     let done = flat_map spelling (map skipped front.done) in

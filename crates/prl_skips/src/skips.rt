@@ -11,7 +11,7 @@ use sprm_table::{Class, Code, SprmIter, class, group, list_fault};
 /// What one group is in a code.
 const GROUP: u16 = 0x0400;
 
-/// The group of pictures, as it stands in a code.
+/// The group of pictures, as it is in a code.
 const PICTURE: u16 = 0x0C00;
 
 /// The code itself, or with the group of pictures where it is not read.

@@ -4,7 +4,7 @@ use Rattle.std.proofs.Common.{List, length, drop, get_or, arith, length-drop}
 use Rattle.std.proofs.lemmas.Bool.{cases_lt}
 use Rattle.doc_bits.specs.Number.{u16_at}
 use Rattle.doc_bits.specs.Rules.{Nowhere}
-use Rattle.doc_bits.proofs.NumberLemmas.{number_at-bound}
+use Rattle.doc_bits.proofs.Public.{number_at-bound, AreBytes-drop}
 use Rattle.sprm_table.specs.declared.codes.Class.{Class}
 use Rattle.sprm_table.specs.declared.codes.Class.TheVariants.{Plain, Toggle, Clear, Style, Refused}
 use Rattle.sprm_table.specs.Codes.{is_held, class_of, IsRefusedIn}
@@ -14,10 +14,8 @@ use Rattle.sprm_table.specs.Operands.{size_of, IsSizeOf, HasNoOperand}
 use Rattle.sprm_table.specs.Cursor.{IsPrlAt}
 use Rattle.sprm_table.specs.Sprm.{HasSprmFaultAt, IsAcceptedList}
 use Rattle.doc_bits.specs.Number.{AreBytes}
-use Rattle.sprm_table.proofs.OperandLemmas.{IsExtent, count_len, no_operand, operand_at}
-use Rattle.sprm_table.proofs.SprmLemmas.{prl_at}
-use Rattle.sprm_table.proofs.FaultLemmas.{Passed, passed_none, passed_step, passed_end, refused_first}
-use Rattle.doc_bits.proofs.ByteListLemmas.{AreBytes-drop}
+use Rattle.sprm_table.proofs.Public.{IsExtent, count_len, no_operand, operand_at, prl_at, Passed, passed_none}
+use Rattle.sprm_table.proofs.Public.{passed_step, passed_end, refused_first}
 
 -- a value's size is there
 record HasExtent (size : OperandSize) (rest : List ℕ) : Type 0 where

@@ -1,20 +1,22 @@
 -- The bytes of entries spell these entries and no others.
-use Rattle.std.proofs.Common.{◌≡◌, ◌∙◌, inl, inr, refl, sym, ap, subst, ℕ, zero, suc, ◌+◌, ◌-◌, ◌<◌, ◌≤◌, ◌==◌, true}
+use Rattle.std.proofs.Common.{◌≡◌, ◌∙◌, inl, inr, refl, sym, ap, subst, ℕ, zero, suc, ◌+◌, ◌-◌, ◌<◌, ◌≤◌, ◌==◌}
 use Rattle.std.proofs.Common.{false, List, [], ◌∷◌, ◌++◌, length, take, drop, arith, IsTrue, Some, length-append}
 use Rattle.std.proofs.Common.{append_assoc, get_or}
 use Rattle.std.specs.Prelude.{slice_range}
 use Rattle.std.specs.List.{All}
 use Rattle.std.specs.Ordering.{nat_cmp}
 use Rattle.std.specs.FinMap.{is_sorted, put, find}
-use Rattle.std.proofs.lemmas.Bool.{cases_lt, eqb-true}
+use Rattle.std.proofs.lemmas.Bool.{cases_lt}
 use Rattle.std.proofs.lemmas.List.{drop_at, take_at, take_rest, append-nil, nil_from_length, get_or_append_left}
 use Rattle.std.proofs.lemmas.List.Elements.{All-head, All-tail, All-push, All-cons, All-append}
 use Rattle.doc_bits.specs.Number.{number_bytes, u16_at, u32_at}
-use Rattle.doc_bits.proofs.NumberLemmas.{length-number_bytes, number_at-number_bytes, number_at-read_back}
+use Rattle.doc_bits.proofs.Public.{length-number_bytes, number_at-number_bytes, number_at-read_back, not_zero}
 use Rattle.prop_map.specs.Entries.{Entries}
 use Rattle.prop_map.specs.Block.{entry_bytes, block_bytes, IsBlockEntry, AreBlockEntries, first_end, first_entry}
 use Rattle.prop_map.specs.Block.{entries_upto, entries_in, IsBlock, IsSortedBlock, IsPutBetween}
 use Rattle.prop_map.proofs.EntriesLemmas.{cmp_less, cmp_equal, cmp_greater, sorted-put}
+use Rattle.std.specs.declared.cmp.Ordering.TheVariants.{Equal}
+use Rattle.std.specs.Cmp.Lexicographic.{slice_cmp}
 
 -- ---- one entry
 
@@ -25,7 +27,7 @@ length-entry code value =
     simp (length-append) (omega arith)
 
 module _ (code : ℕ) (value rest : List ℕ) (is : IsBlockEntry (code, value)) where
-  -- what stands behind the code
+  -- what is behind the code
   abbrev behind : List ℕ
   behind = number_bytes 4 (length value) ++ (value ++ rest)
 
@@ -192,12 +194,6 @@ pub rest_is : (block : List ℕ) (len : ℕ) → HasFirst block → len ≡ u32_
     IsBlock (take (length block - (6 + len)) (drop (6 + len) block))
 rest_is block len h l = subst IsBlock (sym (take_rest block (6 + len) ∙ ap (λ n. drop (6 + n) block) l)) h.rest
 
-not_zero : (n : ℕ) → 0 < n → (n == 0) ≡ false
-not_zero n some = elim (n == 0) as (λ b. (n == 0) ≡ b → b ≡ false) [
-  | true ↦ λ e. let none = eqb-true n 0 e in absurd (omega arith)
-  | false ↦ λ e. refl
-] refl
-
 pub empty_alike : (block : List ℕ) → IsBlock block → (length block == 0) ≡ (length (entries_in block) == 0)
 empty_alike block is = elim (cases_lt 0 (length block)) [
   | inl some ↦
@@ -250,7 +246,7 @@ abbrev pub AreBytesBefore : Entries → Entries → List ℕ → Type 0
 AreBytesBefore entries rest bytes =
     (below : Entries) → entries ≡ below ++ rest → (bytes ≡ block_bytes below) × AreBlockEntries below
 
--- the code stands before what is left, in place of its first entry, or behind all
+-- the code is before what is left, in place of its first entry, or behind all
 pub put_before : (entries rest : Entries) (code other : ℕ) (here bytes : List ℕ) → HasPassedBelow entries code
     ((other, here) ∷ rest) → AreBytesBefore entries ((other, here) ∷ rest) bytes → code < other →
     IsPutBetween entries code [] bytes ((other, here) ∷ rest)
@@ -384,3 +380,7 @@ pub single : (value : List ℕ) (d : ℕ) → length value ≡ 1 → get_or valu
 single [] d e = absurd (omega arith)
 single (byte ∷ []) d e = refl
 single (byte ∷ other ∷ value) d e = absurd (omega arith)
+
+pub same_bytes : (list : List ℕ) → slice_cmp nat_cmp list list ≡ Equal
+same_bytes [] = refl
+same_bytes (x ∷ xs) = rw (cmp_equal x) (same_bytes xs)

@@ -5,8 +5,7 @@ use Rattle.std.specs.List.{All, flat_map, filter, last_or}
 use Rattle.std.specs.Option.{unwrap_or}
 use Rattle.std.proofs.lemmas.List.Elements.{All-nil, All-cons, All-filter}
 use Rattle.doc_bits.specs.Number.{u16_at, number_bytes, AreBytes}
-use Rattle.doc_bits.proofs.NumberLemmas.{number_at-bound}
-use Rattle.doc_bits.proofs.ByteListLemmas.{front_bytes, back_bytes}
+use Rattle.doc_bits.proofs.Public.{number_at-bound, front_bytes, back_bytes}
 use Rattle.sprm_table.specs.declared.operands.OperandSize.{OperandSize}
 use Rattle.sprm_table.specs.declared.operands.OperandSize.TheVariants.{Fixed, CountedByByte, CountedByWord}
 use Rattle.sprm_table.specs.Operands.{size_of, operand_bytes}

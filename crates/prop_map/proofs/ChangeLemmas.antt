@@ -1,4 +1,4 @@
--- Changes of a map that stands in a tree: an entry put, entries removed, a whole map put over it.
+-- Changes of a map that is in a tree: an entry put, entries removed, a whole map put over it.
 use Rattle.std.proofs.Common.{◌≡◌, ℕ, ◌<◌, Bool, cond, List, [], ◌∷◌, ◌++◌, length, take, get_or, Option, Some, None}
 use Rattle.std.proofs.Common.{IsTrue, refl, sym, ap, ◌∙◌, subst, arith, append_assoc, length-append, length-take}
 use Rattle.std.proofs.lemmas.List.{append-nil, get_or-take, get_or_default, get_or_at, take_at}
@@ -11,7 +11,7 @@ use Rattle.std.specs.BTreeMap.{insert_entry, is_at}
 use Rattle.std.specs.FinMap.{find, put, is_sorted, from_sorted, retain_keys, insert, get, get-insert, get-retain_keys}
 use Rattle.std.specs.FinMap.{get-from_sorted, same_map, nat_cmp-IsAntisymmetric}
 use Rattle.std.specs.FinMap.Entries.{by_order, where_key, is_sorted-where_key, find-where_key, find-append}
-use Rattle.doc_bits.proofs.TestLemmas.{either}
+use Rattle.doc_bits.proofs.Public.{either}
 use Rattle.prop_map.specs.Settings.{Properties}
 use Rattle.prop_map.specs.Entries.{Entries}
 use Rattle.prop_map.proofs.EntriesLemmas.{true_of, of_true, rises, find_gap}

@@ -1,4 +1,4 @@
--- Lists of entries in order: where a code stands, and the map of such a list.
+-- Lists of entries in order: where a code is, and the map of such a list.
 use Rattle.std.proofs.Common.{◌≡◌, ℕ, zero, suc, ◌<◌, ◌≤◌, Bool, true, false, ◌&&◌, T, List, [], ◌∷◌, length, get_or}
 use Rattle.std.proofs.Common.{Some, None, IsTrue, refl, sym, ap, ◌∙◌, subst, arith}
 use Rattle.std.proofs.lemmas.List.{nil_from_length}
@@ -61,7 +61,7 @@ rises (e ∷ es) zero (suc j) d h lt within = below_each e.0 es j d (both_first 
 rises (e ∷ es) (suc i) zero d h lt within = absurd (omega arith)
 rises (e ∷ es) (suc i) (suc j) d h lt within = rises es i j d (both_second _ _ h) (omega arith) (omega arith)
 
--- ---- past what stands before a code
+-- ---- past what is before a code
 
 -- each of the first entries has a code below this one
 abbrev pub AllBelow : ℕ → ℕ → Entries → Type 0

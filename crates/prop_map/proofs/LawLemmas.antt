@@ -15,7 +15,7 @@ use Rattle.prop_map.specs.Formed.{character_groups, paragraph_groups, IsMapEntry
 use Rattle.prop_map.specs.Acting.{is_kept, sets_code, clears_code, concerns_code, left_by, value_after}
 use Rattle.prop_map.specs.Laws.{SaidCodeByCode, ListsActInTurn, ActingIsOne, ModifierIsOne, PropertiesStayFormed}
 use Rattle.prop_map.proofs.ActingLemmas.{value_after-append, style_of-append}
-use Rattle.doc_bits.proofs.TestLemmas.{or_second}
+use Rattle.doc_bits.proofs.Public.{or_second}
 
 pub acting_one : ActingIsOne
 acting_one list groups old one other h k = same_map nat_cmp_total nat_cmp-IsAntisymmetric one other (λ code. h code ∙

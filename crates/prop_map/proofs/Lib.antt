@@ -1,20 +1,21 @@
-pub mod EntriesLemmas
-pub mod BlockLemmas
-pub mod MergeLemmas
-pub mod ValueLemmas
-pub mod ChangeLemmas
-pub mod ActingLemmas
-pub mod ByteLemmas
-pub mod PrintLemmas
-pub mod OverlayLemmas
-pub mod ModifierLemmas
-pub mod GroupLemmas
-pub mod ListedLemmas
-pub mod PrintedLemmas
-pub mod LawLemmas
-pub mod MapLemmas
-pub mod ExistMaps
-pub mod CodeLemmas
-pub mod AcceptedLemmas
-pub mod PrintedLengths
-pub mod LengthLemmas
+pub mod Public
+mod EntriesLemmas
+mod BlockLemmas
+mod MergeLemmas
+mod ValueLemmas
+mod ChangeLemmas
+mod ActingLemmas
+mod ByteLemmas
+mod PrintLemmas
+mod OverlayLemmas
+mod ModifierLemmas
+mod GroupLemmas
+mod ListedLemmas
+mod PrintedLemmas
+mod LawLemmas
+mod MapLemmas
+mod ExistMaps
+mod CodeLemmas
+mod AcceptedLemmas
+mod PrintedLengths
+mod LengthLemmas

@@ -10,10 +10,10 @@ use Rattle.std.specs.Option.{option_or}
 use Rattle.std.specs.List.{All, filter, last_or}
 use Rattle.std.specs.FinMap.{get, get-entries, get-empty, entries, entries_sorted}
 use Rattle.doc_bits.specs.Number.{number_bytes, u16_at}
-use Rattle.doc_bits.proofs.NumberLemmas.{length-number_bytes, number_at-number_bytes}
+use Rattle.doc_bits.proofs.Public.{length-number_bytes, number_at-number_bytes}
 use Rattle.sprm_table.specs.Codes.{is_held, class_of, is_property, is_clear, IsRefusedIn}
 use Rattle.sprm_table.specs.Sprm.{Prl, IsPrl, IsProperty, SpellsSprmList, IsAcceptedList}
-use Rattle.sprm_table.proofs.SprmLemmas.{spelt_unique, spells_joined}
+use Rattle.sprm_table.proofs.Public.{spelt_unique, spells_joined}
 use Rattle.prop_map.specs.declared.modifiers.Modifier.{Modifier}
 use Rattle.prop_map.specs.Settings.{Properties}
 use Rattle.prop_map.specs.Formed.{IsPropertyMap, character_groups, paragraph_groups, prc_groups}

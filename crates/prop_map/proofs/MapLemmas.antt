@@ -15,7 +15,7 @@ use Rattle.prop_map.specs.Acting.{is_kept}
 use Rattle.prop_map.specs.Modifiers.{IsOver, IsCharacterAfter, IsMarkAfter, IsComposed}
 use Rattle.prop_map.specs.Overlay.{overlay, without, cleared_where, modified_characters, modified_paragraph}
 use Rattle.prop_map.specs.Overlay.{composed}
-use Rattle.doc_bits.proofs.TestLemmas.{either}
+use Rattle.doc_bits.proofs.Public.{either}
 use Rattle.prop_map.proofs.ChangeLemmas.{get-retained, or_none}
 use Rattle.prop_map.proofs.ModifierLemmas.{IsPropertyMap-over}
 

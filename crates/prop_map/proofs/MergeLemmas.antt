@@ -40,7 +40,7 @@ below_none code [] h = refl
 below_none code (e ∷ es) h = rw (cmp_less code e.0 (less_from code e.0 (both_first _ _ h))) (below_none code es
     (both_second _ _ h))
 
--- what stands before all that is put stays there
+-- what is before all that is put stays there
 keeps_first : (top es : Entries) (x : ℕ × List ℕ) → T (below_all nat_cmp x.0 top) → put_over top (x ∷ es) ≡ x ∷
     put_over top es
 keeps_first [] es x h = refl

@@ -7,7 +7,7 @@ use Rattle.std.specs.List.{All, filter, last_or, list_any}
 use Rattle.std.specs.FinMap.{get, get-empty}
 use Rattle.std.specs.Ordering.{nat_cmp}
 use Rattle.std.proofs.lemmas.Bool.{eqb-true}
-use Rattle.doc_bits.proofs.TestLemmas.{both_true, and_false}
+use Rattle.doc_bits.proofs.Public.{both_true, and_false}
 use Rattle.sprm_table.specs.declared.Class.TheVariants.{Plain, Toggle, Clear, Style, Refused}
 use Rattle.sprm_table.specs.Codes.{is_held, is_among, toggles, refused_codes, class_of, is_property, is_clear}
 use Rattle.sprm_table.specs.Sprm.{Prl}

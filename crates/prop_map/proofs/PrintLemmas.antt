@@ -16,11 +16,11 @@ use Rattle.sprm_table.specs.declared.Class.TheVariants.{Plain, Toggle, Clear, St
 use Rattle.sprm_table.specs.Codes.{is_held, class_of, is_property, is_clear, is_style, IsRefusedIn}
 use Rattle.sprm_table.specs.Sprm.{Prl, IsPrl, IsProperty, spelling}
 use Rattle.doc_bits.specs.Number.{number_bytes}
-use Rattle.doc_bits.proofs.NumberLemmas.{length-number_bytes}
+use Rattle.doc_bits.proofs.Public.{length-number_bytes}
 use Rattle.sprm_table.specs.declared.OperandSize.{OperandSize}
 use Rattle.sprm_table.specs.declared.OperandSize.TheVariants.{Fixed, CountedByByte, CountedByWord}
 use Rattle.sprm_table.specs.Operands.{size_of, operand_bytes}
-use Rattle.sprm_table.proofs.SprmLemmas.{spelt_unique, spells_joined}
+use Rattle.sprm_table.proofs.Public.{spelt_unique, spells_joined}
 use Rattle.prop_map.specs.Settings.{Properties}
 use Rattle.prop_map.specs.Entries.{Entries}
 use Rattle.prop_map.specs.Formed.{IsMapEntry, IsPropertyMap, IsFormedMap}

@@ -6,7 +6,7 @@ use Rattle.std.proofs.lemmas.Grind.{flat_map-append}
 use Rattle.std.specs.List.{flat_map}
 use Rattle.std.specs.FinMap.{entries}
 use Rattle.doc_bits.specs.Number.{number_bytes}
-use Rattle.doc_bits.proofs.NumberLemmas.{length-number_bytes}
+use Rattle.doc_bits.proofs.Public.{length-number_bytes}
 use Rattle.sprm_table.specs.declared.OperandSize.TheVariants.{Fixed}
 use Rattle.sprm_table.specs.Sprm.{spelling}
 use Rattle.prop_map.specs.declared.modifiers.Modifier.{Modifier}

@@ -16,7 +16,7 @@ use Rattle.prop_map.specs.Values.{entry_of, entries_of, AreInOrder, IsLesserCoun
 use Rattle.prop_map.proofs.EntriesLemmas.{of_true, rises, AllBelow, AllAbove, cmp_less, cmp_equal, cmp_greater}
 use Rattle.prop_map.proofs.BlockLemmas.{block_more, sorted_block, entries_in-block, no_block_entries}
 
--- ---- a code put where it stands, or between
+-- ---- a code put where it is, or between
 
 put_gap : (at code : ℕ) (v : List ℕ) (es : Entries) → at ≤ length es → AllBelow code at es → AllAbove code at es →
     put nat_cmp code v es ≡ take at es ++ (code, v) ∷ drop at es
@@ -93,7 +93,7 @@ upper_half values code middle here sorted within least k d above inner =
           omega arith
     ]
 
--- the code stands there: so many have lesser ones
+-- the code is there: so many have lesser ones
 pub found_at : (values : List SetValue) (code at : ℕ) (here : SetValue) → AreInOrder values → at < length values →
     (slice_index_or values at here).code.0 ≡ code → IsLesserCount values code at
 found_at values code at here sorted within same = record {
@@ -105,7 +105,7 @@ found_at values code at here sorted within same = record {
   above = upper_half values code at here sorted within (omega arith);
 }
 
--- the value stands there already
+-- the value is there already
 pub set_found : (values : List SetValue) (at : ℕ) (set d : SetValue) → IsLesserCount values set.code.0 at →
     at < length values → (slice_index_or values at d).code.0 ≡ set.code.0 →
     entries_of (slice_set values at set) ≡ put nat_cmp set.code.0 set.value.now (entries_of values)

@@ -1,4 +1,4 @@
--- Lists of entries in ascending order of their codes, on which a map stands.
+-- Lists of entries in ascending order of their codes, on which a map is.
 use Rattle.std.specs.Prelude.{ℕ, List}
 
 abbrev pub Entries : Type 0

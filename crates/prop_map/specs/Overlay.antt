@@ -11,7 +11,7 @@ use Rattle.prop_map.specs.Acting.{is_kept}
 abbrev pub overlay : Properties → Properties → Properties
 overlay set base = from_entries (entries set ++ entries base)
 
--- the map without what stands at these codes
+-- the map without what is at these codes
 abbrev pub without : List ℕ → Properties → Properties
 without codes map = retain_keys map (λ code. not (is_among code codes))
 

@@ -134,7 +134,7 @@ impl Block {
         Block { bytes, list_len }
     }
 
-    /// The entries with a value at a code, in place of what stood there.
+    /// The entries with a value at a code, in place of what was there.
     pub(crate) fn with_entry(
         alloc: Global,
         entries: Entries<'_>,
@@ -200,7 +200,7 @@ fn list_len(block: &[u8]) -> u64
     let mut len = block.len() as u64;
     let mut left = Entries { left: block };
     while let Some((code, _)) = left.next() {
-        // In a list less stands before the value.
+        // In a list less is before the value.
         len -= HEAD_LEN as u64 - head_len(code);
     }
     len

@@ -55,7 +55,7 @@ impl Draft {
         }
     }
 
-    /// Puts a value at a code, in place of what stood there.
+    /// Puts a value at a code, in place of what was there.
     pub fn put(&mut self, code: Code, value: Bytes) -> Result<(), Memory>
         ensures ok { OnOk result (self.new ≡ map.insert self.old code.0 value) }
         ensures err { OnErr result (self.new ≡ self.old) }
@@ -64,7 +64,7 @@ impl Draft {
         Ok(())
     }
 
-    /// Puts each entry of a map, in place of what stood at its code.
+    /// Puts each entry of a map, in place of what was at its code.
     pub(crate) fn put_all(&mut self, alloc: Global, top: &PropMap) -> Result<(), Memory>
         ensures { OnOk result
             ((code : ℕ) → map.get self.new code ≡ option_or (map.get top.now code) (map.get self.old code)) }
@@ -83,7 +83,7 @@ impl Draft {
         self.tree.retain(|code, _| matches!(*code, 0x0855 | 0x0806 | 0x6A03 | 0x4A30));
     }
 
-    /// Removes what stands at these codes.
+    /// Removes what is at these codes.
     pub(crate) fn remove(&mut self, codes: &[Code])
         ensures { self.new ≡ without (each (λ c. c.0) codes.now) self.old }
     {

@@ -1,12 +1,12 @@
-// Where a list may stand among those that were met. A wrong answer only costs time.
+// Where a list may be among those that were met. A wrong answer only costs time.
 
 use doc_bits::{Memory, get32};
 use std::alloc::Global;
 
-/// So many rows stand at least, where a list is kept.
+/// So many rows are at least, where a list is kept.
 const MIN_ROWS: usize = 8;
 
-/// So many guesses stand for each row.
+/// So many guesses are made for each row.
 const GUESSES_A_ROW: usize = 8;
 
 /// The sum of a list's bytes, and one more than the number of the list before it in its row, or 0.

@@ -22,7 +22,7 @@ pub fn modifier_is_one()
     ensures { ModifierIsOne }
 {}
 
-/// A map that may stand at a place stays one when a property of the place is put into it.
+/// A map that may be at a place stays one when a property of the place is put into it.
 pub fn properties_stay_formed()
     ensures { PropertiesStayFormed }
 {}

@@ -69,7 +69,7 @@ impl PropMap {
         None
     }
 
-    /// Puts a value at a code, in place of what stood there.
+    /// Puts a value at a code, in place of what was there.
     pub fn set(&mut self, code: Code, value: &[u8]) -> Result<(), Memory>
         ensures ok { OnOk result (self.new ≡ map.insert self.old code.0 value.now) }
         ensures err { OnErr result (self.new ≡ self.old) }
@@ -110,7 +110,7 @@ impl PropMap {
         self.entries().is_empty()
     }
 
-    /// Whether the map may stand at a place with these groups.
+    /// Whether the map may be at a place with these groups.
     pub fn is_held(&self, groups: u8) -> bool
         ensures { IsTrue result ↔ IsPropertyMap groups self.now }
     {
@@ -143,7 +143,7 @@ impl PropMap {
         }
     }
 
-    /// The map without what stands at these codes.
+    /// The map without what is at these codes.
     pub fn without(&self, alloc: Global, codes: &[Code]) -> Result<PropMap, Memory>
         ensures map { IfOk result (λ made. made ≡ without (each (λ c. c.0) codes.now) self.now) }
         ensures formed { IfOk result (λ made. (groups : ℕ) → StaysFormed groups self.now made) }

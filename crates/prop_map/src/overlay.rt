@@ -27,7 +27,7 @@ pub(crate) fn over(
         let both = over_all(alloc, base, top)?;
         return Ok(both);
     }
-    let mut draft = clear_settings(alloc, base)?;
+    let mut draft = clear_properties(alloc, base)?;
     draft.put_all(alloc, top)?;
     let made = draft.into_map(alloc)?;
     Ok(made)
@@ -47,7 +47,7 @@ fn over_all(alloc: Global, base: &PropMap, top: &PropMap) -> Result<PropMap, Mem
 }
 
 /// What sprmCPlain leaves of a map, to be changed.
-fn clear_settings(alloc: Global, base: &PropMap) -> Result<Draft, Memory>
+fn clear_properties(alloc: Global, base: &PropMap) -> Result<Draft, Memory>
     ensures { IfOk result (IsClearedWhere true base.now) }
 {
     let mut draft = Draft::new(alloc);

@@ -11,7 +11,7 @@ use std::marker::Model;
 /// So many lists of one row are looked at.
 const MAX_TURNS: usize = 64;
 
-/// Where a list stands.
+/// Where a list is.
 #[derive(Clone, Copy)]
 struct MetList {
     from: usize,
@@ -85,7 +85,7 @@ impl SeenGrpprls {
         None
     }
 
-    /// Adds a list that stands in the stream. It gets the next number.
+    /// Adds a list that is in the stream. It gets the next number.
     pub fn add(&mut self, stream: &[u8], from: usize, to: usize) -> Result<(), Memory>
         requires { (from ≤ to) × (to ≤ length stream.now) }
         ensures ok { OnOk result (self.new ≡ self.old ++ (from, to) ∷ []) }
@@ -98,7 +98,7 @@ impl SeenGrpprls {
         Ok(())
     }
 
-    /// Whether the list of a number stands at a place.
+    /// Whether the list of a number is at a place.
     fn stands_at(&self, number: usize, from: usize, to: usize) -> bool
         ensures { IsTrue result → (stream : List ℕ)
             → IsListLike stream (slice_range stream from to) self.now number }

@@ -1,4 +1,4 @@
-// The values that a list sets, in order of their codes: where a code stands is guessed, or found by halving.
+// The values that a list sets, in order of their codes: where a code is is guessed, or found by halving.
 ghost use Rattle.std.specs.Prelude.{◌≡◌, IfOk, IfSome, OnOk};
 ghost use Rattle.std.specs.Ordering.{nat_cmp};
 ghost use Rattle.std.specs.FinMap as map;
@@ -19,7 +19,7 @@ pub(crate) struct SetValue<'a> {
     pub(crate) value: &'a [u8],
 }
 
-/// Puts a value at its code, in place of what stood there, and tells where the next one is looked for first. Nothing
+/// Puts a value at its code, in place of what was there, and tells where the next one is looked for first. Nothing
 /// where it would be one more than the most.
 pub(crate) fn put_value<'a>(
     values: &mut Vec<SetValue<'a>>,
@@ -43,7 +43,7 @@ pub(crate) fn put_value<'a>(
     Ok(Some(at + 1))
 }
 
-/// How many of the values have lesser codes: as many as stand before the guess, where the code stands there.
+/// How many of the values have lesser codes: as many as are before the guess, where the code is there.
 fn place_of(values: &[SetValue<'_>], guess: usize, code: Code) -> usize
     requires { AreInOrder values.now }
     ensures { IsLesserCount values.now code.0 result }

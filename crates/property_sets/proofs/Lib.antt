@@ -1,2 +1,2 @@
-pub mod WalkLemmas
-pub mod LawLemmas
+mod WalkLemmas
+mod LawLemmas

@@ -9,7 +9,7 @@ use Rattle.property_sets.specs.declared.set.PropertyPair.{PropertyPair}
 abbrev pub set_count : List ℕ → ℕ
 set_count stream = u32_at stream 24
 
--- Offset0, Offset1: where a set begins in the stream. Each stands behind the FMTID of its set; both have 20 bytes
+-- Offset0, Offset1: where a set begins in the stream. Each is behind the FMTID of its set; both have 20 bytes
 abbrev pub set_begin : List ℕ → ℕ → ℕ
 set_begin stream k = u32_at stream (44 + 20 * k)
 

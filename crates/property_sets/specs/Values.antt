@@ -39,7 +39,7 @@ fixed_len kind =
     if has_eight kind then 8 else
     if kind == 0x48 then 16 else 0
 
--- how many bytes stand before the data: type and padding, and the count of types that have one
+-- how many bytes are before the data: type and padding, and the count of types that have one
 abbrev pub head_len : ℕ → ℕ
 head_len kind = if counted_width kind == 0 then 4 else 8
 

@@ -11,7 +11,7 @@ use std::alloc::Global;
 /// [MS-OLEPS] The id of a dictionary.
 pub const DICTIONARY: u32 = 0;
 
-/// [MS-OLEPS] DictionaryEntry: where Length and Name stand.
+/// [MS-OLEPS] DictionaryEntry: where Length and Name are.
 const LENGTH: usize = 4;
 
 const NAME: usize = 8;

@@ -4,7 +4,7 @@ ghost use Rattle.property_sets.specs.Sets.{IsSet, IsSetOf, NamesSet, pair_at, pa
 
 use doc_bits::{get16, get32};
 
-/// [MS-OLEPS] PropertySetStream: where ByteOrder, NumPropertySets and the first Offset stand.
+/// [MS-OLEPS] PropertySetStream: where ByteOrder, NumPropertySets and the first Offset are.
 const BYTE_ORDER: usize = 0;
 
 pub const SET_COUNT: usize = 24;
@@ -18,7 +18,7 @@ const HEAD_LEN: usize = 48;
 
 const ENTRY_LEN: usize = 20;
 
-/// [MS-OLEPS] PropertySet: where NumProperties stands, and the bytes of Size and NumProperties, or of a pair.
+/// [MS-OLEPS] PropertySet: where NumProperties is, and the bytes of Size and NumProperties, or of a pair.
 const PAIR_COUNT: usize = 4;
 
 const NUMBERS_LEN: usize = 8;

@@ -59,7 +59,7 @@ fn data_len(set: &[u8], offset: u32, kind: u16) -> usize
     width * get32(set, offset as usize + TYPE_LEN) as usize
 }
 
-/// How many bytes stand before the data.
+/// How many bytes are before the data.
 fn head_len(kind: u16) -> usize
     ensures { result ≡ head_len kind }
 {

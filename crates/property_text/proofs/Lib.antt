@@ -1,1 +1,1 @@
-pub mod PrintableLemmas
+mod PrintableLemmas

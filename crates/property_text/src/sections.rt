@@ -22,7 +22,7 @@ impl Section {
         }
     }
 
-    /// What stands before the names of its properties that the standard does not name.
+    /// What is before the names of its properties that the standard does not name.
     pub(crate) fn prefix(self) -> &'static str {
         match self {
             Section::Summary => "summary.",

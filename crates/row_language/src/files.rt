@@ -55,7 +55,7 @@ impl Files {
         self.hold(name, bytes)
     }
 
-    /// Where the file of a name stands, or how many files there are.
+    /// Where the file of a name is, or how many files there are.
     fn place_of(&self, name: &str) -> usize {
         for (place, file) in self.files.iter().enumerate() {
             if file.name.as_str() == name {
@@ -113,7 +113,7 @@ impl Files {
         told(self.alloc, words, answer)
     }
 
-    /// Whether the bytes of the `WordDocument` of a file stand in that of another one, but for its FIB.
+    /// Whether the bytes of the `WordDocument` of a file are in that of another one, but for its FIB.
     pub(crate) fn kept(&self, words: &mut Words<'_, '_>) -> Result<String, RowFault> {
         let old = self.named(words)?;
         let new = self.named(words)?;

@@ -18,4 +18,5 @@ mod words;
 
 pub use lines::play;
 pub use row_fault::RowFault;
+pub use runs::REASONS_LEN;
 pub use subject::{Mode, Subject};

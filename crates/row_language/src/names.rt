@@ -46,7 +46,7 @@ impl Names {
         }
     }
 
-    /// Lets a name that no text has yet stand for a text, so many times.
+    /// Lets a name that no text has yet represent a text, so many times.
     pub(crate) fn add_text(&mut self, name: &str, count: u64, text: &str) -> Result<(), RowFault> {
         if self.text(name).is_some() {
             return Err(RowFault::NameTwice);
@@ -55,7 +55,7 @@ impl Names {
         self.add_repeat(name, text)
     }
 
-    /// Lets a name stand for a text.
+    /// Lets a name represent a text.
     fn add_repeat(&mut self, name: &str, text: String) -> Result<(), RowFault> {
         match String::from_str(self.alloc, name) {
             Ok(name) => added(self.repeats.push(Repeat { name, text })),
@@ -75,14 +75,14 @@ impl Names {
         Ok(sum)
     }
 
-    /// The text with what its names stand for. In it a name stands between `$` and `;`.
+    /// The text with what its names represent. In it a name is between `$` and `;`.
     pub(crate) fn spelled(&self, text: &str) -> Result<String, RowFault> {
         let mut spelled = String::new(self.alloc);
         let pushed = self.push_spelled(&mut spelled, text);
         given(spelled, pushed)
     }
 
-    /// Puts a text, with what its names stand for, behind another.
+    /// Puts a text, with what its names represent, behind another.
     fn push_spelled(&self, spelled: &mut String, text: &str) -> Result<(), RowFault> {
         let mut parts = text.split('$');
         spelled.push_str(parts.next().unwrap_or(""))?;
@@ -92,7 +92,7 @@ impl Names {
         Ok(())
     }
 
-    /// Puts what a name stands for, and what stands behind it.
+    /// Puts what a name represents, and what is behind it.
     fn push_part(&self, spelled: &mut String, part: &str) -> Result<(), RowFault> {
         let Some((name, rest)) = part.split_once(';') else {
             return Err(RowFault::NoName);

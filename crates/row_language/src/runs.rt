@@ -134,7 +134,7 @@ fn push_status(alloc: Global, text: &mut String, status: u8) -> Result<(), RowFa
     pushed
 }
 
-/// What the sink took, line by line, each behind a bar. A rest without a line feed stands behind a colon.
+/// What the sink took, line by line, each behind a bar. A rest without a line feed is behind a colon.
 fn push_taken(text: &mut String, taken: &str) -> Result<(), RowFault> {
     for line in taken.split_inclusive('\n') {
         push_line(text, line)?;
@@ -150,3 +150,6 @@ fn push_line(text: &mut String, line: &str) -> Result<(), RowFault> {
         push_parts(text, &[": ", line, "\n"])
     }
 }
+
+/// How many bytes of reasons are taken.
+pub const REASONS_LEN: u32 = 1_024;

@@ -106,7 +106,7 @@ fn fib_end(wd: &[u8]) -> usize {
     }
 }
 
-/// Whether the bytes of the `WordDocument` of a file stand in that of another one, but for its FIB.
+/// Whether the bytes of the `WordDocument` of a file are in that of another one, but for its FIB.
 pub(crate) fn keeps_text(alloc: Global, old: &[u8], new: &[u8]) -> Result<bool, RowFault> {
     let old = bytes_of(alloc, old, "WordDocument")?;
     let kept = is_kept_in(alloc, &old, new);
@@ -114,7 +114,7 @@ pub(crate) fn keeps_text(alloc: Global, old: &[u8], new: &[u8]) -> Result<bool, 
     kept
 }
 
-/// Whether the bytes of a `WordDocument` stand in that of a file, but for its FIB.
+/// Whether the bytes of a `WordDocument` are in that of a file, but for its FIB.
 fn is_kept_in(alloc: Global, old: &[u8], file: &[u8]) -> Result<bool, RowFault> {
     let new = bytes_of(alloc, file, "WordDocument")?;
     let kept = begins_with(&new, old, fib_end(old));

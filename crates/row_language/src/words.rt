@@ -76,13 +76,13 @@ impl<'a, 'n> Words<'a, 'n> {
         rest
     }
 
-    /// What is left, with what its names stand for.
+    /// What is left, with what its names represent.
     pub(crate) fn spelled(&mut self) -> Result<String, RowFault> {
         let rest = self.rest();
         self.names.spelled(rest)
     }
 
-    /// The words that are left, with what their names and escapes stand for.
+    /// The words that are left, with what their names and escapes represent.
     pub(crate) fn all(&mut self, alloc: Global) -> Result<Vec<String>, RowFault> {
         let mut all = Vec::new(alloc);
         let pushed = self.push_all(alloc, &mut all);
@@ -101,7 +101,7 @@ impl<'a, 'n> Words<'a, 'n> {
         Ok(())
     }
 
-    /// A word with what its names and escapes stand for.
+    /// A word with what its names and escapes represent.
     fn escaped(&self, alloc: Global, word: &str) -> Result<String, RowFault> {
         let text = self.names.spelled(word)?;
         let units = units_of(alloc, text.as_str());
@@ -115,7 +115,7 @@ impl<'a, 'n> Words<'a, 'n> {
     }
 }
 
-/// What stands before a sign, and what behind it.
+/// What is before a sign, and what behind it.
 fn parts(text: &str, sign: char) -> (&str, &str) {
     match text.split_once(sign) {
         Some(parts) => parts,
@@ -150,7 +150,7 @@ fn push_text(units: &mut Vec<u16>, text: &str) -> Result<(), RowFault> {
     Ok(())
 }
 
-/// Puts the unit of an escape, and those of what stands behind it.
+/// Puts the unit of an escape, and those of what is behind it.
 fn push_part(units: &mut Vec<u16>, part: &str) -> Result<(), RowFault> {
     let Some((digits, rest)) = part.split_at_checked(4) else {
         return Err(RowFault::NoNumber);

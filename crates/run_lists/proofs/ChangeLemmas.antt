@@ -6,8 +6,7 @@ use Rattle.std.proofs.Math.Seq.{take-add}
 use Rattle.std.proofs.lemmas.List.{length-replicate, replicate-append-replicate, drop-drop}
 use Rattle.std.proofs.lemmas.List.Elements.{All-replicate}
 use Rattle.std.proofs.lemmas.Option.{slice_get_within}
-use Rattle.doc_bits.proofs.ListLemmas.{range_mid, All_at}
-use Rattle.doc_bits.proofs.TogetherLemmas.{together_joined}
+use Rattle.doc_bits.proofs.Public.{range_mid, All_at, together_joined}
 use Rattle.doc_bits.specs.Together.{AreTogether}
 use Rattle.run_lists.specs.declared.runs.Run.{Run}
 use Rattle.run_lists.specs.Spread.{expanded, total_len}

@@ -1,4 +1,5 @@
-pub mod SpreadLemmas
-pub mod CutLemmas
-pub mod RunsLemmas
-pub mod ChangeLemmas
+pub mod Public
+mod SpreadLemmas
+mod CutLemmas
+mod RunsLemmas
+mod ChangeLemmas

@@ -80,7 +80,7 @@ found_value {T = T} runs begin place spot d found before =
 
 -- ---- a cut
 
--- what a cut inside a run sees: the run, the run again, what was put behind it, and what stands before that then
+-- what a cut inside a run sees: the run, the run again, what was put behind it, and what is before that then
 pub record CutsRun {T : Type 0} (runs inserted : List (Run T)) (k left : ℕ) (one again rest front : Run T) : Type 0
   where
     pub within : k < length runs

@@ -1,4 +1,4 @@
--- What lists of runs stand for, part by part.
+-- What lists of runs represent, part by part.
 use Rattle.std.proofs.Common.{◌≡◌, ℕ, refl, sym, ap, ◌∙◌, ◌+◌, ◌<◌, ◌≤◌, List, [], ◌∷◌, ◌++◌, length, take, get_or}
 use Rattle.std.proofs.Common.{arith, length-append}
 use Rattle.std.specs.Prelude.{replicate}
@@ -14,13 +14,13 @@ pub spread-nil : (T : Type 0) → expanded {T = T} [] ≡ []
 unfolding expanded
 spread-nil T = refl
 
--- the first run stands first
+-- the first run is first
 pub spread-cons : {T : Type 0} (run : Run T) (runs : List (Run T)) →
     expanded (run ∷ runs) ≡ replicate run.count run.value ++ expanded runs
 unfolding expanded
 spread-cons run runs = flat_map-cons (λ run. replicate run.count run.value) run runs
 
--- what stands behind runs comes behind their list
+-- what is behind runs comes behind their list
 pub spread-append : {T : Type 0} (front back : List (Run T)) → expanded (front ++ back) ≡ expanded front ++ expanded
     back
 unfolding expanded

@@ -1,4 +1,4 @@
--- The list that runs stand for, and how long it is.
+-- The list that runs represent, and how long it is.
 use Rattle.std.specs.Prelude.{ℕ, List, flat_map, replicate, sum_by}
 use Rattle.run_lists.specs.declared.runs.Run.{Run}
 

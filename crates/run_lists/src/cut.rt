@@ -7,7 +7,7 @@ use crate::{Run, Shared};
 use doc_bits::Memory;
 use std::alloc::Global;
 
-/// Where a place is: in which run, and how many of that run's values stand before it.
+/// Where a place is: in which run, and how many of that run's values are before it.
 #[derive(Clone, Copy)]
 pub struct Spot {
     pub run: usize,

@@ -11,7 +11,7 @@ use doc_bits::{Memory, splice_list};
 use std::alloc::Global;
 use std::marker::Model;
 
-/// A value, and how many times it stands in a row.
+/// A value, and how many times it is in a row.
 #[derive(Drop)]
 pub struct Run<T> {
     pub count: u32,

@@ -1,9 +1,8 @@
--- What judging a file says of a run.
+-- What checking a file says of a run.
 use Rattle.std.proofs.Common.{◌≡◌, ◌∙◌, inl, inr, ap, sym, ℕ, List, arith}
 use Rattle.doc_bits.specs.Rules.{Rules, IsSingle}
 use Rattle.doc_bits.specs.Places.{Place, Upto}
-use Rattle.doc_bits.proofs.PlaceLemmas.{place_one}
-use Rattle.doc_bits.proofs.RuleLemmas.{first_agrees}
+use Rattle.doc_bits.proofs.Public.{place_one, first_agrees}
 use Rattle.run_stages.specs.Lines.{rule_line}
 use Rattle.run_stages.specs.Outcomes.{Outcome, says, IsAfterReading}
 use Rattle.run_stages.specs.Judged.{IsRefused, Judges}

@@ -1,4 +1,5 @@
-pub mod OutcomeLemmas
-pub mod JudgedLemmas
-pub mod StageLemmas
-pub mod SaidLemmas
+pub mod Public
+mod OutcomeLemmas
+mod JudgedLemmas
+mod StageLemmas
+mod SaidLemmas

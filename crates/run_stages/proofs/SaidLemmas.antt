@@ -1,4 +1,4 @@
--- Where what a name holds is told, the stage that reads it has one ending.
+-- Where what a name holds is known, the stage that reads it has one ending.
 use Rattle.std.proofs.Common.{◌≡◌, ◌≢◌, ◌<◌, ◌≤◌, ◌⊎◌, ◌∙◌, inl, inr, refl, sym, ap, subst, ℕ, List, Option, Some, None}
 use Rattle.std.proofs.Common.{length, arith}
 use Rattle.doc_outer.specs.Held.{Files, IsLonger, file_at}
@@ -19,7 +19,7 @@ longer_says :
 longer_says name overlong next None outcome long ends = absurd long
 longer_says name overlong next (Some bytes) outcome long ends = inl (long, ends)
 
--- where what the name holds is told, the stage says that, unless the shelf failed
+-- where what the name holds is known, the stage says that, unless the shelf failed
 pub settled :
     (name : List ℕ) (files : Files) (overlong : Outcome → Type 0) (next : List ℕ → Outcome → Type 0)
     (outcome : Outcome) → Reads name (Some files) overlong next outcome → outcome.status ≢ 4 →

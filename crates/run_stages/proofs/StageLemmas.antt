@@ -2,14 +2,12 @@
 use Rattle.std.proofs.Common.{◌≡◌, ◌∙◌, inl, inr, sym, subst, ℕ, List, Option, Result, arith}
 use Rattle.std.specs.Prelude.{IfOk}
 use Rattle.std.proofs.lemmas.Result.{IfOk-weaker}
-use Rattle.std.proofs.Math.Nat.{le_trans}
 use Rattle.doc_bits.specs.Number.{AreBytes}
 use Rattle.doc_bits.specs.Rules.{Rules}
 use Rattle.doc_bits.specs.Places.{Place}
-use Rattle.doc_outer.specs.Counts.{GoesOn}
 use Rattle.doc_outer.specs.Held.{Files}
 use Rattle.doc_outer.specs.declared.shelf.Shelf.{Ghosts}
-use Rattle.doc_outer.proofs.CountLemmas.{Rose-after}
+use Rattle.doc_outer.proofs.Public.{Rose-after, count_on}
 use Rattle.run_stages.specs.declared.stage.Stage.{Stage}
 use Rattle.run_stages.specs.declared.stage.Stage.TheVariants.{Go, Stop}
 use Rattle.run_stages.specs.Outcomes.{Outcome, IsAfterReading}
@@ -61,7 +59,7 @@ follows_reads name held taken overlong next result is follows =
     IfOk-weaker result (λ o. Follows taken next o) (λ o. Reads name held overlong next o)
     (λ o f. follow_reads name held taken overlong next o is f) follows
 
--- the same of a file that is judged
+-- the same of a file that is checked
 pub file_reads :
     {E : Type 0} (name : List ℕ) (held : Option Files) (taken : Stage (List ℕ)) (rules : List ℕ → Rules Place)
     (next : List ℕ → Outcome → Type 0) (result : Result Outcome E) → IsTaken name held (BreaksLengthRule name) taken →
@@ -132,7 +130,7 @@ follows_caused shelf before now taken next result step cause follows =
     (λ o f. follow_caused taken next o (shelf.missed before) (shelf.missed now) (shelf.faults before)
     (shelf.faults now) (λ bytes. step bytes o) cause f) follows
 
--- the same of a file that is judged
+-- the same of a file that is checked
 pub file_caused :
     {S E : Type 0} (shelf : Ghosts S) (before now : S) (name : List ℕ) (taken : Stage (List ℕ))
     (rules : List ℕ → Rules Place) (next : List ℕ → Outcome → Type 0) (result : Result Outcome E) →
@@ -171,19 +169,13 @@ caused_later shelf before mid now result read cause =
     IfOk-weaker result (λ o. IsCaused shelf mid now o.status) (λ o. IsCaused shelf before now o.status)
     (λ o c. cause_later shelf before mid now o.status read c) cause
 
-goes_on_twice : (a b c : ℕ) → GoesOn a b → GoesOn b c → GoesOn a c
-goes_on_twice a b c one other = record {
-  not_fallen = le_trans one.not_fallen other.not_fallen;
-  not_beyond = λ h. other.not_beyond (one.not_beyond h);
-}
-
 -- what is read twice is only read
 pub read_twice :
     {S : Type 0} (shelf : Ghosts S) (before mid now : S) → IsOnlyRead shelf before mid → IsOnlyRead shelf mid now →
     IsOnlyRead shelf before now
 read_twice shelf before mid now one other = record {
   kept = other.kept ∙ one.kept;
-  faults = goes_on_twice (shelf.faults before) (shelf.faults mid) (shelf.faults now) one.faults other.faults;
-  missed = goes_on_twice (shelf.missed before) (shelf.missed mid) (shelf.missed now) one.missed other.missed;
+  faults = count_on (shelf.faults before) (shelf.faults mid) (shelf.faults now) one.faults other.faults;
+  missed = count_on (shelf.missed before) (shelf.missed mid) (shelf.missed now) one.missed other.missed;
   put_faults = other.put_faults ∙ one.put_faults;
 }

@@ -1,4 +1,4 @@
--- A file that was read is judged: a rule is broken, or the next stage goes on.
+-- A file that was read is checked: a rule is broken, or the next stage goes on.
 use Rattle.std.specs.Prelude.{◌≡◌, ◌⊎◌, ℕ, List}
 use Rattle.doc_bits.specs.Rules.{Rules, Hold}
 use Rattle.doc_bits.specs.Places.{Place, IsFirstPlace}
@@ -12,6 +12,6 @@ pub record IsRefused (rules : Rules Place) (name : List ℕ) (outcome : Outcome)
   pub first : IsFirstPlace rules rule place
   pub ends : outcome ≡ says 1 (rule_line name rule place)
 
--- a stage that judges: a rule is broken, or the next stage goes on
+-- a stage that checks: a rule is broken, or the next stage goes on
 abbrev pub Judges : Rules Place → (name : List ℕ) → (Outcome → Type 0) → Outcome → Type 0
 Judges rules name next outcome = IsRefused rules name outcome ⊎ (Hold rules × next outcome)

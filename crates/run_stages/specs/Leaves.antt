@@ -22,7 +22,7 @@ pub record IsOnlyRead {S : Type 0} (shelf : Ghosts S) (before now : S) : Type 0 
   pub missed : GoesOn (shelf.missed before) (shelf.missed now)
   pub put_faults : shelf.put_faults now ≡ shelf.put_faults before
 
--- what names hold after a put, where that is told
+-- what names hold after a put, where that is known
 abbrev pub held_after : Option PutFile → Option Files → Option Files
 held_after None held = held
 held_after (Some file) held = held_with held file.name file.bytes

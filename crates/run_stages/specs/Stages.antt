@@ -47,7 +47,7 @@ Reads name held overlong next outcome =
 abbrev pub BreaksLengthRule : (name : List ℕ) → Outcome → Type 0
 BreaksLengthRule name outcome = outcome ≡ says 1 (rule_line name 1 (File, longest_file + 1))
 
--- a file is read and judged by these rules, and the next stage goes on with its bytes
+-- a file is read and checked by these rules, and the next stage goes on with its bytes
 abbrev pub ReadsFile :
     (name : List ℕ) → Option Files → (List ℕ → Rules Place) → (List ℕ → Outcome → Type 0) → Outcome → Type 0
 ReadsFile name held rules next =

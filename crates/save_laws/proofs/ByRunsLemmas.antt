@@ -6,13 +6,12 @@ use Rattle.std.proofs.lemmas.Bool.{cases_lt}
 use Rattle.std.proofs.lemmas.List.{reverse-append}
 use Rattle.std.proofs.lemmas.List.Sums.{sum_by-cons, sum_by-append}
 use Rattle.std.proofs.lemmas.Option.{same_Some, slice_get_within, slice_get-get_or}
-use Rattle.doc_bits.proofs.ListLemmas.{there_is, All_at}
-use Rattle.doc_bits.proofs.TogetherLemmas.{in_front, in_back}
+use Rattle.doc_bits.proofs.Public.{there_is, All_at, in_front, in_back}
 use Rattle.piece_table.specs.Piece.{TextPiece, UnitPlace, unit_bytes, unit_places, flat_pieces, total_length}
 use Rattle.piece_table.specs.Piece.{ArePieces}
 use Rattle.piece_table.specs.Piece.{IsTextPiece}
-use Rattle.piece_table.proofs.FlatLemmas.{flat_pieces-append, flat_pieces-cons}
-use Rattle.piece_table.proofs.PieceLemmas.{length-unit_places, length-flat_pieces, get_or-unit_places}
+use Rattle.piece_table.proofs.Public.{flat_pieces-append, flat_pieces-cons, length-unit_places, length-flat_pieces}
+use Rattle.piece_table.proofs.Public.{get_or-unit_places}
 use Rattle.save_laws.specs.Places.{PagedStream}
 use Rattle.save_laws.specs.ByRuns.{IsRunAt, ranges_end, BeginsRun, IsFirstFrom, IsEarlier, IsFirstByRuns, IsLastFrom}
 use Rattle.save_laws.specs.ByRuns.{IsLater, HasBegin, IsBounded}
@@ -153,7 +152,7 @@ first_from from ends Earlier piece begin (suc k) first bounded earlier found =
         }
 
 -- the pieces before, with one more at their end
-total_more : (front : List TextPiece) (piece : TextPiece) →
+pub total_more : (front : List TextPiece) (piece : TextPiece) →
     total_length (front ++ piece ∷ []) ≡ total_length front + piece.len
 total_more front piece =
     let units : TextPiece → ℕ = λ p. p.len in

@@ -4,21 +4,21 @@ use Rattle.std.proofs.Common.{◌≡◌, ◌∙◌, refl, sym, ap, subst, ℕ, �
 use Rattle.std.proofs.Common.{◌∷◌, length, take, Some, arith, All}
 use Rattle.std.proofs.lemmas.Option.{slice_get_within}
 use Rattle.doc_bits.specs.Rules.{Hold}
-use Rattle.doc_bits.proofs.ListLemmas.{there_is, All_at, All-from_slice_get}
+use Rattle.doc_bits.proofs.Public.{there_is, All_at, All-from_slice_get}
 use Rattle.fib_form.specs.Fib.{fib_size, fib_pair}
 use Rattle.fib_form.specs.FibFields.{fib_fields, text_length}
 use Rattle.fib_form.specs.TableParts.{pair_of}
 use Rattle.fib_form.specs.declared.table_parts.TablePart.TheVariants.{Clx}
-use Rattle.fib_form.proofs.FibLemmas.{sum-three}
+use Rattle.fib_form.proofs.Public.{sum-three}
 use Rattle.piece_table.specs.Piece.{TextPiece, UnitPlace, unit_bytes, bare_piece, total_length, place_of_cp}
 use Rattle.piece_table.specs.Piece.{IsTextPiece}
 use Rattle.piece_table.specs.declared.pieces.TextBounds.{TextBounds}
 use Rattle.piece_table.specs.Clx.{IsClx}
 use Rattle.piece_table.specs.ClxRules.{StaysInStream, clx_rules, text_bounds}
 use Rattle.piece_table.specs.Printing.{IsReadBack}
-use Rattle.piece_table.proofs.PrintedClxLemmas.{read_back}
+use Rattle.piece_table.proofs.Public.{read_back}
 use Rattle.file_rules.specs.FileRules.{clx_of}
-use Rattle.doc_read.proofs.PlaceLemmas.{place_at, place_in_piece}
+use Rattle.doc_read.proofs.Public.{place_at, place_in_piece}
 use Rattle.save_laws.specs.Places.{StandsInside, fib_end}
 use Rattle.save_laws.specs.Slots.{story_counts}
 use Rattle.save_laws.proofs.PlaceLemmas.{stands_there}
@@ -28,7 +28,7 @@ use Rattle.save_laws.proofs.SavedLemmas.{Save, the_whole, the_flat, main_some, t
 abbrev pub saved_bounds : Save → TextBounds
 saved_bounds s = text_bounds (fib_size s.saved.stream.wd) (length s.saved.stream.wd)
 
--- the place of each CP stands in the stream
+-- the place of each CP is in the stream
 cp_stands : (s : Save) (cp : ℕ) (place : UnitPlace) → place_of_cp s.saved.pieces cp ≡ Some place →
     StandsInside s.saved.stream place.at place.wide
 cp_stands s cp place here =
@@ -36,7 +36,7 @@ cp_stands s cp place here =
     let slot = there_is (the_whole s) cp below in
     stands_there s.saved.stream place slot.0 (s.is.text.each cp place slot.0 here slot.1)
 
--- a piece stays where its first and its last unit stand
+-- a piece stays where its first and its last unit are
 stays_by : (from at len end : ℕ) (wide : Bool) → 1 ≤ len → from ≤ at + 0 * unit_bytes wide →
     at + (len - 1) * unit_bytes wide + unit_bytes wide ≤ end → (from ≤ at) × (at + len * unit_bytes wide ≤ end)
 stays_by from at len end true some first last = (omega (arith, first), omega (arith, some, last))

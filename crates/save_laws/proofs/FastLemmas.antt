@@ -53,7 +53,7 @@ placed_written old written plan place loose keeps is placed = record {
 placed_written old written plan place last keeps is placed =
     stands_written old written plan place.at place.wide keeps is placed
 
--- properties that stand in the old stream or in the new one stand in the new one
+-- properties that are in the old stream or in the new one are in the new one
 properties_either : (old new : List ℕ) (fc : ℕ) (properties : Properties) → KeepsBytes old new →
     (HasPropertiesAt old fc properties ⊎ HasPropertiesAt new fc properties) → HasPropertiesAt new fc properties
 properties_either old new fc properties keeps (inl has) = kept_properties_are_there old new fc properties keeps has

@@ -7,29 +7,26 @@ use Rattle.std.proofs.lemmas.Bool.{ltb-true, eqb-true}
 use Rattle.std.proofs.lemmas.List.{length-map, length-take, get_or-map}
 use Rattle.doc_bits.specs.declared.places.Where.TheVariants.{Wd}
 use Rattle.doc_bits.specs.Rules.{Hold}
-use Rattle.doc_bits.proofs.RuleLemmas.{hold_in}
-use Rattle.doc_bits.proofs.ListLemmas.{there_is, All_at}
-use Rattle.doc_bits.proofs.TestLemmas.{both_true}
+use Rattle.doc_bits.proofs.Public.{hold_in, there_is, All_at, both_true}
 use Rattle.prop_map.specs.Settings.{Properties}
 use Rattle.fib_form.specs.declared.table_parts.TablePart.TheVariants.{PlcfBteChpx, PlcfBtePapx}
 use Rattle.fib_form.specs.declared.stories.StoryKind.TheVariants.{Main}
 use Rattle.fkp_pages.specs.declared.kind.PageKind.TheVariants.{Chpx, Papx}
 use Rattle.direct_props.specs.PageRules.{page_rules, IsValidPlace}
-use Rattle.direct_props.proofs.RightLemmas.{right_lists_are_valid, right_places_hold}
+use Rattle.direct_props.proofs.Public.{right_lists_are_valid, right_places_hold}
 use Rattle.piece_table.specs.Piece.{UnitPlace}
 use Rattle.text_codes.specs.Paragraph.{is_paragraph_end}
 use Rattle.plain_doc.specs.declared.item.Item.{Item}
 use Rattle.plain_doc.specs.Collected.{sections_of}
-use Rattle.file_rules.proofs.RowLemmas.{index_of_get}
+use Rattle.file_rules.proofs.Public.{index_of_get}
 use Rattle.file_rules.specs.Source.{part_bytes, story_length}
 use Rattle.file_rules.specs.FormatRules.{text_count, judged_units, judged_places, section_ends, is_end, ends_section}
 use Rattle.file_rules.specs.FormatRules.{ends_paragraph, paragraph_places, rules_of_formats}
-use Rattle.doc_read.proofs.PlaceLemmas.{read_at_place}
-use Rattle.doc_read.proofs.RightLemmas.{paragraphs_right as ends_right, any_index, ends_more}
+use Rattle.doc_read.proofs.Public.{read_at_place, paragraphs_right as ends_right, any_index, ends_more}
 use Rattle.doc_read.specs.Sections.{section_lasts}
 use Rattle.save_laws.specs.Places.{IsMarkedAfter, StandsInside, GivesAt}
 use Rattle.save_laws.specs.Slots.{Slot, shown, loose, last, IsPlaced}
-use Rattle.plain_doc.proofs.TextListLemmas.{collected_from}
+use Rattle.plain_doc.proofs.Public.{collected_from}
 use Rattle.save_laws.proofs.SlotLemmas.{slot_unit, IsJudgedSlot, IsShownAs, all_shown, front_slot, main_slot}
 use Rattle.save_laws.proofs.PlaceLemmas.{mark_before, given_there}
 use Rattle.save_laws.proofs.SavedLemmas.{Save, the_source, the_whole, the_flat, main_len, note_len, head_len}
@@ -44,7 +41,7 @@ some_of : {A : Type 0} (o : Option A) → is_some o ≡ true → (x : A) × (o �
 some_of None some = absurd (cc (some))
 some_of (Some x) some = (x, refl)
 
--- a judged CP: its slot, and a place that stands for it
+-- a checked CP: its slot, and a place that represents it
 record IsJudgedAt (s : Save) (cp : ℕ) : Type 0 where
   slot : Slot
   here : slice_get (the_whole s) cp ≡ Some slot

@@ -11,14 +11,12 @@ use Rattle.std.proofs.lemmas.List.Elements.{All-nil, All-cons, All-head, All-tai
 use Rattle.std.proofs.lemmas.List.Elements.{filter_map-append}
 use Rattle.std.proofs.lemmas.Option.{same_Some, none-some, slice_get_within}
 use Rattle.doc_bits.specs.declared.places.Where.TheVariants.{Main}
-use Rattle.doc_bits.proofs.ListLemmas.{there_is, from_map, get-map}
-use Rattle.doc_bits.proofs.TogetherLemmas.{in_front, in_back}
+use Rattle.doc_bits.proofs.Public.{there_is, from_map, get-map, in_front, in_back}
 use Rattle.fkp_pages.specs.declared.kind.PageKind.TheVariants.{Papx}
 use Rattle.fkp_pages.specs.declared.lists.Run.{Run}
 use Rattle.fkp_pages.specs.Rows.{IsInRun, IsRow}
 use Rattle.fkp_pages.specs.Packed.{pages_of}
-use Rattle.fkp_pages.proofs.PackedLemmas.{runs_have_pages}
-use Rattle.fkp_pages.proofs.WholePages.{pages_are_whole}
+use Rattle.fkp_pages.proofs.Public.{runs_have_pages, pages_are_whole}
 use Rattle.piece_table.specs.Piece.{UnitPlace}
 use Rattle.text_codes.specs.Paragraph.{paragraph_mark}
 use Rattle.plain_doc.specs.declared.item.Item.{Item}
@@ -28,14 +26,12 @@ use Rattle.plain_doc.specs.RightDocument.{IsValidDocument}
 use Rattle.plain_doc.specs.RulesOfTexts.{EndsRight, last_unit}
 use Rattle.plain_doc.specs.Settings.{is_inside}
 use Rattle.plain_doc.specs.Stretches.{stretches, joins_next, IsJoined, goes_over, AreStretches}
-use Rattle.plain_doc.proofs.CutLemmas.{are_stretches}
-use Rattle.plain_doc.proofs.RightLemmas.{sound_is_valid}
+use Rattle.plain_doc.proofs.Public.{are_stretches, sound_is_valid}
 use Rattle.full_save.specs.Runs.{run_at, runs_from}
 use Rattle.full_save.specs.Text.{text_items}
 use Rattle.full_save.specs.Sections.{sepxes}
 use Rattle.full_save.specs.WordDocument.{text_at, document_runs, wd_stream}
-use Rattle.full_save.proofs.LaidOut.{LaidOut, paragraph_table, stand_sepxes}
-use Rattle.full_save.proofs.StretchRuns.{at_seam}
+use Rattle.full_save.proofs.Public.{LaidOut, paragraph_table, stand_sepxes, at_seam}
 use Rattle.save_laws.specs.Places.{PagedStream}
 use Rattle.save_laws.specs.Slots.{Slot, shown, loose, last, StoryEnds, loose_if, last_slots, note_slots, head_slots}
 use Rattle.save_laws.specs.Slots.{story_slots, whole_text}
@@ -154,7 +150,7 @@ unit_run (part ∷ parts) at k item cut here = elim (at_seam part (joined_texts 
 HasEnd : Slot → Type 0
 HasEnd slot = IsSome (slot_end slot)
 
--- beside the end that a slot has stands the slot
+-- beside the end that a slot has is the slot
 pub record IsEndOf (slots : List Slot) (k : ℕ) (end : Bool) : Type 0 where
   pub slot : Slot
   pub here : slice_get slots k ≡ Some slot
@@ -174,14 +170,14 @@ end_of (loose ∷ slots) (suc k) end all here =
     let found = end_of slots k end (All-tail (λ slot. IsSome (slot_end slot)) loose slots all) here in
     record { slot = found.slot; here = found.here; is = found.is }
 
-loose_ends : (end : Bool) → All (λ slot. IsSome (slot_end slot)) (loose_if end)
+pub loose_ends : (end : Bool) → All (λ slot. IsSome (slot_end slot)) (loose_if end)
 loose_ends true = All-cons (λ slot. IsSome (slot_end slot)) loose [] refl (All-nil (λ slot. IsSome (slot_end slot)))
 loose_ends false = All-nil (λ slot. IsSome (slot_end slot))
 
-shown_ends : (items : List Item) → All (λ slot. IsSome (slot_end slot)) (map shown items)
+pub shown_ends : (items : List Item) → All (λ slot. IsSome (slot_end slot)) (map shown items)
 shown_ends items = All-map (λ slot. IsSome (slot_end slot)) shown items (λ k d below. refl)
 
-story_ends : (texts : List (List Item)) (end : Bool) → All (λ slot. IsSome (slot_end slot)) (story_slots texts end)
+pub story_ends : (texts : List (List Item)) (end : Bool) → All (λ slot. IsSome (slot_end slot)) (story_slots texts end)
 story_ends texts end =
     All-append (λ slot. IsSome (slot_end slot)) (map shown (joined_texts texts)) (loose_if end)
     (shown_ends (joined_texts texts)) (loose_ends end)

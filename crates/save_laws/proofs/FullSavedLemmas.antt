@@ -9,28 +9,27 @@ use Rattle.std.proofs.lemmas.List.{length-map, map-append, append-nil}
 use Rattle.std.proofs.lemmas.List.Elements.{All-nil}
 use Rattle.std.proofs.lemmas.Option.{slice_get_within, same_Some, none-some, get_or_from_slice_get}
 use Rattle.doc_bits.specs.declared.places.Where.TheVariants.{Main}
-use Rattle.doc_bits.proofs.ListLemmas.{get-map, from_map, All_at}
+use Rattle.doc_bits.proofs.Public.{get-map, from_map, All_at}
 use Rattle.prop_map.specs.Settings.{Properties}
 use Rattle.prop_map.specs.Modifiers.{no_modifier, IsCharacterAfter}
 use Rattle.cfb_streams.specs.Contents.{Contents, HasNamed}
 use Rattle.cfb_streams.specs.Names.{table_name, second_table_name}
 use Rattle.fib_form.specs.Fib.{fib_form, fib_pair, fib_which_table}
 use Rattle.fib_form.specs.FibFields.{FibFields, pair_at}
-use Rattle.fib_form.proofs.FibLemmas.{form_size-most}
-use Rattle.fib_form.proofs.PairLemmas.{pair_at-fib_pairs}
+use Rattle.fib_form.proofs.Public.{form_size-most, pair_at-fib_pairs}
 use Rattle.fkp_pages.specs.declared.kind.PageKind.{PageKind}
 use Rattle.fkp_pages.specs.declared.kind.PageKind.TheVariants.{Chpx, Papx}
 use Rattle.fkp_pages.specs.declared.lists.Run.{Run}
 use Rattle.piece_table.specs.Piece.{TextPiece, UnitPlace, unit_places, flat_pieces, total_length, one_piece}
 use Rattle.piece_table.specs.Printing.{IsPrintedPrc, IsPrintedPcd, IsPrintedClx, pcd_bytes}
-use Rattle.piece_table.proofs.PieceLemmas.{one_sound, length-flat_pieces, length-unit_places, get_or-unit_places}
-use Rattle.piece_table.proofs.FitLemmas.{one_printable}
+use Rattle.piece_table.proofs.Public.{one_sound, length-flat_pieces, length-unit_places, get_or-unit_places}
+use Rattle.piece_table.proofs.Public.{one_printable}
 use Rattle.plain_doc.specs.declared.item.Mark.{Mark}
 use Rattle.plain_doc.specs.declared.item.Item.{Item}
 use Rattle.plain_doc.specs.declared.document.Document.{Document}
 use Rattle.plain_doc.specs.Collected.{joined_texts, sections_of}
 use Rattle.plain_doc.specs.Document.{IsFormedItem}
-use Rattle.plain_doc.proofs.RightLemmas.{sound_is_valid}
+use Rattle.plain_doc.proofs.Public.{sound_is_valid, collected_from}
 use Rattle.full_save.specs.Text.{extra_mark, with_mark, note_story, head_story, text_items, text_counts}
 use Rattle.fib_form.specs.TableEntries.{TableEntry, IsPartAt}
 use Rattle.full_save.specs.TableText.{table_entries}
@@ -47,14 +46,11 @@ use Rattle.fkp_pages.specs.Bin.{IsBinPage}
 use Rattle.fkp_pages.specs.Rows.{IsRow, NamesRow}
 use Rattle.save_laws.specs.Plans.{Plan, IsPlanned, AreRunsOf, IsWrittenPlan}
 use Rattle.save_laws.specs.FullSaves.{has_items, full_saved_text, HasLayout, FullSavesAreSaves}
-use Rattle.plain_doc.proofs.TextListLemmas.{collected_from}
-use Rattle.fkp_pages.proofs.RowTableLemmas.{table_of_row}
+use Rattle.fkp_pages.proofs.Public.{table_of_row}
 use Rattle.save_laws.proofs.PlanLemmas.{plans_give}
-use Rattle.full_save.proofs.StretchRuns.{character_run, paragraph_run}
-use Rattle.full_save.proofs.EntriesFound.{entry_stands}
-use Rattle.full_save.proofs.TableNumbers.{table_numbered}
-use Rattle.full_save.proofs.LaidOut.{LaidOut, few_items, short_wd, fib_read, unit_there, text_within}
-use Rattle.full_save.proofs.LaidOut.{HasRowTable, character_table, paragraph_table, stand_sepxes}
+use Rattle.full_save.proofs.Public.{character_run, paragraph_run, entry_stands, table_numbered, LaidOut, few_items}
+use Rattle.full_save.proofs.Public.{short_wd, fib_read, unit_there, text_within, HasRowTable, character_table}
+use Rattle.full_save.proofs.Public.{paragraph_table, stand_sepxes}
 use Rattle.save_laws.proofs.FullSections.{FitsSepx, sections_saved}
 
 -- ---- slots and items

@@ -9,14 +9,12 @@ use Rattle.std.proofs.lemmas.Bool.{cases_Bool}
 use Rattle.std.proofs.lemmas.List.{nil_from_length}
 use Rattle.std.proofs.lemmas.Option.{same_Some, none-some}
 use Rattle.doc_bits.specs.Number.{u16_at, number_bytes}
-use Rattle.doc_bits.proofs.ListLemmas.{range_mid}
-use Rattle.doc_bits.proofs.NumberLemmas.{number_at-read_back, length-number_bytes}
+use Rattle.doc_bits.proofs.Public.{range_mid, number_at-read_back, length-number_bytes}
 use Rattle.sprm_table.specs.Sprm.{IsAcceptedList}
 use Rattle.prop_map.specs.Settings.{Properties}
 use Rattle.prop_map.specs.Formed.{section_groups, IsPropertyMap}
 use Rattle.prop_map.specs.Printing.{printed_list}
-use Rattle.prop_map.proofs.EntriesLemmas.{entries-empty}
-use Rattle.prop_map.proofs.PrintLemmas.{print_is}
+use Rattle.prop_map.proofs.Public.{entries-empty, print_is}
 use Rattle.direct_props.specs.Direct.{MakesProperties}
 use Rattle.style_sheet.specs.Counted.{written_counted}
 use Rattle.doc_parts.specs.declared.lists.Sed.{Sed}
@@ -24,14 +22,14 @@ use Rattle.file_rules.specs.SectionRules.{sepx_list}
 use Rattle.plain_doc.specs.TextLists.{starts_from}
 use Rattle.full_save.specs.Sections.{is_plain_section, sepx_bytes, sepxes, no_sepx, fc_sepx, seds_from}
 use Rattle.save_laws.specs.Saves.{HasPropertiesAt, AreSavedSections}
-use Rattle.full_save.proofs.StreamLengths.{length-seds}
+use Rattle.full_save.proofs.Public.{length-seds}
 
 -- properties for a section: they are formed and fit a Sepx
 pub record FitsSepx (properties : Properties) : Type 0 where
   pub formed : IsPropertyMap section_groups properties
   pub short : length (printed_list properties) ≤ 500
 
--- the Sepx stands between other bytes, not in the first 1,024
+-- the Sepx is between other bytes, not in the first 1,024
 record StandsBetween (wd before bytes after : List ℕ) : Type 0 where
   there : wd ≡ before ++ (bytes ++ after)
   low : 1024 ≤ length before
@@ -142,7 +140,7 @@ cut_at_section (first ∷ sections) (suc k) section here =
     ∙ sym (append_assoc (sepx_bytes first.1) (sepxes (take k sections))
     (sepx_bytes section.1 ++ sepxes (drop (suc k) sections)))
 
--- Sepxes that stand between other bytes give each section its properties
+-- Sepxes that are between other bytes give each section its properties
 pub sections_saved : (wd before after : List ℕ) (sections : List (ℕ × Properties)) →
     ((k : ℕ) (section : ℕ × Properties) → slice_get sections k ≡ Some section → FitsSepx section.1) →
     wd ≡ before ++ (sepxes sections ++ after) → 1024 ≤ length before → length wd < 2 ^ 31 →

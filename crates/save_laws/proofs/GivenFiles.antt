@@ -2,12 +2,12 @@
 use Rattle.std.specs.Prelude.{ℕ, List}
 use Rattle.std.proofs.Common.{◌≡◌, ◌+◌, ◌≤◌, refl, subst, length, arith}
 use Rattle.std.proofs.lemmas.List.{length-map}
-use Rattle.doc_bits.proofs.ListLemmas.{there_is}
+use Rattle.doc_bits.proofs.Public.{there_is}
 use Rattle.doc_bits.specs.declared.places.Where.TheVariants.{Wd}
 use Rattle.doc_bits.specs.Number.{AreBytes}
 use Rattle.doc_bits.specs.Rules.{Hold}
 use Rattle.cfb_streams.specs.Names.{wd_name}
-use Rattle.cfb_streams.proofs.UniqueLemmas.{contents_unique}
+use Rattle.cfb_streams.proofs.Public.{contents_unique}
 use Rattle.fib_form.specs.declared.table_parts.TablePart.TheVariants.{Clx}
 use Rattle.piece_table.specs.Piece.{flat_pieces}
 use Rattle.plain_doc.specs.declared.document.Document.{Document}
@@ -16,19 +16,12 @@ use Rattle.file_rules.specs.SectionRules.{sed_rules}
 use Rattle.file_rules.specs.FormatRules.{text_count}
 use Rattle.file_rules.specs.PartRules.{part_rules}
 use Rattle.file_rules.specs.FileRules.{HasText, source_of, table_stream_name, loading_rules, file_rules}
-use Rattle.file_rules.proofs.TextLemmas.{text_one}
-use Rattle.file_rules.proofs.OneLemmas.{sections_one, parts_one}
-use Rattle.doc_read.proofs.EntryValues.{AreByteFields}
-use Rattle.doc_read.proofs.ExistItems.{parts_of, items_there}
+use Rattle.file_rules.proofs.Public.{text_one, sections_one, parts_one}
+use Rattle.doc_read.proofs.Public.{AreByteFields, parts_of, items_there, named_bytes, text_held, text_fits}
+use Rattle.doc_read.proofs.Public.{part_bytes_are, part_lists_there, section_maps_there, ready, section_maps_one}
 use Rattle.doc_read.specs.Items.{IsItemAt}
 use Rattle.doc_read.specs.Sections.{HaveProperties, AreSectionMaps}
 use Rattle.doc_read.specs.Holds.{FileParts, HasFileParts, HoldsDocument}
-use Rattle.doc_read.proofs.ExistText.{named_bytes}
-use Rattle.doc_read.proofs.ExistFits.{text_held, text_fits}
-use Rattle.doc_read.proofs.ExistParts.{part_bytes_are, part_lists_there}
-use Rattle.doc_read.proofs.ExistSections.{section_maps_there}
-use Rattle.doc_read.proofs.ExistDocument.{ready}
-use Rattle.doc_read.proofs.PartsOfOneFile.{section_maps_one}
 use Rattle.save_laws.specs.Laws.{GivenFilesStand, GivenSectionsAreSaved}
 use Rattle.save_laws.proofs.GivenTexts.{given_stands}
 use Rattle.save_laws.proofs.GivenSections.{given_sections}

@@ -1,4 +1,4 @@
--- The places of the text of a file stand for the document that it holds.
+-- The places of the text of a file represent the document that it holds.
 use Rattle.std.specs.Prelude.{slice_get, slice_index, is_some, ℕ, List}
 use Rattle.std.specs.Option.{ForSome, unwrap_or}
 use Rattle.std.proofs.Common.{◌≡◌, ◌⊎◌, ◌∙◌, ◌∷◌, ◌+◌, ◌-◌, ◌<◌, ◌≤◌, [], refl, sym, ap, subst, inl, inr, zero}
@@ -7,7 +7,7 @@ use Rattle.std.proofs.lemmas.Bool.{cases_lt, cases_eq, eq-eqb}
 use Rattle.std.proofs.lemmas.Option.{slice_get_within, get_or_from_slice_get, same_Some, none-some}
 use Rattle.std.proofs.lemmas.List.{get_or-map}
 use Rattle.std.proofs.Math.Seq.{take-nil}
-use Rattle.doc_bits.proofs.ListLemmas.{there_is, slice_get_before}
+use Rattle.doc_bits.proofs.Public.{there_is, slice_get_before, from_behind}
 use Rattle.doc_bits.specs.Number.{u16_at}
 use Rattle.doc_bits.specs.Rules.{Hold, Nowhere}
 use Rattle.prop_map.specs.Settings.{Properties}
@@ -16,7 +16,7 @@ use Rattle.fib_form.specs.FibFields.{fib_fields, text_length}
 use Rattle.fib_form.specs.declared.stories.StoryKind.TheVariants.{Main, Notes, Heads}
 use Rattle.fkp_pages.specs.declared.kind.PageKind.TheVariants.{Chpx, Papx}
 use Rattle.direct_props.specs.PageRules.{IsValidPlace}
-use Rattle.direct_props.proofs.RightLemmas.{right_places_have_lists}
+use Rattle.direct_props.proofs.Public.{right_places_have_lists}
 use Rattle.piece_table.specs.Piece.{UnitPlace, flat_pieces}
 use Rattle.piece_table.specs.Clx.{IsClx}
 use Rattle.text_codes.specs.Paragraph.{is_paragraph_end}
@@ -30,18 +30,15 @@ use Rattle.file_rules.specs.EndRules.{last_end, IsLooseUnit, HasLooseUnit}
 use Rattle.file_rules.specs.FormatRules.{text_count}
 use Rattle.file_rules.specs.PartRules.{PartLists, HasPartLists, part_rules}
 use Rattle.file_rules.specs.FileRules.{FileText, source_of, clx_of, table_rules}
-use Rattle.file_rules.proofs.StandLemmas.{place_stands}
+use Rattle.file_rules.proofs.Public.{place_stands}
 use Rattle.doc_read.specs.Items.{TextParts, IsMarkAt, IsItemAt, HoldsItems, HoldsTexts}
 use Rattle.doc_read.specs.Texts.{AreCutsWithin}
-use Rattle.doc_read.proofs.ExistFits.{TextFits}
-use Rattle.doc_read.proofs.ExistItems.{parts_of}
-use Rattle.doc_read.proofs.GivenPlaces.{RightText, character_place, mark_place}
+use Rattle.doc_read.proofs.Public.{TextFits, parts_of, RightText, character_place, mark_place}
 use Rattle.doc_read.specs.Holds.{head_texts}
 use Rattle.save_laws.specs.Places.{PagedStream, given_of, GivesMark, StandsInside, GivesAt, IsMarkedAfter}
 use Rattle.save_laws.specs.GivenFiles.{stream_of}
 use Rattle.save_laws.specs.Slots.{Slot, shown, loose, ReadsAfter, IsPlaced}
-use Rattle.doc_bits.proofs.TogetherLemmas.{from_behind}
-use Rattle.plain_doc.proofs.TextListLemmas.{length-joined, next_joined}
+use Rattle.plain_doc.proofs.Public.{length-joined, next_joined}
 
 -- a text that was read, with what was read of it
 pub record ReadText : Type 0 where
@@ -76,7 +73,7 @@ read_places r = flat_pieces r.text.pieces
 abbrev pub read_stream : ReadText → PagedStream
 read_stream r = stream_of (source_of r.text)
 
--- ---- each place stands in the stream
+-- ---- each place is in the stream
 
 pub place_given : (r : ReadText) (cp : ℕ) (place : UnitPlace) → slice_get (read_places r) cp ≡ Some place →
     StandsInside (read_stream r) place.at place.wide
@@ -120,7 +117,7 @@ mark_given stream at modifier true (Some mark) is right =
       after = (is.style_is, is.modified);
     }
 
--- the slot stands at a CP
+-- the slot is at a CP
 abbrev pub StandsAt : ReadText → ℕ → Slot → Type 0
 StandsAt r cp slot =
     (place : UnitPlace) → slice_get (read_places r) cp ≡ Some place →
@@ -250,7 +247,7 @@ end_count parts begin count len cuts texts holds within first few = elim (cases_
       ap (slice_index cuts) at ∙ (first ∙ rest)
 ]
 
--- where an item of joined texts stands
+-- where an item of joined texts is
 record IsInText (texts : List (List Item)) (i : ℕ) (item : Item) : Type 0 where
   number : ℕ
   text : List Item
@@ -315,7 +312,7 @@ texts_shown r begin count len cuts texts holds within first i item here =
 
 -- ---- the ends of stories
 
--- behind the last text stands nothing, or a paragraph mark
+-- behind the last text is nothing, or a paragraph mark
 pub end_or_mark : (places story : List ℕ) (end : ℕ) → Nowhere (HasLooseUnit places story end) → end ≤ length story →
     (length story ≡ end) ⊎ ((length story ≡ end + 1) × (slice_index story end ≡ 0x0D))
 end_or_mark places story end none within = elim (cases_lt end (length story)) [

@@ -6,29 +6,27 @@ use Rattle.std.proofs.lemmas.Bool.{cases_lt, cases_eq}
 use Rattle.std.proofs.lemmas.Option.{slice_get_within, same_Some, none-some}
 use Rattle.std.proofs.lemmas.List.{length-map, length-append, get_or-map, get_or_append_left, length-drop}
 use Rattle.doc_bits.specs.Number.{u16_at, AreBytes}
-use Rattle.doc_bits.proofs.ByteListLemmas.{AreBytes-range}
+use Rattle.doc_bits.proofs.Public.{AreBytes-range}
 use Rattle.prop_map.specs.Settings.{Properties}
 use Rattle.prop_map.specs.Formed.{section_groups}
-use Rattle.prop_map.proofs.AcceptedLemmas.{accepted_of}
+use Rattle.prop_map.proofs.Public.{accepted_of}
 use Rattle.fib_form.specs.declared.stories.StoryKind.TheVariants.{Main}
 use Rattle.doc_parts.specs.declared.lists.Sed.{Sed}
 use Rattle.doc_parts.specs.Sections.{HasSepx}
 use Rattle.plain_doc.specs.declared.item.Item.{Item}
 use Rattle.plain_doc.specs.Collected.{collected, sections_of, entry_before}
 use Rattle.plain_doc.specs.Entries.{entry_at}
-use Rattle.plain_doc.proofs.CollectedLemmas.{entry_here, entry_later}
-use Rattle.file_rules.proofs.RowLemmas.{index_of_get}
+use Rattle.plain_doc.proofs.Public.{entry_here, entry_later}
+use Rattle.file_rules.proofs.Public.{index_of_get}
 use Rattle.file_rules.specs.Source.{story_length}
 use Rattle.file_rules.specs.FormatRules.{section_ends}
 use Rattle.file_rules.specs.SectionRules.{section_fc, sepx_list}
 use Rattle.file_rules.specs.FileRules.{source_of}
 use Rattle.doc_read.specs.Sections.{section_lasts, HaveProperties}
-use Rattle.doc_read.proofs.MarkListLemmas.{some_section, ends_up, length-section_lasts}
-use Rattle.doc_read.proofs.UpLemmas.{IsUpWithin}
-use Rattle.doc_read.proofs.SettingsLemmas.{sepx-there, sepx-right}
+use Rattle.doc_read.proofs.Public.{some_section, ends_up, length-section_lasts, IsUpWithin, sepx-there, sepx-right}
 use Rattle.save_laws.specs.Saves.{HasPropertiesAt, AreSavedSections}
 use Rattle.plain_doc.specs.TextLists.{starts_from}
-use Rattle.doc_parts.proofs.CpLemmas.{Rise}
+use Rattle.doc_parts.proofs.Public.{Rise}
 use Rattle.save_laws.proofs.GivenLemmas.{ReadText}
 
 -- ---- what is collected is what is read
@@ -127,7 +125,7 @@ zip_first [] values same = refl
 zip_first (cp ∷ cps) [] same = absurd (omega (arith, same))
 zip_first (cp ∷ cps) (value ∷ values) same = ap (λ l. cp ∷ l) (zip_first cps values (omega (arith, same)))
 
--- what stands beside a CP
+-- what is beside a CP
 zip_at : {A : Type 0} (cps : List ℕ) (values : List A) (k : ℕ) (e : ℕ × A) → slice_get (zip cps values) k ≡ Some e →
     slice_get values k ≡ Some e.1
 zip_at [] values k e here = absurd (none-some e here)

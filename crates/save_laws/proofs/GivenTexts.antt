@@ -1,18 +1,18 @@
--- The whole text of a file stands together with the slots of its document.
+-- The whole text of a file is together with the slots of its document.
 use Rattle.std.specs.Prelude.{slice_get, slice_index, ℕ, List}
 use Rattle.std.proofs.Common.{◌≡◌, ◌∙◌, ◌++◌, ◌∷◌, ◌+◌, ◌-◌, ◌*◌, ◌/◌, ◌<◌, ◌≤◌, [], refl, sym, ap, subst, inl, inr}
 use Rattle.std.proofs.Common.{zero, suc, Bool, true, false, Some, length, map, arith}
 use Rattle.std.proofs.lemmas.Bool.{cases_lt}
 use Rattle.std.proofs.lemmas.Option.{slice_get_within, same_Some, none-some}
 use Rattle.std.proofs.lemmas.List.{length-map}
-use Rattle.doc_bits.proofs.ListLemmas.{from_map, length-range, slice_get_before}
+use Rattle.doc_bits.proofs.Public.{from_map, length-range, slice_get_before, range_index, from_behind}
 use Rattle.doc_bits.specs.Rules.{Nowhere}
 use Rattle.doc_bits.specs.declared.places.Where.TheVariants.{Wd, Table}
 use Rattle.fib_form.specs.FibFields.{fib_fields, text_length}
 use Rattle.fib_form.specs.declared.table_parts.TablePart.TheVariants.{PlcffndTxt, PlcfHdd}
 use Rattle.fib_form.specs.declared.stories.StoryKind.{StoryKind}
 use Rattle.fib_form.specs.declared.stories.StoryKind.TheVariants.{Main, Notes, Heads}
-use Rattle.fib_form.proofs.FibLemmas.{sum-three}
+use Rattle.fib_form.proofs.Public.{sum-three}
 use Rattle.piece_table.specs.Piece.{flat_pieces}
 use Rattle.doc_parts.specs.Stories.{AreCuts}
 use Rattle.plain_doc.specs.declared.item.Item.{Item}
@@ -23,22 +23,19 @@ use Rattle.file_rules.specs.EndRules.{last_end, HasLooseUnit, BreaksEnds}
 use Rattle.file_rules.specs.HeadRules.{IsHeadTable}
 use Rattle.file_rules.specs.FormatRules.{text_count}
 use Rattle.file_rules.specs.FileRules.{source_of}
-use Rattle.file_rules.proofs.OneLemmas.{sections_one, notes_one, heads_one}
+use Rattle.file_rules.proofs.Public.{sections_one, notes_one, heads_one}
 use Rattle.doc_read.specs.Texts.{AreCutsWithin}
 use Rattle.doc_read.specs.Items.{HoldsTexts}
 use Rattle.doc_read.specs.Holds.{head_texts}
-use Rattle.doc_read.proofs.PlaceLemmas.{range_at}
-use Rattle.doc_read.proofs.DocumentLemmas.{notes_within, heads_within}
-use Rattle.doc_read.proofs.SliceLemmas.{cuts_within, note_cuts_within}
+use Rattle.doc_read.proofs.Public.{notes_within, heads_within, cuts_within, note_cuts_within}
 use Rattle.save_laws.specs.GivenFiles.{StandsTogether}
 use Rattle.save_laws.specs.Slots.{note_slots, head_slots, story_counts, Slot, shown, loose, last, StoryEnds, loose_if}
 use Rattle.save_laws.specs.Slots.{story_slots, last_slots, whole_text}
-use Rattle.doc_bits.proofs.TogetherLemmas.{from_behind}
 use Rattle.save_laws.proofs.SlotLemmas.{length-story_slots, length-whole}
 use Rattle.save_laws.proofs.GivenLemmas.{ReadText, read_parts, place_given, StandsAt, item_shown, mark_loose}
 use Rattle.save_laws.proofs.GivenLemmas.{end_count, texts_shown, end_or_mark}
 
--- slots that stand from a CP on
+-- slots that are from a CP on
 abbrev AllStand : ReadText → ℕ → List Slot → Type 0
 AllStand r from slots = (i : ℕ) (slot : Slot) → slice_get slots i ≡ Some slot → StandsAt r (from + i) slot
 
@@ -76,7 +73,7 @@ stand_last r from (slot ∷ slots) = stand_one r from last (λ place here. place
 
 -- ---- a story of texts
 
--- whether a mark stands behind the texts of a story
+-- whether a mark is behind the texts of a story
 record HasEnd (r : ReadText) (begin len : ℕ) (texts : List (List Item)) : Type 0 where
   end : Bool
   len_is : len ≡ length (story_slots texts end)
@@ -88,7 +85,7 @@ story_unit_at : (r : ReadText) (story : StoryKind) (i : ℕ) → i < story_lengt
 story_unit_at r story i below =
     let source = source_of r.text in
     let begin = story_begin source story in
-    range_at source.text.units begin (begin + story_length source story) i (omega (arith, below))
+    range_index source.text.units begin (begin + story_length source story) i (omega (arith, below))
 
 enough : (r : ReadText) → text_count (source_of r.text) ≤ length (source_of r.text).text.units
 enough r =

@@ -4,8 +4,7 @@ use Rattle.std.proofs.Common.{◌≡◌, ◌∙◌, refl, sym, subst, ℕ, lengt
 use Rattle.std.proofs.lemmas.List.{length-map}
 use Rattle.doc_bits.specs.declared.places.Where.TheVariants.{File, Wd, Table}
 use Rattle.doc_bits.specs.Rules.{Hold, rule}
-use Rattle.doc_bits.proofs.RuleLemmas.{hold_in}
-use Rattle.doc_bits.proofs.ListLemmas.{from_map, there_is}
+use Rattle.doc_bits.proofs.Public.{hold_in, from_map, there_is}
 use Rattle.prop_map.specs.Settings.{Properties}
 use Rattle.cfb_streams.specs.Container.{container_rules}
 use Rattle.cfb_streams.specs.Names.{wd_name}
@@ -20,15 +19,14 @@ use Rattle.piece_table.specs.ClxRules.{clx_rules}
 use Rattle.doc_parts.specs.declared.lists.Sed.{Sed}
 use Rattle.style_sheet.specs.Stsh.{stsh_rules}
 use Rattle.plain_doc.specs.Collected.{sections_of}
-use Rattle.plain_doc.proofs.RightLemmas.{sound_is_valid}
+use Rattle.plain_doc.proofs.Public.{sound_is_valid}
 use Rattle.file_rules.specs.Source.{story_begin, part_bytes, part_place}
 use Rattle.file_rules.specs.FileRules.{file_rules, HasText, loading_rules, table_stream_name, clx_of, contents_rules}
 use Rattle.file_rules.specs.ListRules.{rules_of_lists}
 use Rattle.file_rules.specs.SheetRules.{rules_of_sheet}
 use Rattle.file_rules.specs.PairRules.{BreaksPairs}
 use Rattle.file_rules.specs.PartRules.{HasPartLists, part_rules}
-use Rattle.file_rules.proofs.RowLemmas.{index_of_get}
-use Rattle.file_rules.proofs.RefusalLemmas.{stream-there}
+use Rattle.file_rules.proofs.Public.{index_of_get, stream-there}
 use Rattle.file_rules.specs.SectionRules.{section_fc}
 use Rattle.doc_read.specs.Holds.{HoldsDocument, IsDocumentFrom}
 use Rattle.doc_read.specs.Sections.{IsSectionProperties, HaveProperties}

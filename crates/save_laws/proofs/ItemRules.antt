@@ -7,7 +7,7 @@ use Rattle.std.proofs.lemmas.Option.{none-some}
 use Rattle.doc_bits.specs.declared.places.Where.{Where}
 use Rattle.doc_bits.specs.declared.places.Where.TheVariants.{Main, Note, Head}
 use Rattle.doc_bits.specs.Places.{rank}
-use Rattle.doc_bits.proofs.ListLemmas.{All-from_slice_get}
+use Rattle.doc_bits.proofs.Public.{All-from_slice_get}
 use Rattle.doc_parts.specs.Fields.{is_field_unit}
 use Rattle.text_codes.specs.Paragraph.{is_paragraph_end}
 use Rattle.plain_doc.specs.RulesOfTexts.{last_unit}
@@ -15,10 +15,9 @@ use Rattle.plain_doc.specs.declared.item.Item.{Item}
 use Rattle.plain_doc.specs.declared.document.Document.{Document}
 use Rattle.plain_doc.specs.Collected.{joined_texts}
 use Rattle.plain_doc.specs.RightDocument.{IsValidText, IsValidDocument}
-use Rattle.plain_doc.proofs.MarkedLemmas.{marked_at_ends}
-use Rattle.plain_doc.proofs.TextListLemmas.{joined_all, empty_joined}
+use Rattle.plain_doc.proofs.Public.{marked_at_ends, joined_all, empty_joined}
 
--- a mark stands exactly where a paragraph ends, and a field byte on a field unit alone
+-- a mark is exactly where a paragraph ends, and a field byte on a field unit alone
 pub record IsSavedItem (item : Item) : Type 0 where
   pub ends : is_some item.mark ≡ is_paragraph_end item.unit (is_some item.sect)
   pub field : IsSome item.fld → IsTrue (is_field_unit item.unit)

@@ -3,7 +3,7 @@ use Rattle.std.specs.Prelude.{slice_get, slice_index, is_some}
 use Rattle.std.proofs.Common.{◌++◌, ◌≡◌, ◌∙◌, refl, sym, ap, subst, ℕ, ◌+◌, ◌-◌, Bool, true, false, List, [], ◌∷◌}
 use Rattle.std.proofs.Common.{length, map, take, Option, Some, None, arith}
 use Rattle.std.proofs.lemmas.Option.{slice_get_within}
-use Rattle.doc_bits.proofs.ListLemmas.{All_at}
+use Rattle.doc_bits.proofs.Public.{All_at}
 use Rattle.prop_map.specs.Settings.{Properties}
 use Rattle.prop_map.specs.declared.modifiers.Modifier.{Modifier}
 use Rattle.fib_form.specs.declared.stories.StoryKind.TheVariants.{Main, Notes, Heads}
@@ -13,17 +13,16 @@ use Rattle.plain_doc.specs.declared.item.Mark.{Mark}
 use Rattle.plain_doc.specs.declared.item.Item.{Item}
 use Rattle.plain_doc.specs.Entries.{entry_at}
 use Rattle.plain_doc.specs.Collected.{joined_texts, collected, fields_of, refs_of, sections_of, cuts_from}
-use Rattle.plain_doc.proofs.CollectedLemmas.{entry_of_item, found_before, length-cuts_from}
-use Rattle.plain_doc.proofs.MainLemmas.{main_ends, ends_main}
+use Rattle.plain_doc.proofs.Public.{entry_of_item, found_before, length-cuts_from, main_ends, ends_main, cut_at}
+use Rattle.plain_doc.proofs.Public.{in_joined, next_joined, empty_joined}
 use Rattle.file_rules.specs.Source.{story_length, story_begin}
 use Rattle.file_rules.specs.PartRules.{PartLists}
 use Rattle.doc_read.specs.Sections.{section_lasts, section_marks}
 use Rattle.doc_read.specs.Marked.{story_bytes, field_bytes}
 use Rattle.doc_read.specs.Items.{TextParts, IsMarkAt, IsItemAt, HoldsItems, HoldsTexts}
-use Rattle.doc_read.proofs.EntryLemmas.{entry_of_parts}
+use Rattle.doc_read.proofs.Public.{entry_of_parts}
 use Rattle.plain_doc.specs.TextLists.{cuts_of}
 use Rattle.save_laws.specs.Slots.{shown}
-use Rattle.plain_doc.proofs.TextListLemmas.{cut_at, in_joined, next_joined, empty_joined}
 use Rattle.save_laws.proofs.SlotLemmas.{main_slot, note_slot, head_slot, story_item}
 use Rattle.save_laws.proofs.PlaceLemmas.{item_read}
 use Rattle.save_laws.proofs.SavedLemmas.{Save, the_source, the_whole, the_notes, main_len, note_len, placed_at}
@@ -61,7 +60,7 @@ the_parts s = record {
   sections = the_maps s;
 }
 
--- ---- what stands at the CPs
+-- ---- what is at the CPs
 
 pub section_cps : (s : Save) →
     section_lasts s.saved.seds (story_length (the_source s) Main) ≡ map (λ section. section.0)
@@ -115,7 +114,7 @@ mark_by true wd bin fc modifier (Some mark) e reads = reads mark refl
 mark_by false wd bin fc modifier None e reads = tt
 mark_by false wd bin fc modifier (Some mark) e reads = absurd (cc (e))
 
--- what stands at the CP of an item is the item's
+-- what is at the CP of an item is the item's
 record HasAtCp (s : Save) (cp : ℕ) (item : Item) : Type 0 where
   slot : slice_get (the_whole s) cp ≡ Some (shown item)
   section : entry_at (sections_of s.document.main) cp ≡ item.sect
@@ -197,7 +196,7 @@ head_item s i item here =
 pub main_held : (s : Save) → HoldsItems (the_parts s) 0 (story_length (the_source s) Main) s.document.main
 main_held s = record { len = omega (arith, main_len s); each = main_item s }
 
--- texts whose joined items stand one after the other
+-- texts whose joined items are one after the other
 texts_cut : (parts : TextParts) (begin : ℕ) (first : Item) (items : List Item) (texts : List (List Item)) →
     first ∷ items ≡ joined_texts texts →
     ((i : ℕ) (item : Item) → slice_get (joined_texts texts) i ≡ Some item → IsItemAt parts (begin + i) item) →

@@ -4,15 +4,14 @@ use Rattle.std.proofs.Common.{◌≡◌, ◌≢◌, ◌∙◌, ◌+◌, ◌-◌,
 use Rattle.std.proofs.Common.{length, arith}
 use Rattle.std.proofs.lemmas.Bool.{cases_lt}
 use Rattle.std.proofs.lemmas.Grind.{same_number_lists}
-use Rattle.doc_bits.proofs.ListLemmas.{length-range}
-use Rattle.doc_bits.proofs.NumberLemmas.{number_at-same}
+use Rattle.doc_bits.proofs.Public.{length-range, range_index, number_at-same}
 use Rattle.doc_bits.specs.Number.{number_at, u16_at}
 use Rattle.sprm_table.specs.Sprm.{IsAcceptedList}
 use Rattle.prop_map.specs.Settings.{Properties}
 use Rattle.prop_map.specs.Formed.{section_groups}
 use Rattle.prop_map.specs.Modifiers.{no_modifier}
 use Rattle.fib_form.specs.Fib.{form_size, fib_form}
-use Rattle.fib_form.proofs.FibLemmas.{form_size-most}
+use Rattle.fib_form.proofs.Public.{form_size-most}
 use Rattle.fkp_pages.specs.declared.kind.PageKind.TheVariants.{Chpx, Papx}
 use Rattle.fkp_pages.specs.declared.kind.PageKind.{PageKind}
 use Rattle.fkp_pages.specs.Fkp.{HasRunAnswer}
@@ -28,7 +27,6 @@ use Rattle.text_codes.specs.Compressed.{unit_of}
 use Rattle.file_rules.specs.Units.{unit_at}
 use Rattle.file_rules.specs.SectionRules.{sepx_list}
 use Rattle.doc_read.specs.Sections.{IsSectionProperties}
-use Rattle.doc_read.proofs.PlaceLemmas.{range_at}
 use Rattle.save_laws.specs.Places.{PagedStream, fib_end, StandsInside}
 use Rattle.save_laws.specs.KeptPages.{KeepsBytes, KeepsPages}
 use Rattle.save_laws.specs.Laws.{KeptPropertiesAreThere, KeptPlacesGive}
@@ -52,8 +50,9 @@ range_kept old new from to keeps low high =
     let two = length-range old from to high in
     same_number_lists (slice_range new from to) (slice_range old from to) (omega (arith, one, two)) (λ i below.
     let within : i < to - from = omega (arith, below, one) in
-    range_at new from to i within
-    ∙ (keeps.bytes (from + i) (omega (arith, low)) (omega (arith, within, high)) ∙ sym (range_at old from to i within)))
+    range_index new from to i within
+    ∙ (keeps.bytes (from + i) (omega (arith, low)) (omega (arith, within, high)) ∙ sym (range_index old from to i
+    within)))
 
 -- ---- pages
 
@@ -173,7 +172,7 @@ kept_places_give old new before at wide given keeps gives =
 
 -- ---- properties of sections
 
--- a Sepx that stands in the older stream
+-- a Sepx that is in the older stream
 record IsKeptSepx (old new : List ℕ) (fc : ℕ) : Type 0 where
   there : HasSepx new fc
   list : sepx_list new fc ≡ sepx_list old fc

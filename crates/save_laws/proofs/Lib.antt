@@ -1,29 +1,42 @@
-pub mod SlotLemmas
-pub mod PlaceLemmas
-pub mod SavedLemmas
-pub mod ItemRules
-pub mod ListedLemmas
-pub mod PartsHeld
-pub mod MarksHeld
-pub mod PairLemmas
-pub mod SectionRulesHeld
-pub mod ReadLemmas
-pub mod ItemsHeld
-pub mod FormatRulesHeld
-pub mod StoryRulesHeld
-pub mod ClxHeld
-pub mod HeldLemmas
-pub mod RowLemmas
-pub mod PlanLemmas
-pub mod KeptLemmas
-pub mod FastLemmas
-pub mod GivenLemmas
-pub mod GivenTexts
-pub mod GivenSections
-pub mod GivenFiles
-pub mod SessionLemmas
-pub mod FullSections
-pub mod FullSavedLemmas
-pub mod ByRunsLemmas
-pub mod RunPlaces
-pub mod FullByRuns
+pub mod Public
+mod SlotLemmas
+mod PlaceLemmas
+mod SavedLemmas
+mod ItemRules
+mod ListedLemmas
+mod PartsHeld
+mod MarksHeld
+mod PairLemmas
+mod SectionRulesHeld
+mod ReadLemmas
+mod ItemsHeld
+mod FormatRulesHeld
+mod StoryRulesHeld
+mod ClxHeld
+mod HeldLemmas
+mod RowLemmas
+mod PlanLemmas
+mod KeptLemmas
+mod FastLemmas
+mod GivenLemmas
+mod GivenTexts
+mod GivenSections
+mod GivenFiles
+mod SessionLemmas
+mod FullSections
+mod FullSavedLemmas
+mod ByRunsLemmas
+mod RunPlaces
+mod FullByRuns
+mod ClxLemmas
+mod BinLemmas
+mod RunLemmas
+mod MarkRunLemmas
+mod SharedLemmas
+mod PageBoundLemmas
+mod TableLemmas
+mod SectorLemmas
+mod RenewedLemmas
+mod SizeLemmas
+mod FileLemmas
+mod BehindLemmas

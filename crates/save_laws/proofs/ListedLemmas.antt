@@ -5,7 +5,7 @@ use Rattle.std.proofs.Common.{Option, Some, None, arith, inl, inr}
 use Rattle.std.proofs.lemmas.Option.{slice_get_within, same_Some, none-some}
 use Rattle.std.proofs.lemmas.Bool.{cases_eq}
 use Rattle.doc_bits.specs.Rules.{Hold}
-use Rattle.doc_bits.proofs.ListLemmas.{map-map, there_is, from_map, All_at, All-from_slice_get}
+use Rattle.doc_bits.proofs.Public.{map-map, there_is, from_map, All_at, All-from_slice_get}
 use Rattle.prop_map.specs.Settings.{Properties}
 use Rattle.doc_parts.specs.declared.lists.Sed.{Sed}
 use Rattle.doc_parts.specs.declared.lists.Fld.{Fld}
@@ -15,18 +15,17 @@ use Rattle.doc_parts.specs.Table.{plc_part, IsEmptyOrWhole}
 use Rattle.doc_parts.specs.Sections.{sed_cps, section_rules, AreSections, printed_sections, ArePrintableSections}
 use Rattle.doc_parts.specs.Fields.{is_field_unit, fld_cps, field_rules, AreFields, printed_fields, ArePrintableFields}
 use Rattle.doc_parts.specs.Stories.{ref_cps, ref_rules, AreRefs, printed_refs, text_rules, AreCuts, printed_texts}
-use Rattle.doc_parts.proofs.LawLemmas.{sections_back, fields_back, refs_back, texts_back}
+use Rattle.doc_parts.proofs.Public.{sections_back, fields_back, refs_back, texts_back, Rise, rise_in_order}
+use Rattle.doc_parts.proofs.Public.{rise_from_zero}
 use Rattle.plain_doc.specs.declared.item.Item.{Item}
 use Rattle.plain_doc.specs.declared.item.NoteKind.{NoteKind}
 use Rattle.plain_doc.specs.Collected.{joined_texts, collected, field_of, fields_of, refs_of, sections_of, is_auto}
 use Rattle.plain_doc.specs.TextLists.{cuts_of, starts_from}
 use Rattle.save_laws.specs.Saves.{HasPropertiesAt, AreSavedSections}
-use Rattle.doc_parts.proofs.CpLemmas.{Rise, rise_in_order, rise_from_zero}
-use Rattle.plain_doc.proofs.TextListLemmas.{collected_rise, collected_from}
-use Rattle.plain_doc.proofs.TextListLemmas.{starts_rise, first_start, cuts_in_order}
+use Rattle.plain_doc.proofs.Public.{collected_rise, collected_from, starts_rise, first_start, cuts_in_order}
 use Rattle.save_laws.proofs.ItemRules.{IsSavedItem}
 
--- ---- what a printed part holds, wherever it stands
+-- ---- what a printed part holds, wherever it is
 
 pub record AreSectionsHeld (bytes : List ℕ) (len : ℕ) (list : List Sed) : Type 0 where
   pub rules : (at : ℕ) → Hold (section_rules bytes at len)

@@ -8,11 +8,11 @@ use Rattle.fib_form.specs.declared.table_parts.TablePart.{TablePart}
 use Rattle.fib_form.specs.declared.table_parts.TablePart.TheVariants.{SttbfBkmk, PlcfBkf, PlcfBkl}
 use Rattle.doc_parts.specs.BookmarkParts.{BookmarkParts, parts_at, bookmarks_of, bookmark_rules}
 use Rattle.doc_parts.specs.PrintedBookmarks.{printed_names, printed_starts, printed_ends, printed_parts}
-use Rattle.doc_parts.proofs.BookmarkLawLemmas.{bookmarks_back}
+use Rattle.doc_parts.proofs.Public.{bookmarks_back}
 use Rattle.file_rules.specs.Source.{part_place}
 use Rattle.file_rules.specs.BookmarkRules.{bookmark_parts, IsLeavingPair, HasLeavingPair, rules_of_bookmarks}
 use Rattle.file_rules.specs.BookmarkRules.{HasBookmarks}
-use Rattle.file_rules.proofs.BookmarkLemmas.{bookmarks-hold}
+use Rattle.file_rules.proofs.Public.{bookmarks-hold}
 use Rattle.save_laws.specs.Saves.{saved_entries}
 use Rattle.save_laws.proofs.SavedLemmas.{Save, the_source, main_len, few_units, part_is}
 

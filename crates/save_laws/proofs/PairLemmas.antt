@@ -6,7 +6,7 @@ use Rattle.std.proofs.Common.{◌++◌, length, Some, arith, inl, inr, Bool, fal
 use Rattle.std.proofs.lemmas.Bool.{false≢true}
 use Rattle.std.proofs.lemmas.List.{length-append}
 use Rattle.doc_bits.specs.Rules.{Nowhere}
-use Rattle.doc_bits.proofs.NumberLemmas.{length-number_bytes}
+use Rattle.doc_bits.proofs.Public.{length-number_bytes}
 use Rattle.fib_form.specs.declared.table_parts.TablePart.TheVariants.{PlcfSed}
 use Rattle.fib_form.specs.Fib.{fib_pair}
 use Rattle.fkp_pages.specs.Bin.{bin_count}

@@ -3,7 +3,7 @@ use Rattle.std.specs.Prelude.{slice_range}
 use Rattle.std.proofs.lemmas.Bool.{cases_lt}
 use Rattle.std.proofs.Common.{◌≡◌, ◌∙◌, refl, sym, ap, subst, ℕ, ◌+◌, ◌-◌, ◌*◌, ◌<◌, ◌≤◌, List, length, arith, inl}
 use Rattle.std.proofs.Common.{inr}
-use Rattle.doc_bits.proofs.RuleLemmas.{hold_in}
+use Rattle.doc_bits.proofs.Public.{hold_in}
 use Rattle.doc_bits.specs.Number.{u16_at}
 use Rattle.doc_bits.specs.declared.places.Where.TheVariants.{Table}
 use Rattle.doc_bits.specs.Rules.{Hold}
@@ -13,20 +13,19 @@ use Rattle.fib_form.specs.declared.table_parts.TablePart.TheVariants.{Stshf, Plc
 use Rattle.fib_form.specs.declared.table_parts.TablePart.TheVariants.{PlcfFldMom, PlcfFldHdr, PlcfFldFtn, PlfLst}
 use Rattle.fib_form.specs.declared.stories.StoryKind.TheVariants.{Main, Notes, Heads}
 use Rattle.doc_parts.specs.Levels.{level_count, AreLevelsFrom, HasLists, list_part, level_rules}
-use Rattle.doc_parts.proofs.LevelLemmas.{levels_inside, levels_hold}
+use Rattle.doc_parts.proofs.Public.{levels_inside, levels_hold}
 use Rattle.doc_parts.specs.Sections.{printed_sections}
 use Rattle.doc_parts.specs.Fields.{printed_fields}
 use Rattle.doc_parts.specs.Stories.{printed_refs, printed_texts}
 use Rattle.style_sheet.specs.Written.{IsReadAs, written_sheet}
-use Rattle.style_sheet.proofs.SheetBackLemmas.{sheet_back}
+use Rattle.style_sheet.proofs.Public.{sheet_back}
 use Rattle.plain_doc.specs.declared.item.Item.{Item}
 use Rattle.plain_doc.specs.Collected.{joined_texts, fields_of, refs_of, sections_of}
-use Rattle.plain_doc.proofs.MainLemmas.{main_ends, ends_main}
+use Rattle.plain_doc.proofs.Public.{main_ends, ends_main, some_collected}
 use Rattle.file_rules.specs.Source.{part_bytes, part_place, story_length}
 use Rattle.file_rules.specs.ListRules.{rules_of_lists, HasLevels}
 use Rattle.plain_doc.specs.TextLists.{cuts_of}
 use Rattle.fib_form.specs.TableEntries.{TableEntry, IsPartAt}
-use Rattle.plain_doc.proofs.TextListLemmas.{some_collected}
 use Rattle.save_laws.proofs.SlotLemmas.{length-story_slots}
 use Rattle.save_laws.proofs.SavedLemmas.{Save, the_source, the_notes, the_heads, main_len, note_len, head_len}
 use Rattle.save_laws.proofs.SavedLemmas.{few_units, part_is}

@@ -1,4 +1,4 @@
--- A place that stands for an item is read as it.
+-- A place that represents an item is read as it.
 use Rattle.std.proofs.Common.{subst, ◌≡◌, ◌∙◌, refl, sym, ap, ℕ, Option, Some, None, List}
 use Rattle.prop_map.specs.declared.modifiers.Modifier.{Modifier}
 use Rattle.prop_map.specs.Modifiers.{mark_style, IsMarkAfter}
@@ -84,7 +84,7 @@ item_read stream place item read =
       mark = mark_read stream place item read;
     }
 
--- a judged slot's place gives something
+-- a checked slot's place gives something
 pub record IsGivenThere (stream : PagedStream) (place : UnitPlace) : Type 0 where
   pub given : Given
   pub gives : GivesAt stream place.at place.wide given
@@ -102,7 +102,7 @@ unit_placed stream place (shown item) judged placed = sym (placed.after.unit ∙
 unit_placed stream place loose judged placed = sym placed.gives.unit ∙ placed.unit
 unit_placed stream place last judged placed = absurd judged
 
--- any slot's place stands in the stream
+-- any slot's place is in the stream
 pub stands_there : (stream : PagedStream) (place : UnitPlace) (slot : Slot) →
     IsPlaced (StandsInside stream) (GivesAt stream) place slot → StandsInside stream place.at place.wide
 stands_there stream place (shown item) placed = placed.gives.stands

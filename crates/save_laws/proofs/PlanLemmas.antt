@@ -10,8 +10,7 @@ use Rattle.fkp_pages.specs.declared.kind.PageKind.TheVariants.{Chpx, Papx}
 use Rattle.fkp_pages.specs.declared.lists.Run.{Run}
 use Rattle.fkp_pages.specs.Runs.{run_groups, run_list, IsWritableRun}
 use Rattle.fkp_pages.specs.Found.{sprms_of}
-use Rattle.fkp_pages.proofs.FoundLemmas.{lists_have_properties}
-use Rattle.fkp_pages.proofs.RowTableLemmas.{row_run}
+use Rattle.fkp_pages.proofs.Public.{lists_have_properties, row_run}
 use Rattle.direct_props.specs.Direct.{MakesProperties}
 use Rattle.plain_doc.specs.declared.item.Mark.{Mark}
 use Rattle.save_laws.specs.Places.{PagedStream, Given, GivesCharacters, GivesMark, GivesAt}

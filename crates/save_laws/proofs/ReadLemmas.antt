@@ -5,7 +5,7 @@ use Rattle.std.proofs.lemmas.Option.{slice_get_within, same_Some, none-some}
 use Rattle.std.proofs.Common.{◌≡◌, ◌∙◌, refl, sym, ap, subst, ℕ, zero, suc, ◌+◌, ◌-◌, ◌≤◌, List, [], ◌∷◌, ◌++◌}
 use Rattle.std.proofs.Common.{length, map, drop, Option, Some, None, arith, inl, inr}
 use Rattle.std.proofs.lemmas.Bool.{cases_eq}
-use Rattle.doc_bits.proofs.ListLemmas.{map-map}
+use Rattle.doc_bits.proofs.Public.{map-map}
 use Rattle.prop_map.specs.Settings.{Properties}
 use Rattle.doc_parts.specs.declared.lists.Sed.{Sed}
 use Rattle.doc_parts.specs.declared.lists.Fld.{Fld}
@@ -15,7 +15,7 @@ use Rattle.plain_doc.specs.declared.item.NoteKind.{NoteKind}
 use Rattle.plain_doc.specs.declared.item.NoteKind.TheVariants.{Auto, Custom}
 use Rattle.plain_doc.specs.Entries.{entry_at}
 use Rattle.plain_doc.specs.Collected.{entry_before, collected, field_of, fields_of, refs_of, sections_of, is_auto}
-use Rattle.plain_doc.proofs.CollectedLemmas.{entry_here, entry_later, none_below, entry_of_item, found_before}
+use Rattle.plain_doc.proofs.Public.{entry_here, entry_later, none_below, entry_of_item, found_before}
 use Rattle.doc_read.specs.Sections.{section_lasts}
 use Rattle.doc_read.specs.Marked.{story_bytes, note_kind, note_kinds}
 use Rattle.plain_doc.specs.TextLists.{starts_from}
@@ -84,7 +84,7 @@ stories_read what main notes heads a b first next =
 
 -- ---- field characters
 
--- a field of an item that stands at a CP, in its story and in the whole text
+-- a field of an item that is at a CP, in its story and in the whole text
 field_before : (o : Option ℕ) (unit begin cp at : ℕ) (rest : List (ℕ × (ℕ × ℕ))) (others : List (ℕ × ℕ)) →
     at ≡ begin + cp →
     map (λ (e : ℕ × (ℕ × ℕ)). (begin + e.0, e.1.1)) rest ≡ others →

@@ -1,9 +1,9 @@
 -- Pages in a row give each place of a run a right list, also through a table that names other pages too.
 use Rattle.std.specs.Prelude.{slice_range}
 use Rattle.std.proofs.Common.{◌≡◌, ◌∙◌, ap, subst, ℕ, ◌+◌, ◌≤◌, List, drop, arith}
-use Rattle.doc_bits.proofs.ListLemmas.{All_at}
+use Rattle.doc_bits.proofs.Public.{All_at}
 use Rattle.sprm_table.specs.Sprm.{IsAcceptedList}
-use Rattle.sprm_table.proofs.FaultLemmas.{accepted_no_fault}
+use Rattle.sprm_table.proofs.Public.{accepted_no_fault}
 use Rattle.fkp_pages.specs.declared.kind.PageKind.{PageKind}
 use Rattle.fkp_pages.specs.declared.kind.RunAnswer.{RunAnswer}
 use Rattle.fkp_pages.specs.declared.kind.RunAnswer.TheVariants.{Found, Empty, NoRun, BadCount, Leaves}
@@ -13,8 +13,8 @@ use Rattle.fkp_pages.specs.Fkp.{HasRunAnswer, least_list}
 use Rattle.fkp_pages.specs.Properties.{IsListAnswered}
 use Rattle.fkp_pages.specs.Runs.{run_groups, run_list, IsWritableRun, HasFileNumbers}
 use Rattle.fkp_pages.specs.Rows.{IsInRun, IsRow, NamesRow}
-use Rattle.fkp_pages.proofs.RowTableLemmas.{run_list_accepted, row_low, table_of_row, row_list}
-use Rattle.direct_props.proofs.StretchLemmas.{cut_rest}
+use Rattle.fkp_pages.proofs.Public.{run_list_accepted, row_low, table_of_row, row_list}
+use Rattle.direct_props.proofs.Public.{cut_rest}
 use Rattle.direct_props.specs.Stretches.{HasValidList}
 use Rattle.direct_props.specs.RightLists.{HasValidListAt}
 

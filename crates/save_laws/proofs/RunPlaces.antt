@@ -5,8 +5,7 @@ use Rattle.std.specs.Prelude.{slice_get, slice_index}
 use Rattle.std.proofs.lemmas.Bool.{cases_lt}
 use Rattle.std.proofs.lemmas.List.{get_or_at, length-map}
 use Rattle.std.proofs.lemmas.Option.{same_Some, slice_get_within, get_or_from_slice_get}
-use Rattle.doc_bits.proofs.ListLemmas.{All_at, All-from_slice_get, there_is}
-use Rattle.doc_bits.proofs.TogetherLemmas.{in_front, in_back}
+use Rattle.doc_bits.proofs.Public.{All_at, All-from_slice_get, there_is, in_front, in_back}
 use Rattle.doc_bits.specs.Plc.{plc_cp}
 use Rattle.fkp_pages.specs.declared.kind.PageKind.TheVariants.{Papx}
 use Rattle.fkp_pages.specs.declared.kind.RunAnswer.{RunAnswer}
@@ -22,12 +21,10 @@ use Rattle.fkp_pages.specs.PageBytes.{last_fc, page_bytes}
 use Rattle.fkp_pages.specs.Properties.{IsListAnswered}
 use Rattle.fkp_pages.specs.Rows.{IsInRun, IsRow, row_bins, row_table}
 use Rattle.fkp_pages.specs.Runs.{HasFileNumbers, run_list}
-use Rattle.fkp_pages.proofs.FoundPages.{items_before, length-starts, page_between, page_of_bytes}
-use Rattle.fkp_pages.proofs.OrderLemmas.{AreInOrder, in_order, inner_in_order, ends_upto, ends_upto_last, last_fc_is}
-use Rattle.fkp_pages.proofs.OrderLemmas.{SaysFcs, says_fcs}
-use Rattle.fkp_pages.proofs.PrintedBinLemmas.{printed_page}
-use Rattle.fkp_pages.proofs.RowLemmas.{length-numbered_bins, pages_stand_in_a_row}
-use Rattle.fkp_pages.proofs.RowTableLemmas.{IsRowTable, table_of_row, row_list, row_low}
+use Rattle.fkp_pages.proofs.Public.{items_before, length-starts, page_between, page_of_bytes, AreInOrder, in_order}
+use Rattle.fkp_pages.proofs.Public.{inner_in_order, ends_upto, ends_upto_last, last_fc_is, SaysFcs, says_fcs}
+use Rattle.fkp_pages.proofs.Public.{printed_page, length-numbered_bins, pages_stand_in_a_row, IsRowTable, table_of_row}
+use Rattle.fkp_pages.proofs.Public.{row_list, row_low}
 use Rattle.save_laws.specs.Places.{PagedStream}
 use Rattle.save_laws.specs.ByRuns.{IsRunAt, ranges_end, BeginsRun, HasBegin, EndsRun, StaysInRun, IsBounded}
 
@@ -209,7 +206,7 @@ module _ (wd characters : List ℕ) (runs : List Run) (number : ℕ) (row : IsRo
       subst (λ n. IsRunAt stream_of_row fc n run.to) (told.first_is ∙ ap (λ (r : Run). r.from) same)
       (subst (λ n. IsRunAt stream_of_row fc (page_fc page has.run) n) (told.lim_is ∙ ap (λ (r : Run). r.to) same) at)
 
-  -- a run that is told at a place of a run is that run
+  -- a run that is named at a place of a run is that run
   pub told_as : (fc first lim : ℕ) (run : Run) → IsInRun runs fc run → IsRunAt stream_of_row fc first lim →
       (first ≡ run.from) × (lim ≡ run.to)
   told_as fc first lim run is at =

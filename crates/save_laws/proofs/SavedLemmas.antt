@@ -3,32 +3,30 @@ use Rattle.std.specs.Prelude.{slice_get, slice_index}
 use Rattle.std.proofs.Common.{◌≡◌, ◌∙◌, refl, sym, ap, ℕ, ◌+◌, ◌<◌, ◌≤◌, List, length, Some, arith}
 use Rattle.std.proofs.lemmas.Option.{slice_get_within, get_or_from_slice_get}
 use Rattle.std.proofs.lemmas.List.{get_or-map}
-use Rattle.doc_bits.proofs.ListLemmas.{length-range}
+use Rattle.doc_bits.proofs.Public.{length-range, range_index, Beside, beside}
 use Rattle.cfb_streams.specs.Contents.{Contents}
 use Rattle.fib_form.specs.FibFields.{text_length}
 use Rattle.fib_form.specs.TableParts.{pair_of}
-use Rattle.fib_form.proofs.FibLemmas.{sum-three}
+use Rattle.fib_form.proofs.Public.{sum-three}
 use Rattle.fib_form.specs.declared.table_parts.TablePart.{TablePart}
 use Rattle.fib_form.specs.declared.stories.StoryKind.{StoryKind}
 use Rattle.fib_form.specs.declared.stories.StoryKind.TheVariants.{Main, Notes, Heads}
 use Rattle.piece_table.specs.Piece.{UnitPlace, flat_pieces, total_length}
-use Rattle.piece_table.proofs.PieceLemmas.{length-flat_pieces}
+use Rattle.piece_table.proofs.Public.{length-flat_pieces}
 use Rattle.plain_doc.specs.declared.item.Item.{Item}
 use Rattle.plain_doc.specs.declared.document.Document.{Document}
 use Rattle.plain_doc.specs.Formed.{IsFormed}
 use Rattle.plain_doc.specs.RightDocument.{IsValidDocument}
-use Rattle.plain_doc.proofs.MainLemmas.{main_ends}
+use Rattle.plain_doc.proofs.Public.{main_ends}
 use Rattle.file_rules.specs.Units.{unit_at}
-use Rattle.file_rules.proofs.UnitLemmas.{length-text_units}
+use Rattle.file_rules.proofs.Public.{length-text_units}
 use Rattle.file_rules.specs.Source.{DocSource, part_bytes, story_length, story_begin, story_units}
 use Rattle.file_rules.specs.FormatRules.{text_count}
 use Rattle.file_rules.specs.FileRules.{source_of}
-use Rattle.doc_read.proofs.PlaceLemmas.{range_at}
 use Rattle.fib_form.specs.TableEntries.{entry}
 use Rattle.save_laws.specs.Places.{StandsInside, GivesAt}
 use Rattle.save_laws.specs.Slots.{Slot, shown, note_slots, head_slots, IsPlaced, whole_text, story_counts}
 use Rattle.save_laws.specs.Saves.{SavedText, IsSavedAs, saved_entries, file_text}
-use Rattle.doc_bits.proofs.TogetherLemmas.{Beside, beside}
 use Rattle.save_laws.proofs.SlotLemmas.{slot_unit, IsJudgedSlot, length-whole, main_slot, note_slot, head_slot}
 use Rattle.save_laws.proofs.PlaceLemmas.{unit_placed}
 
@@ -107,7 +105,7 @@ placed_at s cp slot here =
     beside (IsPlaced (StandsInside s.saved.stream) (GivesAt s.saved.stream)) (the_flat s)
     (the_whole s) cp slot s.is.text here
 
--- the unit of a judged slot
+-- the unit of a checked slot
 pub unit_here : (s : Save) (cp : ℕ) (slot : Slot) → slice_get (the_whole s) cp ≡ Some slot → IsJudgedSlot slot →
     slice_index (the_source s).text.units cp ≡ slot_unit slot
 unit_here s cp slot here judged =
@@ -142,7 +140,7 @@ story_unit : (s : Save) (story : StoryKind) (i : ℕ) → i < story_length (the_
 story_unit s story i below =
     let source = the_source s in
     let begin = story_begin source story in
-    range_at source.text.units begin (begin + story_length source story) i (omega (arith, below))
+    range_index source.text.units begin (begin + story_length source story) i (omega (arith, below))
 
 pub main_unit : (s : Save) (i : ℕ) (item : Item) → slice_get s.document.main i ≡ Some item →
     slice_index (story_units (the_source s) Main) i ≡ item.unit

@@ -5,9 +5,8 @@ use Rattle.std.proofs.Common.{map, Some, arith, inl, inr}
 use Rattle.std.proofs.lemmas.List.{length-map}
 use Rattle.doc_bits.specs.declared.places.Where.TheVariants.{Wd, Table, Main as MainText}
 use Rattle.doc_bits.specs.Rules.{Hold, Nowhere, rule}
-use Rattle.doc_bits.proofs.RuleLemmas.{hold_in}
-use Rattle.doc_bits.proofs.ListLemmas.{there_is}
-use Rattle.sprm_table.proofs.FaultLemmas.{accepted_no_fault}
+use Rattle.doc_bits.proofs.Public.{hold_in, there_is}
+use Rattle.sprm_table.proofs.Public.{accepted_no_fault}
 use Rattle.prop_map.specs.Settings.{Properties}
 use Rattle.prop_map.specs.Formed.{section_groups}
 use Rattle.fib_form.specs.declared.table_parts.TablePart.TheVariants.{PlcfSed, PlcfBteChpx, PlcfBtePapx}
@@ -22,14 +21,14 @@ use Rattle.file_rules.specs.SectionRules.{section_begin, section_fc, sepx_list, 
 use Rattle.file_rules.specs.SectionRules.{HasSepxFault, BreaksSectionMarks, BreaksSepxs, BreaksSepxLists}
 use Rattle.file_rules.specs.SectionRules.{rules_of_sections}
 use Rattle.file_rules.specs.BinRules.{BreaksBinTable, rules_of_bins}
-use Rattle.file_rules.proofs.RowLemmas.{no_row, index_of_get}
+use Rattle.file_rules.proofs.Public.{no_row, index_of_get}
 use Rattle.save_laws.specs.Saves.{HasPropertiesAt, HasRanges}
-use Rattle.doc_parts.proofs.CpLemmas.{Rise, rise_within, rise_step}
-use Rattle.plain_doc.proofs.TextListLemmas.{collected_rise, collected_from, next_start}
+use Rattle.doc_parts.proofs.Public.{Rise, rise_within, rise_step}
+use Rattle.plain_doc.proofs.Public.{collected_rise, collected_from, next_start}
 use Rattle.save_laws.proofs.SavedLemmas.{Save, the_source, main_unit, part_is}
 use Rattle.save_laws.proofs.PartsHeld.{sections_part}
 
--- the properties of a section stand where its Sed says
+-- the properties of a section are where its Sed says
 pub record HasSepxOf (s : Save) (k : ℕ) : Type 0 where
   pub section : ℕ × Properties
   pub here : slice_get (sections_of s.document.main) k ≡ Some section
@@ -50,7 +49,7 @@ sepx_of s k below =
           (s.is.sections.properties.each k sed.0 section.0 sed.1 section.1);
     }
 
--- before a later section stands a section mark
+-- before a later section is a section mark
 mark_before : (s : Save) (j : ℕ) → suc j < length s.saved.seds →
     slice_index (story_units (the_source s) Main) (section_begin s.saved.seds (suc j) - 1) ≡ section_mark
 mark_before s j below =

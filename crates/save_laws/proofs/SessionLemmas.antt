@@ -1,4 +1,4 @@
--- The places and the slots of a session stand together after each edit.
+-- The places and the slots of a session are together after each edit.
 use Rattle.std.specs.Prelude.{slice_get, slice_range, ℕ, List}
 use Rattle.std.specs.List.{AllZip, splice, drop-map, take-map}
 use Rattle.std.specs.FinMap.{get}
@@ -10,7 +10,7 @@ use Rattle.std.proofs.lemmas.List.{take-append-le, drop-append-le, drop-drop, ap
 use Rattle.prop_map.specs.Modifiers.{character_value, mark_value, IsComposed}
 use Rattle.prop_map.specs.Modifiers.{mark_style}
 use Rattle.prop_map.specs.declared.modifiers.Modifier.{Modifier}
-use Rattle.prop_map.proofs.ModifierLemmas.{acts_in_turn}
+use Rattle.prop_map.proofs.Public.{acts_in_turn}
 use Rattle.piece_table.specs.Piece.{UnitPlace}
 use Rattle.piece_table.specs.Changes.{IsModifiedPlace}
 use Rattle.plain_doc.specs.declared.item.Item.{Item}
@@ -21,8 +21,7 @@ use Rattle.doc_bits.specs.Together.{AreTogether}
 use Rattle.save_laws.specs.Places.{PagedStream, Given, given_of, IsMarkedAfter, IsGivenAfter}
 use Rattle.save_laws.specs.Sessions.{IsSlotAfter, SplicesStayTogether}
 use Rattle.save_laws.specs.Sessions.{ModifiedStayTogether, LongerPlansKeep, MainSplices}
-use Rattle.doc_bits.proofs.TogetherLemmas.{in_front, Beside, together_joined, together_take}
-use Rattle.doc_bits.proofs.TogetherLemmas.{together_drop}
+use Rattle.doc_bits.proofs.Public.{in_front, Beside, together_joined, together_take, together_drop}
 
 pub splices_stay_together : SplicesStayTogether
 splices_stay_together old plan places fresh slots fresh_slots from to order within together more =
@@ -98,7 +97,7 @@ zip_len R [] (y ∷ ys) zipped = absurd zipped
 zip_len R (x ∷ xs) [] zipped = absurd zipped
 zip_len R (x ∷ xs) (y ∷ ys) zipped = ap suc (zip_len R xs ys zipped.1)
 
--- what stands beside an element of the changed list in the old one
+-- what is beside an element of the changed list in the old one
 pub zip_before : {A B : Type 0} (R : A → B → Type 0) (xs : List A) (ys : List B) (k : ℕ) (y : B) → AllZip R xs ys →
     slice_get ys k ≡ Some y → Beside R xs k y
 zip_before R [] [] k y zipped here = absurd (none-some y here)

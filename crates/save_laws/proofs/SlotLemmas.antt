@@ -5,16 +5,15 @@ use Rattle.std.proofs.Common.{length, map, min, Bool, Some, arith, inl, inr}
 use Rattle.std.proofs.lemmas.Bool.{cases_lt}
 use Rattle.std.proofs.lemmas.List.{length-map, length-append}
 use Rattle.std.proofs.lemmas.List.Elements.{All-nil, All-cons, All-append, All-map}
-use Rattle.doc_bits.proofs.ListLemmas.{there_is, get-map, All_at}
+use Rattle.doc_bits.proofs.Public.{there_is, get-map, All_at, in_front, in_back}
 use Rattle.fib_form.specs.FibFields.{text_length}
-use Rattle.fib_form.proofs.FibLemmas.{sum-three}
+use Rattle.fib_form.proofs.Public.{sum-three}
 use Rattle.text_codes.specs.Paragraph.{paragraph_mark}
 use Rattle.plain_doc.specs.declared.item.Item.{Item}
 use Rattle.plain_doc.specs.declared.document.Document.{Document}
 use Rattle.plain_doc.specs.Collected.{joined_texts}
 use Rattle.save_laws.specs.Slots.{Slot, shown, loose, last, StoryEnds, loose_if, story_slots, note_slots, head_slots}
 use Rattle.save_laws.specs.Slots.{last_slots, whole_text, story_counts}
-use Rattle.doc_bits.proofs.TogetherLemmas.{in_front, in_back}
 
 -- the unit of a slot; that of the last CP does not matter
 abbrev pub slot_unit : Slot → ℕ
@@ -22,7 +21,7 @@ slot_unit (shown item) = item.unit
 slot_unit loose = paragraph_mark
 slot_unit last = 0
 
--- the slot is judged: it is not the last CP
+-- the slot is checked: it is not the last CP
 abbrev pub IsJudgedSlot : Slot → Type 0
 IsJudgedSlot (shown item) = ⊤
 IsJudgedSlot loose = ⊤
@@ -67,7 +66,7 @@ length-whole document ends =
     let counted = sum-three (story_counts document ends) refl in
     omega (arith, a, b, c, d, e, f, counted)
 
--- ---- where they stand
+-- ---- where they are
 
 pub main_slot : (document : Document) (ends : StoryEnds) (i : ℕ) (item : Item) → slice_get document.main i ≡ Some item →
     slice_get (whole_text document ends) i ≡ Some (shown item)
@@ -131,7 +130,7 @@ judged_story texts end =
     All-append IsJudgedSlot (map shown (joined_texts texts)) (loose_if end) (judged_items (joined_texts texts))
     (judged_loose end)
 
--- a CP of the three stories has a slot, and it is judged
+-- a CP of the three stories has a slot, and it is checked
 pub record IsFrontSlot (document : Document) (ends : StoryEnds) (cp : ℕ) : Type 0 where
   pub slot : Slot
   pub here : slice_get (whole_text document ends) cp ≡ Some slot

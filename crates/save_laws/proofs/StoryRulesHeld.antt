@@ -9,8 +9,7 @@ use Rattle.std.proofs.Math.Seq.{take-length}
 use Rattle.doc_bits.specs.declared.places.Where.TheVariants.{Wd, Table}
 use Rattle.doc_bits.specs.Rules.{Hold, Nowhere, rule}
 use Rattle.doc_bits.specs.Plc.{PlcPart}
-use Rattle.doc_bits.proofs.RuleLemmas.{hold_in}
-use Rattle.doc_bits.proofs.ListLemmas.{there_is}
+use Rattle.doc_bits.proofs.Public.{hold_in, there_is}
 use Rattle.prop_map.specs.Settings.{Properties}
 use Rattle.fib_form.specs.declared.table_parts.TablePart.TheVariants.{PlcffndRef, PlcffndTxt, PlcfHdd, PlcfFldMom}
 use Rattle.fib_form.specs.declared.table_parts.TablePart.TheVariants.{PlcfFldHdr, PlcfFldFtn}
@@ -24,7 +23,7 @@ use Rattle.plain_doc.specs.declared.item.NoteKind.{NoteKind}
 use Rattle.plain_doc.specs.RulesOfSheet.{section_count, heads_of_sections}
 use Rattle.plain_doc.specs.Collected.{is_auto, joined_texts, collected, fields_of, refs_of, cuts_from}
 use Rattle.plain_doc.specs.declared.item.Item.{Item}
-use Rattle.plain_doc.proofs.CollectedLemmas.{collected_count, length-cuts_from}
+use Rattle.plain_doc.proofs.Public.{collected_count, length-cuts_from, cut_at}
 use Rattle.file_rules.specs.Source.{part_bytes, part_place, story_length, story_units}
 use Rattle.file_rules.specs.FieldRules.{BreaksFields, BreaksAllFields, rules_of_fields}
 use Rattle.file_rules.specs.NoteRules.{ref_count, HasEntries, BreaksRefs, BreaksNoteCuts, HasNoteCuts, rules_of_notes}
@@ -34,7 +33,6 @@ use Rattle.plain_doc.specs.TextLists.{cuts_of}
 use Rattle.save_laws.specs.Slots.{shown, loose, story_slots}
 use Rattle.save_laws.proofs.SavedLemmas.{part_is, Save, the_source, the_heads, note_len, head_len, length-story_units}
 use Rattle.save_laws.proofs.SavedLemmas.{main_unit, note_unit, head_unit}
-use Rattle.plain_doc.proofs.TextListLemmas.{cut_at}
 use Rattle.save_laws.proofs.SlotLemmas.{length-story_slots, story_item, story_mark}
 use Rattle.save_laws.proofs.ItemRules.{no_notes}
 use Rattle.save_laws.proofs.ListedLemmas.{AreFieldsHeld, AreCutsHeld, field_from, whole_table}

@@ -13,7 +13,7 @@ use Rattle.save_laws.specs.Slots.{Slot, shown, loose, last}
 -- ---- runs
 
 -- [MS-DOC] rgfc[k] and rgfc[k + 1]: the fcs of a run that holds the place, in the page that the bin table names for
--- it, which stands in the stream and not over the FIB
+-- it, which is in the stream and not over the FIB
 pub record IsRunAt (from : PagedStream) (fc first lim : ℕ) : Type 0 where
   pub number : ℕ
   pub named : IsBinPage from.paragraphs fc number

@@ -29,7 +29,7 @@ StandsInEither old plan at wide = StandsInside old at wide ⊎ StandsInPlan plan
 abbrev pub IsGivenBy : PagedStream → Plan → ℕ → Bool → Given → Type 0
 IsGivenBy old plan at wide given = GivesAt old at wide given ⊎ IsPlanned plan at wide given
 
--- the places of pieces, CP by CP, stand for the text of a document, in the old stream or in the added text: what a
+-- the places of pieces, CP by CP, represent the text of a document, in the old stream or in the added text: what a
 -- session keeps from edit to edit
 abbrev pub StandsInSession : PagedStream → Plan → List TextPiece → Document → StoryEnds → Type 0
 StandsInSession old plan pieces document ends =

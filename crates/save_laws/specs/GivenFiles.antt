@@ -17,7 +17,7 @@ stream_of source = record {
   paragraphs = part_bytes source PlcfBtePapx;
 }
 
--- the places of the text stand for the document, with the marks that the file has behind its stories
+-- the places of the text represent the document, with the marks that the file has behind its stories
 pub record StandsTogether (text : FileText) (document : Document) : Type 0 where
   pub ends : StoryEnds
   pub counts : (fib_fields text.wd).ccps ≡ story_counts document ends

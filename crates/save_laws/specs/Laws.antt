@@ -36,7 +36,7 @@ SavedFilesHold =
     IsFormed document → IsSound document → IsSavedAs document saved table contents → IsFileOf file contents →
     IsSavedIn file document saved table contents
 
--- added text whose units and pages stand in the stream is given there as it was planned
+-- added text whose units and pages are in the stream is given there as it was planned
 abbrev pub PlansGive : Type 0
 PlansGive =
     (plan : Plan) (written : PagedStream) (at : ℕ) (wide : Bool) (given : Given) → IsWrittenPlan plan written →
@@ -49,7 +49,7 @@ FastSavesAreSaves =
     (contents : Contents) → IsFastSaved document old plan saved table contents →
     IsSavedAs document saved table contents
 
--- the properties of a section that stand in a stream stand in one that keeps its bytes
+-- the properties of a section that are in a stream are in one that keeps its bytes
 abbrev pub KeptPropertiesAreThere : Type 0
 KeptPropertiesAreThere =
     (old new : List ℕ) (fc : ℕ) (properties : Properties) → KeepsBytes old new → HasPropertiesAt old fc properties →
@@ -61,7 +61,7 @@ KeptPlacesGive =
     (old new : PagedStream) (before at : ℕ) (wide : Bool) (given : Given) → KeepsPages old new before →
     GivesAt old at wide given → GivesAt new at wide given
 
--- the places of the text of a file that holds a document stand together with the document's slots
+-- the places of the text of a file that holds a document are together with the document's slots
 abbrev pub GivenFilesStand : Type 0
 GivenFilesStand =
     (file : List ℕ) (document : Document) → AreBytes file → (held : HoldsDocument file document) →

@@ -11,3 +11,12 @@ pub mod Sessions
 pub mod Laws
 pub mod ByRuns
 pub mod FullByRuns
+pub mod ClxLengths
+pub mod BinLengths
+pub mod RunCounts
+pub mod SharedPages
+pub mod TableLengths
+pub mod SectorCounts
+pub mod FastSizes
+pub mod FastFiles
+pub mod FilesBehind

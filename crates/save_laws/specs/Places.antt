@@ -1,5 +1,5 @@
 -- What a place of WordDocument gives a unit, by the bytes there and by the pages that its bin tables name; and what the
--- modifier of a piece makes of it. Each place stands for itself: no page is gone through.
+-- modifier of a piece makes of it. Each place represents itself: no page is gone through.
 use Rattle.std.specs.Prelude.{◌≡◌, ℕ, ◌+◌, ◌≤◌, List, length, drop, Bool, Option, Some, None, ⊤}
 use Rattle.std.specs.Option.{ForSome, unwrap_or}
 use Rattle.doc_bits.specs.Number.{u16_at}
@@ -22,7 +22,7 @@ pub record PagedStream : Type 0 where
   pub characters : List ℕ
   pub paragraphs : List ℕ
 
--- the end of the FIB of a WordDocument: text may stand behind it
+-- the end of the FIB of a WordDocument: text may be behind it
 abbrev pub fib_end : List ℕ → ℕ
 fib_end wd = fib_size wd
 
@@ -51,7 +51,7 @@ pub record GivesMark (from : PagedStream) (at : ℕ) (mark : Mark) : Type 0 wher
   pub makes : MakesProperties (drop 2 list) paragraph_groups mark.pap style
   pub style_is : mark.istd ≡ unwrap_or style (u16_at list 0)
 
--- a unit stands there, behind the FIB and within the stream
+-- a unit is there, behind the FIB and within the stream
 pub record StandsInside (from : PagedStream) (at : ℕ) (wide : Bool) : Type 0 where
   pub behind_fib : fib_end from.wd ≤ at
   pub inside : at + unit_bytes wide ≤ length from.wd

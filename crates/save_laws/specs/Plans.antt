@@ -44,7 +44,7 @@ abbrev pub HaveRow : PageKind → List ℕ → List ℕ → List Run → Type 0
 HaveRow kind wd table runs =
     0 < length runs → (first : ℕ) × ((row : IsRow kind wd runs first) × NamesRow row table)
 
--- the added units stand in the stream, and so do pages of their runs
+-- the added units are in the stream, and so do pages of their runs
 pub record IsWrittenPlan (plan : Plan) (written : PagedStream) : Type 0 where
   pub behind_fib : fib_end written.wd ≤ plan.base
   pub within : plan.base + 2 * length plan.added ≤ length written.wd

@@ -31,7 +31,7 @@ use Rattle.save_laws.specs.Places.{PagedStream, StandsInside, GivesAt}
 use Rattle.save_laws.specs.Slots.{StoryEnds, IsPlaced, whole_text, story_counts}
 
 -- what a save may choose: the pieces, their Clx, WordDocument with its bin tables, the sections' places, and whether
--- marks stand behind the notes and behind the header texts
+-- marks are behind the notes and behind the header texts
 pub record SavedText : Type 0 where
   pub pieces : List TextPiece
   pub clx : List ℕ
@@ -50,7 +50,7 @@ saved_entries document saved =
       clx = saved.clx;
     })
 
--- the properties of a section stand at this fcSepx, in a Sepx whose list has no fault
+-- the properties of a section are at this fcSepx, in a Sepx whose list has no fault
 pub record HasPropertiesAt (wd : List ℕ) (fc : ℕ) (properties : Properties) : Type 0 where
   pub is : IsSectionProperties wd fc properties
   pub there : fc ≢ 0xFFFFFFFF → HasSepx wd fc
@@ -72,13 +72,13 @@ pub record KeepsFields (document : Document) (fib : FibFields) : Type 0 where
   pub lid_fe : document.carried.lid_fe ≡ fib.kept.lid_fe
   pub flags : document.carried.flags ≡ fib.kept.flags
 
--- the places of WordDocument, CP by CP, stand for the text of the document
+-- the places of WordDocument, CP by CP, represent the text of the document
 abbrev pub StandsForText : PagedStream → List TextPiece → Document → StoryEnds → Type 0
 StandsForText stream pieces document ends =
     AreTogether (IsPlaced (StandsInside stream) (GivesAt stream)) (flat_pieces pieces) (whole_text document ends)
 
--- the document is saved: the places of the pieces stand for its text, their Clx is printed, sections have their Sepxes,
--- the FIB breaks no rule and has the counts and what is kept, each part of the table stream stands where its pair says,
+-- the document is saved: the places of the pieces represent its text, their Clx is printed, sections have their Sepxes,
+-- the FIB breaks no rule and has the counts and what is kept, each part of the table stream is where its pair says,
 -- those of the bookmarks too, and the container has the two streams and what is carried along
 pub record IsSavedAs (document : Document) (saved : SavedText) (table : List ℕ) (contents : Contents) : Type 0 where
   pub pieces : ArePieces saved.pieces

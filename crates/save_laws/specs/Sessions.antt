@@ -30,12 +30,12 @@ pub record AreSlotsAfter (by : Modifier) (from to : ℕ) (old new : List Slot) :
   pub modified : AllZip (IsSlotAfter by) (slice_range old from to) (slice_range new from to)
   pub after : drop to new ≡ drop to old
 
--- places stand for slots, in an old stream or in added text
+-- places represent slots, in an old stream or in added text
 abbrev pub StandInSession : PagedStream → Plan → List UnitPlace → List Slot → Type 0
 StandInSession old plan places slots =
     AreTogether (IsPlaced (StandsInEither old plan) (IsGivenBy old plan)) places slots
 
--- places and slots that are spliced alike stand together as before
+-- places and slots that are spliced alike are together as before
 abbrev pub SplicesStayTogether : Type 0
 SplicesStayTogether =
     (old : PagedStream) (plan : Plan) (places fresh : List UnitPlace) (slots fresh_slots : List Slot) (from to : ℕ) →
@@ -51,7 +51,7 @@ ModifiedStayTogether =
     AreModified by from to places made → AreSlotsAfter by from to slots after →
     StandInSession old plan made after
 
--- what stands in the old stream or in the added text stands there where more text is added
+-- what is in the old stream or in the added text is there where more text is added
 abbrev pub LongerPlansKeep : Type 0
 LongerPlansKeep =
     (old : PagedStream) (base : ℕ) (added more : List Given) (places : List UnitPlace) (slots : List Slot) →

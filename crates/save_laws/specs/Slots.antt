@@ -1,4 +1,4 @@
--- The whole text of a saved document, one slot a CP, and which places of pieces may stand for it.
+-- The whole text of a saved document, one slot a CP, and which places of pieces may represent it.
 use Rattle.std.specs.Prelude.{◌≡◌, ℕ, List, [], ◌∷◌, ◌++◌, length, map, Bool, if◌then◌else◌, IsSome}
 use Rattle.piece_table.specs.Piece.{UnitPlace}
 use Rattle.text_codes.specs.Paragraph.{paragraph_mark}
@@ -13,7 +13,7 @@ pub data Slot : Type 0 where
   loose : Slot
   last : Slot
 
--- whether a mark stands behind the notes, and behind the header texts
+-- whether a mark is behind the notes, and behind the header texts
 pub record StoryEnds : Type 0 where
   pub notes : Bool
   pub heads : Bool

@@ -1,6 +1,6 @@
 //! The marks behind the stories of a text.
 
-/// Whether a mark stands behind the notes, and behind the header texts.
+/// Whether a mark is behind the notes, and behind the header texts.
 #[derive(Clone, Copy)]
 pub struct Ends {
     pub notes: bool,

@@ -17,7 +17,7 @@ pub fn saved_files_hold()
     ensures { SavedFilesHold }
 {}
 
-/// Added text whose units and pages stand in the stream is given there as it was planned.
+/// Added text whose units and pages are in the stream is given there as it was planned.
 pub fn plans_give()
     ensures { PlansGive }
 {}
@@ -27,7 +27,7 @@ pub fn kept_places_give()
     ensures { KeptPlacesGive }
 {}
 
-/// The properties of a section that stand in a stream stand in one that keeps its bytes.
+/// The properties of a section that are in a stream are in one that keeps its bytes.
 pub fn kept_properties_are_there()
     ensures { KeptPropertiesAreThere }
 {}
@@ -42,7 +42,7 @@ pub fn fast_saves_are_saves()
     ensures { FastSavesAreSaves }
 {}
 
-/// The places of the text of a file that holds a document stand together with the document's slots.
+/// The places of the text of a file that holds a document are together with the document's slots.
 pub fn given_files_stand()
     ensures { GivenFilesStand }
 {}
@@ -52,17 +52,17 @@ pub fn given_sections_are_saved()
     ensures { GivenSectionsAreSaved }
 {}
 
-/// Places and slots of a session that are spliced alike stand together as before.
+/// Places and slots of a session that are spliced alike are together as before.
 pub fn splices_stay_together()
     ensures { SplicesStayTogether }
 {}
 
-/// Places and slots of a session on which a modifier acts stand together as before.
+/// Places and slots of a session on which a modifier acts are together as before.
 pub fn modified_stay_together()
     ensures { ModifiedStayTogether }
 {}
 
-/// What stands in the old stream or in the added text stands there where more text is added.
+/// What is in the old stream or in the added text is there where more text is added.
 pub fn longer_plans_keep()
     ensures { LongerPlansKeep }
 {}

@@ -4,7 +4,7 @@ use Rattle.std.proofs.Common.{Option, Some, None, arith}
 use Rattle.std.proofs.lemmas.Bool.{cases_order}
 use Rattle.edit_script.specs.declared.commands.Command.{Command}
 use Rattle.edit_ops.specs.EditFacts.{edit_facts}
-use Rattle.edit_ops.proofs.OutcomeLemmas.{one_outcome}
+use Rattle.edit_ops.proofs.Public.{one_outcome}
 use Rattle.script_run.specs.declared.faults.Stop.{Stop}
 use Rattle.script_run.specs.declared.faults.Stop.TheVariants.{Refused, Guarded, Sixteenth, TooManyPieces, TooLarge}
 use Rattle.script_run.specs.States.{RunState, state_after}

@@ -2,19 +2,16 @@
 use Rattle.std.proofs.Common.{◌≡◌, sym, subst, ℕ, ◌+◌, ◌≤◌, length, arith}
 use Rattle.cfb_sectors.specs.Header.{sector_count}
 use Rattle.cfb_layout.specs.Layout.{lengths_of}
-use Rattle.cfb_layout.proofs.CountLemmas.{sectors-needed}
-use Rattle.cfb_layout.proofs.FileLemmas.{length-compound_file}
+use Rattle.cfb_layout.proofs.Public.{sectors-needed, length-compound_file}
 use Rattle.plain_doc.specs.declared.document.Document.{Document}
 use Rattle.full_save.specs.WordDocument.{full_fib, full_text, table_stream}
 use Rattle.full_save.specs.Layout.{layout_streams, full_save_image, sectors_of}
 use Rattle.fast_save.specs.Laws.{IsSavable}
 use Rattle.fast_save.specs.Session.{bin_length}
-use Rattle.fast_save.proofs.FullFileLemmas.{are_streams, is_layout}
+use Rattle.fast_save.proofs.Public.{are_streams, is_layout}
 use Rattle.edit_generator.specs.SmallSaves.{most_full_sectors, most_bin_bytes, most_table_bytes}
 use Rattle.edit_generator.specs.GeneratedDocuments.{IsGeneratedDocument}
-use Rattle.edit_generator.proofs.FullSizeLemmas.{small_saves}
-use Rattle.edit_generator.proofs.GeneratedTableLemmas.{length-bins}
-use Rattle.edit_generator.proofs.GeneratedEditLemmas.{document_sound, document_formed, document_small}
+use Rattle.edit_generator.proofs.Public.{small_saves, length-bins, document_sound, document_formed, document_small}
 
 -- the full save of the document is small, and so are the counts that a session begins with on it
 pub record HasSmallFile (document : Document) : Type 0 where

@@ -12,10 +12,10 @@ use Rattle.script_run.specs.States.{RunState, counts_in_full, fast_sectors, stat
 use Rattle.edit_generator.specs.Generated.{line_text, edit_of_rest}
 use Rattle.script_run.specs.Ends.{Passes}
 use Rattle.script_run.specs.GeneratedSaves.{sectors_within, HasGrown, IsSmallEdit}
-use Rattle.edit_generator.proofs.GeneratedEditLemmas.{line_short}
+use Rattle.edit_generator.proofs.Public.{line_short}
 use Rattle.script_run.proofs.GeneratedFileLemmas.{HasSmallFile}
 use Rattle.script_run.proofs.LedgerLemmas.{edit_grows, fast_grows, fast_fits}
-use Rattle.edit_ops.proofs.CanMakeLemmas.{length-inserted}
+use Rattle.edit_ops.proofs.Public.{length-inserted}
 
 -- ---- the edits are small
 
@@ -126,7 +126,7 @@ save_passes false fast edits state seventh few small fifty grown =
 
 -- ---- the commands by their numbers
 
--- a save stands behind fifty edits, but for the last one
+-- a save is behind fifty edits, but for the last one
 pub save_behind : (last : Bool) (i count : ℕ) → i + 1 < count → last ≡ (i + 1 == count) → (fifty : Bool) →
     fifty || last ≡ true → fifty ≡ true
 save_behind last i count more is true either = refl

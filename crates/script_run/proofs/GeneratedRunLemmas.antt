@@ -26,7 +26,7 @@ use Rattle.script_run.specs.Ends.{Passes, EndsInMode}
 use Rattle.edit_generator.specs.GeneratedDocuments.{IsGeneratedDocument}
 use Rattle.script_run.specs.GeneratedRuns.{generator_start, commands_run, GeneratorIsAccepted}
 use Rattle.script_run.proofs.EndLemmas.{state_goes_on}
-use Rattle.edit_generator.proofs.GeneratedEditLemmas.{edit_generated, edit_accepted, blank_generated}
+use Rattle.edit_generator.proofs.Public.{edit_generated, edit_accepted, blank_generated}
 use Rattle.script_run.proofs.GeneratedFileLemmas.{document_file}
 use Rattle.script_run.proofs.GeneratedLemmas.{IsGrown, edit_goes_on, full_grown, save_goes_on, save_passes, save_behind}
 use Rattle.script_run.proofs.GeneratedLemmas.{no_save}

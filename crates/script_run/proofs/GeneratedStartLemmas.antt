@@ -4,7 +4,7 @@ use Rattle.std.proofs.lemmas.Bool.{lt-ltb}
 use Rattle.edit_guards.specs.Policies.{Policy}
 use Rattle.doc_bits.specs.declared.places.Where.{Where}
 use Rattle.doc_bits.specs.Places.{Upto, IsFirstPlace}
-use Rattle.doc_bits.proofs.RuleLemmas.{hold_or_first}
+use Rattle.doc_bits.proofs.Public.{hold_or_first}
 use Rattle.cfb_layout.specs.Counts.{most_sectors}
 use Rattle.plain_doc.specs.declared.document.Document.{Document}
 use Rattle.plain_doc.specs.Blank.{blank_document}
@@ -16,19 +16,19 @@ use Rattle.file_rules.specs.declared.fault.ReadFault.{ReadFault}
 use Rattle.file_rules.specs.declared.fault.ReadFault.TheVariants.{Refused}
 use Rattle.file_rules.specs.Faults.{IsReadFault}
 use Rattle.doc_read.specs.Holds.{HoldsDocument, all_rules}
-use Rattle.doc_read.proofs.OneDocument.{document_one, all_single}
+use Rattle.doc_read.proofs.Public.{document_one, all_single}
 use Rattle.edit_script.specs.declared.commands.Command.{Command}
 use Rattle.fast_save.specs.Laws.{IsSavable, IsHeldInFull}
 use Rattle.fast_save.specs.Session.{SessionView}
 use Rattle.fast_save.specs.Started.{IsStarted, session_after_full}
-use Rattle.fast_save.proofs.FullFileLemmas.{full_saves_hold}
+use Rattle.fast_save.proofs.Public.{full_saves_hold}
 use Rattle.script_run.specs.States.{RunState, counts_in_full, session_in_full}
 use Rattle.script_run.specs.Commands.{command_at}
 use Rattle.edit_generator.specs.Generated.{generated_count, generated_command}
 use Rattle.script_run.specs.Generated.{generated}
 use Rattle.script_run.specs.Ends.{IsUnchanged}
 use Rattle.script_run.specs.Steps.{IsAt}
-use Rattle.edit_generator.proofs.GeneratedEditLemmas.{document_sound, blank_generated}
+use Rattle.edit_generator.proofs.Public.{document_sound, blank_generated}
 use Rattle.script_run.proofs.GeneratedFileLemmas.{document_savable}
 
 -- ---- the blank document

@@ -2,10 +2,10 @@
 use Rattle.std.proofs.Common.{◌≡◌, ◌∙◌, sym, ap, subst, ℕ, zero, suc, ◌+◌, ◌<◌, ◌≤◌, List, length, arith}
 use Rattle.cfb_streams.specs.Names.{wd_name}
 use Rattle.cfb_in_place.specs.InPlace.{StaysInPlace}
-use Rattle.cfb_in_place.proofs.PlaceLemmas.{long_one, twice_in_place}
+use Rattle.cfb_in_place.proofs.Public.{long_one, twice_in_place}
 use Rattle.fib_form.specs.Fib.{form_size}
 use Rattle.doc_read.specs.Holds.{FileParts}
-use Rattle.doc_read.proofs.PartsOfOneFile.{file_parts_one}
+use Rattle.doc_read.proofs.Public.{file_parts_one}
 use Rattle.save_laws.specs.KeptPages.{KeepsBytes}
 use Rattle.save_laws.specs.Places.{fib_end}
 use Rattle.fast_save.specs.Fast.{KeepsSectors}

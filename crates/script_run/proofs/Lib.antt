@@ -1,14 +1,15 @@
-pub mod RefuserLemmas
-pub mod EndLemmas
-pub mod LedgerLemmas
-pub mod GeneratedFileLemmas
-pub mod GeneratedLemmas
-pub mod GeneratedRunLemmas
-pub mod GrownLemmas
-pub mod StepLemmas
-pub mod FastLemmas
-pub mod RunLemmas
-pub mod GeneratedStartLemmas
-pub mod GeneratedImageLemmas
-pub mod SaveLemmas
-pub mod MarkCountLemmas
+pub mod Public
+mod RefuserLemmas
+mod EndLemmas
+mod LedgerLemmas
+mod GeneratedFileLemmas
+mod GeneratedLemmas
+mod GeneratedRunLemmas
+mod GrownLemmas
+mod StepLemmas
+mod FastLemmas
+mod RunLemmas
+mod GeneratedStartLemmas
+mod GeneratedImageLemmas
+mod SaveLemmas
+mod MarkCountLemmas

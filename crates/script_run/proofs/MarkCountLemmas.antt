@@ -1,13 +1,13 @@
--- How many marks a text has, by what stands beside its items.
+-- How many marks a text has, by what is beside its items.
 use Rattle.std.proofs.Common.{◌≡◌, ◌∙◌, ℕ, ◌+◌, ◌<◌, ◌≤◌, ap, sym, List, [], ◌∷◌, ◌++◌, length, map, cond}
 use Rattle.std.proofs.Common.{take, get_or, replicate, arith}
 use Rattle.std.specs.Prelude.{is_some}
 use Rattle.std.proofs.lemmas.List.{take_more}
 use Rattle.std.proofs.lemmas.List.Sums.{sum_by-append, count_by-le-length}
-use Rattle.doc_parts.proofs.NumberingLemmas.{sum_by-of_map}
+use Rattle.doc_parts.proofs.Public.{sum_by-of_map}
 use Rattle.run_lists.specs.declared.runs.Run.{Run}
 use Rattle.run_lists.specs.Spread.{expanded, total_len}
-use Rattle.run_lists.proofs.SpreadLemmas.{spread-nil, spread_push, length-spread, extent-take}
+use Rattle.run_lists.proofs.Public.{spread-nil, spread_push, length-spread, extent-take}
 use Rattle.plain_doc.specs.declared.item.Item.{Item}
 use Rattle.doc_columns.specs.declared.attached.Attached.{Attached}
 use Rattle.doc_columns.specs.Attached.{attached_of}

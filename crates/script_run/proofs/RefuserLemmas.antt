@@ -3,7 +3,7 @@ use Rattle.std.proofs.Common.{◌≡◌, ℕ, ◌<◌, List, [], arith}
 use Rattle.std.proofs.lemmas.Bool.{cases_order}
 use Rattle.edit_guards.specs.declared.facts.Facts.{Facts}
 use Rattle.edit_guards.specs.Policies.{Policy, AllGrant, IsFirstRefuser, lock_of}
-use Rattle.edit_guards.proofs.LawLemmas.{one_of}
+use Rattle.edit_guards.proofs.Public.{one_of}
 
 not_behind : (policies : List Policy) (facts : Facts) (i j : ℕ) → IsFirstRefuser policies facts i →
     IsFirstRefuser policies facts j → i < j → ⊥

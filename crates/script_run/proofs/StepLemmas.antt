@@ -18,7 +18,7 @@ use Rattle.fast_save.specs.declared.ledgers.Counts.{Counts}
 use Rattle.fast_save.specs.Ledgers.{after_edit, sections_set}
 use Rattle.fast_save.specs.Session.{SessionView}
 use Rattle.fast_save.specs.Edited.{session_after, bytes_added, most_added}
-use Rattle.fast_save.proofs.RoomLemmas.{edits_add_little}
+use Rattle.fast_save.proofs.Public.{edits_add_little}
 use Rattle.script_run.specs.declared.faults.RunFault.{RunFault}
 use Rattle.script_run.specs.declared.faults.RunFault.TheVariants.{Stopped, Memory}
 use Rattle.script_run.specs.declared.faults.Stop.TheVariants.{Guarded}

@@ -39,7 +39,7 @@ IsGeneratedRun seed session =
 abbrev pub mark_count : List Item → ℕ
 mark_count text = count_by (λ item. is_some item.mark) text
 
--- the marks of what stands beside items
+-- the marks of what is beside items
 abbrev pub marks_beside : List Attached → ℕ
 marks_beside attachments = count_by (λ beside. is_some beside.mark) attachments
 

@@ -14,7 +14,7 @@ pub enum Stop {
     /// The file counts so many fast saves in a row, which is as many as it can.
     #[error("{count} fast saves in a row")]
     Sixteenth { count: u8 },
-    /// The text may stand in so many pieces, which is too near to 16,384.
+    /// The text may be in so many pieces, which is too near to 16,384.
     #[error("{pieces} pieces")]
     TooManyPieces { pieces: u64 },
     /// The file of a save needs so many sectors, which is more than 13,952.

@@ -129,7 +129,7 @@ fn save_blank(session: &mut Session) -> Result<(), Memory>
     }
 }
 
-/// How many items have a mark. It goes over the runs of what stands beside them.
+/// How many items have a mark. It goes over the runs of what is beside them.
 fn marks_in(text: &Columns) -> usize
     ensures { result ≡ mark_count text.now }
 {
@@ -137,7 +137,7 @@ fn marks_in(text: &Columns) -> usize
     count_marks(text.attachments())
 }
 
-/// How many marks there are in runs of what stands beside items.
+/// How many marks there are in runs of what is beside items.
 fn count_marks(attachments: &[Run<Attached>]) -> usize
     requires { total_len attachments.now < 2 ^ 32 }
     ensures { result ≡ marks_beside (expanded attachments.now) }

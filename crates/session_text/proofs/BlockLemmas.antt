@@ -1,4 +1,4 @@
--- Blocks of added text stand for the slots that their items were added for.
+-- Blocks of added text represent the slots that their items were added for.
 use Rattle.std.specs.Prelude.{slice_get, List, ℕ, replicate}
 use Rattle.std.specs.FinMap.{get}
 use Rattle.std.proofs.Common.{◌≡◌, ◌∙◌, ◌++◌, ◌∷◌, ◌+◌, ◌*◌, ◌<◌, [], refl, sym, ap, subst, zero, suc, inr}
@@ -8,12 +8,10 @@ use Rattle.std.proofs.lemmas.List.{length-map}
 use Rattle.std.proofs.lemmas.Option.{slice_get_within, same_Some, none-some, get_or_from_slice_get}
 use Rattle.doc_bits.specs.Together.{AreTogether}
 use Rattle.std.specs.Prelude.{IsSome}
-use Rattle.doc_bits.proofs.ListLemmas.{there_is, get-map}
-use Rattle.doc_bits.proofs.TogetherLemmas.{in_front, in_back}
-use Rattle.doc_bits.proofs.TogetherLemmas.{together_joined}
+use Rattle.doc_bits.proofs.Public.{there_is, get-map, in_front, in_back, together_joined}
 use Rattle.prop_map.specs.Modifiers.{no_modifier}
 use Rattle.piece_table.specs.Piece.{TextPiece, UnitPlace, unit_places}
-use Rattle.piece_table.proofs.PieceLemmas.{length-unit_places, get_or-unit_places}
+use Rattle.piece_table.proofs.Public.{length-unit_places, get_or-unit_places}
 use Rattle.plain_doc.specs.declared.item.Item.{Item}
 use Rattle.full_save.specs.Text.{extra_mark}
 use Rattle.save_laws.specs.Places.{PagedStream, given_of, IsGivenAfter}
@@ -25,7 +23,7 @@ use Rattle.session_text.specs.declared.added.Added.{Added}
 use Rattle.session_text.specs.AddedText.{plan_of, IsAddedFor, marked_block}
 use Rattle.session_text.specs.Blocks.{BlocksStand}
 use Rattle.session_text.specs.StoryMarks.{marks_come}
-use Rattle.save_laws.proofs.FullSavedLemmas.{given_after}
+use Rattle.save_laws.proofs.Public.{given_after}
 
 -- ---- a place without a modifier
 

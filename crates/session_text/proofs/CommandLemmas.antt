@@ -11,8 +11,7 @@ use Rattle.std.proofs.lemmas.List.Sums.{sum_by-cons, passes_at_first}
 use Rattle.std.proofs.lemmas.Option.{slice_get_within, none-some, get_or_from_slice_get}
 use Rattle.doc_bits.specs.declared.places.Story.{Story}
 use Rattle.doc_bits.specs.declared.places.Story.TheVariants.{Main, Note as NoteText, Head as HeadText}
-use Rattle.doc_bits.proofs.ListLemmas.{All_at, All-from_slice_get, get-map, slice_get-take}
-use Rattle.doc_bits.proofs.TogetherLemmas.{in_front, in_back, got_drop}
+use Rattle.doc_bits.proofs.Public.{All_at, All-from_slice_get, get-map, slice_get-take, in_front, in_back, got_drop}
 use Rattle.prop_map.specs.declared.modifiers.Modifier.{Modifier}
 use Rattle.prop_map.specs.Settings.{Properties}
 use Rattle.prop_map.specs.Modifiers.{no_modifier, IsFormedModifier}
@@ -21,8 +20,7 @@ use Rattle.plain_doc.specs.declared.document.Document.{Document}
 use Rattle.plain_doc.specs.Collected.{joined_texts}
 use Rattle.plain_doc.specs.RightDocument.{IsValidDocument}
 use Rattle.plain_doc.specs.RulesOfItems.{HasShortProperties}
-use Rattle.plain_doc.proofs.FormedLemmas.{length-splice}
-use Rattle.plain_doc.proofs.RightLemmas.{sound_is_valid}
+use Rattle.plain_doc.proofs.Public.{length-splice, sound_is_valid}
 use Rattle.edit_script.specs.declared.commands.Command.{Command}
 use Rattle.edit_script.specs.declared.commands.Command.TheVariants.{Insert, Erase, Char, Plain, Para, Style, Field}
 use Rattle.edit_script.specs.declared.commands.Command.TheVariants.{Note, Split, Merge, Sect, Row, StyleChar}
@@ -40,8 +38,7 @@ use Rattle.edit_ops.specs.Fresh.{section_item, row_items}
 use Rattle.doc_patch.specs.Makes.{CanSplice, CanMakeAll}
 use Rattle.doc_patch.specs.Places.{text_at, items_at, mark_place, section_place, note_number, head_number}
 use Rattle.edit_ops.specs.Ranges.{HasText, HasRange}
-use Rattle.edit_ops.proofs.CanMakeLemmas.{can_make}
-use Rattle.edit_ops.proofs.TextLemmas.{right_text}
+use Rattle.edit_ops.proofs.Public.{can_make, right_text}
 use Rattle.session_text.specs.EditSteps.{KeepsNamed, ArePutSteps, IsShortAfter, IsActStep, AreEditSteps}
 use Rattle.session_text.specs.EditSteps.{CommandsAreSteps, PiecesAreFew, items_put, block_pieces, cuts_of}
 use Rattle.session_text.specs.EditSteps.{pieces_added}

@@ -11,8 +11,7 @@ use Rattle.std.proofs.lemmas.List.Sums.{sum_by-cons}
 use Rattle.std.proofs.lemmas.Option.{same_Some, none-some}
 use Rattle.doc_bits.specs.declared.places.Story.{Story}
 use Rattle.doc_bits.specs.Together.{AreTogether}
-use Rattle.doc_bits.proofs.ListLemmas.{All_at}
-use Rattle.doc_bits.proofs.TogetherLemmas.{together_take, together_drop}
+use Rattle.doc_bits.proofs.Public.{All_at, together_take, together_drop}
 use Rattle.prop_map.specs.declared.modifiers.Modifier.{Modifier}
 use Rattle.prop_map.specs.Modifiers.{no_modifier, printed_modifier}
 use Rattle.piece_table.specs.Piece.{PieceTable, TextPiece, UnitPlace, flat_pieces}
@@ -34,7 +33,7 @@ use Rattle.save_laws.specs.Ends.{ends_of}
 use Rattle.save_laws.specs.declared.ends.Ends.{Ends}
 use Rattle.save_laws.specs.FastSaves.{StandsInEither, IsGivenBy}
 use Rattle.save_laws.specs.Sessions.{StandInSession}
-use Rattle.save_laws.proofs.SessionLemmas.{longer_plans_keep, modified_stay_together}
+use Rattle.save_laws.proofs.Public.{longer_plans_keep, modified_stay_together}
 use Rattle.session_text.specs.declared.added.Added.{Added}
 use Rattle.session_text.specs.declared.session_text.SessionText.{SessionText}
 use Rattle.session_text.specs.declared.session_text.TextSplice.{TextSplice}
@@ -52,11 +51,12 @@ use Rattle.session_text.proofs.ModifyLemmas.{modifiers_act, acted_range}
 use Rattle.session_text.proofs.PutLemmas.{changes_of_puts, blocks_of_puts, puts_stand, puts_counted, puts_old}
 use Rattle.session_text.proofs.PutLemmas.{blocks_together, all_after}
 use Rattle.session_text.proofs.FitLemmas.{range_fits, modified_all, modified_printed, all_weaker}
-use Rattle.piece_table.proofs.FitLemmas.{none_fits}
+use Rattle.piece_table.proofs.Public.{none_fits}
+use Rattle.direct_props.proofs.Public.{together_one}
 
 -- ---- puts
 
--- what stands in added text stands there where it has grown
+-- what is in added text is there where it has grown
 pub grown_stands : (stream : PagedStream) (old new : Added) (more : List Item) (places : List UnitPlace)
     (slots : List Slot) → new.base ≡ old.base → new.items ≡ old.items ++ more →
     StandInSession stream (plan_of old) places slots → StandInSession stream (plan_of new) places slots
@@ -198,9 +198,6 @@ one_at P x y is zero one other here there =
     subst (λ a. P a other) (same_Some x one here) (subst (P x) (same_Some y other there) is)
 one_at P x y is (suc k) one other here there = absurd (none-some one here)
 
-pub one_together : {A B : Type 0} (P : A → B → Type 0) (x : A) (y : B) → P x y → AreTogether P (x ∷ []) (y ∷ [])
-one_together P x y is = record { len = refl; each = one_at P x y is }
-
 no_block : (document : Document) (change : Change) → items_put change ≡ [] → IsBlockOf document change []
 no_block document change none = record {
   marks = 0;
@@ -328,7 +325,7 @@ act_edit document story from to begin end by old new act first last modified cou
           (flat_pieces new.pieces.pieces) order (omega (arith, sum_by-cons growth_of change [])) modified before;
       added = record {
         blocks = [] ∷ [];
-        each = one_together (IsBlockOf document) change [] (no_block document change refl);
+        each = together_one (IsBlockOf document) change [] (no_block document change refl);
         items = ap (λ (p : Added). p.items) added ∙ sym (append-nil old.added.items);
       };
       base = ap (λ (p : Added). p.base) added;

@@ -8,13 +8,13 @@ use Rattle.std.proofs.Common.{Option, Some, None, length, map, take, drop, arith
 use Rattle.std.proofs.lemmas.Option.{slice_get_within}
 use Rattle.std.proofs.lemmas.List.Elements.{All-append}
 use Rattle.doc_bits.specs.Together.{AreTogether}
-use Rattle.doc_bits.proofs.ListLemmas.{All_at, All-from_slice_get, from_map, there_is}
+use Rattle.doc_bits.proofs.Public.{All_at, All-from_slice_get, from_map, there_is}
 use Rattle.prop_map.specs.declared.modifiers.Modifier.{Modifier}
 use Rattle.prop_map.specs.Settings.{Properties}
 use Rattle.prop_map.specs.Printing.{printed_list}
 use Rattle.prop_map.specs.Modifiers.{no_modifier, printed_modifier, IsOver}
-use Rattle.prop_map.proofs.PrintedLengths.{over_is_not_longer, characters_are_not_longer, marks_are_not_longer}
-use Rattle.prop_map.proofs.PrintedLengths.{made_is_not_longer}
+use Rattle.prop_map.proofs.Public.{over_is_not_longer, characters_are_not_longer, marks_are_not_longer}
+use Rattle.prop_map.proofs.Public.{made_is_not_longer}
 use Rattle.piece_table.specs.Piece.{UnitPlace}
 use Rattle.piece_table.specs.Changes.{IsModifiedPlace, AreModified}
 use Rattle.piece_table.specs.ClxRules.{FitsPages}
@@ -26,8 +26,8 @@ use Rattle.save_laws.specs.Places.{Given, IsMarkedAfter}
 use Rattle.save_laws.specs.Slots.{Slot, shown, IsPlaced}
 use Rattle.session_text.specs.EditSteps.{IsShortAfter}
 use Rattle.session_text.proofs.TextLemmas.{All-front, All-back}
-use Rattle.save_laws.proofs.SessionLemmas.{zip_before, in_parts}
-use Rattle.full_save.proofs.ClxLemmas.{none_printed}
+use Rattle.save_laws.proofs.Public.{zip_before, in_parts}
+use Rattle.full_save.proofs.Public.{none_printed}
 
 -- ---- one place
 

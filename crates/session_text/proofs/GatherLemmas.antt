@@ -7,8 +7,8 @@ use Rattle.std.proofs.lemmas.Option.{slice_get_within}
 use Rattle.std.proofs.lemmas.List.Elements.{All-append}
 use Rattle.run_lists.specs.declared.runs.Run.{Run}
 use Rattle.run_lists.specs.Spread.{expanded}
-use Rattle.run_lists.proofs.SpreadLemmas.{spread_push}
-use Rattle.plain_doc.proofs.StreamLemmas.{take_next}
+use Rattle.run_lists.proofs.Public.{spread_push}
+use Rattle.plain_doc.proofs.Public.{take_next}
 use Rattle.prop_map.specs.Settings.{Properties}
 use Rattle.plain_doc.specs.declared.item.Item.{Item}
 use Rattle.plain_doc.specs.declared.document.Document.{Document}
@@ -17,7 +17,7 @@ use Rattle.plain_doc.specs.Collected.{joined_texts}
 use Rattle.doc_columns.specs.declared.attached.Attached.{Attached}
 use Rattle.doc_columns.specs.Attached.{attached_of}
 use Rattle.doc_columns.specs.Columns.{items_of, AreColumns}
-use Rattle.doc_columns.proofs.ItemsOfLemmas.{items_of-append, items_of-maps, length-items_of}
+use Rattle.doc_columns.proofs.Public.{items_of-append, items_of-maps, length-items_of}
 use Rattle.full_save.specs.Text.{extra_mark, with_mark}
 use Rattle.save_laws.specs.Slots.{Slot, shown, StoryEnds, loose_if, story_slots, note_slots, head_slots}
 use Rattle.save_laws.specs.Slots.{last_slots, whole_text}
@@ -132,7 +132,7 @@ last_items : (slots : List Slot) →
 last_items [] = refl
 last_items (slot ∷ slots) = refl
 
--- what stands behind the main text
+-- what is behind the main text
 pub whole_behind : (document : Document) (ends : StoryEnds) →
     document.main ++ with_mark (map slot_item (note_slots document ends) ++ map slot_item (head_slots document ends))
     ≡ map slot_item (whole_text document ends)

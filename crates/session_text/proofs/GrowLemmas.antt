@@ -14,7 +14,7 @@ use Rattle.std.proofs.lemmas.Option.{slice_get_within, get_or_from_slice_get, no
 use Rattle.doc_bits.specs.declared.places.Story.TheVariants.{Main, Note, Head}
 use Rattle.std.specs.FinMap.{empty}
 use Rattle.prop_map.specs.Printing.{printed_list}
-use Rattle.prop_map.proofs.EntriesLemmas.{entries-empty}
+use Rattle.prop_map.proofs.Public.{entries-empty}
 use Rattle.piece_table.specs.declared.pieces.Piece.{Piece}
 use Rattle.piece_table.specs.Piece.{IsPiece}
 use Rattle.plain_doc.specs.declared.item.Item.{Item}
@@ -23,10 +23,8 @@ use Rattle.plain_doc.specs.declared.document.Document.{Document}
 use Rattle.plain_doc.specs.Collected.{joined_texts}
 use Rattle.plain_doc.specs.RulesOfItems.{HasShortProperties}
 use Rattle.plain_doc.specs.RulesOfSheet.{item_count}
-use Rattle.plain_doc.proofs.FormedLemmas.{length-splice}
+use Rattle.plain_doc.proofs.Public.{length-splice, sound_is_valid, take_next}
 use Rattle.plain_doc.specs.Sound.{IsSound}
-use Rattle.plain_doc.proofs.RightLemmas.{sound_is_valid}
-use Rattle.plain_doc.proofs.StreamLemmas.{take_next}
 use Rattle.doc_patch.specs.declared.changes.Change.{Change}
 use Rattle.doc_patch.specs.declared.changes.Change.TheVariants.{SpliceText, ModifyItems, SetSection, SpliceNotes}
 use Rattle.doc_patch.specs.declared.changes.Change.TheVariants.{SpliceHeads, SetStyleCharacters, SetStyleParagraphs}
@@ -37,7 +35,7 @@ use Rattle.full_save.specs.Text.{extra_mark}
 use Rattle.save_laws.specs.Slots.{Slot, shown, StoryEnds, loose_if, note_slots, head_slots, last_slots, whole_text}
 use Rattle.save_laws.specs.Ends.{ends_of}
 use Rattle.save_laws.specs.declared.ends.Ends.{Ends}
-use Rattle.save_laws.proofs.SlotLemmas.{length-story_slots, length-loose_if}
+use Rattle.save_laws.proofs.Public.{length-story_slots, length-loose_if}
 use Rattle.session_text.specs.declared.added.Added.{Added}
 use Rattle.session_text.specs.declared.session_text.TextSplice.{TextSplice}
 use Rattle.session_text.specs.declared.stories.Stories.{Stories}

@@ -1,19 +1,20 @@
-pub mod MarkLemmas
-pub mod PieceLemmas
-pub mod SectionLemmas
-pub mod ModifyLemmas
-pub mod BlockLemmas
-pub mod TextLemmas
-pub mod StepLemmas
-pub mod TextChangeLemmas
-pub mod PutLemmas
-pub mod FitLemmas
-pub mod GrowLemmas
-pub mod EditLemmas
-pub mod PlanLemmas
-pub mod CommandLemmas
-pub mod StartLemmas
-pub mod GatherLemmas
-pub mod PickLemmas
-pub mod WritingLemmas
-pub mod OldLemmas
+pub mod Public
+mod MarkLemmas
+mod PieceLemmas
+mod SectionLemmas
+mod ModifyLemmas
+mod BlockLemmas
+mod TextLemmas
+mod StepLemmas
+mod TextChangeLemmas
+mod PutLemmas
+mod FitLemmas
+mod GrowLemmas
+mod EditLemmas
+mod PlanLemmas
+mod CommandLemmas
+mod StartLemmas
+mod GatherLemmas
+mod PickLemmas
+mod WritingLemmas
+mod OldLemmas

@@ -19,7 +19,7 @@ use Rattle.std.proofs.lemmas.List.Concat.{flat_map-cons}
 use Rattle.std.proofs.lemmas.Option.{slice_get_within, get_or_from_slice_get}
 use Rattle.std.proofs.Common.{get_or, ◌<◌}
 use Rattle.std.proofs.lemmas.Grind.{flat_map-append}
-use Rattle.save_laws.proofs.SessionLemmas.{splice_front, map_splice}
+use Rattle.save_laws.proofs.Public.{splice_front, map_splice}
 
 -- ---- splices of joined lists
 
@@ -46,7 +46,7 @@ splice_behind xs ys zs from to =
     ∙ (ap (λ l. l ++ (zs ++ drop to ys)) (sym a)
     ∙ ap (λ l. take (length xs + from) (xs ++ ys) ++ (zs ++ l)) (sym b))
 
--- ---- one story, what stands behind it, and the slots of the other story
+-- ---- one story, what is behind it, and the slots of the other story
 
 -- the marks stay
 kept : (items new fresh : List Item) (end rest : List Slot) (from to : ℕ) → from ≤ to → to ≤ length items →

@@ -4,14 +4,14 @@ use Rattle.std.specs.List.{splice, AllZip}
 use Rattle.std.specs.Option.{option_map}
 use Rattle.std.proofs.Common.{◌≡◌, ◌∙◌, ◌++◌, ◌∷◌, ◌+◌, ◌-◌, ◌≤◌, [], refl, sym, ap, subst, Bool}
 use Rattle.std.proofs.Common.{Some, None, Option, ◌<◌, length, map, take, drop, arith, set}
-use Rattle.std.proofs.lemmas.List.{length-map, length-append, length-take, length-drop, take-append-drop, drop-drop}
+use Rattle.std.proofs.lemmas.List.{length-map, length-append, length-take, length-drop}
 use Rattle.std.proofs.lemmas.List.{append_assoc, append-nil, set-get_or}
 use Rattle.std.proofs.lemmas.Option.{same_Some, get_or_from_slice_get}
 use Rattle.std.proofs.Math.Seq.{take-append_seam, drop-append_seam}
 use Rattle.doc_bits.specs.declared.places.Story.{Story}
 use Rattle.doc_bits.specs.declared.places.Story.TheVariants.{Main, Note, Head}
 use Rattle.prop_map.specs.declared.modifiers.Modifier.{Modifier}
-use Rattle.prop_map.proofs.MapLemmas.{is_modified_characters, is_modified_paragraph}
+use Rattle.prop_map.proofs.Public.{is_modified_characters, is_modified_paragraph}
 use Rattle.plain_doc.specs.declared.item.Item.{Item}
 use Rattle.plain_doc.specs.declared.item.Mark.{Mark}
 use Rattle.plain_doc.specs.declared.document.Document.{Document}
@@ -23,12 +23,13 @@ use Rattle.doc_patch.specs.declared.changes.Change.TheVariants.{ModifyItems}
 use Rattle.save_laws.specs.Places.{IsMarkedAfter}
 use Rattle.save_laws.specs.Slots.{Slot, shown, StoryEnds, note_slots, head_slots, whole_text}
 use Rattle.save_laws.specs.Sessions.{IsSlotAfter, AreSlotsAfter}
-use Rattle.save_laws.proofs.SessionLemmas.{main_splices}
-use Rattle.doc_bits.proofs.ListLemmas.{range_mid}
+use Rattle.save_laws.proofs.Public.{main_splices}
+use Rattle.doc_bits.proofs.Public.{range_mid}
 use Rattle.session_text.specs.StoryMarks.{end_after, marks_come, marks_go, IsSplicedWhole, begin_of}
 use Rattle.session_text.specs.StoryMarks.{ends_with_notes, ends_with_heads}
 use Rattle.session_text.specs.SessionChanges.{text_begin, ModifiersAct}
 use Rattle.session_text.proofs.MarkLemmas.{notes_splice, heads_splice, one_text_splices}
+use Rattle.doc_columns.proofs.Public.{own_range}
 
 -- ---- a text put in place of another
 
@@ -192,16 +193,6 @@ dropped front middle back whole to len is =
     ∙ (ap (drop to) (sym (append_assoc front middle back))
     ∙ (ap (λ k. drop k ((front ++ middle) ++ back)) n ∙ drop-append_seam (front ++ middle) back))
 
--- a list is its three parts
-in_parts : {A : Type 0} (xs : List A) (from to : ℕ) → from ≤ to →
-    splice xs from to (slice_range xs from to) ≡ xs
-in_parts xs from to order =
-    let width : from + (to - from) ≡ to = omega (arith, order) in
-    let rest : drop to xs ≡ drop (to - from) (drop from xs) =
-    sym (drop-drop (to - from) from xs ∙ ap (λ n. drop n xs) width) in
-    ap (λ l. take from xs ++ (slice_range xs from to ++ l)) rest
-    ∙ (ap (λ l. take from xs ++ l) (take-append-drop (to - from) (drop from xs)) ∙ take-append-drop from xs)
-
 -- a list that is its own splice reaches as far as the range
 end_within : {A : Type 0} (xs ys : List A) (from to : ℕ) → xs ≡ splice xs from to ys → from < to →
     length ys ≡ to - from → to ≤ length xs
@@ -266,7 +257,7 @@ acted_on document ends story from to by text there some within =
     let count : length range ≡ to - from =
     length-take (to - from) (drop from text) ∙ omega (arith, length-drop from text, order, within) in
     let many : length made ≡ to - from = length-map range (modified_item by) ∙ count in
-    let back : splice text from to range ≡ text = in_parts text from to order in
+    let back : splice text from to range ≡ text = own_range text from to order in
     let whole = whole_text document ends in
     let old : whole ≡ splice whole (begin + from) (begin + to) (map shown range) =
     ap (λ d. whole_text d ends)

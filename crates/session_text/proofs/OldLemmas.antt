@@ -1,23 +1,22 @@
--- The old units of a text stay bounded: fresh places stand in added text, and a modifier makes no mark.
+-- The old units of a text stay bounded: fresh places are in added text, and a modifier makes no mark.
 use Rattle.std.specs.Prelude.{slice_get, slice_range, is_some}
 use Rattle.std.proofs.Common.{◌≡◌, ◌∙◌, ◌++◌, ◌+◌, ◌-◌, ◌*◌, ◌<◌, ◌≤◌, ℕ, zero, suc, List, Bool, true, false}
 use Rattle.std.proofs.Common.{Option, Some, None, refl, sym, ap, subst, length, map, take, drop, arith}
 use Rattle.std.proofs.lemmas.List.{length-map}
 use Rattle.std.proofs.lemmas.Option.{same_Some, none-some, slice_get_within, get_or_from_slice_get}
 use Rattle.doc_bits.specs.Together.{AreTogether}
-use Rattle.doc_bits.proofs.ListLemmas.{there_is, get-map}
-use Rattle.doc_bits.proofs.TogetherLemmas.{together_joined, together_take, together_drop}
+use Rattle.doc_bits.proofs.Public.{there_is, get-map, together_joined, together_take, together_drop}
 use Rattle.prop_map.specs.declared.modifiers.Modifier.{Modifier}
 use Rattle.prop_map.specs.Modifiers.{no_modifier}
 use Rattle.piece_table.specs.Piece.{TextPiece, UnitPlace, unit_places, unit_bytes}
 use Rattle.piece_table.specs.Changes.{fresh_places, IsModifiedPlace, AreModified}
-use Rattle.piece_table.proofs.PieceLemmas.{length-unit_places, get_or-unit_places}
+use Rattle.piece_table.proofs.Public.{length-unit_places, get_or-unit_places}
 use Rattle.plain_doc.specs.declared.item.Mark.{Mark}
 use Rattle.save_laws.specs.Places.{PagedStream, IsMarkedAfter}
 use Rattle.save_laws.specs.Sessions.{IsSlotAfter, AreSlotsAfter}
 use Rattle.save_laws.specs.Slots.{Slot, shown, loose, last}
 use Rattle.save_laws.specs.ByRuns.{IsBounded, slot_end}
-use Rattle.save_laws.proofs.SessionLemmas.{zipped_together, in_parts}
+use Rattle.save_laws.proofs.Public.{zipped_together, in_parts}
 use Rattle.session_text.specs.AddedText.{added_piece}
 use Rattle.session_text.specs.OldUnits.{IsOldBounded}
 

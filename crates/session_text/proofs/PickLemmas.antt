@@ -11,16 +11,16 @@ use Rattle.std.proofs.lemmas.List.Elements.{All-append, All-nil, All-weaker}
 use Rattle.std.proofs.lemmas.List.Sums.{sum_by-cons, sum_by-append, sum_by-take-le}
 use Rattle.std.proofs.lemmas.Option.{slice_get_within, slice_get-get_or, same_Some, none-some}
 use Rattle.prop_map.specs.Settings.{Properties}
-use Rattle.chunked_list.proofs.RangeLemmas.{range-append, range_clamped}
+use Rattle.chunked_list.proofs.Public.{range-append, range_clamped}
 use Rattle.piece_table.specs.declared.pieces.Piece.{Piece}
 use Rattle.piece_table.specs.Piece.{TextPiece, bare_piece, total_length}
 use Rattle.plain_doc.specs.declared.item.Item.{Item}
 use Rattle.plain_doc.specs.Document.{HasPropertyMaps, IsFormedItem, IsFormedText}
-use Rattle.plain_doc.proofs.StreamLemmas.{take_next}
+use Rattle.plain_doc.proofs.Public.{take_next}
 use Rattle.doc_columns.specs.declared.attached.Attached.{Attached}
 use Rattle.doc_columns.specs.Attached.{attached_of}
 use Rattle.doc_columns.specs.Columns.{items_of}
-use Rattle.doc_columns.proofs.ItemsOfLemmas.{items_of-maps}
+use Rattle.doc_columns.proofs.Public.{items_of-maps}
 use Rattle.session_text.specs.declared.picked.Stretch.{Stretch}
 use Rattle.session_text.specs.WrittenAgain.{renewed_values, values_for}
 use Rattle.session_text.specs.Picked.{IsNextStretch}

@@ -1,4 +1,4 @@
--- Where the properties of sections stand after the changes of a command.
+-- Where the properties of sections are after the changes of a command.
 use Rattle.std.specs.Prelude.{slice_get, slice_set, slice_range, List, ℕ, is_some, not, ⊤}
 use Rattle.std.specs.List.{sum_by}
 use Rattle.std.specs.Option.{option_map, option_and_then}
@@ -16,7 +16,7 @@ use Rattle.std.proofs.Math.Seq.{split_at, drop-cons, take-length}
 use Rattle.doc_bits.specs.declared.places.Story.{Story}
 use Rattle.doc_bits.specs.declared.places.Story.TheVariants.{Main, Note, Head}
 use Rattle.doc_bits.specs.Together.{AreTogether}
-use Rattle.doc_bits.proofs.ListLemmas.{there_is}
+use Rattle.doc_bits.proofs.Public.{there_is}
 use Rattle.prop_map.specs.declared.modifiers.Modifier.{Modifier}
 use Rattle.prop_map.specs.Settings.{Properties}
 use Rattle.prop_map.specs.Overlay.{overlay}
@@ -29,8 +29,7 @@ use Rattle.doc_patch.specs.declared.changes.Change.TheVariants.{SpliceHeads, Set
 use Rattle.doc_patch.specs.declared.changes.Change.TheVariants.{SetBookmarks}
 use Rattle.doc_patch.specs.Changes.{changed, all_changed, changed_at, put_changed, with_section, modified_item}
 use Rattle.doc_patch.specs.Changes.{map_range}
-use Rattle.edit_ops.proofs.SumLemmas.{sum_more}
-use Rattle.edit_ops.proofs.TextLemmas.{count_upto}
+use Rattle.edit_ops.proofs.Public.{sum_more, count_upto}
 use Rattle.session_text.specs.SessionText.{IsSectionPlan, section_properties, unwritten_count}
 use Rattle.session_text.specs.SessionChanges.{sections_before}
 use Rattle.session_text.specs.SectionPlans.{spliced_plan, set_plan, plan_after, FitsPlan}

@@ -1,4 +1,4 @@
--- The splices of a command, one after another: what stands for the whole text, how many pieces there are, and what
+-- The splices of a command, one after another: what represents the whole text, how many pieces there are, and what
 -- their modifiers are.
 use Rattle.std.specs.Prelude.{slice_get, List, ℕ, option_to_list}
 use Rattle.std.specs.List.{All, sum_by}
@@ -11,27 +11,26 @@ use Rattle.std.proofs.lemmas.List.Sums.{sum_by-cons, fold_more}
 use Rattle.std.proofs.Math.Seq.{drop-cons}
 use Rattle.std.proofs.lemmas.Option.{same_Some, slice_get_within, get_or_from_slice_get}
 use Rattle.doc_bits.specs.Together.{AreTogether}
-use Rattle.doc_bits.proofs.ListLemmas.{All_at, from_map}
+use Rattle.doc_bits.proofs.Public.{All_at, from_map}
 use Rattle.piece_table.specs.declared.pieces.Piece.{Piece}
 use Rattle.piece_table.specs.Piece.{TextPiece, UnitPlace, flat_pieces, total_length}
 use Rattle.piece_table.specs.Changes.{fresh_places, fresh_units}
-use Rattle.piece_table.proofs.PieceLemmas.{length-flat_pieces}
-use Rattle.piece_table.proofs.SpliceLemmas.{length-fresh_places}
+use Rattle.piece_table.proofs.Public.{length-flat_pieces, length-fresh_places}
 use Rattle.plain_doc.specs.declared.item.Item.{Item}
 use Rattle.plain_doc.specs.declared.document.Document.{Document}
 use Rattle.plain_doc.specs.Collected.{joined_texts}
-use Rattle.plain_doc.proofs.FormedLemmas.{length-splice}
+use Rattle.plain_doc.proofs.Public.{length-splice}
 use Rattle.doc_patch.specs.declared.changes.Change.{Change}
 use Rattle.doc_patch.specs.declared.changes.Change.TheVariants as change
 use Rattle.doc_patch.specs.Changes.{changed, all_changed}
-use Rattle.edit_ops.proofs.SumLemmas.{sum_more}
+use Rattle.edit_ops.proofs.Public.{sum_more}
 use Rattle.full_save.specs.Text.{extra_mark}
 use Rattle.save_laws.specs.Places.{PagedStream}
 use Rattle.save_laws.specs.Slots.{whole_text}
 use Rattle.save_laws.specs.Ends.{ends_of}
 use Rattle.save_laws.specs.declared.ends.Ends.{Ends}
 use Rattle.save_laws.specs.Sessions.{StandInSession}
-use Rattle.save_laws.proofs.SessionLemmas.{splices_stay_together}
+use Rattle.save_laws.proofs.Public.{splices_stay_together}
 use Rattle.session_text.specs.declared.added.Added.{Added}
 use Rattle.session_text.specs.declared.session_text.TextSplice.{TextSplice}
 use Rattle.session_text.specs.AddedText.{plan_of, added_piece, marked_block}
@@ -114,7 +113,7 @@ puts_stand document old added before now ends (put ∷ more) places are items st
     (places_after places put.splice) are.1 (here ∙ sym (append_assoc before put.block behind))
     (put_stands document old added before behind now ends put places are.0 here stands)
 
--- the units that stand before added text stay bounded
+-- the units that are before added text stay bounded
 put_old : (stream : PagedStream) (base : ℕ) (document : Document) (before : List Item) (now : Document) (ends : Ends)
     (put : Put) (places : List UnitPlace) → IsPut document base before now ends put →
     AreTogether (IsOldBounded stream base) places (whole_text now (ends_of ends)) →

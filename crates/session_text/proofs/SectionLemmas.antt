@@ -12,18 +12,16 @@ use Rattle.std.proofs.Common.{replicate}
 use Rattle.std.specs.Prelude.{is_some, IsSome}
 use Rattle.std.proofs.Common.{cond}
 use Rattle.std.proofs.lemmas.List.Sums.{sum_by-cons, count_by_more_yes}
-use Rattle.doc_bits.proofs.ListLemmas.{All_at}
+use Rattle.doc_bits.proofs.Public.{All_at, together_joined, together_take, together_drop, slice_get_before, get-map}
+use Rattle.doc_bits.proofs.Public.{from_map, in_front, from_behind}
 use Rattle.plain_doc.specs.RulesOfSheet.{section_count}
 use Rattle.session_text.specs.SessionText.{IsSectionPlan}
-use Rattle.doc_bits.proofs.TogetherLemmas.{together_joined, together_take, together_drop}
 use Rattle.std.proofs.lemmas.Option.{slice_get_within, same_Some, none-some}
 use Rattle.std.proofs.Math.Seq.{take-append_seam, drop-append_seam, split_at, take-length}
 use Rattle.std.proofs.lemmas.List.{set_split}
 use Rattle.std.proofs.lemmas.Option.{get_or_from_slice_get}
 use Rattle.std.proofs.Common.{get_or}
 use Rattle.doc_bits.specs.Together.{AreTogether}
-use Rattle.doc_bits.proofs.ListLemmas.{slice_get_before, get-map, from_map}
-use Rattle.doc_bits.proofs.TogetherLemmas.{in_front, from_behind}
 use Rattle.prop_map.specs.Settings.{Properties}
 use Rattle.prop_map.specs.Overlay.{overlay}
 use Rattle.piece_table.specs.Piece.{UnitPlace, flat_pieces}
@@ -33,7 +31,7 @@ use Rattle.save_laws.specs.Places.{Given, given_of}
 use Rattle.save_laws.specs.Slots.{Slot, shown, note_slots, head_slots, last_slots, whole_text, IsPlaced}
 use Rattle.save_laws.specs.Slots.{ReadsAfter}
 use Rattle.save_laws.specs.FastSaves.{StandsInEither, IsGivenBy}
-use Rattle.edit_ops.proofs.TextLemmas.{count_upto}
+use Rattle.edit_ops.proofs.Public.{count_upto}
 use Rattle.session_text.specs.SessionText.{section_properties}
 use Rattle.session_text.specs.SessionChanges.{sections_before, SectionsSplice, SectionsStay, StylesStay, BookmarksStay}
 use Rattle.session_text.specs.SessionChanges.{OneSectionIsSet}
@@ -221,7 +219,7 @@ pub bookmarks_stay : BookmarksStay
 unfolding whole_text
 bookmarks_stay document ends list = refl
 
--- ---- where properties stand
+-- ---- where properties are
 
 -- an item ends a section or not
 one_counted : (o : Option Properties) (item : Item) (items : List Item) → item.sect ≡ o →

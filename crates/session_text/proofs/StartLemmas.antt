@@ -5,7 +5,7 @@ use Rattle.std.proofs.Common.{map}
 use Rattle.std.proofs.lemmas.List.{length-map}
 use Rattle.std.proofs.lemmas.Option.{same_Some}
 use Rattle.doc_bits.specs.Together.{AreTogether}
-use Rattle.doc_bits.proofs.ListLemmas.{from_map}
+use Rattle.doc_bits.proofs.Public.{from_map}
 use Rattle.prop_map.specs.Settings.{Properties}
 use Rattle.doc_parts.specs.declared.lists.Sed.{Sed}
 use Rattle.piece_table.specs.Piece.{UnitPlace}
@@ -16,7 +16,7 @@ use Rattle.save_laws.specs.Plans.{Plan}
 use Rattle.save_laws.specs.Slots.{Slot, shown, loose, last, IsPlaced}
 use Rattle.save_laws.specs.Saves.{HasPropertiesAt}
 use Rattle.save_laws.specs.FastSaves.{StandsInEither, IsGivenBy}
-use Rattle.piece_table.proofs.PieceLemmas.{length-flat_pieces}
+use Rattle.piece_table.proofs.Public.{length-flat_pieces}
 use Rattle.session_text.specs.SessionText.{IsSectionPlan, section_properties, TextCounted}
 use Rattle.session_text.specs.Starts.{SavedTextsStand, PropertiesAreListed, SavedSectionsStand}
 

@@ -11,12 +11,11 @@ use Rattle.plain_doc.specs.declared.item.Item.{Item}
 use Rattle.plain_doc.specs.declared.document.Document.{Document}
 use Rattle.plain_doc.specs.Collected.{joined_texts}
 use Rattle.plain_doc.specs.Marks.{main_spliced}
-use Rattle.plain_doc.proofs.FormedLemmas.{length-splice}
+use Rattle.plain_doc.proofs.Public.{length-splice}
 use Rattle.save_laws.specs.Slots.{Slot, shown, StoryEnds, loose_if, note_slots, head_slots, last_slots, whole_text}
 use Rattle.save_laws.specs.Ends.{ends_of}
 use Rattle.save_laws.specs.declared.ends.Ends.{Ends}
-use Rattle.save_laws.proofs.SessionLemmas.{main_splices}
-use Rattle.save_laws.proofs.SlotLemmas.{length-story_slots}
+use Rattle.save_laws.proofs.Public.{main_splices, length-story_slots}
 use Rattle.session_text.specs.declared.stories.Stories.{Stories}
 use Rattle.session_text.specs.declared.stories.StoryPlace.{StoryPlace}
 use Rattle.session_text.specs.declared.stories.StoryCut.{StoryCut}
@@ -73,7 +72,7 @@ whole_range items len is =
     let n : len - 0 ≡ length items = omega (arith, is) in
     ap (λ k. take k items) n ∙ take-length items
 
--- what stands for the whole text stands for it
+-- what represents the whole text represents it
 pub same_stands : (document : Document) (ends : StoryEnds) → StandAlike document document ends
 same_stands document ends = record { len = refl; marks = refl; stand = λ old plan places stands. stands }
 
@@ -167,7 +166,7 @@ spliced_count texts new from to fresh spliced =
       length-splice (joined_texts texts) fresh from to spliced.order spliced.within,
     )
 
--- all items of texts stand before the end of the last one
+-- all items of texts are before the end of the last one
 pub begin_of-all : (texts : List (List Item)) → begin_of texts (length texts) ≡ length (joined_texts texts)
 begin_of-all texts = ap (λ l. length (joined_texts l)) (take-length texts)
 

@@ -29,7 +29,7 @@ use Rattle.session_text.specs.TextSteps.{AreStories, StandAlike, IsTextStep, IsR
 use Rattle.session_text.specs.TextSteps.{CanStep}
 use Rattle.std.proofs.Common.{[], ◌++◌, map}
 use Rattle.std.proofs.lemmas.List.{length-map, length-append, map-append}
-use Rattle.doc_bits.proofs.ListLemmas.{map-map}
+use Rattle.doc_bits.proofs.Public.{map-map}
 use Rattle.session_text.proofs.MarkLemmas.{one_text_splices, texts_splice}
 use Rattle.session_text.proofs.ModifyLemmas.{put_text}
 use Rattle.session_text.proofs.SectionLemmas.{given_stays, put_given, length-put}

@@ -6,16 +6,14 @@ use Rattle.std.proofs.Common.{None, Option, length, take, drop, arith}
 use Rattle.std.specs.Prelude.{slice_get}
 use Rattle.std.proofs.lemmas.Option.{slice_get_within, get_or_from_slice_get}
 use Rattle.std.proofs.lemmas.List.Elements.{All-nil}
-use Rattle.doc_bits.proofs.ListLemmas.{All_at, All-from_slice_get}
-use Rattle.doc_bits.proofs.TogetherLemmas.{got_drop}
-use Rattle.doc_bits.proofs.ListLemmas.{slice_get-take}
-use Rattle.prop_map.proofs.EntriesLemmas.{entries-empty}
+use Rattle.doc_bits.proofs.Public.{All_at, All-from_slice_get, got_drop, slice_get-take}
+use Rattle.prop_map.proofs.Public.{entries-empty}
 use Rattle.prop_map.specs.declared.modifiers.Modifier.{Modifier}
 use Rattle.prop_map.specs.Modifiers.{no_modifier, printed_modifier}
 use Rattle.piece_table.specs.declared.pieces.Piece.{Piece}
 use Rattle.piece_table.specs.Piece.{TextPiece, UnitPlace, unit_places}
 use Rattle.piece_table.specs.Changes.{fresh_piece, fresh_places}
-use Rattle.piece_table.proofs.PieceLemmas.{length-unit_places, get_or-unit_places}
+use Rattle.piece_table.proofs.Public.{length-unit_places, get_or-unit_places}
 
 -- ---- what holds of each place
 

@@ -1,4 +1,4 @@
--- Pieces that are written again stand for the slots that they stood for.
+-- Pieces that are written again represent the slots that they represented.
 use Rattle.std.specs.Prelude.{slice_range, is_some, List, ℕ, ◌↔◌, IsTrue, MatchOption}
 use Rattle.std.specs.Option.{option_map}
 use Rattle.std.specs.List.{All}
@@ -15,8 +15,8 @@ use Rattle.std.proofs.lemmas.List.Elements.{All-append, All-nil, All-map}
 use Rattle.std.proofs.lemmas.List.Sums.{sum_by-cons, sum_by-append}
 use Rattle.std.proofs.lemmas.Option.{same_Some, none-some, slice_get_within, get_or_from_slice_get}
 use Rattle.doc_bits.specs.Together.{AreTogether}
-use Rattle.doc_bits.proofs.ListLemmas.{All_at, All-from_slice_get, get-map, range_mid}
-use Rattle.doc_bits.proofs.TogetherLemmas.{together_joined, together_take, together_drop}
+use Rattle.doc_bits.proofs.Public.{All_at, All-from_slice_get, get-map, range_mid, together_joined, together_take}
+use Rattle.doc_bits.proofs.Public.{together_drop}
 use Rattle.doc_bits.specs.declared.places.Where.{Where}
 use Rattle.doc_bits.specs.declared.places.Where.TheVariants.{Main, Note, Head}
 use Rattle.prop_map.specs.declared.modifiers.Modifier.{Modifier}
@@ -26,23 +26,22 @@ use Rattle.piece_table.specs.declared.pieces.Piece.{Piece}
 use Rattle.piece_table.specs.Piece.{TextPiece, UnitPlace, bare_piece, piece_end, unit_bytes, unit_places, flat_pieces}
 use Rattle.piece_table.specs.Piece.{total_length}
 use Rattle.piece_table.specs.Changes.{fresh_places}
-use Rattle.piece_table.proofs.FlatLemmas.{flat_pieces-append, flat_pieces-cons, flat_pieces-nil}
-use Rattle.piece_table.proofs.PieceLemmas.{length-unit_places, length-flat_pieces, get_or-unit_places}
-use Rattle.piece_table.proofs.PieceLemmas.{flat_pieces-push}
+use Rattle.piece_table.proofs.Public.{flat_pieces-append, flat_pieces-cons, flat_pieces-nil, length-unit_places}
+use Rattle.piece_table.proofs.Public.{length-flat_pieces, get_or-unit_places, flat_pieces-push, renewed_pieces-push}
+use Rattle.piece_table.proofs.Public.{length-renewed, modifiers_there, none_fits}
 use Rattle.plain_doc.specs.declared.item.Item.{Item}
 use Rattle.plain_doc.specs.declared.document.Document.{Document}
 use Rattle.plain_doc.specs.RulesOfItems.{HasShortProperties}
 use Rattle.plain_doc.specs.RulesOfTexts.{text_of}
 use Rattle.plain_doc.specs.Sound.{IsSound}
-use Rattle.plain_doc.proofs.RightLemmas.{sound_is_valid}
-use Rattle.plain_doc.proofs.TextListLemmas.{joined_all}
+use Rattle.plain_doc.proofs.Public.{sound_is_valid, joined_all}
 use Rattle.save_laws.specs.Places.{PagedStream, Given}
 use Rattle.save_laws.specs.Plans.{Plan}
 use Rattle.save_laws.specs.Slots.{Slot, shown, loose, last, IsPlaced, StoryEnds, whole_text}
 use Rattle.save_laws.specs.Ends.{ends_of}
 use Rattle.save_laws.specs.FastSaves.{StandsInEither, IsGivenBy}
 use Rattle.save_laws.specs.Sessions.{StandInSession}
-use Rattle.save_laws.proofs.SlotLemmas.{IsShownAs, all_shown}
+use Rattle.save_laws.proofs.Public.{IsShownAs, all_shown, total_more}
 use Rattle.session_text.specs.declared.added.Added.{Added}
 use Rattle.session_text.specs.declared.session_text.SessionText.{SessionText}
 use Rattle.session_text.specs.declared.old_pieces.OldPieces.{OldPieces}
@@ -54,17 +53,16 @@ use Rattle.session_text.specs.WrittenAgain.{AreWritten, AreChosen, IsWrittenAgai
 use Rattle.session_text.specs.SessionText.{HaveFitModifiers, HaveNoModifiers, HaveModifiersWithin}
 use Rattle.session_text.proofs.BlockLemmas.{blocks_stand}
 use Rattle.session_text.proofs.PickLemmas.{renewed_values-push}
-use Rattle.session_text.proofs.EditLemmas.{grown_stands, one_together}
+use Rattle.session_text.proofs.EditLemmas.{grown_stands}
 use Rattle.session_text.specs.OldUnits.{IsOldBounded}
 use Rattle.session_text.proofs.OldLemmas.{new_units}
 use Rattle.session_text.proofs.GrowLemmas.{mark_short}
 use Rattle.session_text.proofs.TextLemmas.{All-front, All-back, none_printed}
-use Rattle.piece_table.proofs.RenewalLemmas.{renewed_pieces-push, length-renewed, modifiers_there}
-use Rattle.piece_table.proofs.FitLemmas.{none_fits}
+use Rattle.direct_props.proofs.Public.{together_one}
 
 -- ---- old pieces
 
--- what stands before the base is not planned, so it stands beside any added text
+-- what is before the base is not planned, so it is beside any added text
 given_before : (stream : PagedStream) (plan other : Plan) (at : ℕ) (wide : Bool) (given : Given) → at < plan.base →
     IsGivenBy stream plan at wide given → IsGivenBy stream other at wide given
 given_before stream plan other at wide given before (inl gives) = inl gives
@@ -239,7 +237,7 @@ kept_end base which piece is = elim (cases_lt base (piece_end (bare_piece piece)
   | inr before ↦ before
 ]
 
--- what stands for the slots of a piece before it is written again, or stays, stands for them after
+-- what represents the slots of a piece before it is written again, or stays, represents them after
 piece_stands : (stream : PagedStream) (added : Added) (items : List Item) (which : OldPieces) (again : Bool)
     (piece : TextPiece) (slots : List Slot) → IsTrue again ↔ IsRewritten added.base which piece →
     StandInSession stream (plan_of added) (unit_places piece) slots →
@@ -261,12 +259,6 @@ old_for : (stream : PagedStream) (base number : ℕ) (again : Bool) (piece : Tex
 old_for stream base number true piece slots len old =
     new_units stream base (renewed_piece (Some (base + 2 * number)) piece) slots (omega arith) len
 old_for stream base number false piece slots len old = old
-
-pub total_more : (pieces : List TextPiece) (piece : TextPiece) →
-    total_length (pieces ++ piece ∷ []) ≡ total_length pieces + piece.len
-total_more pieces piece =
-    let units : TextPiece → ℕ = λ p. p.len in
-    omega (arith, sum_by-append units pieces (piece ∷ []), sum_by-cons units piece [])
 
 pub total_within : (before behind : List TextPiece) (piece : TextPiece) →
     total_length before + piece.len ≤ total_length (before ++ (piece ∷ behind))
@@ -303,10 +295,10 @@ written_more which again old slots before behind piece items places pieces_are c
     rw mapped (record {
       chosen =
           together_joined (IsChosen base which) places before (place ∷ []) (piece ∷ []) written.chosen
-          (one_together (IsChosen base which) place piece (chosen_for base (length items) which again piece is));
+          (together_one (IsChosen base which) place piece (chosen_for base (length items) which again piece is));
       room =
           together_joined HasRoomAt places before (place ∷ []) (piece ∷ []) written.room
-          (one_together HasRoomAt place piece (room_for base (length items) again piece space));
+          (together_one HasRoomAt place piece (room_for base (length items) again piece space));
       units =
           omega (
             arith,

@@ -1,5 +1,5 @@
--- The text that a session has added since its last save: items, whose units stand from a byte of WordDocument on. It
--- grows at its end alone, so what stands in it stays.
+-- The text that a session has added since its last save: items, whose units are from a byte of WordDocument on. It
+-- grows at its end alone, so what is in it stays.
 use Rattle.std.specs.Prelude.{◌≡◌, ℕ, zero, suc, List, ◌++◌, map, replicate, true, Option, Some, None, ⊤}
 use Rattle.piece_table.specs.declared.pieces.Piece.{Piece}
 use Rattle.plain_doc.specs.declared.item.Item.{Item}

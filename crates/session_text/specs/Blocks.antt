@@ -9,7 +9,7 @@ use Rattle.save_laws.specs.Sessions.{StandInSession}
 use Rattle.session_text.specs.declared.added.Added.{Added}
 use Rattle.session_text.specs.AddedText.{plan_of, IsAddedFor, added_piece}
 
--- the piece of a block stands for the slots that its items were added for
+-- the piece of a block represents the slots that its items were added for
 abbrev pub BlocksStand : Type 0
 BlocksStand =
     (old : PagedStream) (added : Added) (before block behind : List Item) (slots : List Slot) →

@@ -1,4 +1,4 @@
--- Where the properties of sections stand after a change of the main text. No place: they are still to be written.
+-- Where the properties of sections are after a change of the main text. No place: they are still to be written.
 use Rattle.std.specs.Prelude.{◌≡◌, ℕ, ◌<◌, List, ◌++◌, length, replicate, take, drop, Option, Some, None, slice_get}
 use Rattle.std.specs.Prelude.{slice_set, ⊤}
 use Rattle.std.specs.Option.{option_and_then}

@@ -49,7 +49,7 @@ SectionsSplice =
     section_properties (splice main from to fresh)
     ≡ splice (section_properties main) (sections_before main from) (sections_before main to) (section_properties fresh)
 
--- the places of pieces stand for the text where properties of a section are set, and where a style changes
+-- the places of pieces represent the text where properties of a section are set, and where a style changes
 abbrev pub SectionsStay : Type 0
 SectionsStay =
     (old : PagedStream) (plan : Plan) (pieces : List TextPiece) (document : Document) (ends : StoryEnds) (at : ℕ)

@@ -23,11 +23,11 @@ use Rattle.session_text.specs.declared.session_text.SessionText.{SessionText}
 abbrev pub section_properties : List Item → List Properties
 section_properties main = filter_map (λ item. item.sect) main
 
--- the properties of a section stand at a place of the old stream, or they are still to be written
+-- the properties of a section are at a place of the old stream, or they are still to be written
 abbrev pub IsSectionPlan : List ℕ → Option ℕ → Properties → Type 0
 IsSectionPlan wd place properties = ForSome place (λ fc. HasPropertiesAt wd fc properties)
 
--- each unit of the text of a document stands in the stream of the last save or in added text, which begins behind that
+-- each unit of the text of a document is in the stream of the last save or in added text, which begins behind that
 -- stream; its page, or what is planned for it, and the modifier of its piece make the item at its CP
 pub record IsSessionText (old : PagedStream) (document : Document) (text : SessionText) : Type 0 where
   pub places : StandsInSession old (plan_of text.added) text.pieces.pieces document (ends_of text.ends)

@@ -1,4 +1,4 @@
--- What a session begins with, on a file that holds a document, and after a save: all text stands in the stream, and all
+-- What a session begins with, on a file that holds a document, and after a save: all text is in the stream, and all
 -- properties of sections are written.
 use Rattle.std.specs.Prelude.{◌≡◌, ℕ, List, map, Some}
 use Rattle.doc_parts.specs.declared.lists.Sed.{Sed}
@@ -13,7 +13,7 @@ use Rattle.save_laws.specs.Saves.{AreSavedSections, StandsForText}
 use Rattle.save_laws.specs.FastSaves.{StandsInSession}
 use Rattle.session_text.specs.SessionText.{section_properties, ArePlannedSections}
 
--- the text of a document that is saved stands in a session on it, whatever is planned
+-- the text of a document that is saved is in a session on it, whatever is planned
 abbrev pub SavedTextsStand : Type 0
 SavedTextsStand =
     (stream : PagedStream) (plan : Plan) (pieces : List TextPiece) (document : Document) (ends : StoryEnds) →

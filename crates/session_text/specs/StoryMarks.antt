@@ -1,5 +1,5 @@
 -- The marks behind stories while texts change: a story has one from its first item on, up to its last, and the last CP
--- of the whole text stands there while either story has slots. A story that has items before and after keeps its end.
+-- of the whole text is there while either story has slots. A story that has items before and after keeps its end.
 use Rattle.std.specs.Prelude.{◌≡◌, ℕ, ◌+◌, ◌≤◌, List, [], ◌∷◌, ◌++◌, length, take, map, Bool, true, false}
 use Rattle.std.specs.Prelude.{if◌then◌else◌, Some, slice_get, slice_set}
 use Rattle.std.specs.List.{splice}
@@ -8,7 +8,7 @@ use Rattle.plain_doc.specs.declared.document.Document.{Document}
 use Rattle.plain_doc.specs.Collected.{joined_texts}
 use Rattle.save_laws.specs.Slots.{Slot, shown, last, StoryEnds, loose_if, note_slots, head_slots, whole_text}
 
--- whether a mark stands behind a story, once its items have changed
+-- whether a mark is behind a story, once its items have changed
 abbrev pub end_after : Bool → List Item → List Item → Bool
 end_after end [] [] = end
 end_after end [] (item ∷ items) = true
@@ -20,7 +20,7 @@ abbrev pub lone_last : List Slot → List Slot
 lone_last [] = last ∷ []
 lone_last (slot ∷ slots) = []
 
--- what stands behind a story that has items, where the other story has these slots
+-- what is behind a story that has items, where the other story has these slots
 abbrev pub closing_slots : Bool → List Slot → List Slot
 closing_slots end other = loose_if end ++ lone_last other
 

@@ -30,7 +30,7 @@ pub record IsTextEdit (document : Document) (changes : List Change) (old new : S
   pub added : HasGrownBy document changes old.added.items new.added.items
   pub base : new.added.base ≡ old.added.base
 
--- the properties of the changed document's sections stand in the stream or are still to be written
+-- the properties of the changed document's sections are in the stream or are still to be written
 pub record IsSectionsEdit (document : Document) (changes : List Change) (old new : List (Option ℕ)) : Type 0 where
   pub planned :
       (wd : List ℕ) → ArePlannedSections wd old document → ArePlannedSections wd new (all_changed changes document)

@@ -115,7 +115,7 @@ CanStep document stories (SetBookmarks list) = ⊤
 
 -- ---- the step
 
--- places that stand for the whole text of the one document stand for that of the other, whose whole text is as long
+-- places that represent the whole text of the one document represent that of the other, whose whole text is as long
 pub record StandAlike (one other : Document) (ends : StoryEnds) : Type 0 where
   pub len : length (whole_text other ends) ≡ length (whole_text one ends)
   pub marks : map slot_end (whole_text other ends) ≡ map slot_end (whole_text one ends)
@@ -123,7 +123,7 @@ pub record StandAlike (one other : Document) (ends : StoryEnds) : Type 0 where
       (old : PagedStream) (plan : Plan) (places : List UnitPlace) →
       StandInSession old plan places (whole_text one ends) → StandInSession old plan places (whole_text other ends)
 
--- slots in place of a range make a whole text, and what stands for it stands for that of the changed document
+-- slots in place of a range make a whole text, and what represents it represents that of the changed document
 pub record IsSplicedText
     (document : Document) (ends : StoryEnds) (changed : Document) (after : StoryEnds) (from to : ℕ)
     (slots : List Slot) : Type 0 where

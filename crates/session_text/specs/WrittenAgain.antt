@@ -50,14 +50,14 @@ renewed_units (place ∷ places) [] = 0
 renewed_units (None ∷ places) (piece ∷ pieces) = renewed_units places pieces
 renewed_units (Some at ∷ places) (piece ∷ pieces) = piece.len + renewed_units places pieces
 
--- the pieces that are written again stand at new places, and nothing else is added
+-- the pieces that are written again are at new places, and nothing else is added
 pub record HasWritten (which : OldPieces) (old new : SessionText) : Type 0 where
   pub places : List (Option ℕ)
   pub chosen : AreTogether (IsChosen old.added.base which) places old.pieces.pieces
   pub pieces : new.pieces.pieces ≡ renewed_pieces places old.pieces.pieces
   pub units : length new.added.items ≡ renewed_units places old.pieces.pieces
 
--- what stands beside pieces and added text is the same
+-- what is beside pieces and added text is the same
 pub record IsSameAttached (old new : SessionText) : Type 0 where
   pub ends : new.ends ≡ old.ends
   pub base : new.added.base ≡ old.added.base
@@ -101,7 +101,7 @@ renewed_values (place ∷ places) [] values = []
 renewed_values (place ∷ places) (piece ∷ pieces) values =
     values_for (is_some place) (take piece.len values) ++ renewed_values places pieces (drop piece.len values)
 
--- the first pieces are written again where they are to be, and stand for the slots that they stood for
+-- the first pieces are written again where they are to be, and represent the slots that they represented
 pub record AreWritten
     (which : OldPieces) (old : SessionText) (slots : List Slot) (pieces : List TextPiece) (items : List Item)
     (places : List (Option ℕ)) : Type 0 where

@@ -13,7 +13,7 @@ use std::alloc::Global;
 use std::mem;
 use text_codes::PARAGRAPH_MARK;
 
-/// Items whose units, of two bytes each, stand from a byte of `WordDocument` on. The next fast save writes them.
+/// Items whose units, of two bytes each, are from a byte of `WordDocument` on. The next fast save writes them.
 #[derive(Drop)]
 pub struct Added {
     pub base: u32,

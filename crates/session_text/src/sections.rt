@@ -1,4 +1,4 @@
-// Where the properties of sections stand, while the main text changes. No place: they are still to be written.
+// Where the properties of sections are, while the main text changes. No place: they are still to be written.
 ghost use Rattle.std.specs.Prelude.{◌≡◌, ◌<◌, ◌++◌, length, replicate, take, slice_get, None, IfOk, OnOk};
 ghost use Rattle.std.specs.Option.{option_and_then};
 ghost use Rattle.plain_doc.specs.RulesOfSheet.{section_count};

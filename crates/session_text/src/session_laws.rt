@@ -37,7 +37,7 @@ pub fn sections_splice()
     ensures { SectionsSplice }
 {}
 
-/// The places of pieces stand for the text where properties of a section are set.
+/// The places of pieces represent the text where properties of a section are set.
 pub fn sections_stay()
     ensures { SectionsStay }
 {}
@@ -57,12 +57,12 @@ pub fn bookmarks_stay()
     ensures { BookmarksStay }
 {}
 
-/// A block of added text stands for the slots that its items were added for.
+/// A block of added text represents the slots that its items were added for.
 pub fn blocks_stand()
     ensures { BlocksStand }
 {}
 
-/// The text of a document that is saved stands in a session on it.
+/// The text of a document that is saved is in a session on it.
 pub fn saved_texts_stand()
     ensures { SavedTextsStand }
 {}

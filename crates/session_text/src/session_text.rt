@@ -38,7 +38,7 @@ pub(crate) struct TextSplice {
 }
 
 /// The text of a session's document: its pieces, in the stream of the last save and in added text; the marks behind its
-/// stories; and where the properties of its sections stand in that stream, or that they are still to be written.
+/// stories; and where the properties of its sections are in that stream, or that they are still to be written.
 #[derive(Drop)]
 pub struct SessionText {
     pub pieces: PieceList,
@@ -48,7 +48,7 @@ pub struct SessionText {
 }
 
 impl SessionText {
-    /// The text of pieces. Added text will stand from a byte of `WordDocument` on.
+    /// The text of pieces. Added text will be from a byte of `WordDocument` on.
     pub fn new(
         alloc: Global,
         pieces: PieceList,

@@ -1,4 +1,4 @@
-// The three stories of a text that is edited, by their numbers of items, and how a range of a story's items stands in
+// The three stories of a text that is edited, by their numbers of items, and how a range of a story's items is in
 // the whole text.
 ghost use Rattle.std.specs.Prelude.{◌≡◌, ◌+◌, ◌-◌, ◌^◌, ◌<◌, ◌≤◌, List, length};
 ghost use Rattle.plain_doc.specs.declared.item.Item.{Item as TextItem};
@@ -40,7 +40,7 @@ impl Stories {
     }
 }
 
-/// A story in the whole text: the CP where it begins, its items, whether a mark stands behind it, and whether the other
+/// A story in the whole text: the CP where it begins, its items, whether a mark is behind it, and whether the other
 /// story has slots.
 #[derive(Clone, Copy)]
 pub(crate) struct StoryPlace {
@@ -51,7 +51,7 @@ pub(crate) struct StoryPlace {
 }
 
 /// A range of a story's items as a range of CPs, with the marks behind it that go; the marks that come; and whether a
-/// mark stands behind the story after that.
+/// mark is behind the story after that.
 #[derive(Clone, Copy)]
 pub(crate) struct StoryCut {
     pub(crate) from: u32,
@@ -105,7 +105,7 @@ fn marks_going(before: bool, after: bool, end: bool, others: bool) -> u32
     }
 }
 
-/// Whether a mark stands behind a story after a change.
+/// Whether a mark is behind a story after a change.
 fn end_behind(before: bool, after: bool, end: bool) -> bool
     ensures { result ≡ ending before after end }
 {

@@ -128,7 +128,7 @@ meets groups (p ∷ before) (q ∷ other) x y first accepted second e faulty =
       rest.1,
     )
 
--- a fault of either kind, as one fact on what stands at the place
+-- a fault of either kind, as one fact on what is at the place
 faulty_at : (bytes : List ℕ) (groups place : ℕ) → HasSprmFaultAt bytes groups place → AfterEntries (IsFaulty groups)
     bytes place
 faulty_at bytes groups place fault = elim fault [
@@ -136,7 +136,7 @@ faulty_at bytes groups place fault = elim fault [
   | inr refused ↦ record { before = refused.before; front = refused.front; here = inr refused.here }
 ]
 
--- no fault stands before the place that was passed
+-- no fault is before the place that was passed
 pub passed_least : (bytes : List ℕ) (groups at place : ℕ) → Passed bytes groups at → HasSprmFaultAt bytes groups
     place → at ≤ place
 passed_least bytes groups at place passed fault =
@@ -219,7 +219,7 @@ one_kind : (bytes : List ℕ) (groups : ℕ) → IsShort bytes → IsRefused gro
 one_kind bytes groups short refused = entry_not_short refused.prl refused.more refused.entry (subst IsShort
     refused.spelt short)
 
--- two first faults stand at one place
+-- two first faults are at one place
 same_place : (bytes : List ℕ) (groups : ℕ) (a b : SprmFault) → IsFirstSprmFault bytes groups a → IsFirstSprmFault
     bytes groups b → fault_place a ≡ fault_place b
 same_place bytes groups a b one other =

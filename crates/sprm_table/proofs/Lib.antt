@@ -1,4 +1,5 @@
-pub mod CodeLemmas
-pub mod OperandLemmas
-pub mod SprmLemmas
-pub mod FaultLemmas
+pub mod Public
+mod CodeLemmas
+mod OperandLemmas
+mod SprmLemmas
+mod FaultLemmas

@@ -5,13 +5,13 @@ use Rattle.std.proofs.Common.{get_or, refl, sym, ap, ◌∙◌, arith, append_as
 use Rattle.std.proofs.lemmas.List.{drop-drop, append_cancel_left}
 use Rattle.std.specs.Prelude.{slice_range}
 use Rattle.doc_bits.specs.Number.{number_at, u16_at, number_bytes}
-use Rattle.doc_bits.proofs.NumberLemmas.{number_at-number_bytes, length-number_bytes}
+use Rattle.doc_bits.proofs.Public.{number_at-number_bytes, length-number_bytes}
 use Rattle.sprm_table.specs.declared.operands.OperandSize.{OperandSize}
 use Rattle.sprm_table.specs.declared.operands.OperandSize.TheVariants.{Fixed, CountedByByte, CountedByWord}
 use Rattle.sprm_table.proofs.CodeLemmas.{apart}
 use Rattle.sprm_table.specs.Operands.{size_of, fixed_len, counted, IsSizeOf, operand_bytes, IsOperandAt, HasNoOperand}
 pub use Rattle.doc_bits.specs.Number.{AreBytes}
-pub use Rattle.doc_bits.proofs.ListLemmas.{same_front, three_parts, length-range}
+pub use Rattle.doc_bits.proofs.Public.{same_front, three_parts, length-range}
 
 -- the first byte of a list
 pub take_one : (xs : List ℕ) → 0 < length xs → take 1 xs ≡ get_or xs 0 0 ∷ []

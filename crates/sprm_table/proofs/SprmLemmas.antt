@@ -6,7 +6,7 @@ use Rattle.std.proofs.lemmas.List.{append-nil, drop_at, drop-drop, take-append-d
 use Rattle.std.specs.Prelude.{slice_range}
 use Rattle.std.proofs.lemmas.List.Elements.{All-nil, All-head, All-tail}
 use Rattle.doc_bits.specs.Number.{u16_at, number_bytes}
-use Rattle.doc_bits.proofs.NumberLemmas.{number_at-number_bytes, length-number_bytes}
+use Rattle.doc_bits.proofs.Public.{number_at-number_bytes, length-number_bytes}
 use Rattle.sprm_table.specs.Operands.{size_of, IsSizeOf, operand_bytes, IsOperandAt}
 use Rattle.sprm_table.specs.Sprm.{Prl, IsPrl, spelling, EndsSprmList, SpellsSprmList, IsShort}
 use Rattle.sprm_table.specs.Cursor.{SprmCursor, left, IsPrlAt, Gives, Takes}
@@ -51,7 +51,7 @@ spelling_unique (code, v) (other, w) x y first second e =
     let values = operand_unique (size_of code) v w x y first.size (rw (← same) at fits) (rw (← same) at rest) in
     (cc (same, values.0), values.1)
 
--- where an entry stands the list goes on
+-- where an entry is the list goes on
 pub entry_goes_on : (prl : Prl) (more : List ℕ) → IsPrl prl → EndsSprmList (spelling prl ++ more) → ⊥
 entry_goes_on prl more is ends = elim ends [
   | inl short ↦ omega (arith, length-append (spelling prl) more, length-spelling prl)
@@ -119,7 +119,7 @@ pub record Follows (list : List Prl) (prl : Prl) (more : List ℕ) : Type 0 wher
   pub is : list ≡ prl ∷ others
   pub left : SpellsSprmList more others
 
--- an entry that stands at the front is the first of the list
+-- an entry that is at the front is the first of the list
 pub spells_entry : (bytes : List ℕ) (list : List Prl) (prl : Prl) (more : List ℕ) → IsPrl prl → bytes ≡ spelling prl
     ++ more → SpellsSprmList bytes list → Follows list prl more
 spells_entry bytes [] prl more is e spelt =

@@ -1,11 +1,11 @@
--- What stands at the front of a list of sprms.
+-- What is at the front of a list of sprms.
 use Rattle.std.specs.Prelude.{ℕ, List}
 use Rattle.sprm_table.specs.declared.lists.Step.{Step}
 use Rattle.sprm_table.specs.declared.lists.Step.TheVariants as step
 use Rattle.sprm_table.specs.Sprm.{EndsSprmList, IsShort}
 use Rattle.sprm_table.specs.Cursor.{IsPrlAt}
 
--- the list ends, an operand leaves it, or an entry stands there
+-- the list ends, an operand leaves it, or an entry is there
 abbrev pub IsStep : List ℕ → Step → Type 0
 IsStep bytes step.End = EndsSprmList bytes
 IsStep bytes step.Short = IsShort bytes

@@ -33,7 +33,7 @@ IsSizeOf CountedByByte len = len ≤ 255
 IsSizeOf CountedByWord len = len ≤ 65534
 
 -- the bytes of an operand: a count where there is one, and the value
--- [MS-DOC] TDefTableOperand: the 16-bit count is the size of the value and 1. Profile: a count of 0 stands before no
+-- [MS-DOC] TDefTableOperand: the 16-bit count is the size of the value and 1. Profile: a count of 0 is before no
 -- value
 abbrev pub operand_bytes : OperandSize → List ℕ → List ℕ
 operand_bytes (Fixed size) value = value

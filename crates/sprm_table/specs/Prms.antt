@@ -24,7 +24,7 @@ abbrev pub code_beside : ℕ → List (ℕ × ℕ) → Option ℕ
 code_beside isprm [] = None
 code_beside isprm (row ∷ rows) = if isprm == row.0 then Some row.1 else code_beside isprm rows
 
--- the code that an isprm stands for
+-- the code that an isprm represents
 abbrev pub code_of_isprm : ℕ → Option ℕ
 code_of_isprm isprm = code_beside isprm prm_codes
 

@@ -75,11 +75,11 @@ IsCutShortAt = AfterEntries IsShort
 abbrev pub IsRefusedAt : List ℕ → ℕ → ℕ → Type 0
 IsRefusedAt bytes groups = AfterEntries (IsRefused groups) bytes
 
--- a fault stands at the place
+-- a fault is at the place
 abbrev pub HasSprmFaultAt : List ℕ → ℕ → ℕ → Type 0
 HasSprmFaultAt bytes groups at = IsCutShortAt bytes at ⊎ IsRefusedAt bytes groups at
 
--- the fault stands where it says
+-- the fault is where it says
 abbrev pub IsSprmFault : List ℕ → ℕ → SprmFault → Type 0
 IsSprmFault bytes groups (Short at) = IsCutShortAt bytes at
 IsSprmFault bytes groups (Refused at) = IsRefusedAt bytes groups at
@@ -89,7 +89,7 @@ abbrev pub fault_place : SprmFault → ℕ
 fault_place (Short at) = at
 fault_place (Refused at) = at
 
--- the fault stands where it says, and none before it
+-- the fault is where it says, and none before it
 pub record IsFirstSprmFault (bytes : List ℕ) (groups : ℕ) (fault : SprmFault) : Type 0 where
   pub there : IsSprmFault bytes groups fault
   pub least : IsLeast (λ a b. a ≤ b) (HasSprmFaultAt bytes groups) (fault_place fault)

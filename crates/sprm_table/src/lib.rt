@@ -1,4 +1,4 @@
-//! Sprms: their codes, groups, classes and operands, and the lists that they stand in.
+//! Sprms: their codes, groups, classes and operands, and the lists that they are in.
 #![tactic(auto)]
 
 mod classes;
@@ -21,4 +21,5 @@ pub use sprms::{
     SPRM_C_F_BOLD, SPRM_C_F_SPEC, SPRM_C_ISS, SPRM_C_ISTD, SPRM_C_PLAIN, SPRM_C_SYMBOL,
     SPRM_P_CHG_TABS_PAPX, SPRM_P_F_BI_DI, SPRM_P_F_IN_TABLE, SPRM_P_F_PAGE_BREAK_BEFORE,
     SPRM_P_F_TTP, SPRM_P_ILFO, SPRM_P_ILVL, SPRM_P_ISTD, SPRM_P_OUT_LVL, SPRM_T_DEF_TABLE,
+    TABLE_GROUP,
 };

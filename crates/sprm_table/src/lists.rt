@@ -1,4 +1,4 @@
-// Lists are ranges of the bytes that they stand in. Nothing is copied, and no call takes memory.
+// Lists are ranges of the bytes that they are in. Nothing is copied, and no call takes memory.
 ghost use Rattle.std.specs.Prelude.{◌≡◌, ◌↔◌, List, [], MatchOption};
 ghost use Rattle.doc_bits.specs.Rules.{Nowhere};
 ghost use Rattle.sprm_table.specs.Sprm.{Prl, SpellsSprmList, HasSprmFaultAt};
@@ -82,7 +82,7 @@ impl<'a> SprmIter<'a> {
     }
 }
 
-/// What stands at the front of a list.
+/// What is at the front of a list.
 #[derive(Clone, Copy)]
 enum Step {
     End,

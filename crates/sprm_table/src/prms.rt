@@ -3,7 +3,7 @@ ghost use Rattle.sprm_table.specs.Prms.{code_of_isprm, IsPrmCode};
 
 use crate::Code;
 
-/// The code that the isprm of a Prm stands for. None where it is not one that is read; 0 is none.
+/// The code that the isprm of a Prm represents. None where it is not one that is read; 0 is none.
 pub fn prm_code(isprm: u8) -> Option<Code>
     ensures code { option_map (λ code. code.0) result ≡ code_of_isprm isprm }
     ensures one_byte { IfSome result (λ code. IsPrmCode code.0) }

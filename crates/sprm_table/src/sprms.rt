@@ -49,3 +49,6 @@ pub const SPRM_P_OUT_LVL: Code = Code(0x2640);
 
 /// The cells of a row: their number, and where each ends.
 pub const SPRM_T_DEF_TABLE: Code = Code(0xD608);
+
+/// [MS-DOC] sgc of sprms of tables.
+pub const TABLE_GROUP: u8 = 5;

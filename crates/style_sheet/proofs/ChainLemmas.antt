@@ -1,11 +1,11 @@
 -- Chains of bases: the bases that follow each other from a style on, and that they are its chain where they end.
-use Rattle.std.proofs.Common.{◌≡◌, ◌≢◌, inl, inr, ℕ, zero, suc, ◌+◌, ◌-◌, ◌<◌, ◌≤◌, List, [], ◌∷◌, ◌++◌, length}
+use Rattle.std.proofs.Common.{◌≡◌, ◌≢◌, inl, inr, ℕ, zero, suc, ◌+◌, ◌-◌, ◌<◌, ◌≤◌, List, [], ◌∷◌, ◌++◌, length, take}
 use Rattle.std.proofs.Common.{reverse, slice_index, Some, None, refl, sym, ◌∙◌, ap, subst, arith}
 use Rattle.std.specs.Option.{unwrap_or}
 use Rattle.std.proofs.lemmas.Bool.{cases_lt}
-use Rattle.std.proofs.lemmas.List.{reverse-append}
+use Rattle.std.proofs.lemmas.List.{reverse-append, get_or-take, length-take-le}
 use Rattle.style_sheet.specs.Sheet.{Sheet}
-use Rattle.style_sheet.specs.Chain.{kind_at, base_at, IsBaseChain}
+use Rattle.style_sheet.specs.Chain.{kind_at, base_at, IsBaseChain, AreOfOneKind}
 
 -- the style that is reached by so many bases
 abbrev pub up : Sheet → ℕ → ℕ → ℕ
@@ -124,3 +124,31 @@ pub ups_more : (sheet : Sheet) (istd n base : ℕ) (items : List ℕ) → up she
     (ups sheet istd n) → items ++ base ∷ [] ≡ reverse (ups sheet istd (suc n))
 ups_more sheet istd n base items e old = rw (← e, old) (sym (reverse-append (up sheet istd (suc n) ∷ [])
     (ups sheet istd n)))
+
+-- the front of a chain is the chain of its last style
+pub chain_front : (sheet : Sheet) (istd : ℕ) (chain : List ℕ) (i : ℕ) → IsBaseChain sheet istd chain → i < length chain
+    →
+    IsBaseChain sheet (slice_index chain i) (take (i + 1) chain)
+chain_front sheet istd chain i is within =
+    let front : List ℕ = take (i + 1) chain in
+    let len : length front ≡ i + 1 = length-take-le (i + 1) chain (omega (arith, within)) in
+    let same : (k : ℕ) → k < i + 1 → slice_index front k ≡ slice_index chain k =
+    (λ k below. get_or-take (i + 1) chain k 0 below) in
+    let end : length front - 1 ≡ i = omega (arith, len) in
+    record {
+      some = omega (arith, len);
+      last = ap (slice_index front) end ∙ same i (omega arith);
+      root = ap (base_at sheet) (same 0 (omega arith)) ∙ is.root;
+      links = λ k below.
+          ap (base_at sheet) (same (k + 1) (omega (arith, below, len)))
+          ∙ is.links k (omega (arith, below, len, within))
+          ∙ ap Some (sym (same k (omega (arith, below, len))));
+      kind = λ k below.
+          let own = is.kind i within in
+          let other = is.kind k (omega (arith, below, len, within)) in
+          subst (AreOfOneKind sheet (slice_index chain i)) (sym (same k (omega (arith, below, len))))
+          (record { properties = rw own.same own.properties; same = other.same ∙ sym own.same });
+      once = λ j k less below both.
+          is.once j k less (omega (arith, below, len, within))
+          (sym (same j (omega (arith, less, below, len))) ∙ both ∙ same k (omega (arith, below, len)));
+    }

@@ -13,8 +13,7 @@ use Rattle.style_sheet.specs.Stsh.{stsh_rules, SpellsSlot}
 use Rattle.style_sheet.specs.Written.{PartsHoldSheets}
 pub use Rattle.style_sheet.specs.Written.{HasFormedSheet}
 use Rattle.style_sheet.specs.Formed.{IsFormedSlot}
-use Rattle.doc_bits.proofs.ListLemmas.{All-from_slice_get}
-use Rattle.doc_bits.proofs.ByteListLemmas.{AreBytes-range}
+use Rattle.doc_bits.proofs.Public.{All-from_slice_get, AreBytes-range}
 use Rattle.style_sheet.proofs.MadeLists.{list_of}
 use Rattle.style_sheet.proofs.StableStyles.{stable_slot, stable_stshif}
 use Rattle.style_sheet.proofs.ExistStyles.{at_place, word_small, style_there}

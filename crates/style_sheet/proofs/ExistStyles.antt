@@ -7,7 +7,7 @@ use Rattle.std.proofs.lemmas.Bool.{cases_lt, cases_eq}
 use Rattle.std.proofs.lemmas.Option.{slice_get-get_or}
 use Rattle.doc_bits.specs.Number.{u16_at, AreBytes}
 use Rattle.doc_bits.specs.Rules.{Nowhere}
-use Rattle.doc_bits.proofs.NumberLemmas.{number_at-bound}
+use Rattle.doc_bits.proofs.Public.{number_at-bound, All-from_slice_get, AreBytes-drop, AreBytes-range}
 use Rattle.sprm_table.specs.Sprm.{HasSprmFaultAt}
 use Rattle.prop_map.specs.Settings.{Properties}
 use Rattle.prop_map.specs.Formed.{IsPropertyMap, character_groups, paragraph_groups}
@@ -19,12 +19,7 @@ use Rattle.style_sheet.specs.StyleDefinition.{stk, cupx, name_len, upx_place, up
 use Rattle.style_sheet.specs.StyleDefinition.{SpellsKind, SpellsStyle, base_of}
 use Rattle.style_sheet.specs.Stsh.{HasListFault}
 use Rattle.style_sheet.specs.Formed.{IsFormedKind, IsFormedBase, IsFormedStyle}
-use Rattle.doc_bits.proofs.ListLemmas.{All-from_slice_get}
-use Rattle.doc_bits.proofs.ByteListLemmas.{AreBytes-drop, AreBytes-range}
-use Rattle.prop_map.proofs.ActingLemmas.{IsPropertyMap-after, IsPropertyMap-empty}
-use Rattle.prop_map.proofs.AcceptedLemmas.{accepted_of}
-use Rattle.prop_map.proofs.ByteLemmas.{list_bytes}
-use Rattle.prop_map.proofs.ExistMaps.{after_list}
+use Rattle.prop_map.proofs.Public.{IsPropertyMap-after, IsPropertyMap-empty, accepted_of, list_bytes, after_list}
 use Rattle.style_sheet.proofs.MadeLists.{list_of}
 
 -- a list's map, and that it is right

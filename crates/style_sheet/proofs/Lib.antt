@@ -1,16 +1,17 @@
-pub mod ChainLemmas
-pub mod OneChainLemmas
-pub mod ChangeLemmas
-pub mod ReadLemmas
-pub mod WordLemmas
-pub mod LengthLemmas
-pub mod SlotLemmas
-pub mod StdLemmas
-pub mod StyleBackLemmas
-pub mod SheetBackLemmas
-pub mod UniqueLemmas
-pub mod BaseLemmas
-pub mod MadeLists
-pub mod StableStyles
-pub mod ExistStyles
-pub mod ExistSheet
+pub mod Public
+mod ChainLemmas
+mod OneChainLemmas
+mod ChangeLemmas
+mod ReadLemmas
+mod WordLemmas
+mod LengthLemmas
+mod SlotLemmas
+mod StdLemmas
+mod StyleBackLemmas
+mod SheetBackLemmas
+mod UniqueLemmas
+mod BaseLemmas
+mod MadeLists
+mod StableStyles
+mod ExistStyles
+mod ExistSheet

@@ -3,7 +3,7 @@ use Rattle.std.proofs.Common.{◌≡◌, inl, inr, ℕ, zero, suc, ◌+◌, ◌-
 use Rattle.std.proofs.Common.{refl, sym, ◌∙◌, ap, arith}
 use Rattle.std.proofs.lemmas.Bool.{cases_lt}
 use Rattle.std.proofs.lemmas.List.{ext_get_or, get_or_past}
-use Rattle.doc_bits.proofs.ListLemmas.{length_below}
+use Rattle.doc_bits.proofs.Public.{length_below}
 use Rattle.style_sheet.specs.Sheet.{Sheet}
 use Rattle.style_sheet.specs.Chain.{kind_at, kind_in, base_at, IsBaseChain, HasSoundBase, HasSoundBases, BreaksBases}
 use Rattle.style_sheet.specs.Chain.{BaseChainIsOne}

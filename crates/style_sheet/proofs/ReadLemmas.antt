@@ -1,13 +1,12 @@
--- Reading an STSH: where slots and faults stand.
-use Rattle.std.proofs.Common.{◌≡◌, inl, inr, ℕ, zero, suc, ◌+◌, ◌-◌, ◌<◌, ◌≤◌, List, [], ◌∷◌, ◌++◌, Option, Some}
+-- Reading an STSH: where slots and faults are.
+use Rattle.std.proofs.Common.{◌≡◌, inl, inr, ℕ, zero, suc, ◌+◌, ◌-◌, ◌<◌, ◌≤◌, List, [], ◌∷◌, ◌++◌, Option}
 use Rattle.std.proofs.Common.{None, length, drop, slice_index_or, refl, sym, ◌∙◌, ap, subst, arith, length-drop}
 use Rattle.std.proofs.Common.{length-append, length-take}
 use Rattle.std.proofs.lemmas.List.{get_or_past, get_or_append_left}
 use Rattle.std.proofs.Math.Seq.{get_or-append_seam}
 use borrow.Author.Count.{below_more}
 use Rattle.doc_bits.specs.Number.{u16_at, number_at, number_bytes}
-use Rattle.doc_bits.specs.Rules.{lesser_of}
-use Rattle.doc_bits.proofs.NumberLemmas.{length-number_bytes}
+use Rattle.doc_bits.proofs.Public.{length-number_bytes}
 use Rattle.sprm_table.specs.Sprm.{HasSprmFaultAt, spelling}
 use Rattle.sprm_table.specs.Operands.{operand_bytes, size_of}
 use Rattle.style_sheet.specs.declared.styles.Style.{Style}
@@ -15,7 +14,7 @@ use Rattle.style_sheet.specs.Counted.{even_up, counted_end, counted_place, count
 use Rattle.style_sheet.specs.StyleDefinition.{upx_place, IsStd, HasAcceptedLists}
 use Rattle.style_sheet.specs.Stsh.{slot_place, HasListFault, IsWrongSlot, SpellsSlot}
 
--- later counts stand later
+-- later counts are later
 pub place_next : (bytes : List ℕ) (start k : ℕ) → counted_place bytes start k ≤ counted_place bytes start (suc k)
 place_next bytes start k = omega arith
 
@@ -110,12 +109,6 @@ pub place_step : (part : List ℕ) (k place next : ℕ) → 1 ≤ k → place �
 place_step part k place next some here e =
     let same : suc (k - 1) ≡ k = omega arith in
     e ∙ (ap (λ p. even_up (counted_end part p)) here ∙ ap (slot_place part) same)
-
--- neither is there where the lesser is not
-pub neither : (a b : Option ℕ) → lesser_of a b ≡ None → (a ≡ None) × (b ≡ None)
-neither None b e = (refl, e)
-neither (Some x) None e = absurd (cc)
-neither (Some x) (Some y) e = absurd (cc)
 
 -- one slot more that is spelt
 pub slots_more : (part : List ℕ) (styles : List (Option Style)) (slot : Option Style) (n : ℕ) → length styles ≡ n →

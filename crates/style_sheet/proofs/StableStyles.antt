@@ -6,7 +6,7 @@ use Rattle.style_sheet.specs.Counted.{counted_bytes, counted_end}
 use Rattle.style_sheet.specs.StyleDefinition.{stk, cupx, name_len, upxes_start, upx_place, HasName, HasKind, HasUpxes}
 use Rattle.style_sheet.specs.StyleDefinition.{IsStd}
 use Rattle.style_sheet.specs.Stsh.{cstd, std_base, HasStshif, IsSlotAt}
-use Rattle.doc_bits.proofs.TestLemmas.{stable_le, stable_eq}
+use Rattle.doc_bits.proofs.Public.{stable_le, stable_eq}
 
 stable_name : (std : List ℕ) (base : ℕ) → ¬ ¬ (HasName std base) → HasName std base
 stable_name std base twice = record {

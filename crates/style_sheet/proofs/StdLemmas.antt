@@ -5,7 +5,7 @@ use Rattle.std.specs.List.{All, flat_map}
 use Rattle.std.proofs.lemmas.Bool.{cases_lt, ne_eqb}
 use Rattle.std.proofs.lemmas.List.{get_or_past}
 use Rattle.doc_bits.specs.Number.{u16_at}
-use Rattle.doc_bits.proofs.NumberLemmas.{number_at-after}
+use Rattle.doc_bits.proofs.Public.{number_at-after}
 use Rattle.style_sheet.specs.declared.styles.Style.{Style}
 use Rattle.style_sheet.specs.declared.styles.Kind.{Kind}
 use Rattle.style_sheet.specs.declared.styles.Kind.TheVariants.{Para, Char, Other}
@@ -95,7 +95,7 @@ name_at name more short small =
           0 more (omega arith)));
     }
 
--- what stands before the upxes
+-- what is before the upxes
 pub std_front : ℕ → Style → List ℕ
 std_front istd style =
     (word (style.sti + 4096 * style.flags)

@@ -6,11 +6,11 @@ use Rattle.std.specs.FinMap.{entries}
 use Rattle.std.proofs.Math.Seq.{drop-append_seam}
 use Rattle.doc_bits.specs.Number.{u16_at}
 use Rattle.sprm_table.specs.Sprm.{IsAcceptedList}
-use Rattle.sprm_table.proofs.FaultLemmas.{accepted_no_fault}
+use Rattle.sprm_table.proofs.Public.{accepted_no_fault}
 use Rattle.prop_map.specs.Settings.{Properties}
 use Rattle.prop_map.specs.Formed.{IsPropertyMap, character_groups, paragraph_groups}
 use Rattle.prop_map.specs.Printing.{printed_list}
-use Rattle.prop_map.proofs.PrintLemmas.{print_is}
+use Rattle.prop_map.proofs.Public.{print_is}
 use Rattle.style_sheet.specs.declared.styles.Style.{Style}
 use Rattle.style_sheet.specs.declared.styles.Kind.{Kind}
 use Rattle.style_sheet.specs.declared.styles.Kind.TheVariants.{Para, Char, Other}
@@ -25,7 +25,7 @@ use Rattle.style_sheet.proofs.LengthLemmas.{rest_len, style_len, items_short}
 use Rattle.style_sheet.proofs.StdLemmas.{small_words, stk_small, upxes_few, base_small, base_back, fields_at, name_at}
 use Rattle.style_sheet.proofs.StdLemmas.{std_front, std_split, length-std_front}
 
--- the upxes of the kind stand in the STD
+-- the upxes of the kind are in the STD
 abbrev pub AreItems : List ℕ → ℕ → Kind → Type 0
 AreItems std istd kind = (k : ℕ) (d : List ℕ) → k < length (written_upxes istd kind) → IsItemAt std (upx_place std 10
     k) (slice_index_or (written_upxes istd kind) k d)

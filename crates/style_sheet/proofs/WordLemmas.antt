@@ -5,7 +5,7 @@ use Rattle.std.proofs.Common.{length-append, append_assoc}
 use Rattle.std.specs.List.{All, flat_map}
 use Rattle.std.proofs.Math.Seq.{take-append_seam, drop-append_seam}
 use Rattle.doc_bits.specs.Number.{u16_at}
-use Rattle.doc_bits.proofs.NumberLemmas.{number_at-number_bytes, number_at-after, length-number_bytes}
+use Rattle.doc_bits.proofs.Public.{number_at-number_bytes, number_at-after, length-number_bytes}
 use Rattle.style_sheet.specs.Counted.{even_up, counted_end, counted_place, counted_bytes, IsCountedPart}
 use Rattle.style_sheet.specs.Counted.{written_counted}
 use Rattle.style_sheet.specs.Written.{word}
@@ -41,7 +41,7 @@ words_at (x ∷ xs) rest (suc i) small h =
     rw (append_assoc (word x) (flat_map word xs) rest, place) (word_after x (flat_map word xs ++ rest) (2 * i) ∙
     words_at xs rest i (λ k. small (suc k)) (omega arith))
 
--- what stands at a count
+-- what is at a count
 pub record IsItemAt (bytes : List ℕ) (at : ℕ) (item : List ℕ) : Type 0 where
   pub count : u16_at bytes at ≡ length item
   pub within : IsCountedPart bytes at
@@ -104,14 +104,14 @@ length-written item =
     let pad = length-pad (length item) in
     omega arith
 
--- the first of several, with what stands before it and after it
+-- the first of several, with what is before it and after it
 first_item : (front item rest : List ℕ) → front ++ (written_counted item ++ rest) ≡ front ++ (word (length item) ++
     (item ++ (pad_of (length item) ++ rest)))
 first_item front item rest =
     ap (λ t. front ++ t) (append_assoc (word (length item)) (item ++ pad_of (length item)) rest ∙ ap
     (λ t. word (length item) ++ t) (append_assoc item (pad_of (length item)) rest))
 
--- where the second one stands
+-- where the second one is
 second_place : (front item rest : List ℕ) (k : ℕ) → length front % 2 ≡ 0 → length item < 65536 →
     counted_place (front ++ (written_counted item ++ rest)) (length front) (suc k) ≡ counted_place
     (front ++ (written_counted item ++ rest)) (length (front ++ written_counted item)) k

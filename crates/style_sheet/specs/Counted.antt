@@ -1,6 +1,6 @@
 -- [MS-DOC] LPStd, LPUpx: a 16-bit count and that many bytes. They follow each other, each at an even offset of what
 -- they
--- stand in.
+-- are in.
 use Rattle.std.specs.Prelude.{ℕ, zero, suc, ◌+◌, ◌%◌, ◌≤◌, ◌==◌, if◌then◌else◌, List, [], ◌∷◌, ◌++◌, length}
 use Rattle.std.specs.Prelude.{slice_range}
 use Rattle.doc_bits.specs.Number.{u16_at, number_bytes}
@@ -12,7 +12,7 @@ even_up offset = offset + offset % 2
 abbrev pub counted_end : List ℕ → ℕ → ℕ
 counted_end bytes at = at + 2 + u16_at bytes at
 
--- where one stands, the first from an offset on
+-- where one is, the first from an offset on
 abbrev pub counted_place : List ℕ → ℕ → ℕ → ℕ
 counted_place bytes start zero = even_up start
 counted_place bytes start (suc k) = even_up (counted_end bytes (counted_place bytes start k))
@@ -21,7 +21,7 @@ counted_place bytes start (suc k) = even_up (counted_end bytes (counted_place by
 abbrev pub counted_bytes : List ℕ → ℕ → List ℕ
 counted_bytes bytes at = slice_range bytes (at + 2) (counted_end bytes at)
 
--- it is within what it stands in
+-- it is within what it is in
 abbrev pub IsCountedPart : List ℕ → ℕ → Type 0
 IsCountedPart bytes at = counted_end bytes at ≤ length bytes
 

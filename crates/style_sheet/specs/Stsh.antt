@@ -35,7 +35,7 @@ pub record HasStshif (part : List ℕ) : Type 0 where
   pub few : cstd part ≤ 4094
   pub base : (std_base part ≡ 10) ⊎ (std_base part ≡ 18)
 
--- where the cbStd of a slot stands. Profile: bytes of the Stshi after the Stshif are dropped
+-- where the cbStd of a slot is. Profile: bytes of the Stshi after the Stshif are dropped
 abbrev pub slot_place : List ℕ → ℕ → ℕ
 slot_place part istd = counted_place part (2 + cb_stshi part) istd
 
@@ -54,7 +54,7 @@ IsSlot part istd = IsSlotAt part (std_base part) (slot_place part istd)
 abbrev pub AreSlots : List ℕ → Type 0
 AreSlots part = (istd : ℕ) → istd < cstd part → IsSlot part istd
 
--- an offset in the table stream is a number of 32 bits; its greatest value stands for those above
+-- an offset in the table stream is a number of 32 bits; its greatest value represents those above
 abbrev pub table_offset : ℕ → ℕ → ℕ
 table_offset at offset = min (at + offset) (2 ^ 32 - 1)
 
@@ -62,12 +62,12 @@ pub record IsWrongSlot (part : List ℕ) (at istd place : ℕ) : Type 0 where
   pub here : place ≡ table_offset at (slot_place part istd)
   pub wrong : ¬ IsSlot part istd
 
--- the list of paragraph properties has a fault at this offset of the STD: it stands after a count and a style number
+-- the list of paragraph properties has a fault at this offset of the STD: it is after a count and a style number
 abbrev pub IsParagraphFault : List ℕ → ℕ → ℕ → Type 0
 IsParagraphFault std base offset = From (upx_place std base 0 + 4) (HasSprmFaultAt (paragraph_list std base)
     paragraph_groups) offset
 
--- the list of character properties whose count stands there has one
+-- the list of character properties whose count is there has one
 abbrev pub IsCharacterFault : List ℕ → ℕ → ℕ → Type 0
 IsCharacterFault std at offset = From (at + 2) (HasSprmFaultAt (counted_bytes std at) character_groups) offset
 
@@ -88,7 +88,7 @@ HasStyleFault part at istd offset = HasSlotFault part (std_base part) (slot_plac
 abbrev pub HasSoundLists : List ℕ → Type 0
 HasSoundLists part = (istd : ℕ) → istd < cstd part → HasAcceptedLists (std_of part istd) (std_base part)
 
--- the rules on an STSH that stands at this offset of the table stream
+-- the rules on an STSH that is at this offset of the table stream
 abbrev pub stsh_rules : List ℕ → ℕ → Rules ℕ
 stsh_rules part at =
     rule 49 (λ place. (place ≡ at) × ¬ HasStshif part) then

@@ -57,7 +57,7 @@ abbrev pub written_slots : ℕ → List (Option Style) → List (List ℕ)
 written_slots istd [] = []
 written_slots istd (slot ∷ slots) = written_slot istd slot ∷ written_slots (suc istd) slots
 
--- the Stshi, and what stands before the slots
+-- the Stshi, and what is before the slots
 abbrev pub written_front : Sheet → List ℕ
 written_front sheet = word 18 ++ (word (length sheet.styles) ++ (word 10 ++ flat_map word sheet.head))
 
@@ -69,7 +69,7 @@ written_sheet sheet = written_front sheet ++ flat_map written_counted (written_s
 abbrev pub IsWritable : Sheet → Type 0
 IsWritable sheet = (istd : ℕ) → length (written_slot istd (style_at sheet istd)) ≤ 32767
 
--- the bytes break no rule, wherever they stand, and hold the sheet
+-- the bytes break no rule, wherever they are, and hold the sheet
 pub record IsReadAs (sheet : Sheet) (part : List ℕ) : Type 0 where
   pub rules : (at : ℕ) → Hold (stsh_rules part at)
   pub held : HasStyleSheet part sheet

@@ -13,7 +13,7 @@ pub(crate) fn even_up(offset: usize) -> usize
     offset + offset % 2
 }
 
-/// Where the bytes end whose count stands at a place, where they are there.
+/// Where the bytes end whose count is at a place, where they are there.
 pub(crate) fn counted_end(bytes: &[u8], at: usize) -> Option<usize>
     ensures { MatchOption result
         (length bytes.now < counted_end bytes.now at)
@@ -29,7 +29,7 @@ pub(crate) fn counted_end(bytes: &[u8], at: usize) -> Option<usize>
     Some(end)
 }
 
-/// The bytes whose count stands at a place.
+/// The bytes whose count is at a place.
 pub(crate) fn counted_bytes(bytes: &[u8], at: usize) -> &[u8]
     requires { IsCountedPart bytes.now at }
     ensures bytes { result.now ≡ counted_bytes bytes.now at }
@@ -39,7 +39,7 @@ pub(crate) fn counted_bytes(bytes: &[u8], at: usize) -> &[u8]
     &bytes[at + 2..at + 2 + get16(bytes, at) as usize]
 }
 
-/// Where the next count stands.
+/// Where the next count is.
 pub fn next_place(bytes: &[u8], at: usize) -> usize
     requires { IsCountedPart bytes.now at }
     ensures next { result ≡ even_up (counted_end bytes.now at) }

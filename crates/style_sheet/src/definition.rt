@@ -88,7 +88,7 @@ fn has_upxes(std: &[u8], base: usize) -> bool
     std.len() <= at
 }
 
-/// Where the first upx stands.
+/// Where the first upx is.
 pub fn first_upx(std: &[u8], base: usize) -> usize
     requires { (base + 2 ≤ length std.now) × (base < 20) }
     ensures place { result ≡ upx_place std.now base 0 }

@@ -64,7 +64,7 @@ pub fn has_stshif(part: &[u8]) -> bool
         && (get16(part, 4) == 10 || get16(part, 4) == 18)
 }
 
-/// Where the first slot stands.
+/// Where the first slot is.
 pub fn first_slot(part: &[u8]) -> usize
     requires { HasStshif part.now }
     ensures place { result ≡ slot_place part.now 0 }

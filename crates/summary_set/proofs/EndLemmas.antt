@@ -113,7 +113,7 @@ span_above : (end : ℕ → ℕ) (least offset : ℕ) → least ≤ offset → s
 unfolding span_from
 span_above end least offset h = ap (λ below. cond below 0 (end offset - offset)) (le-ltb offset least h)
 
--- a higher threshold leaves out less than what stands between
+-- a higher threshold leaves out less than what is between
 span_higher : (end : ℕ → ℕ) (least more offset : ℕ) → ((least ≤ offset) → more ≤ offset) → span_from end least offset ≤
     span_from end more offset
 span_higher end least more offset h = elim (cases_lt offset least) [

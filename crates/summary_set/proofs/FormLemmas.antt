@@ -7,8 +7,7 @@ use Rattle.std.specs.Prelude.{nat_lt, eqb, if◌then◌else◌, ◌⊎◌}
 use Rattle.std.specs.declared.cmp.Ordering.TheVariants.{Less, Equal, Greater}
 use Rattle.doc_bits.specs.Number.{u16_at, u32_at}
 use Rattle.doc_bits.specs.Rules.{Nowhere, IsLeast, Hold}
-use Rattle.doc_bits.proofs.RuleLemmas.{first_among, none_among}
-use Rattle.doc_bits.proofs.TestLemmas.{stable_le, stable_eq}
+use Rattle.doc_bits.proofs.Public.{first_among, none_among, stable_le, stable_eq}
 use Rattle.summary_set.specs.declared.fault.SetFault.TheVariants.{Form}
 use Rattle.summary_set.specs.PropertySet.{set_begin, set_size, pair_count, pair_place, pair_at}
 use Rattle.summary_set.specs.Form.{HasHead, Unless, BeginsWithin, IsSized, IsValidPair, head_rules, pair_rules}

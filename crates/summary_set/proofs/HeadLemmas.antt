@@ -5,12 +5,11 @@ use Rattle.std.proofs.Common.{length, take, refl, sym, ap, subst, arith, length-
 use Rattle.std.specs.Prelude.{slice_range}
 use Rattle.std.proofs.lemmas.List.{take_at}
 use Rattle.doc_bits.specs.Number.{number_at, number_bytes}
-use Rattle.doc_bits.proofs.NumberLemmas.{number_at-after, number_at-number_bytes, length-number_bytes}
-use Rattle.doc_bits.proofs.PlcLemmas.{drop-front}
+use Rattle.doc_bits.proofs.Public.{number_at-after, number_at-number_bytes, length-number_bytes, drop-front}
 use Rattle.summary_set.specs.Written.{KeptBytes}
 use Rattle.summary_set.specs.Written.{written_head}
 
--- ---- what stands behind a front
+-- ---- what is behind a front
 
 pub skip : (front rest : List ℕ) (n at k : ℕ) → length front ≡ n →
     number_at (front ++ rest) (n + at) k ≡ number_at rest at k

@@ -1,11 +1,12 @@
-pub mod FormLemmas
-pub mod EndLemmas
-pub mod FindLemmas
-pub mod ValueLemmas
-pub mod WriteLemmas
-pub mod HeadLemmas
-pub mod PairLemmas
-pub mod WrittenLemmas
-pub mod ReadBackLemmas
-pub mod TitleLemmas
-pub mod TwiceLemmas
+pub mod Public
+mod FormLemmas
+mod EndLemmas
+mod FindLemmas
+mod ValueLemmas
+mod WriteLemmas
+mod HeadLemmas
+mod PairLemmas
+mod WrittenLemmas
+mod ReadBackLemmas
+mod TitleLemmas
+mod TwiceLemmas

@@ -6,13 +6,13 @@ use Rattle.std.specs.Prelude.{sum_by, slice_range, slice_get, flat_map}
 use Rattle.std.proofs.lemmas.List.Sums.{sum_by-cons}
 use Rattle.std.proofs.lemmas.Option.{same_Some}
 use Rattle.doc_bits.specs.Number.{number_at, number_bytes}
-use Rattle.doc_bits.proofs.NumberLemmas.{number_at-number_bytes, length-number_bytes}
+use Rattle.doc_bits.proofs.Public.{number_at-number_bytes, length-number_bytes}
 use Rattle.summary_set.specs.declared.values.Property.{Property}
 use Rattle.summary_set.specs.Written.{padded, padded_len, pair_bytes}
 use Rattle.summary_set.specs.Written.{first_offset}
 use Rattle.summary_set.proofs.HeadLemmas.{skip, range_after, range_front}
 
--- where a value stands in the set
+-- where a value is in the set
 unfoldable pub stands_at : List Property → ℕ → ℕ
 stands_at values i = first_offset values + sum_by padded_len (take i values)
 

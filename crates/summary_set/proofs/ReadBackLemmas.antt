@@ -9,8 +9,7 @@ use Rattle.std.proofs.lemmas.List.{take_all, length-map}
 use Rattle.std.proofs.lemmas.List.FromFn.{fill_by_all}
 use Rattle.std.proofs.lemmas.Option.{slice_get_within, get_or_from_slice_get}
 use Rattle.doc_bits.specs.Number.{number_bytes}
-use Rattle.doc_bits.proofs.NumberLemmas.{length-number_bytes}
-use Rattle.doc_bits.proofs.ListLemmas.{map-map, there_is, get-map}
+use Rattle.doc_bits.proofs.Public.{length-number_bytes, map-map, there_is, get-map}
 use Rattle.summary_set.specs.declared.values.Property.{Property}
 use Rattle.summary_set.specs.PropertySet.{set_begin, set_size, pair_count, pair_at, offsets_of}
 use Rattle.summary_set.specs.Values.{value_end, value_of, property_of, property_values}
@@ -43,7 +42,7 @@ last_stands values i x here last =
     (suc i) values last) in
     omega arith
 
--- no later value stands before an earlier one
+-- no later value is before an earlier one
 pub not_before : (kept : KeptBytes) (values : List Property) (k i : ℕ) → AreWritable kept values → k ≤ i →
     i < length values →
     stands_at values i < stands_at values k → ⊥

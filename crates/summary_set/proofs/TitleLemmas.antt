@@ -9,9 +9,8 @@ use Rattle.std.proofs.lemmas.List.{length-map}
 use Rattle.std.proofs.lemmas.List.FromFn.{length-map-range_with_len, get_or-map-range_with_len}
 use Rattle.std.proofs.lemmas.Option.{same_Some, slice_get_within, get_or_from_slice_get}
 use Rattle.doc_bits.specs.Number.{AreBytes}
-use Rattle.doc_bits.proofs.NumberLemmas.{number_at-bound}
-use Rattle.doc_bits.proofs.ListLemmas.{map-map, there_is, from_map, length-range, slice_get_before}
-use Rattle.doc_bits.proofs.TogetherLemmas.{from_behind}
+use Rattle.doc_bits.proofs.Public.{number_at-bound, map-map, there_is, from_map, length-range, slice_get_before}
+use Rattle.doc_bits.proofs.Public.{from_behind, neither}
 use Rattle.summary_set.specs.declared.values.Property.{Property}
 use Rattle.summary_set.specs.PropertySet.{set_begin, set_size, pair_count, pair_at, pairs_of, offsets_of}
 use Rattle.summary_set.specs.Form.{IsPropertySet}
@@ -25,7 +24,6 @@ use Rattle.summary_set.proofs.EndLemmas.{value_end-le}
 use Rattle.summary_set.proofs.ValueLemmas.{value_end-more}
 use Rattle.summary_set.proofs.WriteLemmas.{length-title_value, retitled_fits}
 use Rattle.summary_set.proofs.ReadBackLemmas.{read_back}
-use Rattle.doc_bits.proofs.TestLemmas.{neither}
 
 -- ---- the properties of a set
 

@@ -1,4 +1,4 @@
--- The same title once more changes nothing: values are padded once, and the title stands where it stood.
+-- The same title once more changes nothing: values are padded once, and the title is where it stood.
 use Rattle.std.proofs.Common.{◌≡◌, ◌∙◌, ℕ, ◌+◌, Bool, true, false, List, [], ◌∷◌, ◌++◌, length, map}
 use Rattle.std.proofs.Common.{refl}
 use Rattle.std.proofs.Common.{sym, ap, arith}
@@ -8,7 +8,7 @@ use Rattle.std.proofs.lemmas.Bool.{false≢true}
 use Rattle.std.proofs.lemmas.List.{append-nil, length-map, map-append}
 use Rattle.std.proofs.lemmas.List.Sums.{sum_by-cons}
 use Rattle.doc_bits.specs.Number.{number_bytes, zeros}
-use Rattle.doc_bits.proofs.ListLemmas.{map-map}
+use Rattle.doc_bits.proofs.Public.{map-map, or_second}
 use Rattle.summary_set.specs.declared.values.Property.{Property}
 use Rattle.summary_set.specs.Values.{property_values}
 use Rattle.summary_set.specs.Written.{KeptBytes, kept_bytes, pad_len, padded, padded_len, padded_property, pair_bytes}
@@ -17,7 +17,6 @@ use Rattle.summary_set.specs.Written.{written_head, written_set, retitled_stream
 use Rattle.summary_set.specs.Laws.{IsAsked}
 use Rattle.summary_set.proofs.WriteLemmas.{padded_len-is}
 use Rattle.summary_set.proofs.TitleLemmas.{in_place-id, kept_with_title}
-use Rattle.doc_bits.proofs.TestLemmas.{or_second}
 
 -- ---- padding
 
@@ -106,7 +105,7 @@ any_titled : (title : List ℕ) (values : List Property) (there : Bool) → list
 any_titled title values true h = any_first title values [] h
 any_titled title values false h = any_last title (map (in_place title) values)
 
--- ---- and is put where it stands
+-- ---- and is put where it is
 
 -- a property with the title in its place
 again : List ℕ → Property → Property

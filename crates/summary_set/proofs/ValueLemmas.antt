@@ -1,4 +1,4 @@
--- Values of a set: where the ascending offsets say that they end, and that they stand in the stream.
+-- Values of a set: where the ascending offsets say that they end, and that they are in the stream.
 use Rattle.std.proofs.Common.{◌≡◌, inl, inr, ℕ, ◌+◌, ◌<◌, ◌≤◌, true, false, List, length, sym, subst}
 use Rattle.std.proofs.Common.{refl, get_or, arith}
 use Rattle.std.specs.Prelude.{All, IsPermutation, nat_le, slice_index}

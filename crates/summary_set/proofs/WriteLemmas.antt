@@ -9,8 +9,7 @@ use Rattle.std.proofs.lemmas.List.Sums.{sum_by-cons, sum_by-append}
 use Rattle.std.proofs.lemmas.List.Concat.{flat_map-append}
 use Rattle.std.proofs.lemmas.List.FromFn.{length-map-range_with_len, get_or-map-range_with_len}
 use Rattle.doc_bits.specs.Number.{number_bytes, zeros}
-use Rattle.doc_bits.proofs.NumberLemmas.{length-zeros, length-number_bytes}
-use Rattle.doc_bits.proofs.ListLemmas.{map-map}
+use Rattle.doc_bits.proofs.Public.{length-zeros, length-number_bytes, map-map}
 use Rattle.summary_set.specs.declared.set.PropertyPair.{PropertyPair}
 use Rattle.summary_set.specs.declared.values.Property.{Property}
 use Rattle.summary_set.specs.PropertySet.{set_begin, set_size, pair_count, pair_at, pairs_of, offsets_of}

@@ -6,8 +6,7 @@ use Rattle.std.specs.Prelude.{slice_get, flat_map}
 use Rattle.std.proofs.lemmas.List.Sums.{sum_by-take-le}
 use Rattle.std.proofs.lemmas.List.Concat.{length-flat_map}
 use Rattle.doc_bits.specs.Number.{number_at, number_bytes}
-use Rattle.doc_bits.proofs.NumberLemmas.{number_at-number_bytes, length-number_bytes}
-use Rattle.doc_bits.proofs.ListLemmas.{there_is}
+use Rattle.doc_bits.proofs.Public.{number_at-number_bytes, length-number_bytes, there_is}
 use Rattle.summary_set.specs.declared.values.Property.{Property}
 use Rattle.summary_set.specs.PropertySet.{set_begin, set_size, pair_count, pair_place, pair_at}
 use Rattle.summary_set.specs.Form.{HasHead, IsValidPair}
@@ -20,7 +19,7 @@ use Rattle.summary_set.proofs.HeadLemmas.{flat-begin}
 use Rattle.summary_set.proofs.PairLemmas.{stands_at, length-pair_bytes, pair_id, pair_offset, sum_take-le}
 use Rattle.summary_set.proofs.PairLemmas.{sum_take-more}
 
--- what stands behind the head
+-- what is behind the head
 unfoldable pub body : List Property → List ℕ
 body values =
     number_bytes 4 (written_size values) ++ (number_bytes 4 (length values) ++ (pair_bytes (first_offset values) values

@@ -1,4 +1,4 @@
--- [MS-OLEPS] PropertySetStream with one PropertySet: where its numbers stand. Offsets of the set count from its
+-- [MS-OLEPS] PropertySetStream with one PropertySet: where its numbers are. Offsets of the set count from its
 -- beginning.
 use Rattle.std.specs.Prelude.{ℕ, ◌+◌, ◌*◌, List, map}
 use Rattle.std.specs.List.{range_with_len}
@@ -21,7 +21,7 @@ pair_count b = u32_at b (set_begin b + 4)
 abbrev pub head_of : List ℕ → SetHead
 head_of b = record { begin = set_begin b; size = set_size b; count = pair_count b }
 
--- where a pair stands in the stream
+-- where a pair is in the stream
 abbrev pub pair_place : List ℕ → ℕ → ℕ
 pair_place b i = set_begin b + 8 + 8 * i
 

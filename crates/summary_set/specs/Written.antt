@@ -15,7 +15,7 @@ pub record KeptBytes : Type 0 where
 abbrev pub kept_bytes : List ℕ → KeptBytes
 kept_bytes b = record { system = slice_range b 2 24; format = slice_range b 28 44 }
 
--- how many zeros stand behind a value
+-- how many zeros are behind a value
 abbrev pub pad_len : ℕ → ℕ
 pad_len len = (4 - len % 4) % 4
 
@@ -54,13 +54,13 @@ abbrev pub retitled : List Property → List ℕ → List Property
 retitled values title =
     map (in_place title) values ++ (if list_any is_title values then [] else title_property title ∷ [])
 
--- pairs of properties whose values stand from an offset on, one behind the other
+-- pairs of properties whose values are from an offset on, one behind the other
 abbrev pub pair_bytes : ℕ → List Property → List ℕ
 pair_bytes offset [] = []
 pair_bytes offset (property ∷ rest) =
     number_bytes 4 property.id ++ (number_bytes 4 offset ++ pair_bytes (offset + padded_len property) rest)
 
--- where the first value stands in a set of so many properties
+-- where the first value is in a set of so many properties
 abbrev pub first_offset : List Property → ℕ
 first_offset values = 8 + 8 * length values
 

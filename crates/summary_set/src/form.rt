@@ -1,4 +1,4 @@
-// The judge of a stream: the first condition that fails, or the set as it is decoded.
+// The check of a stream: the first condition that fails, or the set as it is decoded.
 ghost use Rattle.std.specs.Prelude.{◌≡◌, ◌≤◌, ◌<◌, ◌+◌, ◌*◌, ◌^◌, ◌&&◌, [], ◌∷◌, ◌++◌, ℕ, true, false, not, length};
 ghost use Rattle.std.specs.Prelude.{IsTrue, ◌↔◌, map};
 ghost use Rattle.std.specs.Prelude.{IfOk, OnOk, MatchResult, IsPermutation, IsSorted};
@@ -138,7 +138,7 @@ fn keep(pairs: &mut Vec<PropertyPair>, pair: PropertyPair) -> Result<(), Memory>
     Ok(())
 }
 
-/// Where a pair stands in the stream.
+/// Where a pair is in the stream.
 fn pair_place(head: SetHead, i: u32) -> u32
     requires { head.begin + 16 + 8 * i < 2 ^ 32 }
     ensures { result ≡ head.begin + 8 + 8 * i }
@@ -160,7 +160,7 @@ fn read_pair(stream: &[u8], head: SetHead, i: u32) -> PropertyPair
     }
 }
 
-/// Whether four bytes of the set stand at the offset, behind all pairs.
+/// Whether four bytes of the set are at the offset, behind all pairs.
 fn is_within(pair: PropertyPair, head: SetHead) -> bool
     requires { 8 + 8 * head.count ≤ head.size }
     ensures { IsTrue result ↔ (8 + 8 * head.count ≤ pair.offset) × (pair.offset + 4 ≤ head.size) }

@@ -1,4 +1,4 @@
-// A property set as it is decoded: no function after the judge reads an offset from bytes.
+// A property set as it is decoded: no function after the check reads an offset from bytes.
 
 /// [MS-OLEPS] PropertyIdentifierAndOffset: the id of a property, and where its value begins, in bytes
 /// from the beginning of the set.

@@ -46,7 +46,7 @@ fn print_head(bytes: &mut Bytes, stream: &[u8]) -> Result<(), Memory>
     bytes.push32(HEAD_LEN)
 }
 
-/// How many zeros stand behind a value of so many bytes.
+/// How many zeros are behind a value of so many bytes.
 fn pad_len(len: usize) -> usize
     ensures { result ≡ pad_len len }
 {
@@ -73,7 +73,7 @@ fn size_of_set(values: &[Property]) -> u32
     size as u32
 }
 
-/// The pairs: each value stands behind the one before it.
+/// The pairs: each value is behind the one before it.
 fn print_pairs(bytes: &mut Bytes, values: &[Property]) -> Result<(), Memory>
     requires fits { written_size values.now < 2 ^ 32 }
     ensures { OnOk result (bytes.new ≡ bytes.old ++ pair_bytes (first_offset values.now) values.now) }

@@ -8,6 +8,7 @@ use Rattle.symbol_fonts.specs.declared.characters.SymbolFont.{SymbolFont}
 use Rattle.symbol_fonts.specs.declared.characters.SymbolFont.TheVariants.{Symbol, Wingdings}
 use Rattle.symbol_fonts.specs.Characters.{IsShownAs, character_of, characters_of, is_sign, shown_in, shown_unit}
 use Rattle.symbol_fonts.specs.Laws.{IsCharacter, SignsAreCharacters, UnitsAreShown}
+use Rattle.doc_bits.proofs.Public.{not_true, not_zero}
 
 -- what is no sign is shown as itself
 pub sign_none : (font : Option SymbolFont) (unit : ℕ) → is_sign unit ≡ false → shown_unit font unit ≡ unit
@@ -48,14 +49,7 @@ or_second : (one other : Bool) → one ≡ false → (one || other) ≡ true →
 or_second true other off e = absurd (cc (off))
 or_second false other off e = e
 
-is_off : (b : Bool) → not b ≡ true → b ≡ false
-is_off true e = absurd (cc (e))
-is_off false e = refl
-
-not_zero : (code : ℕ) → 0 < code → (code == 0) ≡ false
-not_zero code some = grind (arith, nat_tests)
-
-not_below : (code : ℕ) → nat_le 0x20 code ≡ true → nat_lt code 0x20 ≡ false
+pub not_below : (code : ℕ) → nat_le 0x20 code ≡ true → nat_lt code 0x20 ≡ false
 not_below code high = grind (arith, nat_tests)
 
 right_character : (code : ℕ) → 0 < code → is_valid code ≡ true → IsCharacter code
@@ -68,7 +62,7 @@ right_character code some right =
     record {
       scalar = rw (lt-ltb code 0xD800 low) refl;
       unit = omega (arith, low);
-      plain = λ i. not_below code text.0 i || is_off windows rest.1 i;
+      plain = λ i. not_below code text.0 i || not_true windows rest.1 i;
     }
 
 pub characters_right : SignsAreCharacters

@@ -1,2 +1,3 @@
-pub mod CharacterLemmas
-pub mod TableLemmas
+pub mod Public
+mod CharacterLemmas
+mod TableLemmas

@@ -70,7 +70,7 @@ part_at bytes done count = take (done + count - done) (drop done bytes)
 part_is : (bytes : List ℕ) (done count : ℕ) → part_at bytes done count ≡ take count (drop done bytes)
 part_is bytes done count = ap (λ n. take n (drop done bytes)) (omega arith)
 
--- their digits stand at the front of a block
+-- their digits are at the front of a block
 pub part_digits : (bytes block : List ℕ) (done count : ℕ) → done + count ≤ length bytes →
     take (2 * length (part_at bytes done count)) block ≡ bytes_text (part_at bytes done count) →
     take (2 * count) block ≡ bytes_text (take count (drop done bytes))

@@ -1,4 +1,4 @@
--- How the bytes of units come to stand in a block.
+-- How the bytes of units come to be in a block.
 use Rattle.std.proofs.Common.{◌≡◌, ℕ, ◌+◌, ◌/◌, ◌%◌, ◌<◌, ◌≤◌, inl, inr, Bool, true, false, List, [], ◌∷◌, ◌++◌, length}
 use Rattle.std.proofs.Common.{take, refl, ◌∙◌, ◌&&◌, ◌||◌, ◌==◌, nat_le, nat_lt, append_assoc, arith}
 use Rattle.std.proofs.lemmas.Bool.{cases_lt, le-ltb, lt-ltb, ltb-false, le-leb}
@@ -16,7 +16,7 @@ use Rattle.text_codes.specs.Gathered.{IsTextOf, HasTextBehind}
 use Rattle.text_codes.specs.Shown.{shown_alone, is_escaped, escape, IsPlain}
 use Rattle.text_codes.proofs.DigitLemmas.{hex_ascii}
 use Rattle.text_codes.proofs.ShownLemmas.{shown-first, six_are_utf8}
-use Rattle.doc_bits.proofs.TestLemmas.{second_false}
+use Rattle.doc_bits.proofs.Public.{second_false}
 
 -- a character of two bytes
 pub encode_utf8-two : (unit : ℕ) → 128 ≤ unit → unit < 2048 →
@@ -68,7 +68,7 @@ scalar-from_itself unit small e =
 pub no_text : (lines : Bool) → IsTextOf lines [] []
 no_text lines = record { valid = IsUtf8-nil; shows = λ after. refl }
 
--- texts stand behind one another as their units do
+-- texts are behind one another as their units do
 pub text_joined : (lines : Bool) (units more bytes others : List ℕ) → IsTextOf lines units bytes →
     IsTextOf lines more others → IsTextOf lines (units ++ more) (bytes ++ others)
 text_joined lines units more bytes others first second = record {

@@ -1,5 +1,6 @@
-pub mod BlockLemmas
-pub mod DigitLemmas
-pub mod GatherLemmas
-pub mod ParagraphLemmas
-pub mod ShownLemmas
+pub mod Public
+mod BlockLemmas
+mod DigitLemmas
+mod GatherLemmas
+mod ParagraphLemmas
+mod ShownLemmas

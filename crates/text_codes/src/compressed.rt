@@ -1,7 +1,7 @@
 ghost use Rattle.std.specs.Prelude.{◌≡◌};
 ghost use Rattle.text_codes.specs.Compressed.{unit_of};
 
-/// The 16-bit unit that a byte of compressed text stands for.
+/// The 16-bit unit that a byte of compressed text represents.
 pub fn unit_of_byte(byte: u8) -> u16
     ensures { result ≡ unit_of byte }
 {

@@ -20,7 +20,7 @@ const TWO_BYTES: u16 = 0x80;
 const THREE_BYTES: u16 = 0x800;
 
 /// How many units at the front are in no pair whatever follows, as many as the block has room for, and how many bytes
-/// their text takes. It stands at the front of the block. With `lines` a paragraph mark is shown as a line feed.
+/// their text takes. It is at the front of the block. With `lines` a paragraph mark is shown as a line feed.
 pub(crate) fn gather(units: &[u16], lines: bool, block: &mut [u8]) -> (usize, usize)
     ensures inside { result.0 ≤ length units.now }
     ensures room { result.1 ≤ length block.new }

@@ -20,7 +20,7 @@ pub fn ends_paragraph(unit: u16, section_end: bool) -> bool
     unit == PARAGRAPH_MARK || unit == CELL_MARK || (unit == SECTION_MARK && section_end)
 }
 
-/// How many units stand before the first that ends a paragraph wherever it stands; all of them where none does.
+/// How many units are before the first that ends a paragraph wherever it is; all of them where none does.
 pub fn bare_len(units: &[u16]) -> usize
     ensures within { result ≤ length units.now }
     ensures bare { (k : ℕ) → k < result → is_paragraph_end (slice_index units.now k) false ≡ false }
@@ -30,7 +30,7 @@ pub fn bare_len(units: &[u16]) -> usize
     first_end(units, above)
 }
 
-/// How many units stand in the parts at the front that have no unit as low as a mark.
+/// How many units are in the parts at the front that have no unit as low as a mark.
 fn above_len(units: &[u16]) -> usize
     ensures within { result ≤ length units.now }
     ensures bare { (k : ℕ) → k < result → is_paragraph_end (slice_index units.now k) false ≡ false }
@@ -66,7 +66,7 @@ fn least(units: &[u16], at: usize) -> u16
     low
 }
 
-/// The place of the first unit from one on that ends a paragraph wherever it stands, or the number of units.
+/// The place of the first unit from one on that ends a paragraph wherever it is, or the number of units.
 fn first_end(units: &[u16], from: usize) -> usize
     requires { from ≤ length units.now }
     ensures within { result ≤ length units.now }
@@ -81,7 +81,7 @@ fn first_end(units: &[u16], from: usize) -> usize
     units.len()
 }
 
-/// Whether a unit ends a paragraph wherever it stands. Most units are told by one comparison.
+/// Whether a unit ends a paragraph wherever it is. Most units are told by one comparison.
 #[inline(always)]
 fn ends_alone(unit: u16) -> bool
     ensures { result ≡ is_paragraph_end unit false }

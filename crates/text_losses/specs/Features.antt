@@ -30,6 +30,6 @@ is_read Refused = false
 abbrev pub is_kept_code : ListKind → ℕ → Bool
 is_kept_code kind code = is_read (class_of code) && is_held (groups_of kind) code
 
--- of a code of a section or a table, and of tab stops, the standard may add what stands again; here the last one counts
+-- of a code of a section or a table, and of tab stops, the standard may add what is again; here the last one counts
 abbrev pub is_added : ℕ → Bool
 is_added code = sgc code == 4 || (sgc code == 5 || code == 0xC60D)

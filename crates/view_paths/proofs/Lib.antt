@@ -1,3 +1,4 @@
-pub mod FrontLemmas
-pub mod NestLemmas
-pub mod WayLemmas
+pub mod Public
+mod FrontLemmas
+mod NestLemmas
+mod WayLemmas

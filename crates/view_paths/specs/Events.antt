@@ -17,7 +17,7 @@ abbrev pub opens : {E : Type 0} → List E → List E → List (Tag E)
 opens front [] = []
 opens front (e ∷ more) = Open front e ∷ opens (front ++ e ∷ []) more
 
--- the elements of a list, which stand inside of the path, are closed, the innermost first
+-- the elements of a list, which are inside of the path, are closed, the innermost first
 abbrev pub closes : {E : Type 0} → List E → List E → List (Tag E)
 closes front [] = []
 closes front (e ∷ more) = closes (front ++ e ∷ []) more ++ Close front e ∷ []

@@ -5,7 +5,7 @@ use Rattle.view_paths.specs.Paths.{Place}
 use Rattle.view_paths.specs.Events.{Event, Open, Close, Turn, Leaf, events_from, glyph_of}
 
 -- the events nest, from one path that is open to another: an element is opened inside of all that are open, the element
--- that is closed is the innermost one that is open, and what is shown stands in exactly those that are open
+-- that is closed is the innermost one that is open, and what is shown is in exactly those that are open
 abbrev pub AreNested : {E G : Type 0} → List E → List (Event E G) → List E → Type 0
 AreNested around [] end = around ≡ end
 AreNested around (Turn (Open front e) ∷ more) end = (front ≡ around) × AreNested (around ++ e ∷ []) more end

@@ -1,4 +1,4 @@
--- Paths: the elements that something stands in, the outermost first.
+-- Paths: the elements that something is in, the outermost first.
 use Rattle.std.specs.Prelude.{Bool, List, [], ◌∷◌, Option, if◌then◌else◌}
 
 -- the front that both paths have, as the first has it

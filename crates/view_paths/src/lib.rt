@@ -1,4 +1,4 @@
-//! Paths of the elements that something stands in, and what is opened and closed between neighbours.
+//! Paths of the elements that something is in, and what is opened and closed between neighbours.
 #![tactic(auto)]
 
 mod element;

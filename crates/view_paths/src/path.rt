@@ -9,7 +9,7 @@ use std::marker::Model;
 /// How many elements a path may have.
 pub const MAX_DEPTH: usize = 24;
 
-/// The elements that something stands in, the outermost first; at most `MAX_DEPTH`.
+/// The elements that something is in, the outermost first; at most `MAX_DEPTH`.
 #[derive(Drop)]
 pub struct Path<E> {
     elements: [E; MAX_DEPTH],

@@ -1,4 +1,4 @@
-// The elements that the text of a document stands in.
+// The elements that the text of a document is in.
 ghost use Rattle.std.specs.Prelude.{◌≡◌};
 ghost use Rattle.view_places.specs.Same.{cell_code, code_of, numbered, reached};
 
@@ -47,7 +47,7 @@ pub struct Link {
     pub end: usize,
 }
 
-/// What text stands in.
+/// What text is in.
 #[derive(Clone, Copy)]
 pub enum Element {
     /// All notes.

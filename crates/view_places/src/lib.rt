@@ -1,4 +1,4 @@
-//! What the places of a document are made of: the elements that something stands in, and what a reader sees there.
+//! What the places of a document are made of: the elements that something is in, and what a reader sees there.
 #![tactic(auto)]
 
 mod element;

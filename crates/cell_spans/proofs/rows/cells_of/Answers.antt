@@ -1,5 +1,5 @@
 use Rattle.std.proofs.Common.{◌∙◌, ◌++◌, List, sym, ap, arith, append-nil}
-use Rattle.doc_bits.proofs.ListLemmas.{there_is}
+use Rattle.doc_bits.proofs.Public.{there_is}
 use Rattle.cell_spans.specs.declared.rows.RowCell.{RowCell}
 use Rattle.cell_spans.proofs.WalkLemmas.{cells_end, cells_step}
 use Rattle.cell_spans.proofs.rows.cells_of.Goals as goal

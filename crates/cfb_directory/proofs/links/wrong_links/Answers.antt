@@ -1,6 +1,6 @@
 use Rattle.std.proofs.Common.{◌≡◌, ◌+◌, slice_index, length, sym, subst, arith}
 use Rattle.doc_bits.specs.Rules.{Among, LeastOrNone}
-use Rattle.doc_bits.proofs.RuleLemmas.{least_none, least_step}
+use Rattle.doc_bits.proofs.Public.{least_none, least_step}
 use Rattle.cfb_directory.specs.Links.{IsWrongAt}
 use Rattle.cfb_directory.proofs.LinkLemmas.{links_least}
 use Rattle.cfb_directory.proofs.links.wrong_links.Goals as goal

@@ -1,6 +1,6 @@
 use Rattle.std.proofs.Common.{sym, subst}
 use Rattle.doc_bits.specs.Rules.{LeastOrNone}
-use Rattle.doc_bits.proofs.RuleLemmas.{least_either}
+use Rattle.doc_bits.proofs.Public.{least_either}
 use Rattle.cfb_directory.specs.Reach.{BreaksLink, BreaksTree, AmongReached, IsWrongType}
 use Rattle.cfb_directory.proofs.links.wrong_tree.Goals as goal
 

@@ -1,6 +1,6 @@
 use Rattle.std.proofs.Common.{◌≡◌, ◌+◌, slice_index, length, sym, subst, arith}
 use Rattle.doc_bits.specs.Rules.{Among, LeastOrNone}
-use Rattle.doc_bits.proofs.RuleLemmas.{least_none, least_step}
+use Rattle.doc_bits.proofs.Public.{least_none, least_step}
 use Rattle.cfb_directory.specs.Reach.{IsWrongName}
 use Rattle.cfb_directory.proofs.ReachLemmas.{reached_least}
 use Rattle.cfb_directory.proofs.names.wrong_names.Goals as goal

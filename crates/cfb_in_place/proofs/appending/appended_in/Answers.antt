@@ -1,5 +1,5 @@
 use Rattle.std.proofs.Common.{List, ℕ, ap, ◌∙◌, subst}
-use Rattle.cfb_streams.proofs.ContentLemmas.{match_more}
+use Rattle.cfb_streams.proofs.Public.{match_more}
 use Rattle.cfb_in_place.specs.Change.{NamedChange, added_sectors}
 use Rattle.cfb_in_place.specs.Appended.{IsSavedBehind}
 use Rattle.cfb_in_place.specs.Save.{FitsAfter, IsSaveFault}

@@ -1,7 +1,7 @@
 use Rattle.std.proofs.Common.{List, ℕ, length, ap, ◌∙◌, subst, arith}
 use Rattle.std.proofs.lemmas.Result.{err_from_is_err_and}
-use Rattle.cfb_sectors.proofs.FatLemmas.{fat_few}
-use Rattle.cfb_layout.proofs.HeldLemmas.{accepted}
+use Rattle.cfb_sectors.proofs.Public.{fat_few}
+use Rattle.cfb_layout.proofs.Public.{accepted}
 use Rattle.cfb_in_place.specs.Change.{OldChains, NamedChange, Added, sectors_after}
 use Rattle.cfb_in_place.specs.Appended.{IsSavedBehind}
 use Rattle.cfb_in_place.proofs.AfterLemmas.{added_by}

@@ -1,7 +1,7 @@
 use Rattle.std.proofs.Common.{◌≡◌, ◌++◌, ◌+◌, ◌<◌, List, ℕ, Some, length, slice_get, sym, ap, ◌∙◌, refl, arith}
 use Rattle.std.specs.List.{flat_map, range_with_len}
 use Rattle.std.proofs.lemmas.Option.{slice_get-get_or}
-use Rattle.cfb_layout.proofs.WritingLemmas.{row_step}
+use Rattle.cfb_layout.proofs.Public.{row_step}
 use Rattle.cfb_in_place.specs.declared.roles.Role.{Role}
 use Rattle.cfb_in_place.specs.Sources.{Sources, header_after, sector_after, written}
 use Rattle.cfb_in_place.proofs.WrittenLemmas.{sector_is}

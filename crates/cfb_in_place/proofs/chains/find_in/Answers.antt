@@ -1,6 +1,6 @@
 use Rattle.std.proofs.Common.{ℕ, List, slice_index, ap, ◌∙◌, subst}
 use Rattle.cfb_streams.specs.StreamRules.{Parts}
-use Rattle.cfb_layout.proofs.HeldLemmas.{accepted}
+use Rattle.cfb_layout.proofs.Public.{accepted}
 use Rattle.cfb_in_place.specs.Save.{IsMiniChain}
 use Rattle.cfb_in_place.specs.Contract.{IsNamed}
 use Rattle.cfb_in_place.proofs.NamedLemmas.{there_parts, there_entries, entry_inside, mini_there, named_chains}

@@ -3,7 +3,7 @@ use Rattle.cfb_sectors.specs.Chain.{Head, BreaksChain}
 use Rattle.cfb_sectors.specs.Judged.{IsFound}
 use Rattle.cfb_sectors.specs.Tables.{TablePlace, table_at}
 use Rattle.cfb_sectors.specs.declared.chain.Chain.{Chain}
-use Rattle.cfb_sectors.proofs.JudgeLemmas.{holds_none}
+use Rattle.cfb_sectors.proofs.Public.{holds_none}
 use Rattle.cfb_directory.specs.Reach.{entry_place}
 use Rattle.cfb_directory.specs.Directory.{entry_size}
 use Rattle.cfb_directory.specs.StreamEntries.{IsSmallStream, stream_head}

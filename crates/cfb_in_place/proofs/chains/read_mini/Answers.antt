@@ -1,7 +1,7 @@
 use Rattle.std.proofs.Common.{rules, ◌*◌, ◌^◌, ◌<◌, ◌++◌, List, ℕ, length, sym, ap, ◌∙◌, subst, arith}
 use Rattle.cfb_sectors.specs.Chain.{AreSectorsOf}
 use Rattle.cfb_streams.specs.StreamRules.{IsMiniFat}
-use Rattle.cfb_streams.proofs.ContentLemmas.{mini_fat_inside}
+use Rattle.cfb_streams.proofs.Public.{mini_fat_inside}
 use Rattle.cfb_in_place.proofs.chains.read_mini.Goals as goal
 
 pub overflow_mul-mini_fat : goal.overflow_mul-mini_fat

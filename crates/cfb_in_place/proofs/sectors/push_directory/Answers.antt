@@ -1,6 +1,6 @@
 use Rattle.std.proofs.Common.{◌≡◌, ◌++◌, ◌+◌, ◌*◌, slice_range, refl, arith, ap, ◌∙◌}
 use Rattle.std.specs.List.{flat_map, range_with_len}
-use Rattle.cfb_layout.proofs.WritingLemmas.{row_step}
+use Rattle.cfb_layout.proofs.Public.{row_step}
 use Rattle.cfb_in_place.specs.Sources.{entry_after, four_entries}
 use Rattle.cfb_in_place.proofs.sectors.push_directory.Goals as goal
 

@@ -1,6 +1,6 @@
 use Rattle.std.proofs.Common.{refl, slice_index}
 use Rattle.doc_bits.specs.Number.{number_bytes}
-use Rattle.cfb_layout.proofs.WritingLemmas.{flat_step}
+use Rattle.cfb_layout.proofs.Public.{flat_step}
 use Rattle.cfb_in_place.proofs.sectors.push_entries.Goals as goal
 
 pub loop-entry-preserved : goal.loop-entry-preserved

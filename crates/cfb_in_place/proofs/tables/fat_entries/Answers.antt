@@ -1,7 +1,7 @@
 use Rattle.std.proofs.Common.{◌≡◌, ◌+◌, ◌*◌, List, ℕ, length, slice_index, sym, ap, ◌∙◌, subst, arith}
 use Rattle.cfb_sectors.specs.Header.{fat_sector_count}
 use Rattle.cfb_sectors.specs.Chain.{IsTable}
-use Rattle.cfb_sectors.proofs.FatLemmas.{length-fat_sectors}
+use Rattle.cfb_sectors.proofs.Public.{length-fat_sectors}
 use Rattle.cfb_in_place.specs.Change.{Added}
 use Rattle.cfb_in_place.specs.Tables.{CanChangeFat, ChangesFat}
 use Rattle.cfb_in_place.proofs.tables.fat_entries.Goals as goal

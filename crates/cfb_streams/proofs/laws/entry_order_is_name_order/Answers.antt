@@ -1,4 +1,4 @@
-use Rattle.cfb_directory.proofs.NameLemmas.{EntryBefore-names, ComesBefore-entries}
+use Rattle.cfb_directory.proofs.Public.{EntryBefore-names, ComesBefore-entries}
 use Rattle.cfb_streams.proofs.laws.entry_order_is_name_order.Goals as goal
 
 pub returns : goal.returns

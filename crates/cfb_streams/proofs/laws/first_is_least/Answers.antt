@@ -1,5 +1,5 @@
 use Rattle.std.proofs.Common.{◌≤◌}
-use Rattle.doc_bits.proofs.RuleLemmas.{least_of_all}
+use Rattle.doc_bits.proofs.Public.{least_of_all}
 use Rattle.cfb_streams.specs.Container.{container_rules}
 use Rattle.cfb_streams.proofs.SingleLemmas.{container_single, container_ascends}
 use Rattle.cfb_streams.proofs.laws.first_is_least.Goals as goal

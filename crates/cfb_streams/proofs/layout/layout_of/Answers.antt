@@ -1,5 +1,5 @@
 use Rattle.std.proofs.Common.{◌≤◌, subst}
-use Rattle.doc_bits.proofs.RuleLemmas.{hold_or_first}
+use Rattle.doc_bits.proofs.Public.{hold_or_first}
 use Rattle.cfb_sectors.specs.Judged.{IsCfbFault}
 use Rattle.cfb_streams.specs.Container.{container_rules}
 use Rattle.cfb_streams.proofs.SingleLemmas.{container_single}

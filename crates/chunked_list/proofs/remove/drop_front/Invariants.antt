@@ -2,7 +2,7 @@ use Rattle.std.proofs.Common.{◌≡◌, ℕ, ◌+◌, ◌≤◌, length, take, 
 use Rattle.chunked_list.specs.Blocks.{joined, units_of, AreSizedBut}
 use Rattle.chunked_list.proofs.remove.drop_front.Given as goal
 
--- what is left to go stands at the front of the blocks that are there
+-- what is left to go is at the front of the blocks that are there
 abbrev pub invariant-loop-turn : goal.invariant-loop-turn
 invariant-loop-turn g l = record {
   front : take l.block l.row.blocks ≡ take l.block l.initial.row.blocks;

@@ -3,10 +3,10 @@ use Rattle.std.proofs.Common.{ℕ, ◌+◌, ◌++◌, [], ◌∷◌, drop, lengt
 use Rattle.std.proofs.lemmas.List.{append-nil}
 use Rattle.doc_bits.specs.Number.{AreBytes}
 use Rattle.piece_table.specs.Front.{ArePrcs, IsPrcFront}
-use Rattle.piece_table.proofs.ClxLemmas.{prcs_more}
+use Rattle.piece_table.proofs.Public.{prcs_more}
 use Rattle.code_losses.proofs.PrcLemmas.{found_none, found_more}
 use Rattle.code_losses.proofs.prcs.count_prcs.Goals as goal
-use Rattle.doc_bits.proofs.ListLemmas.{rest_is}
+use Rattle.doc_bits.proofs.Public.{rest_is}
 
 pub loop-len-init : goal.loop-len-init
 loop-len-init c = record {

@@ -1,6 +1,6 @@
 use Rattle.std.proofs.Common.{◌∙◌, sym, refl}
 use Rattle.std.proofs.lemmas.Option.{none-some}
-use Rattle.prl_skips.proofs.OneLemmas.{spelt_accepted}
+use Rattle.prl_skips.proofs.Public.{spelt_accepted}
 use Rattle.deleted_text.proofs.lists.says_deleted.Goals as goal
 
 pub returns-in-None : goal.returns-in-None

@@ -1,6 +1,6 @@
 use Rattle.std.specs.Prelude.{IsTrue}
 use Rattle.std.proofs.Common.{◌↔◌, ◌+◌, ◌*◌, ap, subst, sym, length, arith}
-use Rattle.doc_bits.proofs.ListLemmas.{length-range}
+use Rattle.doc_bits.proofs.Public.{length-range}
 use Rattle.fkp_pages.specs.declared.kind.PageKind.TheVariants.{Chpx}
 use Rattle.fkp_pages.specs.Bin.{page_at}
 use Rattle.fkp_pages.specs.Stretch.{HasStretch}

@@ -2,7 +2,7 @@ use Rattle.std.proofs.Common.{◌≡◌, ◌∙◌, ap, sym, arith, ℕ, List, [
 use Rattle.std.specs.List.{filter_map}
 use Rattle.std.proofs.lemmas.List.{append-nil}
 use Rattle.doc_parts.specs.Tabulated.{tabulate}
-use Rattle.doc_losses.proofs.ListingLemmas.{listed_more}
+use Rattle.doc_losses.proofs.Public.{listed_more}
 use Rattle.doc_mends.specs.declared.mends.DeletedRange.{DeletedRange}
 use Rattle.deleted_text.specs.Ranges.{range_at}
 use Rattle.deleted_text.proofs.ranges.add_text.Goals as goal

@@ -6,7 +6,7 @@ use Rattle.std.proofs.lemmas.List.{append-nil}
 use Rattle.doc_bits.specs.declared.places.Story.{Story}
 use Rattle.plain_doc.specs.declared.item.Item.{Item}
 use Rattle.doc_parts.specs.Tabulated.{tabulate}
-use Rattle.doc_losses.proofs.ListingLemmas.{joined_more}
+use Rattle.doc_losses.proofs.Public.{joined_more}
 use Rattle.doc_mends.specs.declared.mends.DeletedRange.{DeletedRange}
 use Rattle.doc_mends.specs.Sides.{side_name}
 use Rattle.deleted_text.specs.Ranges.{text_ranges, text_flags, items_before}

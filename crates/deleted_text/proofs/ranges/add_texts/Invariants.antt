@@ -5,7 +5,7 @@ use Rattle.doc_mends.specs.Sides.{side_name}
 use Rattle.deleted_text.specs.Ranges.{text_ranges, text_flags, items_before}
 use Rattle.deleted_text.proofs.ranges.add_texts.Given as goal
 
--- the texts so far, and what stands behind them
+-- the texts so far, and what is behind them
 abbrev pub invariant-loop-number : goal.invariant-loop-number
 invariant-loop-number l = record {
   ranges : l.ranges.items ≡ l.fn.ranges.items ++ flat_map (λ ranges. ranges) (tabulate

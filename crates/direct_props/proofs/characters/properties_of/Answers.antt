@@ -4,7 +4,7 @@ use Rattle.fkp_pages.specs.Fkp.{least_list}
 use Rattle.fkp_pages.specs.Runs.{run_groups}
 use Rattle.direct_props.proofs.CharacterLemmas.{sprms_of, makes_properties, stays_formed}
 use Rattle.direct_props.proofs.characters.properties_of.Goals as goal
-use Rattle.prop_map.proofs.ActingLemmas.{IsPropertyMap-empty}
+use Rattle.prop_map.proofs.Public.{IsPropertyMap-empty}
 
 pub returns-clause-made : goal.returns-clause-made
 returns-clause-made c =

@@ -1,5 +1,5 @@
 use Rattle.std.proofs.Common.{◌≤◌}
-use Rattle.doc_bits.proofs.RuleLemmas.{least_of_all}
+use Rattle.doc_bits.proofs.Public.{least_of_all}
 use Rattle.direct_props.specs.PageRules.{page_rules}
 use Rattle.direct_props.proofs.LawLemmas.{page_rules-IsSingle, page_rules-Ascends, low_rule, high_rule}
 use Rattle.direct_props.proofs.laws.first_page_fault_is_least.Goals as goal

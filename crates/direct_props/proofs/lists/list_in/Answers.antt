@@ -6,9 +6,9 @@ use Rattle.fkp_pages.specs.Fkp.{least_list}
 use Rattle.fkp_pages.specs.Runs.{run_groups}
 use Rattle.direct_props.proofs.StretchLemmas.{cut_rest}
 use Rattle.direct_props.proofs.lists.list_in.Goals as goal
-use Rattle.doc_bits.proofs.ListLemmas.{rest_is}
+use Rattle.doc_bits.proofs.Public.{rest_is}
 
--- the bytes behind the style number, as the list is cut and as it stands in the page
+-- the bytes behind the style number, as the list is cut and as it is in the page
 tail_of : (list : List ℕ) (k least : ℕ) → k ≡ least → take (length list - k) (drop k list) ≡ drop least list
 tail_of list k least e = rest_is list k ∙ ap (λ n. drop n list) e
 

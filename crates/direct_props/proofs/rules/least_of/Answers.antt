@@ -1,6 +1,6 @@
 use Rattle.std.proofs.Common.{◌≡◌, length, subst, arith, slice_index_or}
 use Rattle.doc_bits.specs.Rules.{LeastOrNone, Among}
-use Rattle.doc_bits.proofs.RuleLemmas.{least_step}
+use Rattle.doc_bits.proofs.Public.{least_step}
 use Rattle.direct_props.specs.PageRules.{BreaksPageRule}
 use Rattle.direct_props.proofs.rules.least_of.Goals as goal
 

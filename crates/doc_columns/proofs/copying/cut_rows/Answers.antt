@@ -5,7 +5,7 @@ use Rattle.std.specs.Prelude.{replicate}
 use Rattle.std.proofs.lemmas.List.{take_all, take_more}
 use Rattle.run_lists.specs.declared.runs.Run.{Run}
 use Rattle.run_lists.specs.Spread.{expanded}
-use Rattle.run_lists.proofs.SpreadLemmas.{extent-nil, length-spread, extent_more, count_within, spread_push}
+use Rattle.run_lists.proofs.Public.{extent-nil, length-spread, extent_more, count_within, spread_push}
 use Rattle.doc_columns.proofs.copying.cut_rows.Goals as goal
 
 pub loop-run-init : goal.loop-run-init

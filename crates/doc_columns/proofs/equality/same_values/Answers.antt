@@ -4,7 +4,7 @@ use Rattle.std.specs.Prelude.{slice_get, IsTrue, false}
 use Rattle.std.proofs.lemmas.Bool.{cases_lt}
 use Rattle.std.proofs.lemmas.Option.{same_Some}
 use Rattle.run_lists.specs.Spread.{expanded}
-use Rattle.run_lists.proofs.SpreadLemmas.{length-spread}
+use Rattle.run_lists.proofs.Public.{length-spread}
 use Rattle.doc_columns.proofs.CollectLemmas.{start_at}
 use Rattle.doc_columns.proofs.EqualityLemmas.{begins_at_start, whole_same}
 use Rattle.doc_columns.proofs.equality.same_values.Goals as goal

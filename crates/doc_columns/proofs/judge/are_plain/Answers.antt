@@ -1,7 +1,7 @@
 use Rattle.std.proofs.Common.{◌≡◌, get_or, length, eqb-true, arith}
 use Rattle.std.proofs.lemmas.List.Elements.{All-from_get_or}
-use Rattle.bare_items.specs.Specials.{IsPlainUnit}
-use Rattle.bare_items.proofs.SpecialLemmas.{plain_unit}
+use Rattle.doc_columns.specs.Specials.{IsPlainUnit}
+use Rattle.doc_columns.proofs.SpecialLemmas.{plain_unit}
 use Rattle.doc_columns.proofs.judge.are_plain.Goals as goal
 
 pub returns : goal.returns

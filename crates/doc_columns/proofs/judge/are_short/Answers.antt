@@ -5,7 +5,7 @@ use Rattle.std.proofs.lemmas.Option.{slice_get_within, slice_get_read, get_or_fr
 use Rattle.prop_map.specs.Settings.{Properties}
 use Rattle.prop_map.specs.Formed.{IsPropertyMap, character_groups}
 use Rattle.run_lists.specs.declared.runs.Run.{Run}
-use Rattle.run_lists.proofs.CutLemmas.{All-runs, All-spread}
+use Rattle.run_lists.proofs.Public.{All-runs, All-spread}
 use Rattle.plain_doc.specs.RulesOfItems.{IsShortChp}
 use Rattle.doc_columns.proofs.judge.are_short.Goals as goal
 

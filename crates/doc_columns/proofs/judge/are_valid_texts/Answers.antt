@@ -4,7 +4,7 @@ use Rattle.doc_bits.specs.declared.places.Where.{Where}
 use Rattle.plain_doc.specs.declared.rules_counts.Counts.{Counts}
 use Rattle.plain_doc.specs.TextRules.{BreaksText}
 use Rattle.plain_doc.specs.TextWalk.{KeepsTextRules, HasCounts}
-use Rattle.plain_doc.proofs.PlaceLemmas.{HoldsInText, holds_here, list_holds}
+use Rattle.plain_doc.proofs.Public.{HoldsInText, holds_here, list_holds}
 use Rattle.doc_columns.proofs.RightLemmas.{taken}
 use Rattle.doc_columns.proofs.judge.are_valid_texts.Goals as goal
 

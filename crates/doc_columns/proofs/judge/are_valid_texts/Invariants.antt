@@ -1,7 +1,7 @@
 use Rattle.std.proofs.Common.{ℕ, ◌<◌}
 use Rattle.plain_doc.specs.declared.rules_texts.TextRule.{TextRule}
 use Rattle.plain_doc.specs.TextRules.{BreaksText}
-use Rattle.plain_doc.proofs.PlaceLemmas.{HoldsInText}
+use Rattle.plain_doc.proofs.Public.{HoldsInText}
 use Rattle.doc_columns.proofs.judge.are_valid_texts.Given as goal
 
 -- no text so far breaks a rule

@@ -4,11 +4,11 @@ use Rattle.std.specs.Prelude.{slice_get}
 use Rattle.std.proofs.lemmas.Option.{slice_get_read}
 use Rattle.run_lists.specs.declared.runs.Run.{Run}
 use Rattle.run_lists.specs.declared.cursor.Cursor.{Cursor}
-use Rattle.run_lists.proofs.SpreadLemmas.{extent-nil, extent_more}
+use Rattle.run_lists.proofs.Public.{extent-nil, extent_more}
 use Rattle.plain_doc.specs.declared.text_walk.TextWalk.{TextWalk}
 use Rattle.plain_doc.specs.declared.rules_counts.Counts.{Counts}
 use Rattle.plain_doc.specs.TextWalk.{EndsWalk, KeepsTextRules, HasCounts}
-use Rattle.plain_doc.proofs.TextWalkLemmas.{none_passed}
+use Rattle.plain_doc.proofs.Public.{none_passed}
 use Rattle.doc_columns.specs.declared.attached.Attached.{Attached}
 use Rattle.doc_columns.specs.Judging.{IsPassedTo}
 use Rattle.doc_columns.proofs.CollectLemmas.{start_at, run_inside}

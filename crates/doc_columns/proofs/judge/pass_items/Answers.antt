@@ -3,7 +3,7 @@ use Rattle.std.proofs.Common.{◌≡◌, ◌+◌, ◌<◌, ◌≤◌, ℕ, List,
 use Rattle.std.proofs.lemmas.Option.{slice_get_within, get_or_from_slice_get}
 use Rattle.plain_doc.specs.declared.item.Item.{Item}
 use Rattle.plain_doc.specs.TextWalk.{PassesItem}
-use Rattle.plain_doc.proofs.TextWalkLemmas.{one_passed}
+use Rattle.plain_doc.proofs.Public.{one_passed}
 use Rattle.doc_columns.specs.Judging.{IsPassedTo}
 use Rattle.doc_columns.proofs.JudgeLemmas.{units_long, made_maps}
 use Rattle.doc_columns.proofs.judge.pass_items.Goals as goal

@@ -2,7 +2,7 @@ use Rattle.std.proofs.Common.{◌<◌, ◌∙◌, length, get_or, subst, below_m
 use Rattle.std.proofs.lemmas.List.{get_or_default}
 use Rattle.std.proofs.lemmas.Option.{slice_get_within, get_or_from_slice_get}
 use Rattle.run_lists.specs.declared.runs.Run.{Run}
-use Rattle.run_lists.proofs.CutLemmas.{All-spread}
+use Rattle.run_lists.proofs.Public.{All-spread}
 use Rattle.doc_columns.specs.declared.attached.Attached.{Attached}
 use Rattle.doc_columns.specs.Attached.{IsRanged}
 use Rattle.doc_columns.proofs.ranges.are_ranged.Goals as goal

@@ -5,6 +5,6 @@ use Rattle.doc_columns.specs.declared.attached.Attached.{Attached}
 use Rattle.doc_columns.specs.Attached.{IsRanged}
 use Rattle.doc_columns.proofs.ranges.are_ranged.Given as goal
 
--- what stands beside is ranged in the runs so far
+-- what is beside is ranged in the runs so far
 abbrev pub invariant-loop-run : goal.invariant-loop-run
 invariant-loop-run l = (d : Run Attached) (k : ℕ) → k < l.run-index → IsRanged (slice_index_or l.runs k d).value

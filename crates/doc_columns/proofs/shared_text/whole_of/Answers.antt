@@ -1,4 +1,4 @@
--- The runs stand for the columns.
+-- The runs represent the columns.
 use Rattle.std.proofs.Common.{◌∙◌, sym, subst, List}
 use Rattle.run_lists.specs.Spread.{expanded}
 use Rattle.prop_map.specs.Settings.{Properties}

@@ -6,8 +6,8 @@ use Rattle.plain_doc.specs.declared.rules_counts.Counts.{Counts}
 use Rattle.plain_doc.specs.RulesOfSheet.{heads_of_sections, item_count, most_items}
 use Rattle.plain_doc.specs.Sound.{IsSound}
 use Rattle.plain_doc.specs.TextWalk.{KeepsTextRules, HasCounts}
-use Rattle.plain_doc.proofs.JudgedLemmas.{all_texts, judged_sound}
-use Rattle.bare_items.specs.Marks.{AreValidBookmarks}
+use Rattle.plain_doc.proofs.Public.{all_texts, judged_sound}
+use Rattle.doc_columns.specs.Marks.{AreValidBookmarks}
 use Rattle.doc_columns.proofs.RightLemmas.{taken}
 use Rattle.doc_columns.proofs.SeenLemmas.{seen_document}
 use Rattle.doc_columns.proofs.sound.is_sound.Goals as goal

@@ -5,7 +5,7 @@ use Rattle.run_lists.specs.Places.{IsAt}
 use Rattle.doc_columns.specs.declared.attached.Attached.{Attached}
 use Rattle.doc_columns.proofs.walk.paragraph_end.Given as goal
 
--- no mark stands between the place and here
+-- no mark is between the place and here
 abbrev pub invariant-loop-at : goal.invariant-loop-at
 invariant-loop-at l = record {
   cursor : IsAt l.attachments l.marks;

@@ -1,5 +1,5 @@
 use Rattle.std.proofs.Common.{◌+◌, arith}
-use Rattle.loss_report.proofs.ReportLemmas.{range_cut}
+use Rattle.loss_report.proofs.Public.{range_cut}
 use Rattle.doc_fit.proofs.list_losses.part_of.Goals as goal
 
 pub returns : goal.returns

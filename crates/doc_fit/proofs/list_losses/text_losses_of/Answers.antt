@@ -2,7 +2,7 @@ use Rattle.std.specs.Prelude.{slice_range}
 use Rattle.std.proofs.Common.{◌≡◌, ◌∙◌, ◌+◌, ◌<◌, sym, ap, subst, arith, ℕ, List}
 use Rattle.fib_form.specs.Fib.{fib_pair, table_part}
 use Rattle.fib_versions.specs.Versions.{pair_count}
-use Rattle.fib_versions.proofs.VersionLemmas.{enough_pairs}
+use Rattle.fib_versions.proofs.Public.{enough_pairs}
 use Rattle.code_losses.specs.Losses.{AreCodeLosses}
 use Rattle.doc_fit.proofs.list_losses.text_losses_of.Goals as goal
 

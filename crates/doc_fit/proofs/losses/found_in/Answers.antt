@@ -3,9 +3,9 @@ use Rattle.doc_bits.specs.Rules.{Hold}
 use Rattle.cfb_streams.specs.Contents.{HasNamed}
 use Rattle.cfb_streams.specs.Names.{wd_name}
 use Rattle.fib_versions.specs.VersionRules.{version_rules}
-use Rattle.fib_versions.proofs.VersionLemmas.{long_enough}
+use Rattle.fib_versions.proofs.Public.{long_enough}
 use Rattle.file_rules.specs.FileRules.{table_stream_name}
-use Rattle.file_rules.proofs.NameLemmas.{named_one}
+use Rattle.file_rules.proofs.Public.{named_one}
 use Rattle.loss_report.specs.Losses.{losses}
 use Rattle.loss_report.specs.Lines.{feature_line}
 use Rattle.text_losses.specs.Lines.{feature_line as line_of_feature}

@@ -7,7 +7,7 @@ use Rattle.fib_versions.specs.declared.further.Further.TheVariants.{Endnotes}
 use Rattle.fib_versions.specs.Versions.{further_count}
 use Rattle.fib_versions.specs.VersionRules.{version_rules}
 use Rattle.file_rules.specs.FileRules.{table_stream_name}
-use Rattle.file_rules.proofs.NameLemmas.{named_one}
+use Rattle.file_rules.proofs.Public.{named_one}
 use Rattle.doc_fit.proofs.noting.has_endnotes.Goals as goal
 
 pub fib_of-fib-requires : goal.fib_of-fib-requires

@@ -1,6 +1,6 @@
 use Rattle.std.proofs.Common.{◌∙◌, ap, sym, not, filter, take, ℕ, List, [], ◌∷◌, ◌++◌}
 use Rattle.std.proofs.lemmas.List.Elements.{filter-append}
-use Rattle.doc_bits.proofs.ListLemmas.{take_step}
+use Rattle.doc_bits.proofs.Public.{take_step}
 use Rattle.doc_fit.specs.Noted.{is_endnote_line}
 use Rattle.doc_fit.proofs.noting.other_lines.Goals as goal
 

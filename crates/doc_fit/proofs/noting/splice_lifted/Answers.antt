@@ -6,8 +6,7 @@ use Rattle.cfb_streams.specs.Contents.{HasNamed}
 use Rattle.cfb_streams.specs.Names.{wd_name}
 use Rattle.fib_versions.specs.VersionRules.{version_rules}
 use Rattle.file_rules.specs.FileRules.{table_stream_name}
-use Rattle.file_rules.proofs.ContentsLemmas.{streams-small}
-use Rattle.file_rules.proofs.NameLemmas.{named_one}
+use Rattle.file_rules.proofs.Public.{streams-small, named_one}
 use Rattle.further_notes.specs.declared.splicing.Spliced.{Spliced}
 use Rattle.further_notes.specs.Splices.{IsSpliced, HasNoSplice}
 use Rattle.doc_fit.specs.Noted.{HasTwoStreams, HasNoSpliceOf, IsSplicedOf}

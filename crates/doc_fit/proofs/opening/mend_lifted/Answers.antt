@@ -1,9 +1,9 @@
 use Rattle.std.proofs.Common.{◌≡◌, ◌∙◌, ◌++◌, ap, subst, List}
 use Rattle.doc_losses.specs.References.{Names, names_of}
-use Rattle.doc_losses.proofs.ReferenceLemmas.{same_names}
+use Rattle.doc_losses.proofs.Public.{same_names}
 use Rattle.doc_mends.specs.Mending.{IsMended}
 use Rattle.doc_mends.specs.declared.mends.Mend.{Mend}
-use Rattle.deleted_text.proofs.StrikeLemmas.{struck_formed}
+use Rattle.deleted_text.proofs.Public.{struck_formed}
 use Rattle.doc_fit.proofs.MendLemmas.{struck_text, main_same, own_table}
 use Rattle.doc_fit.proofs.opening.mend_lifted.Goals as goal
 

@@ -1,6 +1,6 @@
 use Rattle.std.proofs.Common.{◌≤◌, ℕ, List, length, subst, arith}
 use Rattle.cfb_streams.specs.Names.{wd_name}
-use Rattle.file_rules.proofs.NameLemmas.{named_one}
+use Rattle.file_rules.proofs.Public.{named_one}
 use Rattle.doc_fit.proofs.refusing.version_in.Goals as goal
 
 pub main_stream-wd-requires : goal.main_stream-wd-requires

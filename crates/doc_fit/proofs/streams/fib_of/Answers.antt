@@ -1,7 +1,7 @@
 use Rattle.std.proofs.Common.{◌≤◌}
-use Rattle.doc_bits.proofs.RuleLemmas.{hold_or_first}
+use Rattle.doc_bits.proofs.Public.{hold_or_first}
 use Rattle.fib_versions.specs.VersionRules.{version_rules}
-use Rattle.fib_versions.proofs.VersionLemmas.{version_rules-IsSingle}
+use Rattle.fib_versions.proofs.Public.{version_rules-IsSingle}
 use Rattle.doc_fit.proofs.streams.fib_of.Goals as goal
 
 pub unreachable-requires : goal.unreachable-requires

@@ -1,7 +1,7 @@
 use Rattle.std.proofs.Common.{◌≡◌, ◌∙◌, sym, arith, length, true}
 use Rattle.std.proofs.lemmas.Bool.{le-ltb}
 use Rattle.doc_places.specs.Places.{lead}
-use Rattle.doc_places.proofs.AnchorLemmas.{lead_few, lead_on}
+use Rattle.doc_places.proofs.Public.{lead_few, lead_on}
 use Rattle.doc_html.proofs.anchors.begins_before.Goals as goal
 
 pub returns-then-number-len-clause-is : goal.returns-then-number-len-clause-is

@@ -6,9 +6,9 @@ use Rattle.view_places.specs.declared.element.Element.{Element}
 use Rattle.view_places.specs.declared.element.Element.TheVariants.{Anchor}
 use Rattle.form_page.specs.Forms.{Places}
 use Rattle.form_page.specs.Forms.{PutsPlaces}
-use Rattle.form_page.proofs.FormLemmas.{places_none, places_then}
+use Rattle.form_page.proofs.Public.{places_none, places_then}
 use Rattle.doc_places.specs.Places.{anchor_places, bare, lead, numbers}
-use Rattle.doc_places.proofs.AnchorLemmas.{anchors_more}
+use Rattle.doc_places.proofs.Public.{anchors_more}
 use Rattle.doc_html.proofs.anchors.write_anchors.Goals as goal
 
 pub loop-writer-init : goal.loop-writer-init

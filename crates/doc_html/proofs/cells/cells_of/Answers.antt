@@ -5,17 +5,15 @@ use Rattle.std.proofs.lemmas.Option.{slice_get-get_or}
 use Rattle.plain_doc.specs.Settings.{is_inside}
 use Rattle.plain_doc.specs.Stretches.{stretches}
 use Rattle.doc_columns.specs.Walks.{items_in}
-use Rattle.doc_columns.proofs.WalkLemmas.{items_long}
-use Rattle.doc_columns.proofs.CollectLemmas.{start_at}
-use Rattle.doc_columns.proofs.EqualityLemmas.{begins_at_start}
+use Rattle.doc_columns.proofs.Public.{items_long, start_at, begins_at_start}
 use Rattle.cell_spans.specs.declared.tables.Tables.{Tables}
 use Rattle.cell_spans.specs.Tables.{behind_outside}
 use Rattle.view_places.specs.declared.element.Span.{Span}
 use Rattle.doc_view.specs.declared.standing.Standing.{Standing}
-use Rattle.doc_view.proofs.TextLemmas.{paragraph_begins}
+use Rattle.doc_view.proofs.Public.{paragraph_begins}
 use Rattle.doc_places.specs.Cells.{definition_in, tables_by, tables_from}
 use Rattle.doc_places.specs.Places.{has_label, is_mark_alone, lead}
-use Rattle.doc_places.proofs.AnchorLemmas.{lead_more, lead_none}
+use Rattle.doc_places.proofs.Public.{lead_more, lead_none}
 use Rattle.doc_html.proofs.CellLemmas.{tables_end, tables_on}
 use Rattle.doc_html.proofs.cells.cells_of.Goals as goal
 

@@ -3,10 +3,10 @@ use Rattle.std.proofs.Common.{◌≡◌, ◌∙◌, ◌-◌, Bool, true, false, 
 use Rattle.std.specs.Prelude.{slice_index, slice_get}
 use Rattle.std.proofs.lemmas.Option.{slice_get-get_or}
 use Rattle.doc_columns.specs.Walks.{items_in}
-use Rattle.doc_columns.proofs.WalkLemmas.{items_long}
+use Rattle.doc_columns.proofs.Public.{items_long}
 use Rattle.doc_view.specs.Layout.{ends_head, keeps_row}
 use Rattle.doc_view.specs.Seen.{standing_of}
-use Rattle.doc_view.proofs.TextLemmas.{next_left, none_left}
+use Rattle.doc_view.proofs.Public.{next_left, none_left}
 use Rattle.doc_places.specs.Grid.{is_head_row}
 use Rattle.doc_html.specs.Writes.{paragraphs_left}
 use Rattle.doc_html.proofs.HeadLemmas.{head_ends, head_on}

@@ -4,8 +4,7 @@ use Rattle.std.specs.Prelude.{slice_index, is_some, if◌then◌else◌}
 use Rattle.doc_columns.specs.Walks.{items_in}
 use Rattle.doc_view.specs.declared.text.Course.{Course}
 use Rattle.doc_view.specs.Course.{IsCourse}
-use Rattle.doc_view.proofs.CourseLemmas.{item_course, item_room, item_there, few_numbered, seen_is}
-use Rattle.doc_view.proofs.RangeLemmas.{seen_range}
+use Rattle.doc_view.proofs.Public.{item_course, item_room, item_there, few_numbered, seen_is, seen_range}
 use Rattle.view_places.specs.declared.element.Element.{Element}
 use Rattle.form_page.specs.Forms.{PutsPlaces}
 use Rattle.doc_places.specs.Places.{count_of, item_places, up_to_reference}

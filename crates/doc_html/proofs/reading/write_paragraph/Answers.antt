@@ -2,12 +2,12 @@
 use Rattle.std.proofs.Common.{◌≡◌, ◌∙◌, ◌+◌, ◌≤◌, ℕ, refl, sym, ap, subst, arith, List, length}
 use Rattle.doc_columns.specs.Walks.{items_in, IsWalk}
 use Rattle.doc_columns.specs.declared.walk.Walk.{Walk}
-use Rattle.doc_columns.proofs.WalkLemmas.{later_walk}
-use Rattle.char_formats.proofs.FormatLemmas.{format_one}
+use Rattle.doc_columns.proofs.Public.{later_walk}
+use Rattle.char_formats.proofs.Public.{format_one}
 use Rattle.view_places.specs.declared.element.Element.{Element}
 use Rattle.doc_html.specs.Writes.{At, IsReading, Writes, at, links_in}
 use Rattle.doc_html.proofs.WriteLemmas.{reading_walk, writes_from, writes_further, writes_in, writes_start, writes_to}
-use Rattle.doc_view.proofs.RangeLemmas.{seen_range}
+use Rattle.doc_view.proofs.Public.{seen_range}
 use Rattle.doc_html.proofs.reading.write_paragraph.Goals as goal
 
 pub loop-reading-init : goal.loop-reading-init

@@ -5,7 +5,7 @@ use Rattle.doc_columns.specs.Walks.{items_in}
 use Rattle.view_places.specs.declared.element.Element.{Element}
 use Rattle.glyph_units.specs.Glyphs.{unit_places}
 use Rattle.doc_view.specs.Course.{HasAttached}
-use Rattle.doc_view.proofs.UnitLemmas.{AreUnits, course_behind, range_characters, units_at}
+use Rattle.doc_view.proofs.Public.{AreUnits, course_behind, range_characters, units_at}
 use Rattle.doc_places.specs.Places.{format_elements, label_places, link_elements}
 use Rattle.form_page.specs.Forms.{PutsPlaces}
 use Rattle.doc_html.specs.Writes.{at, links_in}

@@ -3,7 +3,7 @@ use Rattle.doc_columns.specs.Walks.{items_in, IsWalk}
 use Rattle.doc_view.specs.Course.{HasFormat}
 use Rattle.doc_view.specs.Page.{AreFormats}
 use Rattle.doc_view.specs.Seen.{Formats}
-use Rattle.doc_view.proofs.RangeLemmas.{seen_range}
+use Rattle.doc_view.proofs.Public.{seen_range}
 use Rattle.doc_html.specs.Writes.{At, IsReading, Writes, at, links_in}
 use Rattle.doc_html.proofs.reading.write_stretch.Given as goal
 

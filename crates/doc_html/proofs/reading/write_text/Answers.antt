@@ -7,17 +7,14 @@ use Rattle.std.proofs.Math.Seq.{take-append_seam}
 use Rattle.std.proofs.lemmas.Option.{slice_get-get_or}
 use Rattle.style_sheet.specs.Chain.{kind_at}
 use Rattle.doc_columns.specs.Walks.{items_in, IsWalk}
-use Rattle.doc_columns.proofs.WalkLemmas.{first_walk, items_long}
-use Rattle.doc_columns.proofs.CollectLemmas.{start_at}
-use Rattle.doc_columns.proofs.EqualityLemmas.{begins_at_start}
+use Rattle.doc_columns.proofs.Public.{first_walk, items_long, start_at, begins_at_start}
 use Rattle.view_places.specs.declared.element.Element.{Element}
 use Rattle.doc_view.specs.declared.references.Reference.{Reference}
 use Rattle.doc_view.specs.declared.standing.Standing.{Standing}
 use Rattle.doc_view.specs.Kept.{KeptReferences}
 use Rattle.doc_view.specs.Layout.{is_in_table}
 use Rattle.doc_view.specs.Seen.{Paragraph, paragraphs_of, standing_of, style_of, with_values}
-use Rattle.doc_view.proofs.RangeLemmas.{seen_range}
-use Rattle.doc_view.proofs.TextLemmas.{next_left, none_left, right_style, values_next, values_none}
+use Rattle.doc_view.proofs.Public.{seen_range, next_left, none_left, right_style, values_next, values_none}
 use Rattle.doc_places.specs.declared.grid.Grid.{Grid}
 use Rattle.doc_places.specs.Grid.{grid_after, is_head_row}
 use Rattle.doc_places.specs.declared.lists.Lists.{Lists}
@@ -25,7 +22,7 @@ use Rattle.doc_places.specs.declared.looks.Look.{Look}
 use Rattle.doc_places.specs.Lists.{lists_after}
 use Rattle.doc_places.specs.Looks.{label_units, look_of}
 use Rattle.doc_places.specs.Places.{anchor_places, block_of, cell_at, hypertext_of, lead, numbers, up_to_reference}
-use Rattle.doc_places.proofs.AnchorLemmas.{lead_more, lead_none}
+use Rattle.doc_places.proofs.Public.{lead_more, lead_none}
 use Rattle.form_page.specs.Forms.{Places}
 use Rattle.form_page.specs.Forms.{PutsPlaces}
 use Rattle.doc_html.specs.Writes.{Writes, at, at_front, head_by, paragraphs_left}

@@ -1,16 +1,15 @@
 -- The item of the place.
 use Rattle.std.proofs.Common.{◌≡◌, ◌∙◌, ◌+◌, ◌∷◌, [], ℕ, refl, sym, ap, subst, arith}
 use Rattle.std.specs.Prelude.{slice_index}
-use Rattle.char_formats.proofs.FormatLemmas.{format_one}
+use Rattle.char_formats.proofs.Public.{format_one}
 use Rattle.doc_columns.specs.Walks.{items_in, IsWalk}
 use Rattle.doc_columns.specs.declared.walk.Walk.{Walk}
-use Rattle.doc_columns.proofs.WalkLemmas.{later_walk}
+use Rattle.doc_columns.proofs.Public.{later_walk}
 use Rattle.doc_view.specs.declared.reading.Seen.{Seen}
 use Rattle.doc_view.specs.declared.text.Course.{Course}
 use Rattle.doc_view.specs.Course.{IsCourse}
 use Rattle.doc_view.specs.Seen.{seen_as}
-use Rattle.doc_view.proofs.CourseLemmas.{course_walk, item_course, item_room, item_there, few_numbered, seen_is}
-use Rattle.doc_view.proofs.RangeLemmas.{seen_one}
+use Rattle.doc_view.proofs.Public.{course_walk, item_course, item_room, item_there, few_numbered, seen_is, seen_one}
 use Rattle.doc_html.proofs.title.next_seen.Goals as goal
 
 pub pass-requires-clause-room : goal.pass-requires-clause-room

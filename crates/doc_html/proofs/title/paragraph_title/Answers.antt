@@ -2,7 +2,7 @@
 use Rattle.std.proofs.Common.{◌≡◌, ◌∙◌, ◌+◌, ◌∷◌, ◌++◌, [], ◌≤◌, ℕ, List, refl, sym, ap, subst, arith, length, take, length-take}
 use Rattle.doc_columns.specs.Walks.{items_in, IsWalk}
 use Rattle.doc_view.specs.declared.reading.Seen.{Seen}
-use Rattle.doc_view.proofs.RangeLemmas.{seen_none, seen_range, seen_then}
+use Rattle.doc_view.proofs.Public.{seen_none, seen_range, seen_then}
 use Rattle.doc_html.specs.Head.{longest_title, title_units}
 use Rattle.doc_html.proofs.TitleLemmas.{item_units, title_on}
 use Rattle.doc_html.proofs.title.paragraph_title.Goals as goal

@@ -3,7 +3,7 @@ use Rattle.doc_columns.specs.Walks.{items_in, IsWalk}
 use Rattle.doc_view.specs.Course.{IsCourse}
 use Rattle.doc_view.specs.Page.{AreFormats}
 use Rattle.doc_view.specs.Seen.{Formats}
-use Rattle.doc_view.proofs.RangeLemmas.{seen_range}
+use Rattle.doc_view.proofs.Public.{seen_range}
 use Rattle.doc_html.specs.Head.{longest_title, title_units}
 use Rattle.doc_html.proofs.title.paragraph_title.Given as goal
 

@@ -5,15 +5,12 @@ use Rattle.std.proofs.lemmas.Option.{slice_get-get_or}
 use Rattle.style_sheet.specs.Chain.{kind_at}
 use Rattle.doc_columns.specs.Walks.{items_in, IsWalk}
 use Rattle.doc_columns.specs.declared.walk.Walk.{Walk}
-use Rattle.doc_columns.proofs.WalkLemmas.{first_walk, items_long}
-use Rattle.doc_columns.proofs.CollectLemmas.{start_at}
-use Rattle.doc_columns.proofs.EqualityLemmas.{begins_at_start}
+use Rattle.doc_columns.proofs.Public.{first_walk, items_long, start_at, begins_at_start}
 use Rattle.std.specs.List.{count_by}
 use Rattle.doc_view.specs.Course.{has_reference}
 use Rattle.doc_view.specs.Kept.{KeptReferences}
 use Rattle.doc_view.specs.Seen.{Paragraph, paragraphs_of, standing_of, style_of}
-use Rattle.doc_view.proofs.RangeLemmas.{seen_range}
-use Rattle.doc_view.proofs.TextLemmas.{next_left, none_left, right_style}
+use Rattle.doc_view.proofs.Public.{seen_range, next_left, none_left, right_style}
 use Rattle.doc_html.specs.Head.{is_title, title_in, title_units}
 use Rattle.doc_html.specs.Writes.{paragraphs_left}
 use Rattle.doc_html.proofs.TitleLemmas.{no_title, title_here, title_past}

@@ -6,7 +6,7 @@ use Rattle.plain_doc.specs.declared.item.Item.{Item}
 use Rattle.plain_doc.specs.RightDocument.{HoldsAtItems}
 use Rattle.plain_doc.specs.RulesOfTexts.{HasParagraphStyle}
 use Rattle.doc_columns.specs.Walks.{items_in}
-use Rattle.doc_view.proofs.PageLemmas.{sound_normal, sound_styles}
+use Rattle.doc_view.proofs.Public.{sound_normal, sound_styles, no_references}
 use Rattle.symbol_fonts.specs.declared.fonts.SymbolFonts.{SymbolFonts}
 use Rattle.doc_view.specs.declared.reading.Manner.{Manner}
 use Rattle.doc_view.specs.declared.reading.TextKind.TheVariants as text_kind
@@ -14,7 +14,6 @@ use Rattle.doc_view.specs.Page.{AreFormats}
 use Rattle.doc_view.specs.Seen.{paragraphs_of}
 use Rattle.doc_html.specs.Head.{title_in}
 use Rattle.doc_html.proofs.title.title_of.Goals as goal
-use Rattle.doc_view.proofs.HeaderLemmas.{no_references}
 
 pub title_in-requires-clause-normal : goal.title_in-requires-clause-normal
 title_in-requires-clause-normal c =

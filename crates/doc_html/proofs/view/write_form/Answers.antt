@@ -1,4 +1,4 @@
-use Rattle.plain_doc.proofs.RightLemmas.{sound_is_valid}
+use Rattle.plain_doc.proofs.Public.{sound_is_valid}
 use Rattle.doc_html.proofs.view.write_form.Goals as goal
 
 pub needs_of-requires-clause-bases : goal.needs_of-requires-clause-bases

@@ -2,7 +2,7 @@ use Rattle.std.proofs.Common.{◌≡◌, [], List, ℕ, false, sym, ap, subst, �
 use Rattle.page_out.specs.Printed.{Prints}
 use Rattle.form_page.specs.declared.page.PageForm.{PageForm}
 use Rattle.form_page.specs.Forms.{IsFresh, form_text, page_in}
-use Rattle.form_page.proofs.FormLemmas.{fresh_block, fresh_right}
+use Rattle.form_page.proofs.Public.{fresh_block, fresh_right}
 use Rattle.doc_view.specs.Page.{AreFormats}
 use Rattle.doc_view.specs.Seen.{Formats}
 use Rattle.doc_places.specs.Places.{places_of}

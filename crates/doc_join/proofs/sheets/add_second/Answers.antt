@@ -2,7 +2,7 @@ use Rattle.std.proofs.Common.{◌<◌, ◌∙◌, ◌++◌, ◌∷◌, [], Optio
 use Rattle.style_sheet.specs.declared.styles.Style.{Style}
 use Rattle.style_sheet.specs.Sheet.{Sheet, style_at}
 use Rattle.style_sheet.specs.Formed.{IsFormedSlot}
-use Rattle.effective_props.proofs.LayerLemmas.{match_now}
+use Rattle.effective_props.proofs.Public.{match_now}
 use Rattle.doc_join.specs.declared.renumbering.Renumbering.{Renumbering}
 use Rattle.doc_join.specs.Styles.{slots_from_second, slot_from_second}
 use Rattle.doc_join.proofs.SheetLemmas.{given_formed, second_formed, second_more, length-second}

@@ -3,13 +3,14 @@ use Rattle.std.specs.List.{splice}
 use Rattle.plain_doc.specs.declared.item.Item.{Item}
 use Rattle.doc_join.specs.Texts.{ending_section}
 use Rattle.doc_join.proofs.TextLemmas.{ended_maps}
-use Rattle.doc_join.proofs.ColumnLemmas.{maps_at, ended_splice}
+use Rattle.doc_join.proofs.ColumnLemmas.{ended_splice}
 use Rattle.doc_join.proofs.texts.end_section.Goals as goal
+use Rattle.plain_doc.proofs.Public.{maps_there}
 
 pub add-requires-clause-maps : goal.add-requires-clause-maps
 add-requires-clause-maps c =
     ended_maps c.in_ok-item.item
-    (maps_at c.args.text _ c.in_ok-item.item c.len-last.ensures.formed c.in_ok-item.ensures)
+    (maps_there c.args.text _ c.in_ok-item.item c.len-last.ensures.formed c.in_ok-item.ensures)
 
 pub returns : goal.returns
 returns c =

@@ -1,5 +1,5 @@
 use Rattle.std.proofs.Common.{◌≤◌, arith}
-use Rattle.doc_bits.proofs.RuleLemmas.{hold_or_first}
+use Rattle.doc_bits.proofs.Public.{hold_or_first}
 use Rattle.doc_parts.specs.Levels.{level_rules}
 use Rattle.doc_lift.proofs.clx_skipping.end_before.Goals as goal
 

@@ -34,8 +34,8 @@ filled_bin-requires-2-clause-pages c =
     let can = c.can_fill.ensures.0 c.if-not-can_fill.false in
     subst (λ (b : List ℕ). ArePagesWithin b c.args.wd.now) (sym part) (can.pages Papx)
 
-pub returns-then-len-gt-MOST_TABLE : goal.returns-then-len-gt-MOST_TABLE
-returns-then-len-gt-MOST_TABLE c =
+pub returns-then-len-gt-MAX_TABLE : goal.returns-then-len-gt-MAX_TABLE
+returns-then-len-gt-MAX_TABLE c =
     let wd = c.args.wd.now in
     let table = c.args.table.now in
     let chars = part_is c.args.fib.now wd table c.part-characters.result.now PlcfBteChpx c.requires.fields
@@ -51,7 +51,7 @@ returns-then-len-gt-MOST_TABLE c =
     λ new_wd new_table are.
     let one = table_is_one c.args.fib.now wd table c.in_ok-chars.chars c.in_ok-pars.pars new_wd new_table
     c.requires.bins bins are.fills in
-    absurd (omega (arith, ap length one, ap length all, are.short, c.len.ensures, c.if-len-gt-MOST_TABLE.true))
+    absurd (omega (arith, ap length one, ap length all, are.short, c.len.ensures, c.if-len-gt-MAX_TABLE.true))
 
 pub returns : goal.returns
 returns c =
@@ -83,7 +83,7 @@ returns c =
       all_is = all;
       front_is = c.in_ok-front.ensures.bytes;
       fields = c.in_ok-front.ensures.fields;
-      short = omega (arith, c.len.ensures, c.if-len-gt-MOST_TABLE.false);
+      short = omega (arith, c.len.ensures, c.if-len-gt-MAX_TABLE.false);
     } in
     record {
       are = made_filled own wd table chars pars pairs c.in_ok-front.front.items c.in_ok-all.all.items

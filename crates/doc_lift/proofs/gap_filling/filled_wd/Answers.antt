@@ -1,7 +1,7 @@
 use Rattle.std.proofs.Common.{ap, length, arith}
 use Rattle.fib_form.specs.Fib.{form_size}
 use Rattle.fib_form.specs.FibFields.{FibFields}
-use Rattle.fkp_gaps.proofs.PageLemmas.{length-with_empty_run}
+use Rattle.fkp_gaps.proofs.Public.{length-with_empty_run}
 use Rattle.doc_lift.proofs.gap_filling.filled_wd.Goals as goal
 
 pub with_fib-requires : goal.with_fib-requires

@@ -1,6 +1,6 @@
 use Rattle.std.proofs.Common.{◌≡◌, ◌∙◌, refl, sym, subst, List, ℕ}
 use Rattle.file_rules.specs.FileRules.{IsFrontOf, rules_of_pieces}
-use Rattle.file_rules.proofs.FileLemmas.{pieces_single}
+use Rattle.file_rules.proofs.Public.{pieces_single}
 use Rattle.doc_lift.proofs.SkipLemmas.{AreLoaded, AreOneStreams, loaded_front, loaded_rules, rules_loaded, refused_none}
 use Rattle.doc_lift.proofs.SkipLemmas.{units_one}
 use Rattle.doc_lift.proofs.gap_filling.load_filled.Goals as goal

@@ -1,5 +1,5 @@
 use Rattle.doc_bits.specs.Places.{Upto}
-use Rattle.doc_bits.proofs.RuleLemmas.{least_of_all}
+use Rattle.doc_bits.proofs.Public.{least_of_all}
 use Rattle.doc_lift.specs.LiftedFiles.{lifted_rules}
 use Rattle.doc_lift.proofs.RuleLemmas.{lifted_single, lifted_ascend}
 use Rattle.doc_lift.proofs.laws.first_lifted_fault_is_least.Goals as goal

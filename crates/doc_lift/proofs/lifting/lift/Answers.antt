@@ -3,13 +3,13 @@ use Rattle.std.proofs.Common.{sym, subst}
 use Rattle.doc_bits.specs.declared.places.Where.TheVariants.{File}
 use Rattle.doc_bits.specs.Rules.{given}
 use Rattle.doc_bits.specs.Places.{rules_in}
-use Rattle.doc_bits.proofs.RuleLemmas.{hold_in}
+use Rattle.doc_bits.proofs.Public.{hold_in}
 use Rattle.cfb_streams.specs.Contents.{Contents}
 use Rattle.cfb_streams.specs.Container.{outer_rules, HasContents}
 use Rattle.file_rules.specs.Faults.{IsReadFault, cfb_refusal}
-use Rattle.file_rules.proofs.RefusalLemmas.{refused-first, refused-next, refused-given, refused-container}
+use Rattle.file_rules.proofs.Public.{refused-first, refused-next, refused-given, refused-container}
 use Rattle.doc_read.specs.CarriedParts.{AreWithinBounds}
-use Rattle.doc_meaning.proofs.MeaningLemmas.{file_means}
+use Rattle.doc_meaning.proofs.Public.{file_means}
 use Rattle.doc_lift.specs.LiftedRules.{lifted_contents_rules}
 use Rattle.doc_lift.specs.LiftedTexts.{IsLiftedBy}
 use Rattle.doc_lift.specs.LiftedFiles.{IsLifted}

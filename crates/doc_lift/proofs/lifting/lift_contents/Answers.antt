@@ -5,7 +5,7 @@ use Rattle.doc_bits.specs.Places.{rules_in}
 use Rattle.cfb_streams.specs.Contents.{HasNamed}
 use Rattle.cfb_streams.specs.Names.{wd_name}
 use Rattle.file_rules.specs.FileRules.{HasNoStream}
-use Rattle.file_rules.proofs.RefusalLemmas.{refused-next, refused-given, stream-there}
+use Rattle.file_rules.proofs.Public.{refused-next, refused-given, stream-there}
 use Rattle.doc_lift.specs.LiftedRules.{lifted_wd_rules, lifted_contents_rules}
 use Rattle.doc_lift.proofs.LiftLemmas.{lifted_under}
 use Rattle.doc_lift.proofs.lifting.lift_contents.Goals as goal

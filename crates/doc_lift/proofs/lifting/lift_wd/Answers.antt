@@ -3,13 +3,13 @@ use Rattle.std.proofs.lemmas.Result.{MatchResult-weaker}
 use Rattle.doc_bits.specs.declared.places.Where.TheVariants.{Wd}
 use Rattle.doc_bits.specs.Rules.{rule, given, ◌then◌}
 use Rattle.doc_bits.specs.Places.{rules_in}
-use Rattle.doc_bits.proofs.RuleLemmas.{hold_in, first_in}
+use Rattle.doc_bits.proofs.Public.{hold_in, first_in}
 use Rattle.fib_form.specs.Fib.{fib_which_table}
 use Rattle.fib_versions.specs.VersionRules.{version_rules}
 use Rattle.cfb_streams.specs.Names.{table_name}
 use Rattle.cfb_streams.specs.Contents.{HasNamed, HasNoNamed}
 use Rattle.file_rules.specs.FileRules.{HasNoStream, table_stream_name}
-use Rattle.file_rules.proofs.RefusalLemmas.{refused-next, refused-given, stream-missing, stream-there}
+use Rattle.file_rules.proofs.Public.{refused-next, refused-given, stream-missing, stream-there}
 use Rattle.doc_lift.specs.LiftedRules.{lifted_table_rules, lifted_wd_rules}
 use Rattle.doc_lift.proofs.LiftLemmas.{lifted_under}
 use Rattle.doc_lift.proofs.lifting.lift_wd.Goals as goal

@@ -1,6 +1,6 @@
 use Rattle.std.specs.Prelude.{slice_range}
 use Rattle.std.proofs.Common.{◌≡◌, ◌∙◌, ◌+◌, min, length, ap, sym, arith}
-use Rattle.file_rules.proofs.PartLemmas.{range_within}
+use Rattle.file_rules.proofs.Public.{range_within}
 use Rattle.doc_lift.proofs.skipping.sepx_bytes.Goals as goal
 
 pub returns : goal.returns

@@ -1,5 +1,5 @@
 use Rattle.std.proofs.Common.{◌≡◌, ◌∙◌, ◌++◌, sym, subst, take, drop, length, arith}
-use Rattle.fib_form.proofs.WriteLemmas.{take_front}
+use Rattle.fib_form.proofs.Public.{take_front}
 use Rattle.page_copies.specs.Pages.{SkipsPages}
 use Rattle.doc_meaning.specs.Skipped.{bins_of}
 use Rattle.doc_lift.proofs.SkipLemmas.{pages_skipped}

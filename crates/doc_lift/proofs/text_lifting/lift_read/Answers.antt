@@ -10,7 +10,7 @@ use Rattle.cfb_streams.specs.Names.{wd_name}
 use Rattle.file_rules.specs.Faults.{IsReadFault}
 use Rattle.file_rules.specs.PartRules.{part_rules}
 use Rattle.file_rules.specs.FileRules.{IsFrontOf, rules_of_pieces}
-use Rattle.file_rules.proofs.RefusalLemmas.{refused-first}
+use Rattle.file_rules.proofs.Public.{refused-first}
 use Rattle.doc_lift.specs.LiftedRules.{IsLiftedSource, lifted_wd, read_table_rules}
 use Rattle.doc_lift.specs.LiftedTexts.{IsLiftedBy}
 use Rattle.doc_lift.specs.FilledTexts.{filled_rules}

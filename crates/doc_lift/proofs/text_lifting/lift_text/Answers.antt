@@ -5,7 +5,7 @@ use Rattle.fib_form.specs.FibFields.{FibFields}
 use Rattle.fib_versions.specs.Early.{early_pairs}
 use Rattle.cfb_streams.specs.Names.{wd_name}
 use Rattle.file_rules.specs.FileRules.{table_stream_name}
-use Rattle.file_rules.proofs.RefusalLemmas.{refused-given}
+use Rattle.file_rules.proofs.Public.{refused-given}
 use Rattle.doc_meaning.specs.Apart.{IsReadTable, ReadsClx}
 use Rattle.doc_lift.specs.LiftedRules.{lifted_table_rules, read_table_rules}
 use Rattle.doc_lift.proofs.LiftLemmas.{stream_small, early_same, lifted_under}

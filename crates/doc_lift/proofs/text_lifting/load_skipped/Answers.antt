@@ -6,7 +6,7 @@ use Rattle.fib_form.specs.declared.table_parts.TablePart.TheVariants.{PlcfSed}
 use Rattle.fib_versions.specs.Early.{early_fields, early_pairs}
 use Rattle.fib_versions.specs.Versions.{all_text_length}
 use Rattle.file_rules.specs.FileRules.{rules_of_pieces}
-use Rattle.file_rules.proofs.FileLemmas.{pieces_single}
+use Rattle.file_rules.proofs.Public.{pieces_single}
 use Rattle.doc_lift.proofs.LiftLemmas.{early_long, early_same, front_short}
 use Rattle.doc_lift.proofs.SkipLemmas.{skipped_len, table_len, skipped_holds, AreLoaded, AreCompared, text_found}
 use Rattle.doc_lift.proofs.SkipLemmas.{text_keeps, rules_loaded, refused_none}

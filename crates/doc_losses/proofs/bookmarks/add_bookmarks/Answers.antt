@@ -4,7 +4,7 @@ use Rattle.doc_bits.specs.Number.{u16_at}
 use Rattle.doc_parts.specs.declared.bookmark_order.Bookmark.{Bookmark}
 use Rattle.doc_parts.specs.BookmarkParts.{parts_at, bookmark_at, name_place}
 use Rattle.doc_parts.specs.Tabulated.{tabulate}
-use Rattle.doc_parts.proofs.BookmarkPartLemmas.{first_place, name_place-next}
+use Rattle.doc_parts.proofs.Public.{first_place, name_place-next}
 use Rattle.text_losses.specs.declared.features.TextFeature.{TextFeature}
 use Rattle.doc_losses.specs.Bookmarks.{bookmark_feature}
 use Rattle.doc_losses.specs.Losses.{left_out}

@@ -5,7 +5,7 @@ use Rattle.doc_losses.specs.Bookmarks.{bookmark_feature}
 use Rattle.doc_losses.specs.Losses.{left_out}
 use Rattle.doc_losses.proofs.bookmarks.add_bookmarks.Given as goal
 
--- the bookmarks so far, and where the next name stands
+-- the bookmarks so far, and where the next name is
 abbrev pub invariant-loop-k : goal.invariant-loop-k
 invariant-loop-k l = record {
   list :

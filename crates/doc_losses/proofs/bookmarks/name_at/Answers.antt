@@ -1,7 +1,7 @@
 use Rattle.std.proofs.Common.{◌≡◌, rules, ℕ, ◌+◌, ◌*◌}
 use Rattle.doc_bits.specs.Number.{u16_at}
 use Rattle.doc_parts.specs.Tabulated.{tabulate}
-use Rattle.doc_parts.proofs.BookmarkPartLemmas.{tabulate-next}
+use Rattle.doc_parts.proofs.Public.{tabulate-next}
 use Rattle.doc_losses.proofs.bookmarks.name_at.Goals as goal
 
 pub loop-i-init : goal.loop-i-init

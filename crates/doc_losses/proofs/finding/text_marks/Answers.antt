@@ -7,11 +7,11 @@ use Rattle.plain_doc.specs.declared.item.Item.{Item}
 use Rattle.run_lists.specs.Spread.{expanded, total_len}
 use Rattle.run_lists.specs.Places.{IsAt}
 use Rattle.run_lists.specs.declared.cursor.Cursor.{Cursor}
-use Rattle.run_lists.proofs.SpreadLemmas.{extent-nil, length-spread}
+use Rattle.run_lists.proofs.Public.{extent-nil, length-spread}
 use Rattle.doc_columns.specs.declared.attached.Attached.{Attached}
 use Rattle.doc_columns.specs.Attached.{attached_of}
 use Rattle.doc_parts.specs.Tabulated.{tabulate}
-use Rattle.doc_parts.proofs.BookmarkPartLemmas.{tabulate-next}
+use Rattle.doc_parts.proofs.Public.{tabulate-next}
 use Rattle.doc_losses.specs.References.{mark_at}
 use Rattle.doc_losses.specs.Marks.{named_by}
 use Rattle.doc_losses.proofs.ReferenceLemmas.{mark_is}

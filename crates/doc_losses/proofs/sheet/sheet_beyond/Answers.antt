@@ -3,7 +3,7 @@ use Rattle.std.specs.Prelude.{nat_lt}
 use Rattle.std.specs.List.{count_by}
 use Rattle.doc_bits.specs.Number.{u16_at}
 use Rattle.doc_parts.specs.Tabulated.{tabulate}
-use Rattle.doc_parts.proofs.BookmarkPartLemmas.{tabulate-next}
+use Rattle.doc_parts.proofs.Public.{tabulate-next}
 use Rattle.style_sheet.specs.Counted.{even_up}
 use Rattle.style_sheet.specs.Stsh.{slot_place}
 use Rattle.doc_losses.proofs.NumberLemmas.{count_by-append, slot_next}

@@ -6,7 +6,7 @@ use Rattle.doc_parts.specs.Tabulated.{tabulate}
 use Rattle.style_sheet.specs.Stsh.{slot_place}
 use Rattle.doc_losses.proofs.sheet.sheet_beyond.Given as goal
 
--- the styles so far, and where the next slot stands
+-- the styles so far, and where the next slot is
 abbrev pub invariant-loop-istd : goal.invariant-loop-istd
 invariant-loop-istd l = record {
   place : l.place ≡ slot_place l.part l._istd;

@@ -2,7 +2,7 @@ use Rattle.std.proofs.Common.{◌∙◌, ◌<◌, ◌++◌, ap, sym, subst, List
 use Rattle.std.proofs.lemmas.List.Elements.{All-nil}
 use Rattle.std.specs.Prelude.{All, filter, if◌then◌else◌, [], ◌∷◌}
 use Rattle.doc_parts.specs.Tabulated.{tabulate}
-use Rattle.doc_parts.proofs.BookmarkPartLemmas.{kept-next}
+use Rattle.doc_parts.proofs.Public.{kept-next}
 use Rattle.style_sheet.specs.Chain.{kind_at}
 use Rattle.doc_mends.specs.Bases.{has_other_base}
 use Rattle.doc_mends.proofs.BaseLemmas.{kinds_one, one_filtered, other_kind}

@@ -4,7 +4,7 @@ use Rattle.std.specs.List.{sum_by}
 use Rattle.std.proofs.lemmas.List.Sums.{sum_by_more}
 use Rattle.std.proofs.lemmas.Option.{get_or_from_slice_get}
 use Rattle.doc_bits.specs.declared.places.Story.TheVariants.{Head}
-use Rattle.doc_bits.proofs.ListLemmas.{there_is}
+use Rattle.doc_bits.proofs.Public.{there_is}
 use Rattle.plain_doc.specs.declared.item.Item.{Item}
 use Rattle.doc_patch.specs.Changes.{changed_at}
 use Rattle.doc_losses.specs.References.{Names, head_begin}

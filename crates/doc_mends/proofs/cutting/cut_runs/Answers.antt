@@ -6,7 +6,7 @@ use Rattle.std.proofs.lemmas.List.Edits.{length-between}
 use Rattle.std.proofs.lemmas.List.Sums.{count_by-le-length}
 use Rattle.run_lists.specs.declared.runs.Run.{Run}
 use Rattle.run_lists.specs.Spread.{expanded, total_len}
-use Rattle.run_lists.proofs.SpreadLemmas.{spread-nil, extent-nil, extent_more, count_within, length-spread}
+use Rattle.run_lists.proofs.Public.{spread-nil, extent-nil, extent_more, count_within, length-spread}
 use Rattle.doc_mends.specs.Cuts.{unflagged}
 use Rattle.doc_mends.proofs.CutLemmas.{unflagged-nil, unflagged-short, run_unflagged}
 use Rattle.doc_mends.proofs.cutting.cut_runs.Goals as goal

@@ -8,7 +8,7 @@ use Rattle.doc_losses.specs.Marks.{named_by}
 use Rattle.doc_mends.specs.Cuts.{cut_heads}
 use Rattle.doc_mends.proofs.UncutLemmas.{uncut}
 use Rattle.doc_mends.proofs.cutting.cut_where_found.Goals as goal
-use Rattle.doc_bits.proofs.ListLemmas.{nil_from_length}
+use Rattle.doc_bits.proofs.Public.{nil_from_length}
 
 pub returns-then-is_empty-clause-ok : goal.returns-then-is_empty-clause-ok
 returns-then-is_empty-clause-ok c =

@@ -2,7 +2,7 @@ use Rattle.std.proofs.Common.{◌≡◌, ◌∙◌, ap, arith, length, Bool, Lis
 use Rattle.doc_parts.specs.declared.bookmark_order.Bookmark.{Bookmark}
 use Rattle.doc_parts.specs.Order.{in_order}
 use Rattle.doc_parts.specs.Bookmarks.{bookmark_cmp}
-use Rattle.doc_bits.proofs.ListLemmas.{there_is}
+use Rattle.doc_bits.proofs.Public.{there_is}
 use Rattle.doc_mends.specs.Cuts.{bookmark_left}
 use Rattle.doc_mends.proofs.TextLemmas.{put_mapped, all_mapped, mapped_len}
 use Rattle.doc_patch.specs.Changes.{changed_at}

@@ -2,8 +2,8 @@ use Rattle.std.proofs.Common.{◌≡◌, length, ap, ◌∙◌, sym, arith}
 use Rattle.std.proofs.lemmas.List.{length-map}
 use Rattle.plain_doc.specs.declared.item.Item.{Item}
 use Rattle.run_lists.specs.Spread.{expanded, total_len}
-use Rattle.run_lists.proofs.SpreadLemmas.{length-spread}
-use Rattle.doc_columns.proofs.RightLemmas.{chps_formed}
+use Rattle.run_lists.proofs.Public.{length-spread}
+use Rattle.doc_columns.proofs.Public.{chps_formed}
 use Rattle.doc_mends.proofs.judging.range_stays_short.Goals as goal
 
 pub runs_stay_short-requires-clause-within : goal.runs_stay_short-requires-clause-within

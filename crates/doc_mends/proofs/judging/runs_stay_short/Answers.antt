@@ -1,9 +1,9 @@
 use Rattle.std.proofs.Common.{◌≤◌, length, sym, subst, arith}
 use Rattle.prop_map.specs.Formed.{IsPropertyMap, character_groups}
 use Rattle.run_lists.specs.Spread.{expanded}
-use Rattle.run_lists.proofs.SpreadLemmas.{extent-nil, length-spread}
+use Rattle.run_lists.proofs.Public.{extent-nil, length-spread}
 use Rattle.prop_map.specs.Settings.{Properties}
-use Rattle.doc_bits.proofs.ListLemmas.{All_at}
+use Rattle.doc_bits.proofs.Public.{All_at}
 use Rattle.doc_mends.proofs.MendLemmas.{none_passed, more_pass, all_passed, one_long}
 use Rattle.doc_mends.proofs.judging.runs_stay_short.Invariants.{PassedTo}
 use Rattle.doc_mends.proofs.judging.runs_stay_short.Goals as goal

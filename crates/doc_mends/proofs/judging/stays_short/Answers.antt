@@ -3,7 +3,7 @@ use Rattle.prop_map.specs.declared.modifiers.Modifier.{Modifier}
 use Rattle.prop_map.specs.Formed.{character_groups}
 use Rattle.prop_map.specs.Overlay.{modified_characters}
 use Rattle.prop_map.specs.Printing.{printed_list}
-use Rattle.prop_map.proofs.MapLemmas.{characters_after}
+use Rattle.prop_map.proofs.Public.{characters_after}
 use Rattle.doc_mends.specs.Mends.{striking}
 use Rattle.doc_mends.proofs.judging.stays_short.Goals as goal
 

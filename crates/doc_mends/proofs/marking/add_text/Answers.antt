@@ -5,11 +5,11 @@ use Rattle.std.proofs.lemmas.List.{length-map, append-nil}
 use Rattle.run_lists.specs.Spread.{total_len}
 use Rattle.run_lists.specs.Places.{IsAt}
 use Rattle.run_lists.specs.declared.cursor.Cursor.{Cursor}
-use Rattle.run_lists.proofs.SpreadLemmas.{extent-nil, length-spread}
+use Rattle.run_lists.proofs.Public.{extent-nil, length-spread}
 use Rattle.doc_columns.specs.declared.attached.Attached.{Attached}
 use Rattle.doc_columns.specs.Attached.{attached_of}
 use Rattle.doc_parts.specs.Tabulated.{tabulate}
-use Rattle.doc_losses.proofs.ListingLemmas.{listed_more}
+use Rattle.doc_losses.proofs.Public.{listed_more}
 use Rattle.doc_mends.specs.declared.mends.WrongMark.{WrongMark}
 use Rattle.doc_mends.specs.NormalMarks.{wrong_mark_at}
 use Rattle.doc_mends.proofs.NormalLemmas.{wrong_is}

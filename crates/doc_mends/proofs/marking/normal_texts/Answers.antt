@@ -1,5 +1,5 @@
 use Rattle.std.proofs.Common.{◌≡◌, ◌∙◌, ap, arith, length, List}
-use Rattle.doc_bits.proofs.ListLemmas.{there_is}
+use Rattle.doc_bits.proofs.Public.{there_is}
 use Rattle.plain_doc.specs.declared.item.Item.{Item}
 use Rattle.doc_patch.specs.Changes.{changed_at}
 use Rattle.doc_mends.specs.NormalMarks.{normal_text}

@@ -1,5 +1,5 @@
 use Rattle.std.proofs.Common.{◌∙◌, ap, sym, subst, map, List, Some}
-use Rattle.doc_bits.proofs.ListLemmas.{All_at, get-map}
+use Rattle.doc_bits.proofs.Public.{All_at, get-map}
 use Rattle.plain_doc.specs.declared.item.Item.{Item}
 use Rattle.plain_doc.specs.Document.{HasPropertyMaps, IsFormedItem}
 use Rattle.doc_mends.specs.PlainRows.{plain_item}

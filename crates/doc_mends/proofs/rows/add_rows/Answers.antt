@@ -7,12 +7,12 @@ use Rattle.std.proofs.lemmas.Option.{slice_get-get_or}
 use Rattle.run_lists.specs.Spread.{total_len}
 use Rattle.run_lists.specs.Places.{IsAt}
 use Rattle.run_lists.specs.declared.cursor.Cursor.{Cursor}
-use Rattle.run_lists.proofs.SpreadLemmas.{extent-nil, length-spread}
+use Rattle.run_lists.proofs.Public.{extent-nil, length-spread}
 use Rattle.plain_doc.specs.declared.item.Item.{Item}
 use Rattle.doc_columns.specs.declared.attached.Attached.{Attached}
 use Rattle.doc_columns.specs.Attached.{attached_of}
 use Rattle.doc_parts.specs.Tabulated.{tabulate}
-use Rattle.doc_losses.proofs.ListingLemmas.{listed_more}
+use Rattle.doc_losses.proofs.Public.{listed_more}
 use Rattle.doc_mends.specs.declared.mends.BrokenRow.{BrokenRow}
 use Rattle.doc_mends.specs.BrokenRows.{broken_row_at}
 use Rattle.doc_mends.specs.OpenRows.{IsOpenBefore}

@@ -3,7 +3,7 @@ use Rattle.std.proofs.lemmas.Bool.{eqb-true}
 use Rattle.doc_mends.specs.declared.mends.BrokenRow.{BrokenRow}
 use Rattle.doc_mends.proofs.TableLemmas.{document_stays}
 use Rattle.doc_mends.proofs.tables.make_where_found.Goals as goal
-use Rattle.doc_bits.proofs.ListLemmas.{nil_from_length}
+use Rattle.doc_bits.proofs.Public.{nil_from_length}
 
 pub returns-then-is_empty-clause-ok : goal.returns-then-is_empty-clause-ok
 returns-then-is_empty-clause-ok c =

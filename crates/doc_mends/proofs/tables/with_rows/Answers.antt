@@ -8,7 +8,7 @@ use Rattle.doc_mends.specs.PlainRows.{rows_plain}
 use Rattle.doc_mends.proofs.RowLemmas.{rows_within}
 use Rattle.doc_mends.proofs.TableLemmas.{AreWithin, plain_stays}
 use Rattle.doc_mends.proofs.tables.with_rows.Goals as goal
-use Rattle.doc_bits.proofs.ListLemmas.{nil_from_length}
+use Rattle.doc_bits.proofs.Public.{nil_from_length}
 
 pub returns-then-is_empty : goal.returns-then-is_empty
 returns-then-is_empty c =

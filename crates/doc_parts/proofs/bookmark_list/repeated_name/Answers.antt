@@ -2,7 +2,7 @@ use Rattle.std.proofs.Common.{rules, refl, arith, ◌≡◌, ◌<◌, ℕ, lengt
 use Rattle.std.specs.Prelude.{slice_get}
 use borrow.Author.Count.{below_more}
 use Rattle.std.proofs.lemmas.Option.{slice_get_read}
-use Rattle.doc_bits.proofs.RuleLemmas.{none_among}
+use Rattle.doc_bits.proofs.Public.{none_among}
 use Rattle.doc_parts.specs.declared.bookmark_order.Bookmark.{Bookmark}
 use Rattle.doc_parts.specs.Names.{RepeatsName}
 use Rattle.doc_parts.proofs.NameLemmas.{first_same, not_here}

@@ -3,7 +3,7 @@ use Rattle.std.proofs.lemmas.List.{drop_all}
 use Rattle.doc_patch.specs.Changes.{all_changed}
 use Rattle.doc_patch.specs.Makes.{CanMakeAll}
 use Rattle.doc_patch.proofs.making.make_all.Goals as goal
-use Rattle.run_lists.proofs.CutLemmas.{run_and_rest}
+use Rattle.run_lists.proofs.Public.{run_and_rest}
 
 pub make-requires : goal.make-requires
 make-requires c =

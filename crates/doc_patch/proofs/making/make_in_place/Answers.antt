@@ -1,4 +1,4 @@
--- The properties of a change that can be made may stand where it puts them.
+-- The properties of a change that can be made may be where it puts them.
 use Rattle.std.proofs.Common.{subst}
 use Rattle.doc_patch.specs.Makes.{CanMake}
 use Rattle.doc_patch.proofs.making.make_in_place.Goals as goal

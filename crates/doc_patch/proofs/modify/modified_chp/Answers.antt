@@ -1,4 +1,4 @@
-use Rattle.prop_map.proofs.MapLemmas.{characters_after}
+use Rattle.prop_map.proofs.Public.{characters_after}
 use Rattle.doc_patch.proofs.modify.modified_chp.Goals as goal
 
 pub returns : goal.returns

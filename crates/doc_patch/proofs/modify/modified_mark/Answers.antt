@@ -1,4 +1,4 @@
-use Rattle.prop_map.proofs.MapLemmas.{paragraph_after}
+use Rattle.prop_map.proofs.Public.{paragraph_after}
 use Rattle.doc_patch.proofs.modify.modified_mark.Goals as goal
 
 pub returns-clause-mark : goal.returns-clause-mark

@@ -1,4 +1,4 @@
--- First the properties of the range, then what stands beside.
+-- First the properties of the range, then what is beside.
 use Rattle.std.proofs.Common.{arith}
 use Rattle.doc_columns.specs.Changes.{HasOtherChp}
 use Rattle.doc_patch.specs.Becomes.{BecomesCharacters}

@@ -1,7 +1,7 @@
 use Rattle.std.proofs.Common.{◌∙◌, ap}
 use Rattle.prop_map.specs.declared.modifiers.Modifier.{Modifier}
 use Rattle.prop_map.specs.Overlay.{modified_characters}
-use Rattle.prop_map.proofs.MapLemmas.{characters_after}
+use Rattle.prop_map.proofs.Public.{characters_after}
 use Rattle.doc_patch.proofs.modify.properties_over.Goals as goal
 
 pub returns : goal.returns

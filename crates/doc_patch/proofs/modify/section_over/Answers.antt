@@ -1,4 +1,4 @@
--- What stands beside the item that ends the section is changed.
+-- What is beside the item that ends the section is changed.
 use Rattle.doc_patch.proofs.ModifyLemmas.{sections_kept, section_text}
 use Rattle.doc_patch.proofs.modify.section_over.Goals as goal
 

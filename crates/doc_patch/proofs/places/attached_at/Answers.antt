@@ -4,10 +4,10 @@ use Rattle.std.specs.Prelude.{slice_get}
 use Rattle.std.proofs.lemmas.List.{length-map}
 use Rattle.std.proofs.lemmas.Option.{slice_get_past}
 use Rattle.run_lists.specs.declared.cursor.Cursor.{Cursor}
-use Rattle.run_lists.proofs.SpreadLemmas.{length-spread}
+use Rattle.run_lists.proofs.Public.{length-spread}
 use Rattle.doc_columns.specs.declared.attached.Attached.{Attached}
 use Rattle.doc_columns.specs.Attached.{attached_of}
-use Rattle.doc_columns.proofs.CollectLemmas.{start_at}
+use Rattle.doc_columns.proofs.Public.{start_at}
 use Rattle.doc_patch.proofs.places.attached_at.Goals as goal
 
 pub returns-then-place-len : goal.returns-then-place-len

@@ -4,7 +4,7 @@ use Rattle.std.specs.Prelude.{slice_get}
 use Rattle.std.proofs.lemmas.Option.{slice_get_read}
 use Rattle.run_lists.specs.declared.runs.Run.{Run}
 use Rattle.run_lists.specs.Spread.{total_len}
-use Rattle.run_lists.proofs.SpreadLemmas.{extent-nil, extent_more, extent_all, count_within}
+use Rattle.run_lists.proofs.Public.{extent-nil, extent_more, extent_all, count_within}
 use Rattle.doc_columns.specs.declared.attached.Attached.{Attached}
 use Rattle.doc_patch.proofs.PlaceLemmas.{shown_first, none_more, none_first, reached, reached_end}
 use Rattle.doc_patch.proofs.places.first_place.Goals as goal

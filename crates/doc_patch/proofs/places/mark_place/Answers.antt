@@ -1,8 +1,8 @@
--- The first mark among what stands beside the units.
+-- The first mark among what is beside the units.
 use Rattle.std.proofs.Common.{ap, length, arith}
 use Rattle.std.proofs.lemmas.List.{length-map}
 use Rattle.run_lists.specs.Spread.{expanded}
-use Rattle.run_lists.proofs.SpreadLemmas.{length-spread}
+use Rattle.run_lists.proofs.Public.{length-spread}
 use Rattle.doc_columns.specs.Attached.{attached_of}
 use Rattle.doc_patch.proofs.PlaceLemmas.{mark_first}
 use Rattle.doc_patch.proofs.places.mark_place.Goals as goal

@@ -1,9 +1,9 @@
--- The references among what stands beside the units.
+-- The references among what is beside the units.
 use Rattle.std.proofs.Common.{refl, ap, length, arith}
 use Rattle.std.specs.Prelude.{is_some}
 use Rattle.std.proofs.lemmas.List.{length-map}
 use Rattle.run_lists.specs.Spread.{expanded}
-use Rattle.run_lists.proofs.SpreadLemmas.{length-spread}
+use Rattle.run_lists.proofs.Public.{length-spread}
 use Rattle.doc_columns.specs.Attached.{attached_of}
 use Rattle.doc_patch.specs.declared.places.Part.TheVariants.{Note}
 use Rattle.doc_patch.proofs.PlaceLemmas.{count_of}

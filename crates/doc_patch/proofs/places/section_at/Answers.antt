@@ -1,4 +1,4 @@
--- What stands beside the unit there.
+-- What is beside the unit there.
 use Rattle.std.proofs.Common.{rules, ◌≡◌, ◌∙◌, ℕ, Option, Some, None, ap, sym, subst}
 use Rattle.std.specs.Prelude.{slice_get, MatchOption}
 use Rattle.std.specs.Option.{option_and_then}

@@ -1,8 +1,8 @@
--- The first end of a section among what stands beside the units.
+-- The first end of a section among what is beside the units.
 use Rattle.std.proofs.Common.{ap, length, arith}
 use Rattle.std.proofs.lemmas.List.{length-map}
 use Rattle.run_lists.specs.Spread.{expanded}
-use Rattle.run_lists.proofs.SpreadLemmas.{length-spread}
+use Rattle.run_lists.proofs.Public.{length-spread}
 use Rattle.doc_columns.specs.Attached.{attached_of}
 use Rattle.doc_patch.proofs.PlaceLemmas.{section_first}
 use Rattle.doc_patch.proofs.places.section_place.Goals as goal

@@ -1,9 +1,9 @@
 use Rattle.std.proofs.Common.{◌≡◌, ◌∙◌, Option, ap, subst}
 use Rattle.std.proofs.lemmas.Result.{IfOk-weaker}
 use Rattle.doc_outer.specs.Held.{Files, OthersStay, held_with}
-use Rattle.doc_outer.proofs.CountLemmas.{Rose-after}
+use Rattle.doc_outer.proofs.Public.{Rose-after, count_on}
 use Rattle.doc_pictures.specs.Album.{IsWritten}
-use Rattle.doc_pictures.proofs.AlbumLemmas.{counts-on, stays-same}
+use Rattle.doc_pictures.proofs.AlbumLemmas.{stays-same}
 use Rattle.doc_pictures.proofs.album.write_file.Goals as goal
 
 pub returns-in-Ok-clause-written : goal.returns-in-Ok-clause-written
@@ -39,13 +39,13 @@ returns-in-Ok-clause-failed g c = λ failed.
 pub returns-in-Ok-clause-faults : goal.returns-in-Ok-clause-faults
 returns-in-Ok-clause-faults g c =
     let faults = g.S.Shelf.faults in
-    counts-on (faults c.args.shelf.now) (faults c.find_free.new.shelf) (faults c.put_file.new.shelf)
+    count_on (faults c.args.shelf.now) (faults c.find_free.new.shelf) (faults c.put_file.new.shelf)
     c.in-Ok.ensures.faults c.put_file.ensures.faults
 
 pub returns-in-Ok-clause-missed : goal.returns-in-Ok-clause-missed
 returns-in-Ok-clause-missed g c =
     let missed = g.S.Shelf.missed in
-    counts-on (missed c.args.shelf.now) (missed c.find_free.new.shelf) (missed c.put_file.new.shelf)
+    count_on (missed c.args.shelf.now) (missed c.find_free.new.shelf) (missed c.put_file.new.shelf)
     c.in-Ok.ensures.missed c.put_file.ensures.missed
 
 pub returns-in-Err-clause-others : goal.returns-in-Err-clause-others

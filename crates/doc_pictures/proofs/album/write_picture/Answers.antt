@@ -1,9 +1,8 @@
 use Rattle.std.proofs.Common.{◌≡◌, ◌∙◌, ℕ, List, OnOk, subst}
 use Rattle.doc_outer.specs.Held.{OthersStay}
-use Rattle.doc_outer.proofs.HeldLemmas.{StaysAt-refl}
+use Rattle.doc_outer.proofs.Public.{StaysAt-refl, count_stays}
 use Rattle.doc_pictures.specs.Album.{IsHeld, IsWritten, file_bytes}
 use Rattle.doc_pictures.specs.Names.{picture_path}
-use Rattle.doc_pictures.proofs.AlbumLemmas.{counts-same}
 use Rattle.doc_pictures.proofs.album.write_picture.Goals as goal
 
 pub returns-in-Ok-clause-written : goal.returns-in-Ok-clause-written
@@ -34,7 +33,7 @@ pub returns-in-Err-clause-others : goal.returns-in-Err-clause-others
 returns-in-Err-clause-others g c = λ other apart. StaysAt-refl other (g.S.Shelf.held c.args.shelf.now)
 
 pub returns-in-Err-clause-faults : goal.returns-in-Err-clause-faults
-returns-in-Err-clause-faults g c = counts-same (g.S.Shelf.faults c.args.shelf.now)
+returns-in-Err-clause-faults g c = count_stays (g.S.Shelf.faults c.args.shelf.now)
 
 pub returns-in-Err-clause-missed : goal.returns-in-Err-clause-missed
-returns-in-Err-clause-missed g c = counts-same (g.S.Shelf.missed c.args.shelf.now)
+returns-in-Err-clause-missed g c = count_stays (g.S.Shelf.missed c.args.shelf.now)

@@ -1,14 +1,13 @@
 -- The pictures, one by one.
 use Rattle.std.proofs.Common.{◌+◌, ◌<◌, List, refl, subst, arith}
 use Rattle.std.proofs.lemmas.List.{take_all}
-use Rattle.doc_bits.proofs.ListLemmas.{All_at}
-use Rattle.doc_outer.proofs.CountLemmas.{Rose-after}
-use Rattle.doc_outer.proofs.HeldLemmas.{StaysAt-refl}
+use Rattle.doc_bits.proofs.Public.{All_at}
+use Rattle.doc_outer.proofs.Public.{Rose-after, count_stays, count_on, StaysAt-refl}
 use Rattle.doc_pictures.specs.declared.pictures.Picture.{Picture}
 use Rattle.doc_pictures.specs.Names.{picture_path}
 use Rattle.doc_pictures.specs.Album.{IsWithinStream, Writes}
 use Rattle.doc_pictures.proofs.ApartLemmas.{paths-apart, there-before}
-use Rattle.doc_pictures.proofs.AlbumLemmas.{counts-on, counts-same, none-written, stays-by, stays-on}
+use Rattle.doc_pictures.proofs.AlbumLemmas.{none-written, stays-by, stays-on}
 use Rattle.doc_pictures.proofs.AlbumLemmas.{within-length, writes-on}
 use Rattle.doc_pictures.proofs.album.write_pictures.Goals as goal
 
@@ -21,8 +20,8 @@ loop-k-init g c =
       others = λ name apart. StaysAt-refl name (shelf.held now);
       ahead = λ j picture from here.
           StaysAt-refl (picture_path c.args.album.now.folder.now (j + 1) picture.file.kind) (shelf.held now);
-      faults = counts-same (shelf.faults now);
-      missed = counts-same (shelf.missed now);
+      faults = count_stays (shelf.faults now);
+      missed = count_stays (shelf.missed now);
     }
 
 pub write_picture-requires : goal.write_picture-requires
@@ -55,8 +54,8 @@ loop-k-preserved g c =
           (old.ahead j picture (omega (arith, from)) here)
           (put.others path (paths-apart folder (j + 1) (c.loop-k.k + 1) picture.file.kind c.nth-picture.result.file.kind
           (omega (arith, few)) (omega arith) (λ same. absurd (omega (arith, from, same)))));
-      faults = counts-on (shelf.faults first) (shelf.faults mid) (shelf.faults now) old.faults put.faults;
-      missed = counts-on (shelf.missed first) (shelf.missed mid) (shelf.missed now) old.missed put.missed;
+      faults = count_on (shelf.faults first) (shelf.faults mid) (shelf.faults now) old.faults put.faults;
+      missed = count_on (shelf.missed first) (shelf.missed mid) (shelf.missed now) old.missed put.missed;
     }
 
 pub returns-in-Err-clause-cut : goal.returns-in-Err-clause-cut
@@ -103,13 +102,13 @@ returns-in-Err-clause-failed g c = λ failed.
 pub returns-in-Err-clause-faults : goal.returns-in-Err-clause-faults
 returns-in-Err-clause-faults g c =
     let faults = g.S.Shelf.faults in
-    counts-on (faults c.args.shelf.now) (faults c.loop-k.shelf) (faults c.write_picture.new.shelf)
+    count_on (faults c.args.shelf.now) (faults c.loop-k.shelf) (faults c.write_picture.new.shelf)
     c.loop-k.invariant.faults c.in-Err.ensures.faults
 
 pub returns-in-Err-clause-missed : goal.returns-in-Err-clause-missed
 returns-in-Err-clause-missed g c =
     let missed = g.S.Shelf.missed in
-    counts-on (missed c.args.shelf.now) (missed c.loop-k.shelf) (missed c.write_picture.new.shelf)
+    count_on (missed c.args.shelf.now) (missed c.loop-k.shelf) (missed c.write_picture.new.shelf)
     c.loop-k.invariant.missed c.in-Err.ensures.missed
 
 pub returns-clause-written : goal.returns-clause-written

@@ -1,10 +1,10 @@
 -- The items of the text, one by one.
 use Rattle.std.proofs.Common.{◌∙◌, ◌+◌, ◌++◌, List, sym, ap, arith, append-nil}
 use Rattle.std.proofs.lemmas.List.{take_all}
-use Rattle.doc_bits.proofs.ListLemmas.{there_is}
+use Rattle.doc_bits.proofs.Public.{there_is}
 use Rattle.plain_doc.specs.declared.item.Item.{Item}
 use Rattle.doc_columns.specs.Walks.{items_in}
-use Rattle.doc_columns.proofs.WalkLemmas.{first_walk, items_long, later_walk}
+use Rattle.doc_columns.proofs.Public.{first_walk, items_long, later_walk}
 use Rattle.doc_pictures.specs.Places.{places_in}
 use Rattle.doc_pictures.proofs.PlaceLemmas.{text-on}
 use Rattle.doc_pictures.proofs.places.push_text.Goals as goal

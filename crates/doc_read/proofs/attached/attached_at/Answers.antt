@@ -1,4 +1,4 @@
--- What stands at the CP.
+-- What is at the CP.
 use Rattle.std.proofs.Common.{◌≡◌, ◌∙◌, ◌+◌, sym, ap, subst, ℕ, Bool, true, false, Option, Some, None, MatchOption}
 use Rattle.std.proofs.Common.{arith}
 use Rattle.std.proofs.lemmas.Bool.{true≢false}
@@ -11,7 +11,7 @@ use Rattle.direct_props.specs.Direct.{IsDirectMark}
 use Rattle.direct_props.specs.PageRules.{IsValidPlace}
 use Rattle.text_codes.specs.Paragraph.{is_paragraph_end}
 use Rattle.plain_doc.specs.declared.item.Mark.{Mark}
-use Rattle.plain_doc.proofs.FormedLemmas.{ForSome-from_cases}
+use Rattle.plain_doc.proofs.Public.{ForSome-from_cases}
 use Rattle.doc_columns.specs.declared.attached.Attached.{Attached}
 use Rattle.doc_columns.specs.Changes.{HasAttachedMaps}
 use Rattle.doc_read.specs.Items.{IsMarkAt}
@@ -36,7 +36,7 @@ section_at-requires-clause-passed c =
     (subst (λ (v : TextView). ArePassed v.marks c.args.passed.now c.args.cp) (sym c.text-text.ensures.view)
     c.requires.passed).sections
 
--- what stands at a CP, by its parts
+-- what is at a CP, by its parts
 stands : (view : TextView) (modifier : Modifier) (cp : ℕ) (ends : Bool) (attached : Attached) →
     ends ≡ is_paragraph_end (slice_index view.units cp) (is_some attached.sect) →
     attached.sect ≡ section_at view.marks.section_cps view.maps cp → attached.fld ≡ field_at view.marks cp →

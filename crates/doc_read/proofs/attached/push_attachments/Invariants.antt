@@ -4,7 +4,7 @@ use Rattle.doc_read.specs.Reading.{ArePassed, HaveValidMarks}
 use Rattle.doc_read.specs.Attached.{IsAttachedAt}
 use Rattle.doc_read.proofs.attached.push_attachments.Given as goal
 
--- what stands beside the units so far
+-- what is beside the units so far
 abbrev pub invariant-loop-cp : goal.invariant-loop-cp
 invariant-loop-cp l = record {
   begun : l.piece.cp ≤ l.cp;

@@ -1,4 +1,4 @@
--- What stands before a CP, and at it.
+-- What is before a CP, and at it.
 use Rattle.std.proofs.Common.{◌≡◌, ℕ, ◌+◌, ◌-◌, ◌≤◌, Option, MatchOption, subst, arith}
 use Rattle.prop_map.specs.declared.modifiers.Modifier.{Modifier}
 use Rattle.doc_columns.specs.declared.attached.Attached.{Attached}
@@ -9,7 +9,7 @@ use Rattle.doc_read.proofs.AttachedLemmas.{one_attached}
 use Rattle.doc_read.proofs.PageLemmas.{marks_join, marks_within}
 use Rattle.doc_read.proofs.attached.push_stretch.Goals as goal
 
--- what is known of what stands at a CP
+-- what is known of what is at a CP
 abbrev IsReadAt : TextView → Modifier → ℕ → Option Attached → Type 0
 IsReadAt view modifier cp attached =
     MatchOption attached (¬ (HaveValidMarks view cp (cp + 1)))

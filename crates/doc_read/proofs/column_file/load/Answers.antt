@@ -1,7 +1,7 @@
 use Rattle.doc_bits.specs.declared.places.Where.TheVariants.{File}
-use Rattle.doc_bits.proofs.RuleLemmas.{hold_in}
+use Rattle.doc_bits.proofs.Public.{hold_in}
 use Rattle.cfb_streams.specs.Container.{container_rules}
-use Rattle.file_rules.proofs.RefusalLemmas.{refused-container}
+use Rattle.file_rules.proofs.Public.{refused-container}
 use Rattle.doc_read.proofs.ContentsBounds.{contents-bounded}
 use Rattle.doc_read.proofs.column_file.load.Goals as goal
 

@@ -2,7 +2,7 @@ use Rattle.std.proofs.lemmas.Result.{err_from_is_err_and}
 use Rattle.doc_bits.specs.Rules.{given}
 use Rattle.file_rules.specs.PartRules.{part_rules}
 use Rattle.file_rules.specs.FileRules.{FileText, HasText, source_of, loading_rules}
-use Rattle.file_rules.proofs.RefusalLemmas.{refused-next, refused-given}
+use Rattle.file_rules.proofs.Public.{refused-next, refused-given}
 use Rattle.doc_read.proofs.FewLemmas.{leaves_room}
 use Rattle.doc_read.proofs.column_file.read_contents.Goals as goal
 

@@ -7,7 +7,7 @@ use Rattle.file_rules.specs.Source.{DocSource}
 use Rattle.file_rules.specs.FormatRules.{rules_of_formats}
 use Rattle.file_rules.specs.PartRules.{PartLists}
 use Rattle.file_rules.specs.FileRules.{FileText, source_of}
-use Rattle.file_rules.proofs.PageLemmas.{all_hold, formats_refused}
+use Rattle.file_rules.proofs.Public.{all_hold, formats_refused}
 use Rattle.doc_read.specs.declared.document.DocumentParts.{DocumentParts}
 use Rattle.doc_read.specs.ReadParts.{AreDocumentParts}
 use Rattle.doc_read.proofs.column_file.read_text.Goals as goal

@@ -7,7 +7,7 @@ use Rattle.std.proofs.lemmas.Option.{slice_get_within}
 use Rattle.std.specs.Option.{option_map}
 use Rattle.piece_table.specs.declared.pieces.Piece.{Piece}
 use Rattle.piece_table.specs.Piece.{TextPiece, total_length}
-use Rattle.file_rules.proofs.UnitLemmas.{piece_read}
+use Rattle.file_rules.proofs.Public.{piece_read}
 use Rattle.doc_columns.specs.Columns.{items_of}
 use Rattle.doc_read.specs.Passing.{AddsEach}
 use Rattle.doc_read.specs.Reading.{ArePassed, HaveValidPages, IsPieceReader, IsReadCharacter, TextRest, text_view}

@@ -1,4 +1,4 @@
--- The properties of the places of a piece, and what stands beside its units.
+-- The properties of the places of a piece, and what is beside its units.
 use Rattle.std.proofs.Common.{◌≡◌, ◌∙◌, ℕ, List, sym, ap, subst, ◌+◌, ◌-◌, ◌≤◌, length, arith}
 use Rattle.std.proofs.lemmas.Bool.{true≢false}
 use Rattle.std.proofs.lemmas.Result.{IfOk-weaker}
@@ -7,7 +7,7 @@ use Rattle.fkp_pages.specs.declared.kind.PageKind.TheVariants.{Chpx}
 use Rattle.direct_props.specs.PageRules.{AreValidPlaces}
 use Rattle.direct_props.specs.Stretches.{AddsCharacters}
 use Rattle.direct_props.specs.GrpprlCache.{PlaceSource}
-use Rattle.doc_bits.proofs.ListLemmas.{length-range}
+use Rattle.doc_bits.proofs.Public.{length-range}
 use Rattle.doc_read.specs.Passing.{AddsEach}
 use Rattle.doc_read.specs.Reading.{IsPieceReader}
 use Rattle.doc_read.specs.Attached.{IsAttachedAt}

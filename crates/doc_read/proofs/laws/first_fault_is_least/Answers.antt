@@ -1,5 +1,5 @@
 use Rattle.doc_bits.specs.Places.{Upto}
-use Rattle.doc_bits.proofs.RuleLemmas.{least_of_all}
+use Rattle.doc_bits.proofs.Public.{least_of_all}
 use Rattle.doc_read.specs.Holds.{all_rules}
 use Rattle.doc_read.proofs.OneDocument.{all_single, all_ascend}
 use Rattle.doc_read.proofs.laws.first_fault_is_least.Goals as goal

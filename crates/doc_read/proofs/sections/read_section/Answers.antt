@@ -1,9 +1,9 @@
 use Rattle.std.proofs.Common.{inr, refl}
 use Rattle.prop_map.specs.Formed.{section_groups}
-use Rattle.direct_props.proofs.CharacterLemmas.{stays_formed}
+use Rattle.direct_props.proofs.Public.{stays_formed}
 use Rattle.doc_read.proofs.SettingsLemmas.{is-made}
 use Rattle.doc_read.proofs.sections.read_section.Goals as goal
-use Rattle.prop_map.proofs.ActingLemmas.{IsPropertyMap-empty}
+use Rattle.prop_map.proofs.Public.{IsPropertyMap-empty}
 
 pub returns-then-fc-eq-NO_SEPX-clause-formed : goal.returns-then-fc-eq-NO_SEPX-clause-formed
 returns-then-fc-eq-NO_SEPX-clause-formed c = rw c.new-none.ensures (IsPropertyMap-empty section_groups)

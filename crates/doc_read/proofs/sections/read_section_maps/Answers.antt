@@ -3,7 +3,7 @@ use Rattle.doc_parts.specs.declared.lists.Sed.{Sed}
 use Rattle.file_rules.specs.Source.{DocSource}
 use Rattle.file_rules.specs.SectionRules.{section_fc}
 use Rattle.file_rules.specs.FileRules.{source_of}
-use Rattle.file_rules.proofs.RowLemmas.{index_of_get}
+use Rattle.file_rules.proofs.Public.{index_of_get}
 use Rattle.doc_read.specs.Sections.{IsSectionProperties}
 use Rattle.doc_read.proofs.SettingsLemmas.{sepx-there, sepx-right, maps_none, maps_more}
 use Rattle.doc_read.proofs.sections.read_section_maps.Goals as goal

@@ -1,7 +1,7 @@
 use Rattle.std.proofs.Common.{slice_range, arith}
 use Rattle.prop_map.specs.Formed.{section_groups}
-use Rattle.prop_map.proofs.AcceptedLemmas.{accepted_of}
-use Rattle.doc_bits.proofs.ByteListLemmas.{AreBytes-range}
+use Rattle.prop_map.proofs.Public.{accepted_of}
+use Rattle.doc_bits.proofs.Public.{AreBytes-range}
 use Rattle.doc_read.proofs.SettingsLemmas.{list-right}
 use Rattle.doc_read.proofs.sections.section_list.Goals as goal
 

@@ -1,6 +1,6 @@
 use Rattle.std.proofs.Common.{◌≡◌, ◌∙◌, refl, Some, map, arith}
 use Rattle.script_run.specs.States.{start_of}
-use Rattle.document_commands.proofs.OutcomeLemmas.{ends_by}
+use Rattle.document_commands.proofs.Public.{ends_by}
 use Rattle.doc_run.specs.Edits.{EditsBy}
 use Rattle.doc_run.proofs.edit.edit_under.Goals as goal
 

@@ -1,7 +1,7 @@
 use Rattle.std.proofs.Common.{◌≡◌, refl, Some}
 use Rattle.std.proofs.lemmas.Result.{IfOk-weaker}
 use Rattle.document_commands.specs.Replies.{outcome_of, EndsBy}
-use Rattle.document_commands.proofs.OutcomeLemmas.{ends_by}
+use Rattle.document_commands.proofs.Public.{ends_by}
 use Rattle.doc_run.specs.Generates.{Generates}
 use Rattle.doc_run.proofs.generated.generate_under.Goals as goal
 

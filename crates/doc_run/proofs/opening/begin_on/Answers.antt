@@ -1,6 +1,6 @@
 use Rattle.std.proofs.Common.{arith}
 use Rattle.doc_read.specs.Holds.{all_rules}
-use Rattle.document_commands.proofs.JudgedLemmas.{names-refused}
+use Rattle.document_commands.proofs.Public.{names-refused}
 use Rattle.doc_run.proofs.opening.begin_on.Goals as goal
 
 pub returns-in_ok-ending-in-Err-clause-is : goal.returns-in_ok-ending-in-Err-clause-is

@@ -2,7 +2,7 @@ use Rattle.std.proofs.Common.{◌≡◌, ◌∙◌, ◌∷◌, [], ap, refl, sub
 use Rattle.std.specs.String.{string_bytes}
 use denote.Param.Object.{read_made}
 use Rattle.edit_guards.specs.Policies.{Policy, quota_of}
-use Rattle.fast_save.proofs.FullFileLemmas.{equal_files_have_one_save}
+use Rattle.fast_save.proofs.Public.{equal_files_have_one_save}
 use Rattle.doc_run.specs.Endings.{IsEnding}
 use Rattle.doc_run.specs.Completeness.{CanServe}
 use Rattle.doc_run.specs.Quota.{program_policies}

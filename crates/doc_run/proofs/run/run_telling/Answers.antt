@@ -1,6 +1,6 @@
 use Rattle.std.proofs.Common.{◌∙◌, subst, map}
 use Rattle.std.specs.String.{string_bytes}
-use Rattle.fast_save.proofs.FullFileLemmas.{equal_files_have_one_save}
+use Rattle.fast_save.proofs.Public.{equal_files_have_one_save}
 use Rattle.doc_run.specs.Endings.{IsEnding}
 use Rattle.doc_run.proofs.OneLemmas.{ending_one}
 use Rattle.doc_run.proofs.CompleteLemmas.{complete}

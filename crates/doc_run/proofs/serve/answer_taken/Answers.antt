@@ -2,7 +2,7 @@ use Rattle.doc_read.specs.Holds.{all_rules}
 use Rattle.run_stages.specs.Judged.{Judges}
 use Rattle.document_commands.specs.Tasks.{task_of}
 use Rattle.document_commands.specs.Answers.{AnswersFile}
-use Rattle.run_stages.proofs.StageLemmas.{whole_follows}
+use Rattle.run_stages.proofs.Public.{whole_follows}
 use Rattle.doc_run.proofs.serve.answer_taken.Goals as goal
 
 pub returns-in-Go : goal.returns-in-Go

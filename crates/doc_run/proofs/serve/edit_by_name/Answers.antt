@@ -4,10 +4,10 @@ use Rattle.fast_save.specs.Session.{SessionView}
 use Rattle.script_run.specs.States.{start_of}
 use Rattle.script_run.specs.Ends.{IsUnchanged}
 use Rattle.document_commands.specs.Replies.{EndsBy}
-use Rattle.document_commands.proofs.OutcomeLemmas.{ends_inside}
+use Rattle.document_commands.proofs.Public.{ends_inside}
 use Rattle.run_stages.specs.Reading.{Follows}
 use Rattle.doc_run.specs.Edits.{EditsBy, IsOverlongScript}
-use Rattle.run_stages.proofs.StageLemmas.{follows_reads, follows_caused}
+use Rattle.run_stages.proofs.Public.{follows_reads, follows_caused}
 use Rattle.doc_run.proofs.serve.edit_by_name.Goals as goal
 
 pub edit_taken-requires : goal.edit_taken-requires

@@ -2,7 +2,7 @@ use Rattle.std.proofs.Common.{Some, map}
 use Rattle.script_run.specs.States.{start_of}
 use Rattle.document_commands.specs.Replies.{EndsBy}
 use Rattle.doc_run.specs.Edits.{EditsBy}
-use Rattle.run_stages.proofs.StageLemmas.{whole_follows}
+use Rattle.run_stages.proofs.Public.{whole_follows}
 use Rattle.doc_run.proofs.serve.edit_taken.Goals as goal
 
 pub returns-in-Go : goal.returns-in-Go

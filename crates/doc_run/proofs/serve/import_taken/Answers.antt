@@ -1,7 +1,7 @@
 use Rattle.std.proofs.Common.{Some}
 use Rattle.document_commands.specs.Imports.{Imports}
 use Rattle.document_commands.specs.Replies.{EndsBy}
-use Rattle.run_stages.proofs.StageLemmas.{whole_follows}
+use Rattle.run_stages.proofs.Public.{whole_follows}
 use Rattle.doc_run.proofs.serve.import_taken.Goals as goal
 
 pub returns-in-Go : goal.returns-in-Go

@@ -1,7 +1,7 @@
 use Rattle.run_stages.specs.Judged.{Judges}
 use Rattle.document_commands.specs.Judged.{stream_rules}
 use Rattle.document_commands.specs.Answers.{ListsStreams}
-use Rattle.run_stages.proofs.StageLemmas.{whole_follows}
+use Rattle.run_stages.proofs.Public.{whole_follows}
 use Rattle.doc_run.proofs.serve.list_taken.Goals as goal
 
 pub returns-in-Go : goal.returns-in-Go

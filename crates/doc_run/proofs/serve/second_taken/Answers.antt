@@ -2,7 +2,7 @@ use Rattle.doc_read.specs.Holds.{all_rules}
 use Rattle.run_stages.specs.Judged.{Judges}
 use Rattle.document_commands.specs.Tasks.{pair_of}
 use Rattle.doc_run.specs.Reading.{AnswersBeside}
-use Rattle.run_stages.proofs.StageLemmas.{whole_follows}
+use Rattle.run_stages.proofs.Public.{whole_follows}
 use Rattle.doc_run.proofs.serve.second_taken.Goals as goal
 
 pub returns-in-Go : goal.returns-in-Go

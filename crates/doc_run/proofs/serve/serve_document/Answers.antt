@@ -1,8 +1,8 @@
 use Rattle.doc_read.specs.Holds.{all_rules}
 use Rattle.document_commands.specs.Tasks.{task_of}
 use Rattle.document_commands.specs.Answers.{AnswersFile}
-use Rattle.document_commands.proofs.AnswerLemmas.{file_inside}
-use Rattle.run_stages.proofs.StageLemmas.{file_reads, file_caused}
+use Rattle.document_commands.proofs.Public.{file_inside}
+use Rattle.run_stages.proofs.Public.{file_reads, file_caused}
 use Rattle.doc_run.proofs.serve.serve_document.Goals as goal
 
 pub returns-clause-ends : goal.returns-clause-ends

@@ -6,7 +6,7 @@ use Rattle.doc_run.specs.Reading.{IsBegun}
 use Rattle.doc_run.specs.Edits.{ReadsScript, EditsFile}
 use Rattle.doc_run.proofs.SessionLemmas.{begun_unchanged}
 use Rattle.doc_run.proofs.StageLemmas.{begun_reads, stopped_reads, stopped_caused}
-use Rattle.run_stages.proofs.StageLemmas.{caused_later, read_twice}
+use Rattle.run_stages.proofs.Public.{caused_later, read_twice}
 use Rattle.doc_run.proofs.serve.serve_edit.Goals as goal
 
 pub edit_by_name-requires : goal.edit_by_name-requires

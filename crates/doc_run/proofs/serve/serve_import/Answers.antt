@@ -1,9 +1,9 @@
 use Rattle.std.proofs.Common.{◌≡◌, ◌∙◌, Some}
 use Rattle.document_commands.specs.Imports.{Imports}
 use Rattle.document_commands.specs.Replies.{EndsBy}
-use Rattle.document_commands.proofs.OutcomeLemmas.{ends_inside}
+use Rattle.document_commands.proofs.Public.{ends_inside}
 use Rattle.doc_run.specs.Imports.{IsOverlongJson}
-use Rattle.run_stages.proofs.StageLemmas.{taken_weaker, follows_reads, follows_caused}
+use Rattle.run_stages.proofs.Public.{taken_weaker, follows_reads, follows_caused}
 use Rattle.doc_run.proofs.serve.serve_import.Goals as goal
 
 pub returns-clause-ends : goal.returns-clause-ends

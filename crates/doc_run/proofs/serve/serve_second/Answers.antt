@@ -1,7 +1,7 @@
 use Rattle.doc_read.specs.Holds.{all_rules}
 use Rattle.document_commands.specs.Tasks.{pair_of}
 use Rattle.doc_run.specs.Reading.{AnswersBeside}
-use Rattle.run_stages.proofs.StageLemmas.{file_reads, file_caused}
+use Rattle.run_stages.proofs.Public.{file_reads, file_caused}
 use Rattle.doc_run.proofs.StageLemmas.{beside_inside}
 use Rattle.doc_run.proofs.serve.serve_second.Goals as goal
 

@@ -1,7 +1,7 @@
 use Rattle.document_commands.specs.Judged.{stream_rules}
 use Rattle.document_commands.specs.Answers.{ListsStreams}
-use Rattle.document_commands.proofs.AnswerLemmas.{lists_inside}
-use Rattle.run_stages.proofs.StageLemmas.{file_reads, file_caused}
+use Rattle.document_commands.proofs.Public.{lists_inside}
+use Rattle.run_stages.proofs.Public.{file_reads, file_caused}
 use Rattle.doc_run.proofs.serve.serve_streams.Goals as goal
 
 pub returns-clause-ends : goal.returns-clause-ends

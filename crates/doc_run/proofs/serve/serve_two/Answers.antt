@@ -6,7 +6,7 @@ use Rattle.run_stages.specs.Stages.{ReadsFile}
 use Rattle.doc_run.specs.Reading.{IsOpenedStage, AnswersBeside}
 use Rattle.doc_run.specs.Endings.{ReadsSecond}
 use Rattle.doc_run.proofs.StageLemmas.{opened_reads, opened_sound, second_reads, stopped_reads, stopped_caused}
-use Rattle.run_stages.proofs.StageLemmas.{caused_later, read_twice}
+use Rattle.run_stages.proofs.Public.{caused_later, read_twice}
 use Rattle.doc_run.proofs.serve.serve_two.Goals as goal
 
 pub serve_second-ending-requires : goal.serve_second-ending-requires

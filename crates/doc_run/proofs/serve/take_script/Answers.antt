@@ -2,7 +2,7 @@ use Rattle.std.proofs.Common.{◌≡◌, ◌∙◌}
 use Rattle.std.specs.Prelude.{IfOk}
 use Rattle.std.proofs.lemmas.Result.{IfOk-weaker}
 use Rattle.run_stages.specs.Reading.{IsTaken}
-use Rattle.run_stages.proofs.StageLemmas.{taken_weaker}
+use Rattle.run_stages.proofs.Public.{taken_weaker}
 use Rattle.doc_run.specs.Edits.{IsOverlongScript}
 use Rattle.doc_run.proofs.serve.take_script.Goals as goal
 

@@ -2,9 +2,7 @@
 use Rattle.std.proofs.Common.{◌≡◌, ◌-◌, length, arith}
 use Rattle.run_lists.specs.Spread.{expanded, total_len}
 use Rattle.doc_columns.specs.Attached.{attached_of}
-use Rattle.doc_columns.proofs.CollectLemmas.{start_at}
-use Rattle.doc_columns.proofs.EqualityLemmas.{column_long}
-use Rattle.doc_columns.proofs.EndLemmas.{end_attached}
+use Rattle.doc_columns.proofs.Public.{start_at, column_long, end_attached}
 use Rattle.doc_show.proofs.ParagraphLemmas.{mark_from}
 use Rattle.doc_show.proofs.properties.mark_from.Goals as goal
 

@@ -1,9 +1,9 @@
 use Rattle.std.proofs.Common.{refl, subst}
 use Rattle.plain_doc.specs.declared.document.Document.{Document}
-use Rattle.plain_doc.proofs.MainLemmas.{item_map}
+use Rattle.plain_doc.proofs.Public.{item_map, sound_seen}
 use Rattle.doc_show.specs.Properties.{ArePropertyLines, item_lines, mark_lines}
 use Rattle.doc_show.proofs.LineLemmas.{two_written}
-use Rattle.doc_show.proofs.ParagraphLemmas.{there_some, mark_there, sound_bases, mark_style, mark_map, sound_seen}
+use Rattle.doc_show.proofs.ParagraphLemmas.{there_some, mark_there, sound_bases, mark_style, mark_map}
 use Rattle.doc_show.proofs.ParagraphLemmas.{within_seen}
 use Rattle.doc_show.proofs.properties.props_lines_of_columns.Goals as goal
 

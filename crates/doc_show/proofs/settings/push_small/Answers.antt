@@ -1,4 +1,4 @@
-use Rattle.text_codes.proofs.DigitLemmas.{accepted}
+use Rattle.text_codes.proofs.Public.{accepted}
 use Rattle.doc_show.proofs.SettingLemmas.{property_is_utf8}
 use Rattle.doc_show.proofs.settings.push_small.Goals as goal
 

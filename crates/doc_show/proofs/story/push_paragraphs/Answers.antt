@@ -2,12 +2,10 @@
 use Rattle.std.proofs.Common.{◌≡◌, ◌∙◌, ◌++◌, sym, ap, subst, length, arith}
 use Rattle.std.specs.Prelude.{slice_range}
 use Rattle.plain_doc.specs.Settings.{is_inside}
-use Rattle.doc_columns.proofs.CollectLemmas.{start_at}
-use Rattle.doc_columns.proofs.EqualityLemmas.{begins_at_start}
+use Rattle.doc_columns.proofs.Public.{start_at, begins_at_start, items_long, first_walk}
 use Rattle.doc_show.specs.Story.{paragraph_lines, story_lines}
 use Rattle.doc_columns.specs.Walks.{items_in}
 use Rattle.doc_show.proofs.WalkLemmas.{stretch_on, none_left}
-use Rattle.doc_columns.proofs.WalkLemmas.{items_long, first_walk}
 use Rattle.doc_show.proofs.StoryLemmas.{begins_paragraph, paragraph-range, three_put}
 use Rattle.doc_show.proofs.StoryLemmas.{whole_range}
 use Rattle.doc_show.proofs.story.push_paragraphs.Goals as goal

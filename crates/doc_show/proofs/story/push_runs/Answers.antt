@@ -5,7 +5,7 @@ use Rattle.std.specs.List.{flat_map}
 use Rattle.plain_doc.specs.Stretches.{stretches}
 use Rattle.doc_show.specs.Story.{is_one_run, run_line}
 use Rattle.doc_columns.specs.Walks.{items_in}
-use Rattle.doc_columns.proofs.WalkLemmas.{begins_range, items_long}
+use Rattle.doc_columns.proofs.Public.{begins_range, items_long}
 use Rattle.doc_show.proofs.WalkLemmas.{stretch_on, none_left}
 use Rattle.doc_show.proofs.StoryLemmas.{run_line-range}
 use Rattle.doc_show.proofs.story.push_runs.Goals as goal

@@ -1,7 +1,7 @@
 -- The run goes on while items are plain and have the same properties.
 use Rattle.std.proofs.Common.{sym, arith}
 use Rattle.doc_columns.specs.Walks.{items_in}
-use Rattle.doc_columns.proofs.WalkLemmas.{later_walk}
+use Rattle.doc_columns.proofs.Public.{later_walk}
 use Rattle.doc_show.proofs.StoryLemmas.{alike_by, alike_on, alike_joined, alike_ends}
 use Rattle.doc_show.proofs.story.run_end.Goals as goal
 

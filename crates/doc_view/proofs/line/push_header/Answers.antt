@@ -1,7 +1,7 @@
 use Rattle.std.proofs.Common.{◌++◌, ◌/◌, ◌%◌}
 use Rattle.std.specs.Prelude.{codes}
 use Rattle.std.specs.Fmt.{decimal}
-use Rattle.page_out.proofs.PrintLemmas.{three_put}
+use Rattle.page_out.proofs.Public.{three_put}
 use Rattle.doc_view.specs.Headers.{header_kind}
 use Rattle.doc_view.proofs.line.push_header.Goals as goal
 

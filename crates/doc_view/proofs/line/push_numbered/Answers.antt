@@ -1,6 +1,6 @@
 use Rattle.std.proofs.Common.{◌∷◌, []}
 use Rattle.std.specs.Fmt.{decimal}
-use Rattle.page_out.proofs.PrintLemmas.{three_put}
+use Rattle.page_out.proofs.Public.{three_put}
 use Rattle.doc_view.proofs.line.push_numbered.Goals as goal
 
 pub returns : goal.returns

@@ -1,4 +1,4 @@
-use Rattle.page_out.proofs.PrintLemmas.{put_then}
+use Rattle.page_out.proofs.Public.{put_then}
 use Rattle.doc_view.specs.Labels.{break_text, label_text}
 use Rattle.doc_view.proofs.paragraph.push_values.Goals as goal
 

@@ -1,5 +1,5 @@
 use Rattle.run_stages.specs.Stages.{BreaksLengthRule}
-use Rattle.run_stages.proofs.StageLemmas.{follows_reads, follows_caused}
+use Rattle.run_stages.proofs.Public.{follows_reads, follows_caused}
 use Rattle.docfit_run.specs.Fitted.{JudgesFit}
 use Rattle.docfit_run.proofs.PutLemmas.{judged_inside}
 use Rattle.docfit_run.proofs.fitting.fit_name.Goals as goal

@@ -1,4 +1,4 @@
-use Rattle.run_stages.proofs.StageLemmas.{whole_follows}
+use Rattle.run_stages.proofs.Public.{whole_follows}
 use Rattle.docfit_run.specs.Fitted.{JudgesFit}
 use Rattle.docfit_run.proofs.fitting.fit_taken.Goals as goal
 

@@ -1,7 +1,7 @@
 use Rattle.std.proofs.Common.{◌≡◌, ◌∙◌, ap, sym, subst, map}
 use Rattle.std.specs.String.{string_bytes}
 use Rattle.doc_outer.specs.Held.{StaysAt}
-use Rattle.doc_outer.proofs.HeldLemmas.{StaysAt-refl}
+use Rattle.doc_outer.proofs.Public.{StaysAt-refl}
 use Rattle.run_stages.specs.Outcomes.{PutFile}
 use Rattle.docfit_run.proofs.PutLemmas.{ending_calm, ending_puts, stays_by_put}
 use Rattle.docfit_run.proofs.run.ending_after_put.Goals as goal

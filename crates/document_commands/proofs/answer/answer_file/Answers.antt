@@ -4,7 +4,7 @@ use Rattle.plain_doc.specs.declared.document.Document.{Document}
 use Rattle.plain_doc.specs.Sound.{IsSound}
 use Rattle.doc_read.specs.Holds.{all_rules, HoldsDocument}
 use Rattle.doc_read.specs.CarriedParts.{AreShortStreams}
-use Rattle.doc_read.proofs.ShortStreams.{streams_short}
+use Rattle.doc_read.proofs.Public.{streams_short}
 use Rattle.run_stages.specs.Judged.{Judges}
 use Rattle.document_commands.specs.Tasks.{task_of, out_of}
 use Rattle.document_commands.specs.Replies.{EndsBy, Replies}

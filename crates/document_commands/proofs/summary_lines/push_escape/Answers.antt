@@ -2,7 +2,7 @@ use Rattle.std.proofs.Common.{ℕ, [], ◌∷◌, ◌<◌, arith}
 use Rattle.std.specs.Str.{IsUtf8}
 use Rattle.std.proofs.lemmas.Str.Ascii.{IsAscii-cons, IsAscii-nil}
 use Rattle.std.proofs.lemmas.Str.{IsUtf8-from_ascii}
-use Rattle.text_codes.proofs.DigitLemmas.{accepted}
+use Rattle.text_codes.proofs.Public.{accepted}
 use Rattle.document_commands.proofs.summary_lines.push_escape.Goals as goal
 
 -- a reverse solidus, an x and two bytes below 128 are a text

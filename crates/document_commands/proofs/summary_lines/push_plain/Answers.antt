@@ -1,7 +1,7 @@
 use Rattle.std.proofs.Common.{[], ◌∷◌}
 use Rattle.std.proofs.lemmas.Str.Ascii.{IsAscii-cons, IsAscii-nil}
 use Rattle.std.proofs.lemmas.Str.{IsUtf8-from_ascii}
-use Rattle.text_codes.proofs.DigitLemmas.{accepted}
+use Rattle.text_codes.proofs.Public.{accepted}
 use Rattle.document_commands.proofs.summary_lines.push_plain.Goals as goal
 
 pub unwrap-requires : goal.unwrap-requires

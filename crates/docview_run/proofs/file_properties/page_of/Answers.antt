@@ -1,7 +1,7 @@
 use Rattle.doc_bits.specs.declared.places.Where.TheVariants.{File}
-use Rattle.doc_bits.proofs.RuleLemmas.{hold_in}
+use Rattle.doc_bits.proofs.Public.{hold_in}
 use Rattle.cfb_streams.specs.Container.{container_rules}
-use Rattle.file_rules.proofs.RefusalLemmas.{refused-container}
+use Rattle.file_rules.proofs.Public.{refused-container}
 use Rattle.docview_run.proofs.file_properties.page_of.Goals as goal
 
 pub returns-in-Err : goal.returns-in-Err

@@ -46,7 +46,7 @@ returns-in-Ok-clause-ends g c =
     let viewed = subst (λ (strict : Bool). IsViewed strict file document) (sym c.if-asked.false)
     (lifted_viewed file c.in-Ok.opened c.requires c.in-Ok.ensures) in
     subst (λ (status : ℕ). RunEnds (ShowsTaken asked.view asked.album.force asked.album.folder.now asked.name.now held file)
-    g.K.Sink c.args.out.now shown.new.out status) (sym c.let_go.ensures)
+    g.K.Sink c.args.out.now shown.new.out status) (sym c.drop_then.ensures)
     (viewed_ends g.K.Sink c.args.out.now shown.new.out asked.view asked.album.force asked.album.folder.now asked.name.now
     file document held shown.result viewed shown.ensures.ends)
 
@@ -61,16 +61,16 @@ returns-in-Ok-clause-leaves g c =
     let viewed = subst (λ (strict : Bool). IsViewed strict file document) (sym c.if-asked.false)
     (lifted_viewed file c.in-Ok.opened c.requires c.in-Ok.ensures) in
     subst (λ (status : ℕ). LeavesTaken asked.view.strict asked.album.force asked.album.folder.now file status before after)
-    (sym c.let_go.ensures)
+    (sym c.drop_then.ensures)
     (viewed_leaves asked.view.strict asked.album.force asked.album.folder.now file document shown.result before after
     viewed shown.ensures.leaves)
 
 pub returns-in-Ok-clause-failed : goal.returns-in-Ok-clause-failed
-returns-in-Ok-clause-failed g c = rw c.let_go.ensures c.show_opened-status.ensures.failed
+returns-in-Ok-clause-failed g c = rw c.drop_then.ensures c.show_opened-status.ensures.failed
 
 pub returns-in-Ok-clause-after : goal.returns-in-Ok-clause-after
 returns-in-Ok-clause-after g c =
-    subst (λ (status : ℕ). (status < 2) ⊎ (3 < status)) (sym c.let_go.ensures) c.show_opened-status.ensures.after
+    subst (λ (status : ℕ). (status < 2) ⊎ (3 < status)) (sym c.drop_then.ensures) c.show_opened-status.ensures.after
 
 pub returns-in-Err-Memory-clause-leaves : goal.returns-in-Err-Memory-clause-leaves
 returns-in-Err-Memory-clause-leaves g c =

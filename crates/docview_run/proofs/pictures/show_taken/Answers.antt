@@ -20,7 +20,7 @@ returns-in-Ok-clause-ends g c =
     let viewed = subst (λ (d : Document). IsViewed asked.view.strict file d) (sym c.document.ensures)
     (held_viewed asked.view.strict file c.in-Ok.opened c.in-Ok.ensures) in
     subst (λ (status : ℕ). RunEnds (ShowsTaken asked.view asked.album.force asked.album.folder.now asked.name.now held file)
-    g.K.Sink c.args.out.now shown.new.out status) (sym c.let_go.ensures)
+    g.K.Sink c.args.out.now shown.new.out status) (sym c.drop_then.ensures)
     (viewed_ends g.K.Sink c.args.out.now shown.new.out asked.view asked.album.force asked.album.folder.now asked.name.now
     file document held shown.result viewed shown.ensures.ends)
 
@@ -35,16 +35,16 @@ returns-in-Ok-clause-leaves g c =
     let viewed = subst (λ (d : Document). IsViewed asked.view.strict file d) (sym c.document.ensures)
     (held_viewed asked.view.strict file c.in-Ok.opened c.in-Ok.ensures) in
     subst (λ (status : ℕ). LeavesTaken asked.view.strict asked.album.force asked.album.folder.now file status before after)
-    (sym c.let_go.ensures)
+    (sym c.drop_then.ensures)
     (viewed_leaves asked.view.strict asked.album.force asked.album.folder.now file document shown.result before after
     viewed shown.ensures.leaves)
 
 pub returns-in-Ok-clause-failed : goal.returns-in-Ok-clause-failed
-returns-in-Ok-clause-failed g c = rw c.let_go.ensures c.show_held-status.ensures.failed
+returns-in-Ok-clause-failed g c = rw c.drop_then.ensures c.show_held-status.ensures.failed
 
 pub returns-in-Ok-clause-after : goal.returns-in-Ok-clause-after
 returns-in-Ok-clause-after g c =
-    subst (λ (status : ℕ). (status < 2) ⊎ (3 < status)) (sym c.let_go.ensures) c.show_held-status.ensures.after
+    subst (λ (status : ℕ). (status < 2) ⊎ (3 < status)) (sym c.drop_then.ensures) c.show_held-status.ensures.after
 
 pub returns-in-Ok-clause-bytes : goal.returns-in-Ok-clause-bytes
 returns-in-Ok-clause-bytes g c = λ i. let byte = c.type_inv.file i in omega arith

@@ -2,7 +2,7 @@ use Rattle.std.proofs.Common.{◌≡◌, ◌⊎◌, Err, List, ap, inr, subst, s
 use Rattle.doc_pictures.specs.declared.pictures.Picture.{Picture}
 use Rattle.doc_pictures.specs.Album.{AreWithin, IsCutShort, Writes}
 use Rattle.doc_pictures.specs.Places.{places_of}
-use Rattle.doc_pictures.proofs.AlbumLemmas.{pictures-within}
+use Rattle.doc_pictures.proofs.Public.{pictures-within}
 use Rattle.docview_run.proofs.PictureLemmas.{path_named, same_fault, taken_there}
 use Rattle.docview_run.proofs.pictures.write_pictures_in.Goals as goal
 

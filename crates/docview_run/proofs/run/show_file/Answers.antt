@@ -4,8 +4,8 @@ use Rattle.plain_doc.specs.Sound.{IsSound}
 use Rattle.doc_read.specs.Holds.{HoldsDocument}
 use Rattle.docview_run.proofs.ViewLemmas.{held_ends, not_accepted, refused_ends}
 use Rattle.docview_run.proofs.run.show_file.Goals as goal
-use Rattle.doc_bits.proofs.TestLemmas.{not_true}
-use Rattle.doc_view.proofs.NoteLemmas.{shown_by}
+use Rattle.doc_bits.proofs.Public.{not_true}
+use Rattle.doc_view.proofs.Public.{shown_by}
 
 pub show_document-status-requires : goal.show_document-status-requires
 show_document-status-requires g c =

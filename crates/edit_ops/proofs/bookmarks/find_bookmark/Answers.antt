@@ -2,7 +2,7 @@ use Rattle.std.proofs.Common.{◌≡◌, ◌∙◌, ◌+◌, ap, sym, cond, drop
 use Rattle.std.specs.List.{find}
 use Rattle.doc_parts.specs.Names.{is_named}
 use Rattle.edit_ops.proofs.bookmarks.find_bookmark.Goals as goal
-use Rattle.run_lists.proofs.CutLemmas.{run_and_rest}
+use Rattle.run_lists.proofs.Public.{run_and_rest}
 
 pub returns-then-is_named : goal.returns-then-is_named
 returns-then-is_named c =

@@ -1,5 +1,5 @@
 use Rattle.std.proofs.Common.{arith}
-use Rattle.doc_bits.proofs.ListLemmas.{All_at}
+use Rattle.doc_bits.proofs.Public.{All_at}
 use Rattle.edit_ops.specs.EditFacts.{items_removed}
 use Rattle.doc_patch.specs.Makes.{CanRemove}
 use Rattle.edit_ops.proofs.SumLemmas.{sum_more, sum_within}

@@ -2,7 +2,7 @@ use Rattle.std.proofs.Common.{◌∙◌, ◌∷◌, [], refl, sym, ap, subst, le
 use Rattle.std.specs.FinMap.{empty}
 use Rattle.prop_map.specs.Settings.{Properties}
 use Rattle.prop_map.specs.Formed.{IsPropertyMap, character_groups}
-use Rattle.prop_map.proofs.ActingLemmas.{IsPropertyMap-empty}
+use Rattle.prop_map.proofs.Public.{IsPropertyMap-empty}
 use Rattle.edit_ops.specs.Fresh.{special, unit_item}
 use Rattle.edit_ops.proofs.FreshTextLemmas.{note_parts}
 use Rattle.edit_ops.proofs.fresh.note_over.Goals as goal

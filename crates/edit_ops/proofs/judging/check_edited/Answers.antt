@@ -1,17 +1,9 @@
-use Rattle.std.proofs.Common.{subst, sym}
-use Rattle.std.specs.Prelude.{MatchResult}
-use Rattle.plain_doc.specs.declared.document.Document.{Document}
-use Rattle.plain_doc.specs.Marks.{HasFormedBookmarks}
-use Rattle.plain_doc.specs.Sound.{IsSound}
-use Rattle.edit_ops.specs.Causes.{IsNamedRule}
+use Rattle.std.proofs.Common.{subst}
+use Rattle.doc_columns.specs.declared.checking.CheckFault.{CheckFault}
+use Rattle.doc_columns.specs.Checking.{IsCheckFault}
 use Rattle.edit_ops.proofs.judging.check_edited.Goals as goal
 
-pub check_items-verdict-requires : goal.check_items-verdict-requires
-check_items-verdict-requires c =
-    subst (λ (d : Document). HasFormedBookmarks d) (sym c.in_ok-items.ensures) c.requires
-
-pub returns : goal.returns
-returns c =
-    rw c.drop_then.ensures
-    (subst (λ (d : Document). MatchResult c.check_items-verdict.result (λ _. IsSound d) (IsNamedRule d))
-    c.in_ok-items.ensures c.check_items-verdict.ensures)
+pub returns-in-Err-Rule : goal.returns-in-Err-Rule
+returns-in-Err-Rule c =
+    c.edit_fault.ensures c.args.document.now
+    (subst (λ (f : CheckFault). IsCheckFault c.args.document.now f) c.in-Err-Rule.field-0-is c.in-Err-Rule.ensures)

@@ -1,6 +1,6 @@
 use Rattle.std.proofs.Common.{sym, subst}
 use Rattle.prop_map.specs.Formed.{IsPropertyMap, section_groups}
-use Rattle.prop_map.proofs.MapLemmas.{overlay_formed}
+use Rattle.prop_map.proofs.Public.{overlay_formed}
 use Rattle.edit_ops.proofs.FreshLemmas.{section_formed}
 use Rattle.edit_ops.proofs.marks.new_section.Goals as goal
 

@@ -1,6 +1,6 @@
 use Rattle.std.proofs.Common.{sym, subst}
 use Rattle.prop_map.specs.Formed.{IsPropertyMap, paragraph_groups}
-use Rattle.prop_map.proofs.ActingLemmas.{IsPropertyMap-empty}
+use Rattle.prop_map.proofs.Public.{IsPropertyMap-empty}
 use Rattle.edit_ops.proofs.FreshLemmas.{mark_formed}
 use Rattle.edit_ops.proofs.marks.split_mark.Goals as goal
 

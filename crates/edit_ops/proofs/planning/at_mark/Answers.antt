@@ -4,7 +4,7 @@ use Rattle.plain_doc.specs.declared.item.Item.{Item}
 use Rattle.doc_patch.specs.declared.changes.Change.TheVariants.{ModifyItems}
 use Rattle.doc_patch.specs.Places.{items_at, mark_place}
 use Rattle.edit_ops.specs.Ranges.{HasPlace}
-use Rattle.doc_patch.proofs.MakingLemmas.{items_are, any_text, such_text}
+use Rattle.doc_patch.proofs.Public.{items_are, any_text, such_text}
 use Rattle.edit_ops.proofs.planning.at_mark.Goals as goal
 
 pub text_of-requires : goal.text_of-requires

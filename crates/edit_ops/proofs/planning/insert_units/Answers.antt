@@ -4,7 +4,7 @@ use Rattle.plain_doc.specs.declared.item.Item.{Item}
 use Rattle.doc_patch.specs.Places.{items_at}
 use Rattle.edit_ops.specs.Edits.{insertion}
 use Rattle.edit_ops.specs.Fresh.{inserted_items}
-use Rattle.doc_patch.proofs.MakingLemmas.{items_are}
+use Rattle.doc_patch.proofs.Public.{items_are}
 use Rattle.edit_ops.proofs.planning.insert_units.Goals as goal
 
 pub returns : goal.returns

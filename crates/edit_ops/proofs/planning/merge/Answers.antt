@@ -5,7 +5,7 @@ use Rattle.doc_patch.specs.Places.{items_at, mark_place}
 use Rattle.edit_ops.specs.Ranges.{HasText, HasRange, EndsWithMark}
 use Rattle.edit_ops.specs.Edits.{erased}
 use Rattle.edit_ops.proofs.CanMakeLemmas.{unit_range}
-use Rattle.doc_patch.proofs.MakingLemmas.{items_are, any_text, such_text}
+use Rattle.doc_patch.proofs.Public.{items_are, any_text, such_text}
 use Rattle.edit_ops.proofs.planning.merge.Goals as goal
 
 pub text_of-requires : goal.text_of-requires

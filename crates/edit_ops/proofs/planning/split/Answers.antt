@@ -5,7 +5,7 @@ use Rattle.doc_patch.specs.Places.{items_at}
 use Rattle.edit_ops.specs.Ranges.{HasPlace}
 use Rattle.edit_ops.specs.Edits.{insertion}
 use Rattle.edit_ops.specs.Fresh.{split_item}
-use Rattle.doc_patch.proofs.MakingLemmas.{items_are, any_text, such_text}
+use Rattle.doc_patch.proofs.Public.{items_are, any_text, such_text}
 use Rattle.edit_ops.proofs.planning.split.Goals as goal
 
 pub text_of-requires : goal.text_of-requires

@@ -12,17 +12,17 @@ pub returns-clause-map : goal.returns-clause-map
 returns-clause-map c =
     let is : c.as_slice.result.now ≡ row_definition c.args.cells c.args.width =
     c.as_slice.ensures ∙ c.in_ok-definition.ensures in
-    subst (λ (d : List ℕ). IfOk c.mark_settings-made.result (λ made. made
-    ≡ insert (insert cell_properties 0x2417 (1 ∷ [])) 0xD608 d)) is c.mark_settings-made.ensures
+    subst (λ (d : List ℕ). IfOk c.mark_properties-made.result (λ made. made
+    ≡ insert (insert cell_properties 0x2417 (1 ∷ [])) 0xD608 d)) is c.mark_properties-made.ensures
 
 pub returns-clause-formed : goal.returns-clause-formed
 returns-clause-formed c =
     let is : c.as_slice.result.now ≡ row_definition c.args.cells c.args.width =
     c.as_slice.ensures ∙ c.in_ok-definition.ensures in
     let map =
-    subst (λ (d : List ℕ). IfOk c.mark_settings-made.result (λ made. made
-    ≡ insert (insert cell_properties 0x2417 (1 ∷ [])) 0xD608 d)) is c.mark_settings-made.ensures in
-    IfOk-weaker c.mark_settings-made.result (λ made. made ≡ row_properties c.args.cells c.args.width)
+    subst (λ (d : List ℕ). IfOk c.mark_properties-made.result (λ made. made
+    ≡ insert (insert cell_properties 0x2417 (1 ∷ [])) 0xD608 d)) is c.mark_properties-made.ensures in
+    IfOk-weaker c.mark_properties-made.result (λ made. made ≡ row_properties c.args.cells c.args.width)
     (IsPropertyMap paragraph_groups)
     (λ (made : Properties) (same : made ≡ row_properties c.args.cells c.args.width).
     subst (IsPropertyMap paragraph_groups) (sym same) (row_formed c.args.cells c.args.width c.requires.cells)) map

@@ -1,6 +1,6 @@
 use Rattle.std.proofs.Common.{sym, ap, ◌∙◌, subst}
 use Rattle.std.specs.FinMap.{get, entries, entries_sorted, get-entries}
-use Rattle.prop_map.proofs.EntriesLemmas.{true_of}
+use Rattle.prop_map.proofs.Public.{true_of}
 use Rattle.effective_props.specs.ValueSteps.{layer_over}
 use Rattle.effective_props.proofs.ValueLemmas.{HasLaidUpTo, none_laid, laid_next, laid_whole}
 use Rattle.effective_props.proofs.values.lay_all.Goals as goal

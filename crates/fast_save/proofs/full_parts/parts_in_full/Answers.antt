@@ -15,8 +15,8 @@ use Rattle.fast_save.specs.Session.{IsSession}
 use Rattle.fast_save.specs.Started.{IsOpenFile}
 use Rattle.fast_save.proofs.FullLemmas.{image_holds, image_fib, image_fields, image_has_wd, image_wd_is, image_length}
 use Rattle.fast_save.proofs.FullLemmas.{full_open}
-use Rattle.fast_save.proofs.ResultLemmas.{ok_then}
 use Rattle.fast_save.proofs.full_parts.parts_in_full.Goals as goal
+use Rattle.cfb_in_place.proofs.Public.{ok_more}
 
 pub load-requires : goal.load-requires
 load-requires c =
@@ -113,7 +113,7 @@ returns-clause-session c =
       contents = contents;
       pieces = c.in_ok-pieces.pieces.pieces;
     } in
-    ok_then c.of_file.result (λ parts. (opening : IsOpenFile opened) → IsSession opening.file document parts)
+    ok_more c.of_file.result (λ parts. (opening : IsOpenFile opened) → IsSession opening.file document parts)
     (IsSession c.args.file.now document)
     (λ parts session.
     subst (λ (file : List ℕ). IsSession file document parts) (sym c.requires.file)
@@ -144,7 +144,7 @@ returns-clause-pieces c =
     ∙ (ap (λ (f : FibFields). text_length f.ccps) fib ∙ image_length document c.requires.savable bytes) in
     let pieces : c.in_ok-pieces.pieces.pieces ≡ one_piece text_at (length (text_items document)) =
     c.in_ok-pieces.ensures ∙ ap (one_piece text_at) len in
-    ok_then c.of_file.result (λ parts. parts.text.pieces.pieces ≡ c.in_ok-pieces.pieces.pieces)
+    ok_more c.of_file.result (λ parts. parts.text.pieces.pieces ≡ c.in_ok-pieces.pieces.pieces)
     (λ parts. parts.text.pieces.pieces ≡ one_piece text_at (length (text_items document)))
     (λ parts is. is ∙ pieces) c.of_file.ensures.pieces
 
@@ -165,5 +165,5 @@ returns-clause-fib c =
     image_wd_is document c.requires.savable bytes contents c.required_stream.result.now has required_stream in
     let fib : c.read_fib-fib.result ≡ fib_fields (wd_stream document) =
     c.read_fib-fib.ensures ∙ ap (λ (w : List ℕ). fib_fields w) wd in
-    ok_then c.of_file.result (λ parts. parts.fib ≡ c.read_fib-fib.result) (λ parts. parts.fib ≡ full_fib document)
+    ok_more c.of_file.result (λ parts. parts.fib ≡ c.read_fib-fib.result) (λ parts. parts.fib ≡ full_fib document)
     (λ parts is. is ∙ (fib ∙ image_fields document c.requires.savable bytes)) c.of_file.ensures.fib

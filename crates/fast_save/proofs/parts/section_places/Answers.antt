@@ -5,8 +5,8 @@ use Rattle.fib_form.specs.FibFields.{FibFields, pair_at}
 use Rattle.file_rules.specs.FileRules.{table_stream_name}
 use Rattle.fast_save.specs.Started.{IsReadFile, written_places}
 use Rattle.fast_save.proofs.OpenLemmas.{named_short, sections_are, sections_hold, no_part_fault}
-use Rattle.fast_save.proofs.ResultLemmas.{ok_then}
 use Rattle.fast_save.proofs.parts.section_places.Goals as goal
+use Rattle.cfb_in_place.proofs.Public.{ok_more}
 
 pub part_of-plc-requires : goal.part_of-plc-requires
 part_of-plc-requires c =
@@ -21,7 +21,7 @@ returns-in-Ok c =
     let contents = c.args.container.now in
     let fib = c.args.fib.now in
     let table = c.required_stream-table.result.now in
-    ok_then c.places_of.result (λ places. places.items ≡ written_places c.in-Ok.seds)
+    ok_more c.places_of.result (λ places. places.items ≡ written_places c.in-Ok.seds)
     (λ places. (file : IsReadFile contents fib) → places.items ≡ written_places file.parts.lists.sections)
     (λ places is file.
     let name : c.table_name.result.now ≡ table_stream_name file.parts.text.wd =

@@ -2,7 +2,7 @@ use Rattle.std.proofs.Common.{◌∙◌, ap, subst, sym, List, ℕ, arith}
 use Rattle.fkp_pages.specs.declared.kind.PageKind.TheVariants.{Papx}
 use Rattle.fkp_pages.specs.Bin.{IsBinTable}
 use Rattle.fkp_pages.specs.Runs.{AreRuns}
-use Rattle.save_bounds.specs.SharedPages.{pages_taken}
+use Rattle.save_laws.specs.SharedPages.{pages_taken}
 use Rattle.fast_save_layout.specs.AddedPages.{paragraph_bins}
 use Rattle.fast_save_layout.specs.MarkRuns.{mark_runs}
 use Rattle.fast_save_layout.proofs.AddedRuns.{writable_items, characters_right, marks_right}

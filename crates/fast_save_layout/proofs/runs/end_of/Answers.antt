@@ -1,7 +1,7 @@
 use Rattle.std.specs.Prelude.{slice_get}
 use Rattle.std.proofs.Common.{◌≡◌, ◌∙◌, ◌-◌, ◌<◌, length, map, Some, sym, ap, subst, arith}
 use Rattle.std.proofs.lemmas.Option.{get_or_from_slice_get}
-use Rattle.doc_bits.proofs.ListLemmas.{there_is, get-map}
+use Rattle.doc_bits.proofs.Public.{there_is, get-map}
 use Rattle.fkp_pages.specs.declared.lists.Run.{Run}
 use Rattle.fast_save_layout.proofs.MarkLemmas.{end_is}
 use Rattle.fast_save_layout.proofs.runs.end_of.Goals as goal

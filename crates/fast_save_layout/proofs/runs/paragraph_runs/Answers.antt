@@ -1,6 +1,6 @@
 use Rattle.std.proofs.Common.{length, ap, arith}
 use Rattle.std.proofs.lemmas.List.{length-map}
-use Rattle.run_lists.proofs.SpreadLemmas.{length-spread}
+use Rattle.run_lists.proofs.Public.{length-spread}
 use Rattle.doc_columns.specs.Attached.{attached_of}
 use Rattle.fast_save_layout.proofs.runs.paragraph_runs.Goals as goal
 

@@ -7,7 +7,7 @@ use Rattle.cfb_layout.specs.declared.faults.LayoutFault.TheVariants.{TooLarge}
 use Rattle.cfb_layout.specs.Layout.{lengths_of, compound_file}
 use Rattle.cfb_in_place.specs.Change.{StreamChange}
 use Rattle.cfb_in_place.specs.Contract.{CanBeAppended as CanBePut, IsSavedInPlace, NeedsTooMany as NeedTooMany}
-use Rattle.file_rules.proofs.RightPlaces.{hold_out}
+use Rattle.file_rules.proofs.Public.{hold_out}
 use Rattle.fast_save_layout.specs.Saves.{FastSave, save_of}
 use Rattle.fast_save_layout.specs.Appended.{table_name_of}
 use Rattle.fast_save_layout.specs.Bodies.{IsWriteFault}

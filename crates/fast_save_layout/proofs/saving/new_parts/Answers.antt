@@ -5,10 +5,7 @@ use Rattle.fib_form.specs.FibFields.{AreCounts, ArePairs}
 use Rattle.full_save.specs.declared.table_text.TableText.{TableText}
 use Rattle.full_save.specs.TableText.{table_entries}
 use Rattle.full_save.specs.TableStream.{entries_bytes, entries_pairs}
-use Rattle.full_save.proofs.EntriesFound.{entries_are_pairs}
-use Rattle.full_save.proofs.TableNumbers.{table_allowed}
-use Rattle.full_save.proofs.MarkLengths.{fit_parts}
-use Rattle.full_save.proofs.TextLaidOut.{few_items}
+use Rattle.full_save.proofs.Public.{entries_are_pairs, table_allowed, fit_parts, few_items}
 use Rattle.fast_save_layout.specs.Saves.{FastSave, save_of}
 use Rattle.fast_save_layout.specs.Appended.{old_wd, least_beside, fast_text, fast_entries, fast_table}
 use Rattle.fast_save_layout.proofs.FilledTable.{parts_within}

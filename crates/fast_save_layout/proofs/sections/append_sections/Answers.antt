@@ -2,9 +2,9 @@ use Rattle.std.specs.Prelude.{slice_get}
 use Rattle.std.proofs.Common.{◌≡◌, ◌<◌, List, Some, length, refl, sym, arith}
 use Rattle.std.proofs.lemmas.Option.{slice_get_read}
 use Rattle.run_lists.specs.declared.runs.Run.{Run}
-use Rattle.run_lists.proofs.SpreadLemmas.{extent-nil}
+use Rattle.run_lists.proofs.Public.{extent-nil}
 use Rattle.doc_columns.specs.declared.attached.Attached.{Attached}
-use Rattle.full_save.proofs.ColumnLists.{run_inside, run_after, at_end, some_savable}
+use Rattle.full_save.proofs.Public.{run_inside, run_after, at_end, some_savable}
 use Rattle.fast_save_layout.proofs.PlannedLemmas.{planned_all}
 use Rattle.fast_save_layout.proofs.PlannedRuns.{planned_begin, places_within}
 use Rattle.fast_save_layout.proofs.sections.append_sections.Goals as goal

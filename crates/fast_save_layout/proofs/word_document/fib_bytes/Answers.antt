@@ -4,9 +4,7 @@ use Rattle.std.proofs.Common.{◌≡◌, ◌∙◌, ℕ, List, length, take, dro
 use Rattle.fib_form.specs.Fib.{form_size}
 use Rattle.fib_form.specs.FibFields.{FibFields}
 use Rattle.fib_form.specs.FibBytes.{written_fib}
-use Rattle.fib_form.proofs.FibLemmas.{form_size-most}
-use Rattle.fib_form.proofs.PairLemmas.{length-fib_pairs}
-use Rattle.fib_form.proofs.WriteLemmas.{length-written_fib, take_front}
+use Rattle.fib_form.proofs.Public.{form_size-most, length-fib_pairs, length-written_fib, take_front}
 use Rattle.fast_save_layout.proofs.word_document.fib_bytes.Goals as goal
 
 pub write-requires : goal.write-requires

@@ -1,5 +1,5 @@
 use Rattle.std.proofs.Common.{◌≤◌}
-use Rattle.doc_bits.proofs.RuleLemmas.{least_of_all}
+use Rattle.doc_bits.proofs.Public.{least_of_all}
 use Rattle.fib_form.specs.FibRules.{fib_rules}
 use Rattle.fib_form.proofs.FibRuleLemmas.{fib_rules-IsSingle, fib_rules-Ascends}
 use Rattle.fib_form.proofs.laws.first_fib_fault_is_least.Goals as goal

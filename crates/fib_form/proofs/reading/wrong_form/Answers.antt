@@ -1,4 +1,4 @@
--- The number of pairs is that of a form, so only what stands behind the pairs may be wrong.
+-- The number of pairs is that of a form, so only what is behind the pairs may be wrong.
 use Rattle.std.proofs.Common.{sym, ◌∙◌}
 use Rattle.fib_form.specs.declared.form.Form.TheVariants.{Early, Later}
 use Rattle.fib_form.proofs.FibRuleLemmas.{wrong_form-tail}

@@ -1,5 +1,5 @@
 use Rattle.std.proofs.Common.{◌≤◌}
-use Rattle.doc_bits.proofs.RuleLemmas.{least_of_all}
+use Rattle.doc_bits.proofs.Public.{least_of_all}
 use Rattle.fib_versions.specs.VersionRules.{version_rules}
 use Rattle.fib_versions.proofs.VersionLemmas.{version_rules-IsSingle, version_rules-Ascends}
 use Rattle.fib_versions.proofs.laws.first_version_fault_is_least.Goals as goal

@@ -2,12 +2,12 @@ use Rattle.std.proofs.Common.{◌≡◌, ℕ, List, length, ◌+◌, ◌≤◌, 
 use Rattle.doc_bits.specs.Plc.{PlcPart, IsPlcOf}
 use Rattle.doc_bits.specs.Rules.{LeastOrNone}
 use Rattle.doc_parts.specs.Table.{plc_part, IsWholePlc}
-use Rattle.doc_parts.proofs.TableLemmas.{table_of_plc, count_of_whole}
+use Rattle.doc_parts.proofs.Public.{table_of_plc, count_of_whole}
 use Rattle.file_rules.specs.BinRules.{IsPlcBte, HasNoAscent}
 use Rattle.file_rules.proofs.RowLemmas.{wrong_part, right_part}
 use Rattle.file_rules.proofs.bins.wrong_bin.Goals as goal
 
--- no fc stands before the part
+-- no fc is before the part
 after_part : (table : PlcPart) (at p : ℕ) → HasNoAscent table at p → at ≤ p
 after_part table at p w = let here = w.broken.here in omega arith
 

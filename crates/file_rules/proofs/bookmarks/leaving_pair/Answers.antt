@@ -1,7 +1,7 @@
 use Rattle.std.proofs.Common.{ℕ, ◌⊎◌}
 use Rattle.fib_form.specs.declared.table_parts.TablePart.TheVariants.{SttbfBkmk, PlcfBkf, PlcfBkl}
 use Rattle.doc_bits.specs.Rules.{LeastOrNone}
-use Rattle.doc_bits.proofs.RuleLemmas.{least_either}
+use Rattle.doc_bits.proofs.Public.{least_either}
 use Rattle.file_rules.specs.BookmarkRules.{IsLeavingPair}
 use Rattle.file_rules.proofs.bookmarks.leaving_pair.Goals as goal
 

@@ -2,7 +2,7 @@ use Rattle.std.proofs.Common.{◌≡◌, ◌∙◌, ℕ, Option, MatchOption, su
 use Rattle.doc_bits.specs.Rules.{Rules, Hold, IsFirst}
 use Rattle.direct_props.specs.declared.rules.PageFault.{PageFault}
 use Rattle.doc_bits.specs.declared.places.Where.TheVariants.{Wd}
-use Rattle.doc_bits.proofs.RuleLemmas.{hold_in}
+use Rattle.doc_bits.proofs.Public.{hold_in}
 use Rattle.fkp_pages.specs.declared.kind.PageKind.TheVariants.{Papx}
 use Rattle.direct_props.specs.PageRules.{page_rules}
 use Rattle.fib_form.specs.declared.table_parts.TablePart.TheVariants.{PlcfBtePapx}
@@ -12,7 +12,7 @@ use Rattle.file_rules.proofs.RefusalLemmas.{refused-page}
 use Rattle.file_rules.proofs.RightPlaces.{bin_tables}
 use Rattle.file_rules.proofs.formats.check_marks.Goals as goal
 
--- what a judge of these rules answers
+-- what a check of these rules answers
 abbrev IsJudged : Rules ℕ → Option PageFault → Type 0
 IsJudged rules fault = MatchOption fault (Hold rules) (λ (f : PageFault). IsFirst rules f.rule f.offset)
 

@@ -3,7 +3,7 @@ use Rattle.std.proofs.lemmas.Result.{MatchResult-weaker}
 use Rattle.doc_bits.specs.declared.places.Where.TheVariants.{File}
 use Rattle.doc_bits.specs.Rules.{given}
 use Rattle.doc_bits.specs.Places.{rules_in}
-use Rattle.doc_bits.proofs.RuleLemmas.{hold_in}
+use Rattle.doc_bits.proofs.Public.{hold_in}
 use Rattle.cfb_streams.specs.Container.{container_rules, HasContents}
 use Rattle.file_rules.specs.Faults.{cfb_refusal}
 use Rattle.file_rules.specs.FileRules.{contents_rules}

@@ -2,7 +2,7 @@ use Rattle.std.proofs.Common.{◌≡◌, ◌+◌, ◌≤◌, length, refl, sym, 
 use Rattle.std.proofs.lemmas.Bool.{eqb-true, eqb-false}
 use Rattle.doc_bits.specs.declared.places.Where.TheVariants.{Table}
 use Rattle.doc_bits.specs.Rules.{Hold}
-use Rattle.doc_bits.proofs.RuleLemmas.{hold_in, first_in}
+use Rattle.doc_bits.proofs.Public.{hold_in, first_in}
 use Rattle.doc_parts.specs.Levels.{level_rules, HaveLength}
 use Rattle.fib_form.specs.declared.table_parts.TablePart.TheVariants.{PlfLst}
 use Rattle.file_rules.specs.Source.{part_bytes, part_place}

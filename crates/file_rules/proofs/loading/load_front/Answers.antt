@@ -4,7 +4,7 @@ use Rattle.fib_form.specs.Fib.{fib_size}
 use Rattle.fib_form.specs.FibFields.{FibFields, fib_fields, text_length}
 use Rattle.piece_table.specs.Piece.{flat_pieces, total_length}
 use Rattle.piece_table.specs.ClxRules.{text_bounds}
-use Rattle.piece_table.proofs.PieceLemmas.{length-flat_pieces}
+use Rattle.piece_table.proofs.Public.{length-flat_pieces}
 use Rattle.file_rules.proofs.StandLemmas.{front_ends}
 use Rattle.file_rules.proofs.UnitLemmas.{length-text_units, length-text_places}
 use Rattle.file_rules.proofs.loading.load_front.Goals as goal

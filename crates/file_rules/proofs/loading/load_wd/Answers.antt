@@ -3,7 +3,7 @@ use Rattle.std.proofs.lemmas.Result.{MatchResult-weaker}
 use Rattle.doc_bits.specs.declared.places.Where.TheVariants.{Wd}
 use Rattle.doc_bits.specs.Rules.{rule, given, ◌then◌}
 use Rattle.doc_bits.specs.Places.{rules_in}
-use Rattle.doc_bits.proofs.RuleLemmas.{hold_in, first_in}
+use Rattle.doc_bits.proofs.Public.{hold_in, first_in}
 use Rattle.fib_form.specs.FibRules.{fib_rules}
 use Rattle.fib_form.specs.FibFields.{FibFields}
 use Rattle.cfb_streams.specs.Names.{table_name}

@@ -2,7 +2,7 @@ use Rattle.std.proofs.Common.{◌≡◌, ◌∙◌, inl, ap, length}
 use Rattle.doc_bits.specs.declared.places.Where.TheVariants.{Wd, Table}
 use Rattle.doc_bits.specs.Rules.{rule}
 use Rattle.doc_bits.specs.Places.{rules_in}
-use Rattle.doc_bits.proofs.RuleLemmas.{hold_in}
+use Rattle.doc_bits.proofs.Public.{hold_in}
 use Rattle.fib_form.specs.Fib.{form_size, fib_size, fib_pair}
 use Rattle.fib_form.specs.FibFields.{FibFields}
 use Rattle.piece_table.specs.ClxRules.{clx_rules, text_bounds}

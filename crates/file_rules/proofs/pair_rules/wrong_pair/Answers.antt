@@ -1,6 +1,6 @@
 use Rattle.std.proofs.Common.{◌≡◌, subst, arith}
 use Rattle.doc_bits.specs.Rules.{LeastOrNone, Among}
-use Rattle.doc_bits.proofs.RuleLemmas.{least_none, least_step}
+use Rattle.doc_bits.proofs.Public.{least_none, least_step}
 use Rattle.file_rules.specs.PairRules.{HasWrongPart}
 use Rattle.file_rules.proofs.pair_rules.wrong_pair.Goals as goal
 

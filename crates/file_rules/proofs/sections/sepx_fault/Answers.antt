@@ -1,6 +1,6 @@
 use Rattle.std.proofs.Common.{◌≡◌, refl, length, subst, arith}
 use Rattle.doc_bits.specs.Rules.{LeastOrNone, Among}
-use Rattle.doc_bits.proofs.RuleLemmas.{least_step, least_none}
+use Rattle.doc_bits.proofs.Public.{least_step, least_none}
 use Rattle.doc_parts.specs.declared.lists.Sed.{Sed}
 use Rattle.doc_parts.specs.Sections.{place_of_fc_sepx}
 use Rattle.fib_form.specs.declared.table_parts.TablePart.TheVariants.{PlcfSed}

@@ -1,5 +1,5 @@
 use Rattle.doc_bits.specs.declared.places.Where.TheVariants.{Table}
-use Rattle.doc_bits.proofs.RuleLemmas.{hold_in}
+use Rattle.doc_bits.proofs.Public.{hold_in}
 use Rattle.style_sheet.specs.Stsh.{stsh_rules}
 use Rattle.fib_form.specs.declared.table_parts.TablePart.TheVariants.{Stshf}
 use Rattle.file_rules.specs.Source.{part_bytes, part_place}

@@ -1,7 +1,7 @@
 use Rattle.std.proofs.Common.{◌≡◌, ◌∙◌, Option, Some, None, ℕ, List, sym}
 use Rattle.doc_bits.specs.declared.places.Where.TheVariants.{Wd}
 use Rattle.doc_bits.specs.Rules.{LeastOrNone, lesser_of}
-use Rattle.doc_bits.proofs.RuleLemmas.{least_either}
+use Rattle.doc_bits.proofs.Public.{least_either}
 use Rattle.fib_form.specs.declared.stories.StoryKind.TheVariants.{Notes, Heads}
 use Rattle.file_rules.specs.Source.{DocSource}
 use Rattle.file_rules.specs.EndRules.{BreaksEnd, BreaksEnds}

@@ -1,13 +1,12 @@
 use Rattle.std.proofs.Common.{◌≡◌, ◌⊎◌, ◌∙◌, Option, Some, None, ℕ, sym, refl}
 use Rattle.doc_bits.specs.declared.places.Where.TheVariants.{Table}
 use Rattle.doc_bits.specs.Rules.{LeastOrNone, lesser_of}
-use Rattle.doc_bits.proofs.RuleLemmas.{least_either}
+use Rattle.doc_bits.proofs.Public.{least_either, lesser_none}
 use Rattle.fib_form.specs.declared.stories.StoryKind.TheVariants.{Main, Notes, Heads}
 use Rattle.file_rules.specs.Source.{DocSource}
 use Rattle.file_rules.specs.FieldRules.{BreaksStoryFields, BreaksAllFields}
 use Rattle.file_rules.proofs.RefusalLemmas.{refused-rule, holds-rule}
 use Rattle.file_rules.proofs.story_fields.read_fields.Goals as goal
-use Rattle.cfb_streams.proofs.GatherLemmas.{lesser_both}
 
 -- the least place of the three tables
 least_of_three : (source : DocSource) (a b d found : Option ℕ) → LeastOrNone (BreaksStoryFields source Main) a →
@@ -30,9 +29,9 @@ pub returns : goal.returns
 returns c =
     let source = c.args.source.now in
     let found = sym c.in_default.is ∙ (c.lesser-2.ensures ∙ rw c.lesser.ensures refl) in
-    let main = lesser_both c.in_ok-main.main.fault (lesser_of c.in_ok-notes.notes.fault c.in_ok-heads.heads.fault)
+    let main = lesser_none c.in_ok-main.main.fault (lesser_of c.in_ok-notes.notes.fault c.in_ok-heads.heads.fault)
     (sym found) in
-    let others = lesser_both c.in_ok-notes.notes.fault c.in_ok-heads.heads.fault main.1 in (
+    let others = lesser_none c.in_ok-notes.notes.fault c.in_ok-heads.heads.fault main.1 in (
       holds-rule Table 52 (BreaksAllFields source)
           (least_of_three source c.in_ok-main.main.fault c.in_ok-notes.notes.fault c.in_ok-heads.heads.fault None
           c.in_ok-main.ensures.0 c.in_ok-notes.ensures.0 c.in_ok-heads.ensures.0 found),

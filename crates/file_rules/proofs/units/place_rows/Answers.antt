@@ -1,7 +1,7 @@
 use Rattle.std.proofs.Common.{◌∙◌, ap, sym, subst, map, slice_get, ℕ}
 use Rattle.piece_table.specs.Piece.{UnitPlace, unit_places}
 use Rattle.direct_props.specs.Rows.{AreRows, places_of}
-use Rattle.direct_props.proofs.RowLemmas.{AreRows_push, AreRows-nil, places_of-nil}
+use Rattle.direct_props.proofs.Public.{AreRows_push, AreRows-nil, places_of-nil}
 use Rattle.file_rules.specs.Units.{text_piece}
 use Rattle.file_rules.proofs.UnitLemmas.{few_places, map-flat_pieces-none, piece_read, places-any, rows_more}
 use Rattle.file_rules.proofs.units.place_rows.Goals as goal

@@ -1,6 +1,6 @@
 use Rattle.std.proofs.Common.{◌≡◌, ◌+◌, ◌-◌, ◌*◌, ◌<◌, ◌≤◌, ◌^◌, ℕ, arith}
 use Rattle.doc_bits.specs.Plc.{plc_cp}
-use Rattle.doc_bits.proofs.NumberLemmas.{number_at-bound}
+use Rattle.doc_bits.proofs.Public.{number_at-bound}
 use Rattle.fkp_pages.specs.Bin.{page_at}
 use Rattle.fkp_gaps.specs.Gaps.{IsGapAnswer}
 use Rattle.fkp_gaps.proofs.GapLemmas.{AnswersUpTo, gap_places, own_places}

@@ -3,7 +3,7 @@ use Rattle.std.specs.Prelude.{IfOk}
 use Rattle.fib_form.specs.TableEntries.{TableEntry}
 use Rattle.full_save.specs.TableStream.{entries_bytes, AreWritten}
 use Rattle.full_save.proofs.MadeLemmas.{made_seen}
-use Rattle.doc_columns.proofs.SeenLemmas.{seen_document}
+use Rattle.doc_columns.proofs.Public.{seen_document}
 use Rattle.full_save.proofs.made_parts.write_table.Goals as goal
 
 pub table_of-table-requires : goal.table_of-table-requires

@@ -1,6 +1,6 @@
 use Rattle.std.proofs.Common.{◌∙◌, length, ap, arith}
 use Rattle.std.proofs.lemmas.List.{length-map}
-use Rattle.run_lists.proofs.SpreadLemmas.{length-spread}
+use Rattle.run_lists.proofs.Public.{length-spread}
 use Rattle.doc_columns.specs.Attached.{attached_of}
 use Rattle.full_save.proofs.MeasureLemmas.{attached_measurable, attached_measure}
 use Rattle.full_save.proofs.measures.measure_of.Goals as goal

@@ -5,7 +5,7 @@ use Rattle.std.proofs.lemmas.List.{take_all}
 use Rattle.std.proofs.lemmas.Option.{slice_get-get_or}
 use Rattle.run_lists.specs.declared.runs.Run.{Run}
 use Rattle.run_lists.specs.Spread.{expanded, total_len}
-use Rattle.run_lists.proofs.CutLemmas.{All-runs}
+use Rattle.run_lists.proofs.Public.{All-runs}
 use Rattle.doc_columns.specs.declared.attached.Attached.{Attached}
 use Rattle.full_save.specs.Lengths.{measured, IsMeasurable}
 use Rattle.full_save.proofs.ColumnRuns.{run_fits}

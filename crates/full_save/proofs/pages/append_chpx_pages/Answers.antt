@@ -2,7 +2,7 @@ use Rattle.std.proofs.Common.{arith}
 use Rattle.std.proofs.lemmas.Result.{err_from_is_err_and}
 use Rattle.std.proofs.Math.Seq.{take-length}
 use Rattle.fkp_pages.specs.declared.kind.PageKind.TheVariants.{Chpx}
-use Rattle.fkp_pages.proofs.WholePages.{pages_are_whole}
+use Rattle.fkp_pages.proofs.Public.{pages_are_whole}
 use Rattle.full_save.proofs.pages.append_chpx_pages.Goals as goal
 
 pub append_pages-requires : goal.append_pages-requires

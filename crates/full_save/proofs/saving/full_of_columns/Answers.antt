@@ -1,4 +1,4 @@
-use Rattle.plain_doc.proofs.RightLemmas.{sound_is_valid}
+use Rattle.plain_doc.proofs.Public.{sound_is_valid}
 use Rattle.full_save.proofs.TextLaidOut.{few_items}
 use Rattle.full_save.proofs.saving.full_of_columns.Goals as goal
 

@@ -2,7 +2,7 @@ use Rattle.std.proofs.Common.{List, sym, subst, ◌∙◌}
 use Rattle.fkp_pages.specs.declared.kind.PageKind.TheVariants.{Chpx, Papx}
 use Rattle.fkp_pages.specs.declared.lists.Run.{Run}
 use Rattle.fkp_pages.specs.Runs.{AreRuns}
-use Rattle.plain_doc.proofs.RightLemmas.{sound_is_valid}
+use Rattle.plain_doc.proofs.Public.{sound_is_valid}
 use Rattle.full_save.proofs.TextLaidOut.{few_items, runs_are}
 use Rattle.full_save.proofs.LengthLemmas.{runs_counted}
 use Rattle.full_save.proofs.saving.table_len_of_columns.Goals as goal

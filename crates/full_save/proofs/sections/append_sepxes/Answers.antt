@@ -2,7 +2,7 @@ use Rattle.std.specs.Prelude.{slice_get}
 use Rattle.std.proofs.Common.{◌≡◌, ◌<◌, List, Some, length, refl, sym, arith}
 use Rattle.std.proofs.lemmas.Option.{slice_get_read}
 use Rattle.run_lists.specs.declared.runs.Run.{Run}
-use Rattle.run_lists.proofs.SpreadLemmas.{extent-nil}
+use Rattle.run_lists.proofs.Public.{extent-nil}
 use Rattle.doc_columns.specs.declared.attached.Attached.{Attached}
 use Rattle.full_save.proofs.SectionLemmas.{sepxes_all}
 use Rattle.full_save.proofs.ColumnLists.{run_inside, run_after, at_end, some_savable, sepxes_begin}

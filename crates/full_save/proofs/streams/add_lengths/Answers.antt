@@ -3,7 +3,7 @@ use Rattle.std.specs.Prelude.{slice_range}
 use Rattle.std.proofs.lemmas.List.{append_assoc}
 use Rattle.cfb_streams.specs.Contents.{NamedBytes}
 use Rattle.cfb_layout.specs.Layout.{lengths_of, no_stream}
-use Rattle.cfb_layout.proofs.WritingLemmas.{bytes_are}
+use Rattle.cfb_layout.proofs.Public.{bytes_are}
 use Rattle.full_save.proofs.PlaceLemmas.{range_next, lengths-append}
 use Rattle.full_save.proofs.streams.add_lengths.Goals as goal
 

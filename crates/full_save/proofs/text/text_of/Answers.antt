@@ -5,7 +5,7 @@ use Rattle.plain_doc.specs.declared.item.Item.{Item}
 use Rattle.full_save.specs.Text.{mark_if, note_story, head_story, text_items, text_counts}
 use Rattle.plain_doc.specs.declared.document.Document.{Document}
 use Rattle.full_save.specs.RunsSoFar.{IsTextSoFar, IsWholeText, IsTextOf}
-use Rattle.doc_columns.proofs.SeenLemmas.{seen_document}
+use Rattle.doc_columns.proofs.Public.{seen_document}
 use Rattle.full_save.proofs.TextLemmas.{text_is, text_sizes, came_behind, mark_most}
 use Rattle.full_save.proofs.text.text_of.Goals as goal
 

@@ -3,7 +3,7 @@ use Rattle.std.specs.Prelude.{slice_index, nat_lt}
 use Rattle.plain_doc.specs.declared.item.Item.{Item}
 use Rattle.plain_doc.specs.declared.document.Document.{Document}
 use Rattle.plain_doc.specs.Collected.{joined_texts}
-use Rattle.doc_columns.proofs.SeenLemmas.{seen_document}
+use Rattle.doc_columns.proofs.Public.{seen_document}
 use Rattle.full_save.specs.Text.{mark_if, note_story, head_story, text_counts}
 use Rattle.full_save.specs.WordDocument.{units_bytes, items_bytes, text_bytes}
 use Rattle.full_save.proofs.TextLemmas.{text_is, text_sizes, puts_both, story_is}

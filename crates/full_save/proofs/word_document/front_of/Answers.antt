@@ -1,5 +1,5 @@
 use Rattle.std.proofs.Common.{◌∙◌}
-use Rattle.fib_form.proofs.FibLemmas.{form_size-most}
+use Rattle.fib_form.proofs.Public.{form_size-most}
 use Rattle.full_save.proofs.FrontLemmas.{front_is}
 use Rattle.full_save.proofs.word_document.front_of.Goals as goal
 

@@ -1,5 +1,5 @@
 use Rattle.std.proofs.Common.{◌<◌, arith}
-use Rattle.fib_versions.proofs.VersionLemmas.{enough_pairs}
+use Rattle.fib_versions.proofs.Public.{enough_pairs}
 use Rattle.further_notes.proofs.files.part_fields.Goals as goal
 
 pub pair-refs-requires : goal.pair-refs-requires

@@ -2,11 +2,11 @@ use Rattle.std.proofs.Common.{◌≡◌, ◌∙◌, ◌≤◌, ap, sym, refl, su
 use Rattle.std.proofs.Common.{Some, Option}
 use Rattle.std.specs.Prelude.{slice_get}
 use Rattle.std.proofs.lemmas.List.{length-map, length-take-le, take_all}
-use Rattle.doc_bits.proofs.ListLemmas.{take_step}
+use Rattle.doc_bits.proofs.Public.{take_step}
 use Rattle.run_lists.specs.Spread.{total_len}
 use Rattle.run_lists.specs.Places.{IsAt}
 use Rattle.run_lists.specs.declared.cursor.Cursor.{Cursor}
-use Rattle.run_lists.proofs.SpreadLemmas.{extent-nil, length-spread}
+use Rattle.run_lists.proofs.Public.{extent-nil, length-spread}
 use Rattle.plain_doc.specs.declared.item.Item.{Item}
 use Rattle.plain_doc.specs.declared.item.NoteKind.{NoteKind}
 use Rattle.doc_columns.specs.declared.attached.Attached.{Attached}

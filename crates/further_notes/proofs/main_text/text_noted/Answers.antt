@@ -4,7 +4,7 @@ use Rattle.std.proofs.lemmas.List.{length-map, take_all}
 use Rattle.prop_map.specs.Settings.{Properties}
 use Rattle.run_lists.specs.Spread.{expanded, total_len}
 use Rattle.run_lists.specs.Places.{IsAt}
-use Rattle.run_lists.proofs.SpreadLemmas.{extent-nil, length-spread}
+use Rattle.run_lists.proofs.Public.{extent-nil, length-spread}
 use Rattle.plain_doc.specs.declared.item.Item.{Item}
 use Rattle.plain_doc.specs.Document.{HasPropertyMaps}
 use Rattle.doc_columns.specs.declared.attached.Attached.{Attached}

@@ -3,11 +3,11 @@ use Rattle.std.specs.Prelude.{MatchOption}
 use Rattle.std.proofs.lemmas.Result.{IfOk-weaker}
 use Rattle.doc_bits.specs.Number.{AreBytes}
 use Rattle.doc_bits.specs.Places.{Upto}
-use Rattle.doc_bits.proofs.RuleLemmas.{hold_or_first}
+use Rattle.doc_bits.proofs.Public.{hold_or_first}
 use Rattle.file_rules.specs.declared.fault.ReadFault.{ReadFault}
 use Rattle.file_rules.specs.Faults.{IsReadFault}
 use Rattle.doc_lift.specs.LiftedFiles.{lifted_rules}
-use Rattle.doc_lift.proofs.RuleLemmas.{lifted_single}
+use Rattle.doc_lift.proofs.Public.{lifted_single}
 use Rattle.further_notes.specs.declared.splicing.Spliced.{Spliced}
 use Rattle.further_notes.specs.Splices.{CanSplice, IsSplice, IsSplicedBy, HasNoSpliceBy}
 use Rattle.further_notes.proofs.SpliceLemmas.{splice_found}

@@ -1,6 +1,6 @@
 use Rattle.std.proofs.Common.{◌++◌, ◌∷◌, [], List, ℕ}
 use Rattle.std.specs.Prelude.{codes}
-use Rattle.page_out.proofs.PrintLemmas.{put_then}
+use Rattle.page_out.proofs.Public.{put_then}
 use Rattle.html_page.specs.Tags.{attribute, attributes_text, span_attributes}
 use Rattle.html_page.proofs.attributes.push_head_cell.Goals as goal
 

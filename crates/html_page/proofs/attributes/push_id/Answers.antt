@@ -1,6 +1,6 @@
 use Rattle.std.proofs.Common.{◌++◌, ◌∷◌, [], sym, append-nil}
 use Rattle.std.specs.Prelude.{codes}
-use Rattle.page_out.proofs.PrintLemmas.{three_put}
+use Rattle.page_out.proofs.Public.{three_put}
 use Rattle.html_text.specs.Tokens.{escaped_text}
 use Rattle.html_page.specs.Tags.{attribute, attributes_text}
 use Rattle.html_page.proofs.PutLemmas.{put_as}

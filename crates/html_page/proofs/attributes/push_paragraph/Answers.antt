@@ -1,7 +1,7 @@
 use Rattle.std.proofs.Common.{◌++◌, ◌∷◌, [], List, ℕ, ap, append_assoc, refl}
 use Rattle.std.specs.Prelude.{codes, nat_le, if◌then◌else◌}
 use Rattle.std.specs.Fmt.{decimal}
-use Rattle.page_out.proofs.PrintLemmas.{put_then, three_put}
+use Rattle.page_out.proofs.Public.{put_then, three_put}
 use Rattle.html_page.proofs.PutLemmas.{put_as, value_pieces, optional_text, paragraph_pieces}
 use Rattle.html_page.specs.Tags.{attribute, plain_attributes, attributes_text, paragraph_attributes}
 use Rattle.view_places.specs.declared.element.Element.TheVariants.{Note, Reference, BackLink}

@@ -1,6 +1,6 @@
 use Rattle.std.proofs.Common.{◌++◌, ◌∷◌, [], List, ℕ, append_assoc}
 use Rattle.std.specs.Fmt.{decimal}
-use Rattle.page_out.proofs.PrintLemmas.{put_then}
+use Rattle.page_out.proofs.Public.{put_then}
 use Rattle.html_page.proofs.PutLemmas.{put_as}
 use Rattle.html_page.proofs.attributes.push_quoted.Goals as goal
 

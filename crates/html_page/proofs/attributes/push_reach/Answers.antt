@@ -1,7 +1,7 @@
 use Rattle.std.proofs.Common.{◌++◌, ◌∷◌, [], List, ℕ}
 use Rattle.std.specs.Prelude.{codes, nat_le, if◌then◌else◌}
 use Rattle.std.specs.Fmt.{decimal}
-use Rattle.page_out.proofs.PrintLemmas.{put_then}
+use Rattle.page_out.proofs.Public.{put_then}
 use Rattle.html_page.proofs.PutLemmas.{put_as, reach_pieces}
 use Rattle.html_page.specs.Tags.{attribute, attributes_text, reach_attributes}
 use Rattle.html_page.proofs.attributes.push_reach.Goals as goal

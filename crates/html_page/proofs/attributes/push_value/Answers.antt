@@ -1,6 +1,6 @@
 use Rattle.std.proofs.Common.{◌≡◌, ◌∙◌, ◌++◌, ◌∷◌, [], List, ℕ, ap, sym, append_assoc}
 use Rattle.std.proofs.lemmas.List.Concat.{flat_map-append}
-use Rattle.page_out.proofs.PrintLemmas.{put_then}
+use Rattle.page_out.proofs.Public.{put_then}
 use Rattle.html_text.specs.Tokens.{Character, escaped, escaped_text, printed}
 use Rattle.html_page.proofs.PutLemmas.{put_as}
 use Rattle.html_page.proofs.attributes.push_value.Goals as goal

@@ -1,5 +1,5 @@
 use Rattle.std.proofs.Common.{◌++◌, ◌∷◌, []}
-use Rattle.page_out.proofs.PrintLemmas.{three_put}
+use Rattle.page_out.proofs.Public.{three_put}
 use Rattle.html_text.specs.Tokens.{Character, escaped_text, printed}
 use Rattle.html_page.specs.Images.{coded_byte}
 use Rattle.html_page.proofs.PathLemmas.{coded-text}

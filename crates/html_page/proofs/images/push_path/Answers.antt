@@ -3,7 +3,7 @@ use Rattle.std.proofs.Common.{◌+◌, ◌<◌, ◌++◌, ℕ, List, length, tak
 use Rattle.std.specs.Prelude.{slice_index}
 use Rattle.std.proofs.lemmas.List.{take_all}
 use Rattle.page_out.specs.Printed.{Prints}
-use Rattle.page_out.proofs.PrintLemmas.{put_none, put_then}
+use Rattle.page_out.proofs.Public.{put_none, put_then}
 use Rattle.html_text.specs.Tokens.{escaped_text}
 use Rattle.html_page.specs.Images.{path_byte, path_url}
 use Rattle.html_page.proofs.PathLemmas.{path-on}

@@ -1,6 +1,6 @@
 use Rattle.std.proofs.Common.{◌++◌, ◌∷◌, []}
 use Rattle.std.specs.Prelude.{codes}
-use Rattle.page_out.proofs.PrintLemmas.{three_put}
+use Rattle.page_out.proofs.Public.{three_put}
 use Rattle.html_page.specs.Languages.{language_code}
 use Rattle.html_page.proofs.PutLemmas.{put_as}
 use Rattle.html_page.proofs.language.push_code.Goals as goal

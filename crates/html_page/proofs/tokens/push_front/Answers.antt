@@ -1,6 +1,6 @@
 use Rattle.std.proofs.Common.{◌++◌, ◌∷◌, [], List, ℕ, sym, ap, append_assoc, refl}
 use Rattle.std.specs.Prelude.{codes}
-use Rattle.page_out.proofs.PrintLemmas.{three_put}
+use Rattle.page_out.proofs.Public.{three_put}
 use Rattle.html_text.specs.Tokens.{printed}
 use Rattle.html_page.specs.Languages.{language_attributes}
 use Rattle.html_page.specs.Pages.{front_tokens, meta_tokens}

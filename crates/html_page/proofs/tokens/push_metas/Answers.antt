@@ -1,6 +1,6 @@
 use Rattle.std.proofs.Common.{refl}
 use Rattle.std.specs.Prelude.{codes}
-use Rattle.page_out.proofs.PrintLemmas.{put_then}
+use Rattle.page_out.proofs.Public.{put_then}
 use Rattle.html_page.proofs.PutLemmas.{ascii_all}
 use Rattle.html_page.proofs.tokens.push_metas.Goals as goal
 

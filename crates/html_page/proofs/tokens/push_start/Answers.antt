@@ -1,7 +1,7 @@
 use Rattle.std.proofs.Common.{◌++◌, ◌∷◌, [], List, ℕ, sym, ap, ◌∙◌, append-nil}
 use Rattle.std.specs.Prelude.{codes, if◌then◌else◌}
 use Rattle.std.specs.Fmt.{decimal}
-use Rattle.page_out.proofs.PrintLemmas.{put_then, three_put}
+use Rattle.page_out.proofs.Public.{put_then, three_put}
 use Rattle.html_text.specs.Tokens.{Character, escaped, printed}
 use Rattle.html_page.specs.Pages.{back_tokens, characters, close_tokens, end, front_tokens, other_tokens, start_tokens}
 use Rattle.html_page.specs.Pages.{style_tokens}

@@ -5,8 +5,10 @@ use Rattle.std.specs.List.{All}
 use Rattle.html_text.specs.Tokens.{printed}
 use Rattle.html_page.specs.Pages.{characters}
 use Rattle.html_page.proofs.PutLemmas.{put_as}
-use Rattle.html_page.proofs.UnitLemmas.{one_range, plain_range, range_scalars, scalar_at}
+use Rattle.html_page.proofs.UnitLemmas.{plain_range, scalar_at}
 use Rattle.html_page.proofs.units.push_some.Goals as goal
+use Rattle.doc_bits.proofs.Public.{one_range}
+use Rattle.glyph_units.proofs.Public.{range_scalars}
 
 pub push_character-requires : goal.push_character-requires
 push_character-requires g c = scalar_at c.args.units.now c.args.from c.requires.within c.requires.characters

@@ -2,7 +2,7 @@ use Rattle.std.proofs.Common.{ℕ, List, ap}
 use Rattle.json.specs.Print.{escape_byte}
 use Rattle.serde_json.specs.Written.{compact_text}
 use Rattle.json_values.specs.Digits.{units_json}
-use Rattle.json_values.proofs.OutLemmas.{Adds-same}
+use Rattle.json_values.proofs.Public.{Adds-same}
 use Rattle.json_doc.proofs.WrittenLemmas.{where_ok, adds}
 use Rattle.json_doc.proofs.documents.write_bookmark.Goals as goal
 

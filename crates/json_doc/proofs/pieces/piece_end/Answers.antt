@@ -2,7 +2,7 @@
 use Rattle.std.proofs.Common.{◌≡◌, ◌∙◌, ◌+◌, ◌-◌, ℕ, sym, subst, arith}
 use Rattle.std.specs.Prelude.{slice_get, Some}
 use Rattle.doc_columns.specs.Walks.{items_in}
-use Rattle.doc_columns.proofs.WalkLemmas.{later_walk}
+use Rattle.doc_columns.proofs.Public.{later_walk}
 use Rattle.json_doc.proofs.PieceLemmas.{alike_by, alike_on, alike_joined, alike_ends, special_ends}
 use Rattle.json_doc.proofs.pieces.piece_end.Goals as goal
 

@@ -1,7 +1,7 @@
 use Rattle.std.proofs.Common.{◌≡◌, ℕ, ◌<◌, ◌≤◌, ◌-◌, Some, false, length}
 use Rattle.std.specs.Prelude.{slice_get}
 use Rattle.plain_doc.specs.declared.item.Item.{Item}
-use Rattle.bare_items.specs.Specials.{is_special}
+use Rattle.doc_columns.specs.Specials.{is_special}
 use Rattle.doc_columns.specs.Walks.{items_in, IsWalk}
 use Rattle.json_doc.proofs.pieces.piece_end.Given as goal
 

@@ -5,8 +5,7 @@ use Rattle.std.proofs.lemmas.Result.{err_from_is_err_and}
 use Rattle.serde_json.specs.View.{view}
 use Rattle.doc_parts.specs.declared.bookmark_order.Bookmark.{Bookmark}
 use Rattle.doc_parts.specs.Bookmarks.{bookmark_cmp}
-use Rattle.doc_parts.proofs.BookmarkLemmas.{bookmark_total, bookmark_alone}
-use Rattle.doc_parts.proofs.OrderLemmas.{sorted_is_in_order}
+use Rattle.doc_parts.proofs.Public.{bookmark_total, bookmark_alone, sorted_is_in_order}
 use Rattle.json_doc.specs.DocumentReading.{AreMarks}
 use Rattle.json_doc.specs.Documents.{bookmarks_json}
 use Rattle.json_doc.specs.ReadValues.{Reads}

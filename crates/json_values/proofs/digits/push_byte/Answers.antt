@@ -1,4 +1,4 @@
-use Rattle.text_codes.proofs.DigitLemmas.{accepted, two_are_utf8}
+use Rattle.text_codes.proofs.Public.{accepted, two_are_utf8}
 use Rattle.json_values.proofs.digits.push_byte.Goals as goal
 
 pub unwrap-requires : goal.unwrap-requires

@@ -1,4 +1,4 @@
-use Rattle.text_codes.proofs.DigitLemmas.{accepted}
+use Rattle.text_codes.proofs.Public.{accepted}
 use Rattle.json_values.proofs.DigitLemmas.{four_are_utf8}
 use Rattle.json_values.proofs.digits.push_word.Goals as goal
 

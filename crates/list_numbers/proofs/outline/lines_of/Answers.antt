@@ -7,8 +7,7 @@ use Rattle.plain_doc.specs.declared.item.Item.{Item}
 use Rattle.plain_doc.specs.declared.document.Document.{Document}
 use Rattle.plain_doc.specs.Paragraphs.{IsParagraphEnd}
 use Rattle.doc_columns.specs.Attached.{attached_of}
-use Rattle.doc_columns.proofs.CollectLemmas.{start_at}
-use Rattle.doc_columns.proofs.EqualityLemmas.{column_long, begins_at_start}
+use Rattle.doc_columns.proofs.Public.{start_at, column_long, begins_at_start}
 use Rattle.list_numbers.specs.MarkValues.{no_values}
 use Rattle.list_numbers.specs.Counters.{HaveCounted}
 use Rattle.list_numbers.specs.Outline.{bare_units, outline_level, outline_line, units_line}

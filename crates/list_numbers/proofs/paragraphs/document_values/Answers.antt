@@ -1,12 +1,11 @@
 use Rattle.std.proofs.Common.{◌≡◌, ◌+◌, ◌<◌, ◌-◌, length, ap, subst, refl, arith}
 use Rattle.plain_doc.specs.declared.document.Document.{Document}
-use Rattle.plain_doc.proofs.RightLemmas.{sound_is_valid}
+use Rattle.plain_doc.proofs.Public.{sound_is_valid, sound_seen}
 use Rattle.doc_columns.specs.Attached.{attached_of}
-use Rattle.doc_columns.proofs.CollectLemmas.{start_at}
-use Rattle.doc_columns.proofs.EqualityLemmas.{column_long, begins_at_start}
+use Rattle.doc_columns.proofs.Public.{start_at, column_long, begins_at_start}
 use Rattle.list_numbers.specs.MarkValues.{AreKnownValues, AreMarkValues}
 use Rattle.list_numbers.specs.Places.{EndsBefore}
-use Rattle.list_numbers.proofs.DocumentValueLemmas.{HaveValues, sound_seen, none_known, style_of_mark, no_values}
+use Rattle.list_numbers.proofs.DocumentValueLemmas.{HaveValues, none_known, style_of_mark, no_values}
 use Rattle.list_numbers.proofs.DocumentValueLemmas.{more_values, all_values}
 use Rattle.list_numbers.proofs.ParagraphLemmas.{mark_there, mark_taken}
 use Rattle.list_numbers.proofs.paragraphs.document_values.Goals as goal

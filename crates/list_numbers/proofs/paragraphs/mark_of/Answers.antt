@@ -1,10 +1,10 @@
--- By what stands beside the last item of the paragraph.
+-- By what is beside the last item of the paragraph.
 use Rattle.std.proofs.Common.{◌≡◌, ◌∙◌, length, ap, sym, arith}
 use Rattle.std.proofs.lemmas.List.{length-map}
 use Rattle.run_lists.specs.Spread.{expanded}
-use Rattle.run_lists.proofs.SpreadLemmas.{length-spread}
+use Rattle.run_lists.proofs.Public.{length-spread}
 use Rattle.doc_columns.specs.Attached.{attached_of}
-use Rattle.doc_columns.proofs.EndLemmas.{end_attached}
+use Rattle.doc_columns.proofs.Public.{end_attached}
 use Rattle.list_numbers.proofs.ParagraphLemmas.{ends_before}
 use Rattle.list_numbers.proofs.paragraphs.mark_of.Goals as goal
 

@@ -2,7 +2,7 @@ use Rattle.std.proofs.Common.{◌∙◌, sym, subst, List, ℕ}
 use Rattle.sprm_table.specs.Sprm.{Prl, SpellsSprmList, IsAcceptedList}
 use Rattle.prop_map.specs.Formed.{IsPropertyMap}
 use Rattle.prop_map.specs.Acting.{ArePropertiesAfter}
-use Rattle.prop_map.proofs.ActingLemmas.{IsPropertyMap-empty}
+use Rattle.prop_map.proofs.Public.{IsPropertyMap-empty}
 use Rattle.overlapping_grpprls.specs.Keeping.{kept_from}
 use Rattle.overlapping_grpprls.proofs.KeepingLemmas.{kept_accepted}
 use Rattle.overlapping_grpprls.proofs.keeping.map_from.Goals as goal

@@ -1,7 +1,7 @@
 use Rattle.std.proofs.Common.{length, drop, take, ◌-◌, subst, refl}
 use Rattle.std.proofs.lemmas.List.{take_rest}
 use Rattle.sprm_table.specs.Cursor.{SprmCursor, IsPrlAt}
-use Rattle.sprm_table.proofs.SprmLemmas.{prl_moved}
+use Rattle.sprm_table.proofs.Public.{prl_moved}
 use Rattle.overlapping_grpprls.proofs.walk.entry_at.Goals as goal
 
 pub returns : goal.returns

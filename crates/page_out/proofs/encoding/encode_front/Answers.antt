@@ -1,7 +1,7 @@
 use Rattle.std.proofs.Common.{take, arith}
 use Rattle.page_out.proofs.EncodingLemmas.{encoded_front}
 use Rattle.page_out.proofs.encoding.encode_front.Goals as goal
-use Rattle.doc_bits.proofs.ListLemmas.{part_within}
+use Rattle.doc_bits.proofs.Public.{part_within}
 
 pub loop-count-preserved : goal.loop-count-preserved
 loop-count-preserved c =

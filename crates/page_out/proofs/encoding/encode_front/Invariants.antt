@@ -2,7 +2,7 @@ use Rattle.std.proofs.Common.{◌≡◌, ◌-◌, ◌≤◌, length, take}
 use Rattle.std.specs.Prelude.{encode_utf8_all}
 use Rattle.page_out.proofs.encoding.encode_front.Given as goal
 
--- the bytes of the units so far stand at the front of the block
+-- the bytes of the units so far are at the front of the block
 abbrev pub invariant-loop-count : goal.invariant-loop-count
 invariant-loop-count l = record {
   long : length l.block ≡ length l.fn.block;

@@ -1,7 +1,7 @@
 use Rattle.std.proofs.Common.{◌≡◌, ◌+◌, ◌++◌, length, take}
 use Rattle.page_out.proofs.encoding.put_bytes.Given as goal
 
--- the first bytes of the list stand behind those of the block
+-- the first bytes of the list are behind those of the block
 abbrev pub invariant-loop-k : goal.invariant-loop-k
 invariant-loop-k l = record {
   long : length l.block ≡ length l.fn.block;

@@ -2,7 +2,7 @@ use Rattle.std.proofs.Common.{◌≡◌, ◌-◌, ◌≤◌, ◌++◌, length, t
 use Rattle.std.specs.Prelude.{encode_utf8_all}
 use Rattle.page_out.proofs.encoding.put_units.Given as goal
 
--- the bytes of the units so far stand behind the first bytes
+-- the bytes of the units so far are behind the first bytes
 abbrev pub invariant-loop-count : goal.invariant-loop-count
 invariant-loop-count l = record {
   long : length l.block ≡ length l.fn.block;

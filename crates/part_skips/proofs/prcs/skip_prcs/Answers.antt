@@ -5,7 +5,7 @@ use Rattle.doc_bits.specs.Number.{AreBytes}
 use Rattle.piece_table.specs.Front.{IsPrcFront}
 use Rattle.part_skips.proofs.PrcLemmas.{front_none, front_more, front_all}
 use Rattle.part_skips.proofs.prcs.skip_prcs.Goals as goal
-use Rattle.doc_bits.proofs.ListLemmas.{rest_is}
+use Rattle.doc_bits.proofs.Public.{rest_is}
 
 pub loop-len-init : goal.loop-len-init
 loop-len-init c = front_none c.args.clx.now

@@ -1,5 +1,5 @@
 use Rattle.std.proofs.Common.{◌-◌, length, arith}
-use Rattle.doc_bits.proofs.ListLemmas.{length-range}
+use Rattle.doc_bits.proofs.Public.{length-range}
 use Rattle.part_skips.proofs.SheetLemmas.{sheet_put}
 use Rattle.part_skips.proofs.sheets.skip_sheet_in.Goals as goal
 

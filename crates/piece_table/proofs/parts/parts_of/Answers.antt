@@ -1,14 +1,13 @@
 -- After the Prcs a Pcdt follows, or something else.
 use Rattle.std.proofs.Common.{drop, refl, subst, arith}
 use Rattle.doc_bits.specs.Plc.{PlcPart}
-use Rattle.doc_bits.proofs.RuleLemmas.{least_from}
+use Rattle.doc_bits.proofs.Public.{least_from, rest_is}
 use Rattle.piece_table.specs.Clx.{IsWrongAt}
 use Rattle.piece_table.specs.Front.{IsPcdtFront}
 use Rattle.doc_bits.specs.Number.{AreBytes}
 use Rattle.piece_table.proofs.ClxLemmas.{parts_found, parts_wrong}
 use Rattle.piece_table.proofs.ClxRuleLemmas.{nowhere_from}
 use Rattle.piece_table.proofs.parts.parts_of.Goals as goal
-use Rattle.doc_bits.proofs.ListLemmas.{rest_is}
 
 pub returns-in-Some : goal.returns-in-Some
 returns-in-Some c =

@@ -4,7 +4,7 @@ use Rattle.piece_table.specs.Front.{ArePrcs, IsPrcFront}
 use Rattle.doc_bits.specs.Number.{AreBytes}
 use Rattle.piece_table.proofs.ClxLemmas.{prcs_more}
 use Rattle.piece_table.proofs.parts.prcs_of.Goals as goal
-use Rattle.doc_bits.proofs.ListLemmas.{rest_is}
+use Rattle.doc_bits.proofs.Public.{rest_is}
 
 pub loop-grpprl-preserved : goal.loop-grpprl-preserved
 loop-grpprl-preserved c =

@@ -1,7 +1,7 @@
 -- Each turn reads the modifier of one Prc, where a piece names it.
 use Rattle.std.proofs.Common.{◌≡◌, ◌≤◌, ◌+◌, length, refl, sym, subst, arith}
 use Rattle.std.proofs.lemmas.Option.{slice_get_within}
-use Rattle.doc_bits.proofs.RuleLemmas.{none_among}
+use Rattle.doc_bits.proofs.Public.{none_among}
 use Rattle.doc_bits.specs.Rules.{IsLeast, Among}
 use Rattle.prop_map.specs.declared.modifiers.Modifier.{Modifier}
 use Rattle.piece_table.specs.declared.pcd.Prm.TheVariants.{Prc}

@@ -1,7 +1,7 @@
 use Rattle.std.proofs.Common.{refl, below_more, arith}
 use Rattle.std.proofs.lemmas.Bool.{false≢true}
 use Rattle.plain_doc.specs.StyleRules.{IsWrongStyle}
-use Rattle.doc_bits.proofs.RuleLemmas.{first_number}
+use Rattle.doc_bits.proofs.Public.{first_number}
 use Rattle.plain_doc.proofs.StyleLemmas.{none_wrong}
 use Rattle.plain_doc.proofs.rules_sheet.wrong_style.Goals as goal
 

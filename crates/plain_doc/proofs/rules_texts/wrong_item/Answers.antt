@@ -2,7 +2,7 @@ use Rattle.std.proofs.Common.{length, arith}
 use Rattle.std.proofs.lemmas.Bool.{false≢true}
 use Rattle.plain_doc.specs.RulesOfItems.{IsWrongItem}
 use Rattle.plain_doc.specs.TextRules.{IsValidItem}
-use Rattle.doc_bits.proofs.RuleLemmas.{first_number}
+use Rattle.doc_bits.proofs.Public.{first_number}
 use Rattle.plain_doc.proofs.ItemLemmas.{wrong_there}
 use Rattle.plain_doc.proofs.rules_texts.wrong_item.Goals as goal
 

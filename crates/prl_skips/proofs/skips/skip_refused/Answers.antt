@@ -2,7 +2,7 @@ use Rattle.std.proofs.Common.{length, drop, take, ◌-◌, refl, arith, ap, leng
 use Rattle.std.proofs.lemmas.List.{take_rest}
 use Rattle.prl_skips.proofs.WalkLemmas.{front_none, front_more, front_same, first_there, all_there}
 use Rattle.prl_skips.proofs.skips.skip_refused.Goals as goal
-use Rattle.doc_bits.proofs.TestLemmas.{neither}
+use Rattle.doc_bits.proofs.Public.{neither}
 
 pub loop-code-init : goal.loop-code-init
 loop-code-init c = record

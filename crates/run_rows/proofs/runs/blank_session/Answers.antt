@@ -1,4 +1,4 @@
-use Rattle.doc_run.proofs.SessionLemmas.{unchanged_of}
+use Rattle.doc_run.proofs.Public.{unchanged_of}
 use Rattle.run_rows.proofs.runs.blank_session.Goals as goal
 
 pub returns-in-Ok : goal.returns-in-Ok

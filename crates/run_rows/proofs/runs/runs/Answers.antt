@@ -1,4 +1,4 @@
-use Rattle.doc_run.proofs.EditLemmas.{script_few}
+use Rattle.doc_run.proofs.Public.{script_few}
 use Rattle.run_rows.proofs.runs.runs.Goals as goal
 
 pub ends-requires-clause-few : goal.ends-requires-clause-few

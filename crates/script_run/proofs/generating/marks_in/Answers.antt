@@ -1,6 +1,6 @@
 use Rattle.std.proofs.Common.{◌∙◌, ap, arith}
 use Rattle.doc_columns.specs.Attached.{attached_of}
-use Rattle.doc_columns.proofs.EqualityLemmas.{column_long}
+use Rattle.doc_columns.proofs.Public.{column_long}
 use Rattle.script_run.specs.GeneratedRuns.{marks_beside}
 use Rattle.script_run.proofs.MarkCountLemmas.{marks-map}
 use Rattle.script_run.proofs.generating.marks_in.Goals as goal

@@ -3,8 +3,8 @@ use Rattle.std.proofs.Common.{◌≡◌, ◌∙◌, ◌++◌, List, Some, ap, sy
 use Rattle.std.proofs.lemmas.List.{append-nil, length-append}
 use Rattle.std.proofs.lemmas.Option.{slice_get-get_or}
 use Rattle.run_lists.specs.Spread.{expanded}
-use Rattle.run_lists.proofs.SpreadLemmas.{spread-nil, length-spread}
-use Rattle.full_save.proofs.ColumnRuns.{run_fits}
+use Rattle.run_lists.proofs.Public.{spread-nil, length-spread}
+use Rattle.full_save.proofs.Public.{run_fits}
 use Rattle.session_text.proofs.GatherLemmas.{runs_more}
 use Rattle.session_text.proofs.gathered.put_runs.Goals as goal
 

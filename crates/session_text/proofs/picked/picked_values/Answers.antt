@@ -1,8 +1,7 @@
 use Rattle.std.proofs.Common.{◌≤◌, ◌∙◌, ◌++◌, ◌+◌, List, refl, ap, sym, take, length, arith}
 use Rattle.std.specs.Prelude.{slice_range}
 use Rattle.std.proofs.lemmas.List.{take_all}
-use Rattle.doc_columns.proofs.CollectLemmas.{start_at}
-use Rattle.doc_columns.proofs.EqualityLemmas.{begins_at_start}
+use Rattle.doc_columns.proofs.Public.{start_at, begins_at_start}
 use Rattle.session_text.specs.WrittenAgain.{renewed_values, values_for}
 use Rattle.session_text.specs.Picked.{values_in}
 use Rattle.session_text.proofs.PickLemmas.{picked_more, next_total, total_upto, renewed_few}

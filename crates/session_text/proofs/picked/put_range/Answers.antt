@@ -1,6 +1,6 @@
 use Rattle.std.proofs.Common.{length, ap, arith}
 use Rattle.run_lists.specs.Spread.{expanded}
-use Rattle.run_lists.proofs.SpreadLemmas.{length-spread}
+use Rattle.run_lists.proofs.Public.{length-spread}
 use Rattle.session_text.proofs.PickLemmas.{length-range}
 use Rattle.session_text.proofs.picked.put_range.Goals as goal
 

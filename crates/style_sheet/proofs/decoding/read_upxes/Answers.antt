@@ -1,6 +1,6 @@
 use Rattle.std.proofs.Common.{◌+◌, sym, subst, arith}
 use Rattle.doc_bits.specs.Number.{AreBytes}
-use Rattle.doc_bits.proofs.ByteListLemmas.{AreBytes-range}
+use Rattle.doc_bits.proofs.Public.{AreBytes-range}
 use Rattle.style_sheet.specs.Counted.{counted_end}
 use Rattle.style_sheet.specs.StyleDefinition.{upx_place}
 use Rattle.style_sheet.proofs.decoding.read_upxes.Goals as goal

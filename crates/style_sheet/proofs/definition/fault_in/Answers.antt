@@ -1,6 +1,6 @@
 use Rattle.std.proofs.Common.{◌+◌, ◌≤◌, sym, subst}
 use Rattle.doc_bits.specs.Rules.{IsLeast, From}
-use Rattle.doc_bits.proofs.RuleLemmas.{least_from}
+use Rattle.doc_bits.proofs.Public.{least_from}
 use Rattle.sprm_table.specs.Sprm.{HasSprmFaultAt, fault_place}
 use Rattle.style_sheet.proofs.definition.fault_in.Goals as goal
 

@@ -1,10 +1,9 @@
 use Rattle.std.proofs.Common.{◌≡◌, ◌⊎◌, ℕ, ◌-◌, List, length, take, drop, sym, ◌∙◌, subst, arith, length-drop}
 use Rattle.std.proofs.lemmas.List.{take_all}
 use Rattle.doc_bits.specs.Rules.{LeastOrNone}
-use Rattle.doc_bits.proofs.RuleLemmas.{least_either}
+use Rattle.doc_bits.proofs.Public.{least_either, lesser_none}
 use Rattle.style_sheet.specs.StyleDefinition.{upx_place}
 use Rattle.style_sheet.specs.Stsh.{IsParagraphFault, IsCharacterFault}
-use Rattle.style_sheet.proofs.ReadLemmas.{neither}
 use Rattle.style_sheet.proofs.definition.paragraph_fault.Goals as goal
 
 rest_of : (xs : List ℕ) → take (length xs - 2) (drop 2 xs) ≡ drop 2 xs
@@ -28,7 +27,7 @@ pub returns-clause-accepted : goal.returns-clause-accepted
 returns-clause-accepted c = λ none.
     let at = c.first_upx-at.ensures.place in
     let next = c.next_place-next.ensures.next in
-    let both = neither c.fault_in-paragraphs.result c.fault_in-characters.result (sym c.lesser.ensures ∙ none) in
+    let both = lesser_none c.fault_in-paragraphs.result c.fault_in-characters.result (sym c.lesser.ensures ∙ none) in
     record {
       paragraphs = rw (rest_of c.counted_bytes.result.now, c.counted_bytes.ensures.bytes, at) at
           (c.fault_in-paragraphs.ensures.accepted both.0);

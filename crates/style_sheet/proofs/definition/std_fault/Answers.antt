@@ -1,5 +1,5 @@
 use Rattle.std.proofs.Common.{◌≡◌, inl, inr, sym, ◌∙◌}
-use Rattle.doc_bits.proofs.RuleLemmas.{least_same}
+use Rattle.doc_bits.proofs.Public.{least_same}
 use Rattle.style_sheet.specs.StyleDefinition.{stk, upx_place}
 use Rattle.style_sheet.specs.Stsh.{IsCharacterFault, HasListFault}
 use Rattle.style_sheet.proofs.definition.std_fault.Goals as goal

@@ -1,7 +1,7 @@
 use Rattle.std.proofs.Common.{inl, inr, ◌+◌, ◌<◌, length, sym, ap, ◌∙◌, subst, arith}
 use Rattle.std.proofs.lemmas.Bool.{eqb-true, eqb-false, cases_lt}
 use Rattle.doc_bits.specs.Number.{u16_at}
-use Rattle.doc_bits.proofs.RuleLemmas.{least_from}
+use Rattle.doc_bits.proofs.Public.{least_from}
 use Rattle.style_sheet.specs.Counted.{counted_bytes}
 use Rattle.style_sheet.specs.Stsh.{HasListFault}
 use Rattle.style_sheet.proofs.ReadLemmas.{accepted_empty, list_fault_within}

@@ -1,11 +1,10 @@
 use Rattle.std.proofs.Common.{◌≡◌, ◌+◌, sym, ap, ◌∙◌, subst, arith, add-one}
 use borrow.Author.Count.{below_more}
 use Rattle.doc_bits.specs.Rules.{LeastOrNone, Among}
-use Rattle.doc_bits.proofs.RuleLemmas.{least_step}
+use Rattle.doc_bits.proofs.Public.{least_step, lesser_none}
 use Rattle.style_sheet.specs.Counted.{even_up, counted_end}
 use Rattle.style_sheet.specs.StyleDefinition.{HasAcceptedLists}
 use Rattle.style_sheet.specs.Stsh.{slot_place, cstd, std_base, std_of, HasStyleFault}
-use Rattle.style_sheet.proofs.ReadLemmas.{neither}
 use Rattle.style_sheet.proofs.reading.wrong_list.Goals as goal
 
 pub loop-slot-preserved : goal.loop-slot-preserved
@@ -22,7 +21,7 @@ loop-slot-preserved c =
       least = subst (LeastOrNone (Among (n + 1) (HasStyleFault part c.args.at))) (sym c.lesser-least.ensures)
           (least_step (HasStyleFault part c.args.at) n c.loop-slot.least c.slot_fault.result inv.least here);
       accepted = λ none.
-          let both = neither c.loop-slot.least c.slot_fault.result (sym c.lesser-least.ensures ∙ none) in
+          let both = lesser_none c.loop-slot.least c.slot_fault.result (sym c.lesser-least.ensures ∙ none) in
           below_more (λ k. HasAcceptedLists (std_of part k) (std_base part)) n (inv.accepted both.0) (lists both.1);
     }
 

@@ -1,5 +1,5 @@
 use Rattle.std.proofs.Common.{◌≡◌, ap, ◌∙◌, arith}
-use Rattle.doc_bits.proofs.RuleLemmas.{first_among}
+use Rattle.doc_bits.proofs.Public.{first_among}
 use Rattle.style_sheet.specs.Stsh.{slot_place, table_offset, cstd, IsWrongSlot}
 use Rattle.style_sheet.proofs.ReadLemmas.{wrong_rises}
 use Rattle.style_sheet.proofs.reading.wrong_slot.Goals as goal

@@ -1,7 +1,7 @@
 use Rattle.std.proofs.Common.{◌≡◌, ◌<◌, length, sym, ◌∙◌, arith}
 use Rattle.std.proofs.lemmas.List.{take_more_same, get_or_read}
 use Rattle.std.proofs.lemmas.Slice.Eq.{bytes_eq-Decides}
-use Rattle.doc_bits.proofs.TestLemmas.{true_from_not}
+use Rattle.doc_bits.proofs.Public.{true_from_not}
 use Rattle.style_sheet.proofs.upxes.same_lists.Goals as goal
 
 pub loop-i-preserved : goal.loop-i-preserved

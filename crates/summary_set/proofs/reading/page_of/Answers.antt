@@ -1,6 +1,6 @@
 use Rattle.std.proofs.Common.{◌≡◌, ◌≤◌, ◌+◌, ◌∙◌, Some, sym, ap, subst}
 use Rattle.std.specs.Prelude.{◌==◌, find, option_and_then}
-use Rattle.doc_bits.proofs.ListLemmas.{found_has}
+use Rattle.doc_bits.proofs.Public.{found_has}
 use Rattle.summary_set.specs.declared.set.PropertyPair.{PropertyPair}
 use Rattle.summary_set.specs.PropertySet.{set_size, pairs_of}
 use Rattle.summary_set.specs.Values.{value_of}

@@ -3,7 +3,7 @@ use Rattle.std.specs.Str.{IsUtf8}
 use Rattle.text_codes.specs.Digits.{bytes_text}
 use Rattle.text_codes.proofs.digits.put_digits.Given as goal
 
--- the digits of the bytes so far stand at the front of the block
+-- the digits of the bytes so far are at the front of the block
 abbrev pub invariant-loop-k : goal.invariant-loop-k
 invariant-loop-k l = record {
   long : length l.block ≡ length l.fn.block;

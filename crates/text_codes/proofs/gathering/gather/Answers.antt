@@ -1,7 +1,7 @@
 use Rattle.std.proofs.Common.{arith}
 use Rattle.text_codes.proofs.GatherLemmas.{text_grown}
 use Rattle.text_codes.proofs.gathering.gather.Goals as goal
-use Rattle.doc_bits.proofs.ListLemmas.{part_within}
+use Rattle.doc_bits.proofs.Public.{part_within}
 
 pub loop-count-preserved : goal.loop-count-preserved
 loop-count-preserved c = record {

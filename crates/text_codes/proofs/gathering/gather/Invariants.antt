@@ -2,7 +2,7 @@ use Rattle.std.proofs.Common.{◌-◌, ◌≤◌, length, take}
 use Rattle.text_codes.specs.Gathered.{IsTextOf}
 use Rattle.text_codes.proofs.gathering.gather.Given as goal
 
--- the text of the units so far stands at the front of the block
+-- the text of the units so far is at the front of the block
 abbrev pub invariant-loop-count : goal.invariant-loop-count
 invariant-loop-count l = record {
   inside : l.count ≤ length l.units;

@@ -1,6 +1,6 @@
 use Rattle.std.proofs.Common.{◌∙◌, ◌++◌, List, Option, sym, ap, arith, append-nil}
 use Rattle.view_places.specs.declared.element.Span.{Span}
-use Rattle.doc_bits.proofs.ListLemmas.{there_is}
+use Rattle.doc_bits.proofs.Public.{there_is}
 use Rattle.cell_spans.specs.Spans.{before_at}
 use Rattle.cell_spans.proofs.WalkLemmas.{table_end, table_step}
 use Rattle.cell_spans.proofs.spans.Spans.push_rows.Goals as goal

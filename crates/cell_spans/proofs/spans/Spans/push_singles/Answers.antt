@@ -1,6 +1,6 @@
 use Rattle.std.proofs.Common.{◌≡◌, Bool, Option, Some, ap, arith}
 use Rattle.view_places.specs.declared.element.Span.{Span}
-use Rattle.doc_bits.proofs.ListLemmas.{there_is}
+use Rattle.doc_bits.proofs.Public.{there_is}
 use Rattle.cell_spans.specs.Spans.{single}
 use Rattle.cell_spans.proofs.WalkLemmas.{mapped_step}
 use Rattle.cell_spans.proofs.spans.Spans.push_singles.Goals as goal

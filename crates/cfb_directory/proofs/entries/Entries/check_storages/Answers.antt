@@ -2,7 +2,7 @@ use Rattle.std.proofs.Common.{subst}
 use Rattle.std.proofs.lemmas.Result.{err_from_is_err_and}
 use Rattle.doc_bits.specs.Rules.{Nowhere, LeastOrNone, rule}
 use Rattle.cfb_sectors.specs.Judged.{IsCfbFault}
-use Rattle.cfb_sectors.proofs.TableLemmas.{refused_first, none_nowhere}
+use Rattle.cfb_sectors.proofs.Public.{refused_first, none_nowhere}
 use Rattle.cfb_directory.specs.Reach.{BreaksStorage}
 use Rattle.cfb_directory.proofs.entries.Entries.check_storages.Goals as goal
 

@@ -4,7 +4,7 @@ use Rattle.doc_bits.specs.Rules.{Nowhere, LeastOrNone}
 use Rattle.cfb_directory.specs.Reach.{ListsReached, BreaksRoot, BreaksTree, BreaksName}
 use Rattle.cfb_directory.specs.Order.{ListsStreams}
 use Rattle.cfb_directory.proofs.EntryLemmas.{tree_fault, names_fault}
-use Rattle.cfb_sectors.proofs.TableLemmas.{refused_first, none_nowhere}
+use Rattle.cfb_sectors.proofs.Public.{refused_first, none_nowhere}
 use Rattle.cfb_directory.proofs.entries.Entries.read.Goals as goal
 
 pub returns-in_err-refuse-2 : goal.returns-in_err-refuse-2

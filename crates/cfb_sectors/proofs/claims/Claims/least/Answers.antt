@@ -1,6 +1,6 @@
 use Rattle.std.proofs.Common.{◌≡◌, ℕ, ◌+◌, ◌<◌, length, sym, ap, subst, arith}
 use Rattle.doc_bits.specs.Rules.{Among, LeastOrNone}
-use Rattle.doc_bits.proofs.RuleLemmas.{least_step}
+use Rattle.doc_bits.proofs.Public.{least_step}
 use Rattle.cfb_sectors.specs.Marks.{IsMarked}
 use Rattle.cfb_sectors.specs.Tables.{table_at}
 use Rattle.cfb_sectors.proofs.MarkLemmas.{marked_below}

@@ -1,12 +1,12 @@
 use Rattle.std.proofs.Common.{◌≡◌, ◌+◌, None, length, slice_index, sym, ◌∙◌, subst, arith}
 use Rattle.doc_bits.specs.Rules.{Among, Nowhere, LeastOrNone, rule}
-use Rattle.doc_bits.proofs.RuleLemmas.{least_step}
+use Rattle.doc_bits.proofs.Public.{least_step}
 use Rattle.cfb_streams.specs.StreamRules.{IsWrongStream, BreaksStream}
 use Rattle.cfb_sectors.specs.Judged.{IsRefused}
 use Rattle.cfb_sectors.specs.Judged.{IsCfbFault}
 use Rattle.cfb_streams.proofs.ContentLemmas.{match_more}
 use Rattle.cfb_streams.proofs.GatherLemmas.{streams_least}
-use Rattle.cfb_sectors.proofs.TableLemmas.{refused_first, none_nowhere}
+use Rattle.cfb_sectors.proofs.Public.{refused_first, none_nowhere}
 use Rattle.cfb_streams.proofs.layout.Layout.check_streams.Goals as goal
 
 pub loop-i-preserved : goal.loop-i-preserved

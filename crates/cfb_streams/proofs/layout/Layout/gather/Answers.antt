@@ -4,7 +4,7 @@ use Rattle.cfb_streams.specs.StreamRules.{BreaksSharing}
 use Rattle.cfb_directory.specs.Directory.{entry_clsid}
 use Rattle.cfb_directory.specs.Reach.{entry_place}
 use Rattle.cfb_streams.proofs.GatherLemmas.{has_contents}
-use Rattle.cfb_sectors.proofs.TableLemmas.{refused_first, none_nowhere}
+use Rattle.cfb_sectors.proofs.Public.{refused_first, none_nowhere}
 use Rattle.cfb_streams.proofs.layout.Layout.gather.Goals as goal
 
 pub returns-in_err-refuse : goal.returns-in_err-refuse

@@ -3,7 +3,7 @@ use Rattle.std.proofs.lemmas.Result.{err_from_is_err_and}
 use Rattle.cfb_streams.specs.StreamRules.{IsMiniFat, IsMiniStream, BreaksMiniFat, BreaksMiniStream}
 use Rattle.cfb_streams.specs.Layout.{IsLayout, places_of}
 use Rattle.cfb_streams.specs.FoundParts.{IsFoundMiniFat, IsFoundMiniStream}
-use Rattle.cfb_sectors.proofs.TableLemmas.{refused_chain}
+use Rattle.cfb_sectors.proofs.Public.{refused_chain}
 use Rattle.cfb_streams.proofs.LoadLemmas.{mini_fat_fault, mini_stream_fault, layout_is}
 use Rattle.cfb_streams.proofs.layout.Layout.of.Goals as goal
 

@@ -5,7 +5,7 @@ use Rattle.cfb_sectors.specs.Chain.{AreSectorsOf}
 use Rattle.cfb_streams.specs.FoundParts.{mini_place}
 use Rattle.cfb_streams.specs.Layout.{IsLayout, places_of}
 use Rattle.cfb_streams.proofs.ContentLemmas.{mini_fat_inside, mini_stream_inside, mini_place_is}
-use Rattle.cfb_sectors.proofs.OpeningLemmas.{whole_length}
+use Rattle.cfb_sectors.proofs.Public.{whole_length}
 use Rattle.cfb_streams.proofs.layout.Layout.read.Goals as goal
 
 pub mini_sectors-valid-requires-clause-few : goal.mini_sectors-valid-requires-clause-few

@@ -3,7 +3,7 @@ use Rattle.doc_bits.specs.Rules.{Nowhere}
 use Rattle.cfb_sectors.specs.Chain.{BreaksChain}
 use Rattle.cfb_sectors.specs.Claims.{IsClosed}
 use Rattle.cfb_sectors.specs.Tables.{table_at}
-use Rattle.cfb_sectors.proofs.OpeningLemmas.{whole_length}
+use Rattle.cfb_sectors.proofs.Public.{whole_length}
 use Rattle.cfb_streams.specs.StreamRules.{mini_table_of}
 use Rattle.cfb_streams.specs.FoundParts.{mini_place}
 use Rattle.cfb_streams.specs.Container.{mini_bytes}

@@ -7,10 +7,11 @@ use Rattle.cfb_sectors.specs.Claims.{AreDistinctBelow}
 use Rattle.cfb_sectors.specs.Tables.{table_at}
 use Rattle.cfb_streams.specs.Layout.{places_of}
 use Rattle.cfb_streams.specs.Gathered.{HasMarks, IsTakenFront}
-use Rattle.cfb_sectors.proofs.FatLemmas.{fat_apart}
+use Rattle.cfb_sectors.proofs.Public.{fat_apart}
 use Rattle.cfb_streams.proofs.SharingLemmas.{none_unshared}
-use Rattle.cfb_streams.proofs.GatherLemmas.{taken_all, takes_unshared, lesser_both}
+use Rattle.cfb_streams.proofs.GatherLemmas.{taken_all, takes_unshared}
 use Rattle.cfb_streams.proofs.layout.Layout.wrong_sharing.Goals as goal
+use Rattle.doc_bits.proofs.Public.{lesser_none}
 
 pub claim-requires : goal.claim-requires
 claim-requires c =
@@ -34,7 +35,7 @@ returns-clause-least c =
 
 pub returns-clause-none : goal.returns-clause-none
 returns-clause-none c = λ none.
-    let both = lesser_both c.least.result c.least-2.result (sym c.lesser.ensures ∙ none) in (
+    let both = lesser_none c.least.result c.least-2.result (sym c.lesser.ensures ∙ none) in (
       takes_unshared (HasSector c.sectors.result.now) c.args.taken.now.sectors c.claim.new.self c.claim.ensures.takes
           (none_unshared c.claim.new.self (table_at c.self.inside.fat).place c.least.result c.least.ensures both.0),
       none_unshared c.args.taken.now.minis (table_at c.self.inside.mini).place c.least-2.result c.least-2.ensures

@@ -1,6 +1,6 @@
 use Rattle.std.proofs.Common.{sym, subst}
 use Rattle.std.specs.FinMap.{entries, entries_sorted}
-use Rattle.prop_map.proofs.EntriesLemmas.{true_of}
+use Rattle.prop_map.proofs.Public.{true_of}
 use Rattle.char_formats.proofs.LaidLemmas.{HasLaid, laid-none, laid-next, laid-whole}
 use Rattle.char_formats.proofs.change.Change.lay_all.Goals as goal
 

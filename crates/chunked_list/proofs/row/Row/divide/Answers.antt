@@ -1,4 +1,4 @@
--- The sums are told anew.
+-- The sums are counted anew.
 use Rattle.std.proofs.Common.{◌+◌, ◌∙◌, ◌∷◌, ◌++◌, List, [], length, take, drop, set, refl, ap, arith, length-set}
 use Rattle.std.specs.List.{splice}
 use Rattle.std.proofs.lemmas.List.{append-nil}

@@ -1,4 +1,4 @@
--- The sum is told anew.
+-- The sum is counted anew.
 use Rattle.std.proofs.Common.{◌+◌, ◌∙◌, ◌∷◌, ◌++◌, List, [], take, drop, set, refl, ap, arith}
 use Rattle.std.proofs.Common.{length-set}
 use Rattle.std.specs.List.{splice}

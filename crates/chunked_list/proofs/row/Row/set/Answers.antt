@@ -1,4 +1,4 @@
--- The sum is told anew.
+-- The sum is counted anew.
 use Rattle.std.proofs.Common.{◌∙◌, List, set, refl, ap, arith, length-set}
 use Rattle.chunked_list.specs.Blocks.{units_of, block_at, BlockRow}
 use Rattle.chunked_list.proofs.UnitLemmas.{numbers_set}

@@ -6,7 +6,7 @@ use Rattle.std.proofs.lemmas.Option.{slice_get_read}
 use Rattle.run_lists.specs.declared.runs.Run.{Run}
 use Rattle.run_lists.specs.declared.cursor.Cursor.{Cursor}
 use Rattle.run_lists.specs.Spread.{expanded}
-use Rattle.run_lists.proofs.SpreadLemmas.{length-spread, extent-nil, extent_more, extent_all}
+use Rattle.run_lists.proofs.Public.{length-spread, extent-nil, extent_more, extent_all}
 use Rattle.plain_doc.specs.declared.item.Item.{Item}
 use Rattle.doc_columns.specs.declared.attached.Attached.{Attached}
 use Rattle.doc_columns.specs.Attached.{attached_of}

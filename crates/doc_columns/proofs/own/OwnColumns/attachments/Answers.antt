@@ -1,4 +1,4 @@
--- What stands beside them is the third one.
+-- What is beside them is the third one.
 use Rattle.std.proofs.Common.{◌∙◌, sym, ap, map}
 use Rattle.doc_columns.specs.Attached.{attached_of}
 use Rattle.doc_columns.proofs.ItemsOfLemmas.{attachments-items_of}

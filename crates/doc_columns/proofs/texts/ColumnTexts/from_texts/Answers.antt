@@ -1,6 +1,6 @@
 -- A text more.
 use Rattle.std.proofs.Common.{◌∙◌, ◌<◌, ◌++◌, ◌∷◌, [], List, length, sym, ap, arith}
-use Rattle.plain_doc.proofs.StreamLemmas.{take_next}  -- one more entry at the front
+use Rattle.plain_doc.proofs.Public.{take_next}
 use Rattle.plain_doc.specs.declared.item.Item.{Item}
 use Rattle.doc_columns.proofs.texts.ColumnTexts.from_texts.Goals as goal
 

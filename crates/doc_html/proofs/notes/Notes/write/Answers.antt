@@ -1,7 +1,7 @@
 -- The notes, one by one.
 use Rattle.std.proofs.Common.{◌≡◌, ◌+◌, ◌<◌, ◌≤◌, ◌⊎◌, [], List, length, refl, inl, inr, arith, true}
 use Rattle.std.proofs.lemmas.Bool.{cases_lt}
-use Rattle.doc_bits.proofs.ListLemmas.{there_is}
+use Rattle.doc_bits.proofs.Public.{there_is}
 use Rattle.doc_html.proofs.NoteLemmas.{NotesAt, note_on, notes_start, notes_written}
 use Rattle.doc_view.specs.declared.reading.TextKind.TheVariants as text_kind
 use Rattle.doc_html.proofs.notes.Notes.write.Goals as goal

@@ -10,8 +10,7 @@ use Rattle.view_places.specs.declared.element.Element.{Element}
 use Rattle.doc_view.specs.declared.reading.Manner.{Manner}
 use Rattle.list_numbers.specs.declared.paragraph_values.ParagraphValues.{ParagraphValues}
 use Rattle.doc_view.specs.Seen.{Paragraph, paragraphs_of, with_values}
-use Rattle.doc_view.proofs.TextLemmas.{no_values}
-use Rattle.doc_view.proofs.NoteLemmas.{none_met}
+use Rattle.doc_view.proofs.Public.{no_values, none_met}
 use Rattle.doc_places.specs.Places.{hypertext_of, note_path, text_places}
 use Rattle.form_page.specs.Forms.{PutsPlaces}
 use Rattle.doc_html.proofs.NoteLemmas.{is_hidden, is_not_hidden, note_hidden, note_shown}

@@ -3,7 +3,7 @@ use Rattle.plain_doc.specs.declared.document.Document.{Document}
 use Rattle.glyph_units.specs.Units.{units_text}
 use Rattle.doc_places.specs.Places.{places_of}
 use Rattle.form_page.specs.Forms.{Begins}
-use Rattle.form_page.proofs.FormLemmas.{fresh_half, whole_put}
+use Rattle.form_page.proofs.Public.{fresh_half, whole_put}
 use Rattle.html_page.specs.Sources.{source_of}
 use Rattle.doc_html.specs.Head.{head_of, language_of, title_of}
 use Rattle.doc_html.proofs.view.Shown.write.Goals as goal

@@ -12,13 +12,13 @@ use Rattle.doc_columns.specs.Walks.{items_in}
 use Rattle.view_places.specs.declared.element.Element.{Element}
 use Rattle.form_page.specs.Forms.{PutsPlaces}
 use Rattle.form_page.specs.Forms.{Places}
-use Rattle.form_page.proofs.FormLemmas.{places_then}
+use Rattle.form_page.proofs.Public.{places_then}
 use Rattle.doc_view.specs.declared.reading.Manner.{Manner}
 use Rattle.doc_view.specs.Kept.{KeptReferences}
 use Rattle.symbol_fonts.specs.declared.fonts.SymbolFonts.{SymbolFonts}
 use Rattle.doc_view.specs.Page.{AreFormats, fonts_of}
 use Rattle.doc_view.specs.Seen.{Paragraph, paragraphs_of, references_of, with_values}
-use Rattle.doc_view.proofs.PageLemmas.{sound_normal, sound_styles}
+use Rattle.doc_view.proofs.Public.{sound_normal, sound_styles}
 use Rattle.doc_places.specs.Places.{cells_of, hypertext_of, notes_places, text_places}
 use Rattle.doc_view.specs.declared.reading.TextKind.TheVariants as text_kind
 use Rattle.doc_html.proofs.view.Shown.write_places.Goals as goal

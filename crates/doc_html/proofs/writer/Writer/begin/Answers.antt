@@ -1,7 +1,7 @@
 use Rattle.std.proofs.Common.{◌≡◌, ◌∙◌, [], List, Bool, true, false, not, ◌&&◌, sym, ap}
 use Rattle.std.specs.Prelude.{if◌then◌else◌}
 use Rattle.form_page.specs.Forms.{Places}
-use Rattle.form_page.proofs.FormLemmas.{places_none}
+use Rattle.form_page.proofs.Public.{places_none}
 use Rattle.doc_places.specs.Places.{label_places}
 use Rattle.doc_html.proofs.WriteLemmas.{past_label, puts_same}
 use Rattle.doc_html.proofs.writer.Writer.begin.Goals as goal

@@ -1,9 +1,9 @@
 use Rattle.std.proofs.Common.{◌≡◌, ◌∷◌, ◌++◌, [], List, Some, None, sym, subst}
 use Rattle.form_page.specs.Forms.{PutsPlaces}
 use Rattle.doc_places.specs.Places.{bare, inline_elements, item_places, link_elements, shown}
-use Rattle.doc_places.proofs.PlaceLemmas.{hidden_item}
+use Rattle.doc_places.proofs.Public.{hidden_item}
 use Rattle.doc_html.proofs.WriteLemmas.{puts_same, shown_item}
-use Rattle.form_page.proofs.FormLemmas.{places_none}
+use Rattle.form_page.proofs.Public.{places_none}
 use Rattle.doc_html.proofs.writer.Writer.write.Goals as goal
 
 pub returns-then-not-seen-clause-puts : goal.returns-then-not-seen-clause-puts

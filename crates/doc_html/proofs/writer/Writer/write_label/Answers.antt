@@ -6,7 +6,7 @@ use Rattle.view_places.specs.declared.element.Element.{Element}
 use Rattle.view_places.specs.declared.element.Element.TheVariants.{Label}
 use Rattle.view_places.specs.declared.glyph.Glyph.TheVariants.{Unit}
 use Rattle.form_page.specs.Forms.{PutsPlaces}
-use Rattle.form_page.proofs.FormLemmas.{places_then}
+use Rattle.form_page.proofs.Public.{places_then}
 use Rattle.doc_view.specs.Labels.{label_glyph, label_glyphs}
 use Rattle.doc_places.specs.Places.{shown}
 use Rattle.doc_html.proofs.LabelLemmas.{label_whole}

@@ -1,7 +1,7 @@
 use Rattle.std.proofs.Common.{◌≡◌, ◌∷◌, ◌++◌, [], ◌<◌, length, map, sym, arith}
 use Rattle.view_places.specs.declared.element.Element.TheVariants.{Label}
 use Rattle.std.proofs.lemmas.Bool.{eqb-true, eqb-false}
-use Rattle.form_page.proofs.FormLemmas.{places_none}
+use Rattle.form_page.proofs.Public.{places_none}
 use Rattle.doc_view.specs.Labels.{label_glyphs}
 use Rattle.doc_places.specs.Places.{label_places, shown}
 use Rattle.doc_html.proofs.LabelLemmas.{no_label, some_label}

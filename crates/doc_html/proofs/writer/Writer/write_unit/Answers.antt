@@ -1,7 +1,7 @@
 use Rattle.std.proofs.Common.{◌≡◌, ◌∙◌, ◌∷◌, [], sym, ap, None, Some, Option, map}
 use Rattle.std.specs.List.{cons_option}
 use Rattle.view_places.specs.declared.glyph.Glyph.{Glyph}
-use Rattle.form_page.proofs.FormLemmas.{places_none}
+use Rattle.form_page.proofs.Public.{places_none}
 use Rattle.doc_view.specs.Labels.{label_glyph}
 use Rattle.doc_places.specs.Places.{shown}
 use Rattle.doc_html.proofs.WriteLemmas.{puts_same}

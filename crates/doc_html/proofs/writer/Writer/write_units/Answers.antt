@@ -4,7 +4,7 @@ use Rattle.std.specs.Prelude.{slice_index}
 use Rattle.std.specs.List.{cons_option, filter_map}
 use Rattle.view_places.specs.declared.element.Element.{Element}
 use Rattle.form_page.specs.Forms.{PutsPlaces}
-use Rattle.form_page.proofs.FormLemmas.{places_none, places_then}
+use Rattle.form_page.proofs.Public.{places_none, places_then}
 use Rattle.doc_view.specs.Labels.{label_glyph}
 use Rattle.doc_places.specs.Places.{shown}
 use Rattle.doc_html.proofs.LabelLemmas.{units_on}

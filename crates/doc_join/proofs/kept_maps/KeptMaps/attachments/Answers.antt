@@ -3,8 +3,7 @@ use Rattle.std.specs.Prelude.{slice_get, Some, replicate}
 use Rattle.std.proofs.lemmas.List.{take_all}
 use Rattle.std.proofs.lemmas.Option.{slice_get_read}
 use Rattle.run_lists.specs.Spread.{expanded}
-use Rattle.run_lists.proofs.CutLemmas.{All-runs}
-use Rattle.run_lists.proofs.SpreadLemmas.{spread-nil}
+use Rattle.run_lists.proofs.Public.{All-runs, spread-nil}
 use Rattle.doc_columns.specs.declared.attached.Attached.{Attached}
 use Rattle.doc_join.specs.JoinedColumns.{renumbered_attached, HasOwnMark}
 use Rattle.doc_join.proofs.ColumnLemmas.{runs_more, run_fits}

@@ -5,8 +5,7 @@ use Rattle.std.proofs.lemmas.Option.{slice_get_read}
 use Rattle.prop_map.specs.Formed.{IsPropertyMap, character_groups}
 use Rattle.prop_map.specs.Settings.{Properties}
 use Rattle.run_lists.specs.Spread.{expanded}
-use Rattle.run_lists.proofs.CutLemmas.{All-runs}
-use Rattle.run_lists.proofs.SpreadLemmas.{spread-nil}
+use Rattle.run_lists.proofs.Public.{All-runs, spread-nil}
 use Rattle.doc_join.specs.declared.renumbering.Renumbering.{Renumbering}
 use Rattle.doc_join.specs.Settings.{renumbered}
 use Rattle.doc_join.proofs.ColumnLemmas.{runs_more, run_fits}

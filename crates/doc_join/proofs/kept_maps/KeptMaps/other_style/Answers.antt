@@ -1,5 +1,5 @@
 use Rattle.std.proofs.Common.{◌∙◌, sym, ap, arith}
-use Rattle.effective_props.proofs.LayerLemmas.{named_bytes}
+use Rattle.effective_props.proofs.Public.{named_bytes}
 use Rattle.doc_bits.specs.Number.{number_bytes}
 use Rattle.effective_props.specs.Layers.{character_style_code}
 use Rattle.std.specs.FinMap.{insert}

@@ -1,4 +1,4 @@
--- The list with the other bookmark keeps its numbers, and what is handed back is what stood there.
+-- The list with the other bookmark keeps its numbers, and what is handed back is what was there.
 use Rattle.std.proofs.Common.{rules, refl, ◌<◌, length}
 use Rattle.std.proofs.lemmas.Option.{slice_get_read}
 use Rattle.doc_parts.proofs.NameLemmas.{numbers_of, list_set}

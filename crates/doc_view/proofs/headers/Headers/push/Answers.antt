@@ -1,6 +1,6 @@
 -- The header texts, one by one.
 use Rattle.std.proofs.Common.{arith}
-use Rattle.doc_bits.proofs.ListLemmas.{there_is}
+use Rattle.doc_bits.proofs.Public.{there_is}
 use Rattle.doc_view.specs.declared.reading.TextKind.TheVariants as text_kind
 use Rattle.doc_view.proofs.HeaderLemmas.{header_on, headers_put, headers_start}
 use Rattle.doc_view.proofs.headers.Headers.push.Goals as goal

@@ -3,7 +3,7 @@ use Rattle.std.specs.Prelude.{if◌then◌else◌}
 use Rattle.doc_view.specs.Layout.{line_front, tab_front}
 use Rattle.doc_view.specs.Lines.{lead_text}
 use Rattle.page_out.specs.Printed.{Prints}
-use Rattle.page_out.proofs.PrintLemmas.{put_then}
+use Rattle.page_out.proofs.Public.{put_then}
 use Rattle.doc_view.proofs.line.Line.push_inner.Goals as goal
 
 pub returns : goal.returns

@@ -1,9 +1,9 @@
 -- The notes, one by one.
 use Rattle.std.proofs.Common.{◌≤◌, ◌⊎◌, [], length, refl, inl, inr, arith}
 use Rattle.std.proofs.lemmas.Bool.{cases_lt}
-use Rattle.doc_bits.proofs.ListLemmas.{there_is}
+use Rattle.doc_bits.proofs.Public.{there_is}
 use Rattle.doc_view.proofs.NoteLemmas.{note_on, notes_put}
-use Rattle.page_out.proofs.PrintLemmas.{nothing_put}
+use Rattle.page_out.proofs.Public.{nothing_put}
 use Rattle.doc_view.specs.declared.reading.TextKind.TheVariants as text_kind
 use Rattle.doc_view.proofs.notes.Notes.push.Goals as goal
 

@@ -1,5 +1,5 @@
 use Rattle.std.specs.Prelude.{option_map}
-use Rattle.page_out.proofs.PrintLemmas.{put_then}
+use Rattle.page_out.proofs.Public.{put_then}
 use Rattle.doc_view.specs.Labels.{opening_text}
 use Rattle.doc_view.specs.Layout.{front_at}
 use Rattle.doc_view.specs.Lines.{lead_text}

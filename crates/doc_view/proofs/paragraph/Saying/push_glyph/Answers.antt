@@ -1,10 +1,11 @@
 use Rattle.std.proofs.Common.{◌∙◌, sym, ap, subst, List, ℕ, Option}
 use Rattle.doc_view.specs.declared.paragraph.Saying.{Saying}
-use Rattle.doc_view.specs.Lines.{half_text, other_said}
+use Rattle.doc_view.specs.Lines.{other_said}
 use Rattle.page_out.specs.Printed.{Prints}
-use Rattle.page_out.proofs.PrintLemmas.{put_then}
+use Rattle.page_out.proofs.Public.{put_then}
 use Rattle.doc_view.proofs.SayingLemmas.{said_other, said_unit, waits_other, waits_unit}
 use Rattle.doc_view.proofs.paragraph.Saying.push_glyph.Goals as goal
+use Rattle.text_codes.specs.Halves.{half_text}
 
 pub returns-in-Some-clause-said : goal.returns-in-Some-clause-said
 returns-in-Some-clause-said g c =

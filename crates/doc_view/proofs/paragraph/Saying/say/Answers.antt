@@ -2,7 +2,7 @@ use Rattle.std.proofs.Common.{[], subst, sym}
 use Rattle.doc_view.specs.declared.paragraph.Saying.{Saying}
 use Rattle.doc_view.specs.Lines.{Says, shown_said}
 use Rattle.std.proofs.Common.{◌∷◌}
-use Rattle.page_out.proofs.PrintLemmas.{put_none}
+use Rattle.page_out.proofs.Public.{put_none}
 use Rattle.doc_view.proofs.SayingLemmas.{says_hidden, says_shown}
 use Rattle.doc_view.proofs.paragraph.Saying.say.Goals as goal
 

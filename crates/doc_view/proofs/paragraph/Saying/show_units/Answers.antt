@@ -1,4 +1,4 @@
-use Rattle.page_out.proofs.PrintLemmas.{put_then}
+use Rattle.page_out.proofs.Public.{put_then}
 use Rattle.doc_view.specs.Lines.{begun_front}
 use Rattle.doc_view.proofs.paragraph.Saying.show_units.Goals as goal
 

@@ -2,8 +2,8 @@
 use Rattle.std.proofs.Common.{◌≡◌, ◌∙◌, ◌≤◌, sym, ap, subst, arith}
 use Rattle.doc_columns.specs.Walks.{items_in, IsWalk}
 use Rattle.doc_columns.specs.declared.walk.Walk.{Walk}
-use Rattle.doc_columns.proofs.WalkLemmas.{later_walk}
-use Rattle.char_formats.proofs.FormatLemmas.{format_one}
+use Rattle.doc_columns.proofs.Public.{later_walk}
+use Rattle.char_formats.proofs.Public.{format_one}
 use Rattle.doc_view.proofs.CourseLemmas.{passes_further, passes_start, passes_to}
 use Rattle.doc_view.proofs.text.Course.push_paragraph.Goals as goal
 

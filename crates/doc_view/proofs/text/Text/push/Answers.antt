@@ -7,9 +7,7 @@ use Rattle.style_sheet.specs.Chain.{kind_at}
 use Rattle.plain_doc.specs.Settings.{is_inside}
 use Rattle.plain_doc.specs.Stretches.{stretches}
 use Rattle.doc_columns.specs.Walks.{items_in, IsWalk}
-use Rattle.doc_columns.proofs.WalkLemmas.{first_walk, items_long}
-use Rattle.doc_columns.proofs.CollectLemmas.{start_at}
-use Rattle.doc_columns.proofs.EqualityLemmas.{begins_at_start}
+use Rattle.doc_columns.proofs.Public.{first_walk, items_long, start_at, begins_at_start}
 use Rattle.doc_view.specs.declared.line.Line.{Line}
 use Rattle.doc_view.specs.declared.references.Reference.{Reference}
 use Rattle.doc_view.specs.declared.standing.Standing.{Standing}

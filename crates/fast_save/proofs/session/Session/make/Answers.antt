@@ -8,8 +8,7 @@ use Rattle.edit_ops.specs.EditFacts.{edit_facts}
 use Rattle.session_text.specs.EditSteps.{AreEditSteps}
 use Rattle.session_text.specs.SessionText.{IsSameText}
 use Rattle.session_text.specs.TextEdits.{IsTextEdit, IsSectionsEdit}
-use Rattle.session_text.proofs.CommandLemmas.{commands_are_steps, pieces_are_few}
-use Rattle.session_text.proofs.StartLemmas.{text_counted}
+use Rattle.session_text.proofs.Public.{commands_are_steps, pieces_are_few, text_counted}
 use Rattle.fast_save.specs.declared.parts.SessionParts.{SessionParts}
 use Rattle.fast_save.specs.Ledgers.{after_edit}
 use Rattle.fast_save.specs.Session.{SessionView, IsSession, IsSessionCounted, saved_stream}

@@ -11,8 +11,7 @@ use Rattle.plain_doc.specs.declared.document.Document.{Document}
 use Rattle.plain_doc.specs.Collected.{sections_of}
 use Rattle.full_save.specs.Runs.{text_runs}
 use Rattle.full_save.specs.Sections.{HasSavableSection}
-use Rattle.full_save.proofs.BodyLemmas.{sections_savable}
-use Rattle.full_save.proofs.TextLaidOut.{few_items}
+use Rattle.full_save.proofs.Public.{sections_savable, few_items}
 use Rattle.fast_save_layout.specs.Saves.{FastSave, save_of}
 use Rattle.fast_save_layout.specs.KeptBins.{kept_bins}
 use Rattle.fast_save_layout.specs.MarkRuns.{mark_runs, mark_runs_end}

@@ -3,8 +3,7 @@ use Rattle.std.specs.Prelude.{slice_get}
 use Rattle.std.proofs.lemmas.Option.{slice_get-get_or}
 use Rattle.doc_columns.specs.Attached.{attached_of}
 use Rattle.doc_columns.specs.declared.attached.Attached.{Attached}
-use Rattle.full_save.proofs.AlikeLemmas.{alike_of}
-use Rattle.full_save.proofs.ColumnRuns.{walk_begins, walk_next, walk_ends, run_fits}
+use Rattle.full_save.proofs.Public.{alike_of, walk_begins, walk_next, walk_ends, run_fits}
 use Rattle.fast_save_layout.specs.RunsSoFar.{AreMarksSoFar}
 use Rattle.fast_save_layout.proofs.runs.ParagraphRuns.push_runs.Goals as goal
 

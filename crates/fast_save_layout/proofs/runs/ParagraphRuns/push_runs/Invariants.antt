@@ -1,6 +1,6 @@
 use Rattle.std.proofs.Common.{◌≡◌}
 use Rattle.doc_columns.specs.Attached.{attached_of}
-use Rattle.full_save.proofs.ColumnRuns.{IsWalked}
+use Rattle.full_save.proofs.Public.{IsWalked}
 use Rattle.fast_save_layout.specs.RunsSoFar.{AreMarksSoFar}
 use Rattle.fast_save_layout.proofs.runs.ParagraphRuns.push_runs.Given as goal
 

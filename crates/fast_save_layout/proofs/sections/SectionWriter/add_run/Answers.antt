@@ -8,7 +8,7 @@ use Rattle.doc_columns.specs.declared.attached.Attached.{Attached}
 use Rattle.doc_columns.specs.Attached.{attached_of}
 use Rattle.full_save.specs.Alike.{HaveAlike}
 use Rattle.full_save.specs.Sections.{IsSavableSection}
-use Rattle.full_save.proofs.AlikeLemmas.{alike_of}
+use Rattle.full_save.proofs.Public.{alike_of}
 use Rattle.fast_save_layout.specs.PlannedSections.{ArePlannedUpTo}
 use Rattle.fast_save_layout.proofs.PlannedLemmas.{length-new}
 use Rattle.fast_save_layout.proofs.PlannedRuns.{planned_none, none_in, one_in}

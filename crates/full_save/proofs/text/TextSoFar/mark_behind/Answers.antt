@@ -1,8 +1,9 @@
 use Rattle.std.proofs.Common.{◌≤◌, [], ap, sym, arith}
 use Rattle.std.specs.Prelude.{nat_lt}
 use Rattle.full_save.specs.Text.{mark_if}
-use Rattle.full_save.proofs.TextLemmas.{goes_on_none, goes_on_by, ltb_false}
+use Rattle.full_save.proofs.TextLemmas.{goes_on_none, goes_on_by}
 use Rattle.full_save.proofs.text.TextSoFar.mark_behind.Goals as goal
+use Rattle.doc_bits.proofs.Public.{ltb_false}
 
 pub returns-clause-text : goal.returns-clause-text
 returns-clause-text c =

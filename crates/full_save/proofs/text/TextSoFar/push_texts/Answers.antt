@@ -5,7 +5,7 @@ use Rattle.plain_doc.specs.declared.item.Item.{Item}
 use Rattle.plain_doc.specs.Collected.{joined_texts}
 use Rattle.full_save.proofs.TextLemmas.{goes_on_both, goes_on_by, joined_next}
 use Rattle.full_save.proofs.text.TextSoFar.push_texts.Goals as goal
-use Rattle.plain_doc.proofs.TextListLemmas.{first_joined}
+use Rattle.plain_doc.proofs.Public.{first_joined}
 
 pub push_text-requires : goal.push_text-requires
 push_text-requires c =

@@ -4,14 +4,15 @@ use Rattle.view_places.specs.Same.{same}
 use Rattle.html_page.specs.Pages.{back_tokens, characters, close_tokens, front_tokens, glyph_tokens, half_of}
 use Rattle.html_page.specs.Pages.{open_tokens}
 use Rattle.html_page.specs.Pages.{other_tokens, style_tokens, tokens_of}
-use Rattle.glyph_units.specs.Units.{half_text, unit_text, first_text, unit_half}
+use Rattle.glyph_units.specs.Units.{unit_text, first_text, unit_half}
 use Rattle.html_page.specs.declared.printer.HtmlPage.{HtmlPage}
 use Rattle.page_out.specs.Printed.{Prints}
 use Rattle.html_text.specs.Tokens.{Character, Token, printed}
 use Rattle.html_page.proofs.PutLemmas.{close_done, close_step, open_done, open_step, other_glyph, other_half}
 use Rattle.html_page.proofs.PutLemmas.{place_bare}
-use Rattle.html_page.proofs.PutLemmas.{place_shown, shared_is_front, tokens_then, unit_glyph, unit_glyph_half, way_put}
+use Rattle.html_page.proofs.PutLemmas.{place_shown, tokens_then, unit_glyph, unit_glyph_half, way_put}
 use Rattle.html_page.proofs.printer.HtmlPage.put_close.Goals as goal
+use Rattle.text_codes.specs.Halves.{half_text}
 
 pub returns-clause-prints : goal.returns-clause-prints
 returns-clause-prints g c =

@@ -3,14 +3,16 @@ use Rattle.std.proofs.lemmas.Bool.{eqb-false, eqb-true}
 use Rattle.glyph_units.specs.Glyphs.{unit_places}
 use Rattle.html_page.specs.Printed.{PutsPlaces}
 use Rattle.html_page.proofs.PutLemmas.{places_none}
-use Rattle.html_page.proofs.UnitLemmas.{no_units, run_put}
+use Rattle.html_page.proofs.UnitLemmas.{run_put}
 use Rattle.html_page.proofs.printer.HtmlPage.put_run.Goals as goal
+use Rattle.doc_bits.proofs.Public.{nil_from_length}
 
 pub returns-then-is_empty : goal.returns-then-is_empty
 returns-then-is_empty g c =
     let old = c.args.self.now in
     subst (λ (units : List ℕ). PutsPlaces g.K.Sink c.args.out.now old c.args.out.now old (unit_places c.args.to.now
-    units)) (sym (no_units c.args.units.now (eqb-true (length c.args.units.now) 0 (sym c.if-is_empty.ensures)))) (places_none g.K.Sink c.args.out.now old)
+    units)) (sym (nil_from_length c.args.units.now (eqb-true (length c.args.units.now) 0 (sym c.if-is_empty.ensures))))
+    (places_none g.K.Sink c.args.out.now old)
 
 pub returns : goal.returns
 returns g c =

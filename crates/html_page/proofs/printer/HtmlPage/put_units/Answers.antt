@@ -4,10 +4,11 @@ use Rattle.std.specs.Prelude.{slice_index}
 use Rattle.std.proofs.lemmas.List.{drop_more, drop_all}
 use Rattle.page_out.specs.Printed.{Prints}
 use Rattle.html_text.specs.Tokens.{printed}
-use Rattle.glyph_units.specs.Units.{half_text, unit_half, unit_text, units_text}
+use Rattle.glyph_units.specs.Units.{unit_half, unit_text, units_text}
 use Rattle.html_page.specs.Pages.{characters}
 use Rattle.html_page.proofs.PutLemmas.{UnitsAt, put_as, units_on, units_put, units_start}
 use Rattle.html_page.proofs.printer.HtmlPage.put_units.Goals as goal
+use Rattle.text_codes.specs.Halves.{half_text}
 
 pub loop-unit-init : goal.loop-unit-init
 loop-unit-init g c = record {

@@ -1,7 +1,7 @@
 use Rattle.std.proofs.Common.{◌≡◌, ℕ, Bool, [], ◌∷◌, List, subst}
 use Rattle.std.specs.Prelude.{if◌then◌else◌}
 use Rattle.page_out.specs.Printed.{Prints}
-use Rattle.page_out.proofs.PrintLemmas.{put_then}
+use Rattle.page_out.proofs.Public.{put_then}
 use Rattle.markdown_text.specs.Lines.{is_special}
 use Rattle.markdown_page.proofs.TokenLemmas.{written_put}
 use Rattle.markdown_page.proofs.pen.Pen.put_written.Goals as goal

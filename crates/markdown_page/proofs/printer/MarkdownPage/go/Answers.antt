@@ -1,8 +1,9 @@
 use Rattle.std.proofs.Common.{◌≡◌, List, sym, subst}
 use Rattle.view_paths.specs.Turns.{IsFront}
 use Rattle.view_places.specs.declared.element.Element.{Element}
-use Rattle.markdown_page.proofs.PutLemmas.{shared_is_front, way_put}
+use Rattle.markdown_page.proofs.PutLemmas.{way_put}
 use Rattle.markdown_page.proofs.printer.MarkdownPage.go.Goals as goal
+use Rattle.view_places.proofs.Public.{shared_is_front}
 
 pub open_to-requires : goal.open_to-requires
 open_to-requires g c =

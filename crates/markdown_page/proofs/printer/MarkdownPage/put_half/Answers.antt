@@ -1,11 +1,11 @@
 use Rattle.std.proofs.Common.{◌≡◌, ℕ, Option, None, Some, sym, ap, subst, ◌∙◌}
-use Rattle.glyph_units.specs.Units.{half_text}
 use Rattle.markdown_page.specs.declared.context.Context.{Context}
 use Rattle.markdown_page.specs.Pages.{text_tokens}
 use Rattle.markdown_page.specs.Printed.{PutsTokens}
 use Rattle.markdown_page.proofs.PutLemmas.{no_half, one_half}
 use Rattle.markdown_page.proofs.TokenLemmas.{tokens_none}
 use Rattle.markdown_page.proofs.printer.MarkdownPage.put_half.Goals as goal
+use Rattle.text_codes.specs.Halves.{half_text}
 
 pub returns-in-None-clause-puts : goal.returns-in-None-clause-puts
 returns-in-None-clause-puts g c =

@@ -6,14 +6,15 @@ use Rattle.markdown_page.specs.declared.context.Context.{Context}
 use Rattle.markdown_page.specs.declared.context.Seam.{Seam}
 use Rattle.markdown_page.specs.Printed.{PutsEvents}
 use Rattle.markdown_page.proofs.PutLemmas.{none_put}
-use Rattle.markdown_page.proofs.RunLemmas.{no_units, open_within, run_put}
+use Rattle.markdown_page.proofs.RunLemmas.{open_within, run_put}
 use Rattle.markdown_page.proofs.printer.MarkdownPage.put_plain.Goals as goal
+use Rattle.doc_bits.proofs.Public.{nil_from_length}
 
 pub returns-then-is_empty : goal.returns-then-is_empty
 returns-then-is_empty g c =
     let old = c.args.self.now in
     subst (λ (units : List ℕ). PutsEvents g.K.Sink c.args.out.now old c.args.out.now old (leaves old.path units) old.path)
-    (sym (no_units c.args.units.now (eqb-true (length c.args.units.now) 0 (sym c.if-is_empty.ensures))))
+    (sym (nil_from_length c.args.units.now (eqb-true (length c.args.units.now) 0 (sym c.if-is_empty.ensures))))
     (none_put g.K.Sink c.args.out.now old old refl refl refl)
 
 pub put_plain-requires-clause-within : goal.put_plain-requires-clause-within

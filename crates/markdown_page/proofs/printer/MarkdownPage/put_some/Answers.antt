@@ -3,11 +3,13 @@ use Rattle.std.proofs.Common.{◌≡◌, ◌∙◌, ◌+◌, ◌<◌, ◌≤◌,
 use Rattle.std.specs.Prelude.{slice_index, slice_range}
 use Rattle.glyph_units.specs.Glyphs.{unit_places}
 use Rattle.markdown_page.specs.Printed.{PutsPlaces}
-use Rattle.markdown_page.proofs.RunLemmas.{and_first, and_second, one_range, range_next, range_plain, range_scalars, some_put}
+use Rattle.markdown_page.proofs.RunLemmas.{range_next, range_plain, some_put}
 use Rattle.markdown_page.specs.Runs.{is_open}
 use Rattle.std.specs.Prelude.{not}
 use Rattle.markdown_page.specs.Shape.{inner_kind, is_from_note}
 use Rattle.markdown_page.proofs.printer.MarkdownPage.put_some.Goals as goal
+use Rattle.doc_bits.proofs.Public.{and_first, and_second, one_range}
+use Rattle.glyph_units.proofs.Public.{range_scalars}
 
 pub returns-then-not-goes_on-clause-puts : goal.returns-then-not-goes_on-clause-puts
 returns-then-not-goes_on-clause-puts g c =

@@ -3,7 +3,7 @@ use Rattle.page_out.specs.Printed.{Prints}
 use Rattle.page_out.proofs.EncodingLemmas.{front_more}
 use Rattle.page_out.proofs.PrintLemmas.{put_then}
 use Rattle.page_out.proofs.page.Page.push_units.Goals as goal
-use Rattle.doc_bits.proofs.ListLemmas.{part_within}
+use Rattle.doc_bits.proofs.Public.{part_within}
 
 pub loop-done-preserved : goal.loop-done-preserved
 loop-done-preserved g c =

@@ -1,4 +1,4 @@
--- The invariant is told of the pieces as they are seen.
+-- The invariant is about the pieces as they are seen.
 use Rattle.std.proofs.Common.{subst}
 use Rattle.piece_table.specs.Piece.{ArePieces}
 use Rattle.piece_table.proofs.pieces.PieceList.len.Goals as goal

@@ -1,4 +1,4 @@
--- The invariant is told of the pieces as they are seen.
+-- The invariant is about the pieces as they are seen.
 use Rattle.std.proofs.Common.{◌≡◌, ◌<◌, ◌∙◌, length, map, get_or, slice_index_or, sym, ap, arith, subst}
 use Rattle.std.proofs.Math.ListN.{get_or-map, length-map}
 use Rattle.std.proofs.lemmas.List.{get_or_default}

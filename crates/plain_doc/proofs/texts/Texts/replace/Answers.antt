@@ -1,4 +1,4 @@
--- The list with the other text is well formed, and what is handed back is what stood there.
+-- The list with the other text is well formed, and what is handed back is what was there.
 use Rattle.std.proofs.Common.{rules, refl, ◌<◌, length}
 use Rattle.std.proofs.lemmas.Option.{slice_get_read}
 use Rattle.plain_doc.specs.Document.{IsFormedText}

@@ -1,5 +1,5 @@
 use Rattle.std.proofs.Common.{arith}
-use Rattle.doc_columns.proofs.ItemsOfLemmas.{length-items_of}
+use Rattle.doc_columns.proofs.Public.{length-items_of}
 use Rattle.session_text.proofs.gathered.TextBuilder.finish.Goals as goal
 
 pub from_parts-requires-clause-few : goal.from_parts-requires-clause-few

@@ -1,4 +1,4 @@
-use Rattle.doc_columns.proofs.ItemsOfLemmas.{none_columns, none_items}
+use Rattle.doc_columns.proofs.Public.{none_columns, none_items}
 use Rattle.session_text.proofs.gathered.TextBuilder.new.Goals as goal
 
 pub invariant_of-result : goal.invariant_of-result

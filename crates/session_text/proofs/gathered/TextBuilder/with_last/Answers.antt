@@ -2,7 +2,7 @@ use Rattle.std.proofs.Common.{◌≡◌, ◌∙◌, ◌++◌, ◌∷◌, [], len
 use Rattle.std.specs.Vec.{vec_len}
 use Rattle.std.proofs.lemmas.Result.{IfOk-weaker}
 use Rattle.full_save.specs.Text.{extra_mark, with_mark}
-use Rattle.doc_columns.proofs.ItemsOfLemmas.{text_long}
+use Rattle.doc_columns.proofs.Public.{text_long}
 use Rattle.session_text.proofs.GatherLemmas.{marked_some}
 use Rattle.session_text.proofs.gathered.TextBuilder.with_last.Goals as goal
 

@@ -1,12 +1,12 @@
 -- Each column has that of the text behind it.
 use Rattle.std.proofs.Common.{◌∙◌, ◌++◌, List, ℕ, length, ap, arith}
 use Rattle.std.proofs.lemmas.List.{length-map}
-use Rattle.run_lists.proofs.SpreadLemmas.{length-spread}
+use Rattle.run_lists.proofs.Public.{length-spread}
 use Rattle.prop_map.specs.Settings.{Properties}
 use Rattle.plain_doc.specs.declared.item.Item.{Item}
 use Rattle.doc_columns.specs.declared.attached.Attached.{Attached}
 use Rattle.doc_columns.specs.Attached.{attached_of}
-use Rattle.doc_columns.proofs.ItemsOfLemmas.{text_long}
+use Rattle.doc_columns.proofs.Public.{text_long}
 use Rattle.session_text.proofs.GatherLemmas.{joined_columns, joined_are}
 use Rattle.session_text.proofs.gathered.TextBuilder.with_text.Goals as goal
 

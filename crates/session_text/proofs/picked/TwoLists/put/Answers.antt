@@ -2,7 +2,7 @@ use Rattle.std.proofs.Common.{◌≡◌, ◌∙◌, ◌++◌, ◌-◌, List, tru
 use Rattle.std.specs.Prelude.{slice_range}
 use Rattle.std.proofs.lemmas.List.{length-append}
 use Rattle.run_lists.specs.Spread.{expanded}
-use Rattle.run_lists.proofs.SpreadLemmas.{length-spread, extent-take}
+use Rattle.run_lists.proofs.Public.{length-spread, extent-take}
 use Rattle.session_text.specs.WrittenAgain.{values_for}
 use Rattle.session_text.specs.Picked.{values_in}
 use Rattle.session_text.proofs.PickLemmas.{range_of_two}

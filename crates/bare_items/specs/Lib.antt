@@ -1,3 +1,0 @@
-pub mod Specials
-pub mod Marks
-pub mod Laws

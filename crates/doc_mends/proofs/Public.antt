@@ -1,0 +1,10 @@
+-- What other crates may cite of these proofs.
+
+-- Mends keep bookmarks formed: their ends go with the main text, which gets no shorter otherwise.
+pub use Rattle.doc_mends.proofs.BookmarkLemmas.{bookmarks_stay}
+-- Ranges that are checked and struck.
+pub use Rattle.doc_mends.proofs.MendLemmas.{filtered, length-map_range, ranges_stay}
+-- A document is mended in one way.
+pub use Rattle.doc_mends.proofs.OneLemmas.{one_way}
+-- A document that breaks no rule has no mends.
+pub use Rattle.doc_mends.proofs.SoundLemmas.{no_mends}

@@ -1,0 +1,6 @@
+-- What other crates may cite of these proofs.
+
+-- A file that breaks none of the rules 1 to 57 that are left means one document.
+pub use Rattle.further_notes.proofs.MeantLemmas.{front_fields, meant_one}
+-- Endnotes become notes in one way, and bookmarks stay formed.
+pub use Rattle.further_notes.proofs.SpliceLemmas.{splice_formed, splice_is_one}

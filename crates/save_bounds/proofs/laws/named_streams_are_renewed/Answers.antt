@@ -1,5 +1,0 @@
-use Rattle.save_bounds.proofs.RenewedLemmas.{named_streams_are_renewed}
-use Rattle.save_bounds.proofs.laws.named_streams_are_renewed.Goals as goal
-
-pub returns : goal.returns
-returns c = named_streams_are_renewed

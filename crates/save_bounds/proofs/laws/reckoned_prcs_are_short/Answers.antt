@@ -1,5 +1,0 @@
-use Rattle.save_bounds.proofs.ClxLemmas.{reckoned_prcs_are_short}
-use Rattle.save_bounds.proofs.laws.reckoned_prcs_are_short.Goals as goal
-
-pub returns : goal.returns
-returns c = reckoned_prcs_are_short

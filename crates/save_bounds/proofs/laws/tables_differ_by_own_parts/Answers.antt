@@ -1,5 +1,0 @@
-use Rattle.save_bounds.proofs.TableLemmas.{tables_differ_by_own_parts}
-use Rattle.save_bounds.proofs.laws.tables_differ_by_own_parts.Goals as goal
-
-pub returns : goal.returns
-returns c = tables_differ_by_own_parts
