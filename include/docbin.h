@@ -1,6 +1,6 @@
 /* docbin: documents of Word 97, by the library libdocbin_c.a. Each call takes bytes and gives bytes; no file is read or written.
 
-   A call serves one command of the program `docbin` (the last four: of `docfit` and `docview`) and answers its status, the text that the command
+   A call serves one command of the program `docbin` (the last five: of `docfit` and `docview`) and answers its status, the text that the command
    prints, and the bytes that it writes.
    The caller lends room for both. `text_len` and `bytes_len` tell how much there is; the rooms hold as much of it as they can, and behind that
    what stood there. So a call with rooms of length 0 asks for the lengths, and a call whose rooms were too small is made once more.
@@ -100,6 +100,15 @@ docbin_answer docbin_join(const uint8_t *first, size_t first_len, const uint8_t 
 /* The document of a file of Word 97 to 2007, as a file that docbin accepts: the run of `docfit first out`, whose text has a line for each part that is
    left out (docs/FIT.md). */
 docbin_answer docbin_fit(const uint8_t *file, size_t file_len, uint8_t *text, size_t text_room, uint8_t *bytes, size_t bytes_room);
+
+/* What else a fit does: bits of `options`. */
+enum docfit_options {
+  DOCFIT_PLAIN = 1 /* endnotes are left out */
+};
+
+/* The same with options of `enum docfit_options` in one number, or 0: with DOCFIT_PLAIN the run of `docfit --plain first out`. */
+docbin_answer docbin_fit_with(const uint8_t *file, size_t file_len, uint32_t options, uint8_t *text, size_t text_room, uint8_t *bytes,
+                              size_t bytes_room);
 
 /* What else a page shows: bits of `options`. */
 enum docview_options {

@@ -91,7 +91,7 @@ static uint8_t *fib_of(bytes *file) {
 }
 
 /* Each call of docbin.h, by its number; the last ones are refused. */
-#define CALLS 21
+#define CALLS 22
 static docbin_answer call(int number) {
   const char *script = "[{\"do\":\"insert\",\"story\":\"main\",\"at\":0,\"text\":\"a\"},{\"do\":\"save\",\"mode\":\"fast\"}]";
   const uint8_t *name = (const uint8_t *)"New";
@@ -114,14 +114,15 @@ static docbin_answer call(int number) {
     case 15: return docview_text(letter.at, letter.len, DOCVIEW_HIDDEN | DOCVIEW_HEADERS, text, ROOM);
     case 16: return docview_html(later.at, later.len, 0, text, ROOM);
     case 17: return docview_markdown(letter.at, letter.len, 0, text, ROOM);
-    case 18: return docbin_text(json.at, json.len, text, ROOM);
-    case 19: return docbin_fit(json.at, json.len, text, ROOM, made, ROOM);
+    case 18: return docbin_fit_with(later.at, later.len, DOCFIT_PLAIN, text, ROOM, made, ROOM);
+    case 19: return docbin_text(json.at, json.len, text, ROOM);
+    case 20: return docbin_fit(json.at, json.len, text, ROOM, made, ROOM);
     default: return docview_text(json.at, json.len, 0, text, ROOM);
   }
 }
 
 /* Each call with no bytes for all that it is given, and no room: a file of no bytes breaks rule 1, a script of none is no JSON. */
-#define NO_BYTES 18
+#define NO_BYTES 19
 
 static docbin_answer empty_call(int number) {
   switch (number) {
@@ -142,6 +143,7 @@ static docbin_answer empty_call(int number) {
     case 14: return docview_text(NULL, 0, 0, NULL, 0);
     case 15: return docview_html(NULL, 0, 0, NULL, 0);
     case 16: return docview_markdown(NULL, 0, 0, NULL, 0);
+    case 17: return docbin_fit_with(NULL, 0, DOCFIT_PLAIN, NULL, 0, NULL, 0);
     default: return docbin_import(NULL, 0, NULL, 0, NULL, 0);
   }
 }
@@ -224,7 +226,7 @@ int main(int count, char **words) {
   has(docbin_equal(letter.at, letter.len, edited.at, edited.len, text, ROOM).status == 11, "an edited file");
 
   says(docbin_fit(later.at, later.len, text, ROOM, made, ROOM), 0, "fit: 7680 bytes, left out 1, mended 0\nautotext page 24\n");
-  keep(&other, docbin_fit(later.at, later.len, text, ROOM, made, ROOM));
+  keep(&other, docbin_fit_with(later.at, later.len, DOCFIT_PLAIN, text, ROOM, made, ROOM));
   says(docbin_equal(letter.at, letter.len, other.at, other.len, text, ROOM), 0, "equal\n");
   says(docview_text(letter.at, letter.len, 0, text, ROOM), 0, "Offer\nDear Ann,\tsee\tbelow[1].\n\n[1] Net price.\n");
   says(docview_text(later.at, later.len, 0, text, ROOM), 0, "Offer\nDear Ann,\tsee\tbelow[1].\n\n[1] Net price.\n");

@@ -25,11 +25,11 @@ class Call(NamedTuple):
 PUTTING = ("full", "retitle", "edit", "export", "import", "join")
 CALLS = {it: Call(f"docbin_{it}", "docbin", (it,), it in PUTTING) for it in
          ("text", "streams", "check", "show", "props", "outline", "title", "equal", *PUTTING)}
-CALLS["fit"] = Call("docbin_fit", "docfit", (), True)
+CALLS["fit"] = Call("docbin_fit_with", "docfit", (), True)
 CALLS["plain"] = Call("docview_text", "docview", ("text",))
 CALLS["markdown"] = Call("docview_markdown", "docview", ("markdown",))
 CALLS["html"] = Call("docview_html", "docview", ("html",))
-# The options of programs, in the order of flags. The call of docfit has none.
+# The options of programs, in the order of flags, which is that of their bits in the library.
 OPTIONS: Dict[str, Tuple[str, ...]] = {"docview": ("--hidden", "--headers"), "docfit": ("--plain",)}
 # No file that is put is longer, and no JSON; a longer text is asked for once more.
 MOST_BYTES, MUCH_TEXT = 7_143_937, 1 << 26
@@ -64,17 +64,15 @@ class Library:
 
     def call(self, name: str, given: Sequence[Given], flags: Sequence[bool] = ()) -> Answer:
         asked, words = CALLS[name], []  # type: Call, List[Any]
-        if name == "fit" and True in flags:
-            raise NotImplementedError("a plain fit needs the program docfit: the library always makes notes of endnotes")
         for it in given:
             if isinstance(it, int):
                 words.append(ctypes.c_uint32(it))
             else:
                 data = it.encode() if isinstance(it, str) else it
                 words += [ctypes.c_char_p(data), ctypes.c_size_t(len(data))]
-        if asked.program == "docview":
+        if asked.program in OPTIONS:
             words.append(ctypes.c_uint32(sum(1 << at for at, is_on in enumerate(flags) if is_on)))
-        elif name != "fit":
+        else:
             words += map(ctypes.c_bool, flags)
         size = MUCH_TEXT
         while True:

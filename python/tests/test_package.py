@@ -121,10 +121,7 @@ class Calls:
         self.assertEqual((got.bytes, got.left_out), (docbin.full(letter), [docbin.Feature("autotext", {"page": 24})]))
         self.assertEqual(pickle.loads(pickle.dumps(got)), got)
         self.assertEqual(docbin.check(docbin.fit(changed(letter, b2=0xD9)).bytes), docbin.check(letter))
-        if isinstance(docbin._backend, backends.Program):
-            self.assertEqual(docbin.fit(letter, plain=True).bytes, docbin.full(letter))
-        else:
-            self.raised(NotImplementedError, docbin.fit, letter, True)
+        self.assertEqual(docbin.fit(letter, plain=True).bytes, docbin.full(letter))
 
     def test_files_that_are_not_fitted(self):
         self.needs("docfit")

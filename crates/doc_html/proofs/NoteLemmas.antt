@@ -16,7 +16,8 @@ use Rattle.form_page.proofs.Public.{places_none, places_then}
 use Rattle.doc_view.specs.declared.reading.Manner.{Manner}
 use Rattle.doc_view.specs.declared.references.Reference.{Reference}
 use Rattle.doc_view.specs.Seen.{Formats, paragraphs_of}
-use Rattle.doc_places.specs.Places.{hypertext_of, label_of, note_path, note_places, notes_places, shown, text_places}
+use Rattle.doc_places.specs.Places.{hypertext_of, label_of, no_cells, note_path, note_places, notes_places, shown}
+use Rattle.doc_places.specs.Places.{text_places}
 use Rattle.doc_html.proofs.WriteLemmas.{puts_same}
 
 -- what was written of the notes, where those from a place on are left
@@ -109,7 +110,7 @@ note_hidden sink a page formats manner number reference note hidden =
     let none : Places = [] in
     puts_same sink a a page page none (note_places formats manner number reference note) (sym (ap (λ (b : Bool). if b
     then shown
-    (note_path number ++ BackLink number ∷ []) (label_of reference.number) ∷ text_places (hypertext_of [] number note []) (note_path number)
+    (note_path number ++ BackLink number ∷ []) (label_of reference.number) ∷ text_places (hypertext_of [] number note no_cells) (note_path number)
     (paragraphs_of formats
     manner note) else none) hidden)) (places_none sink a page)
 
@@ -118,12 +119,12 @@ pub note_shown : {K : Type 0} (sink : Ghosts K) (a b c : K) (p q r : FormPage) (
     (number : ℕ)
     (reference : Reference) (note : List Item) → reference.is_shown ≡ true → PutsPlaces sink a p b q (shown (note_path
     number ++
-    BackLink number ∷ []) (label_of reference.number) ∷ []) → PutsPlaces sink b q c r (text_places (hypertext_of [] number note []) (note_path number)
+    BackLink number ∷ []) (label_of reference.number) ∷ []) → PutsPlaces sink b q c r (text_places (hypertext_of [] number note no_cells) (note_path number)
     (paragraphs_of
     formats manner note)) → PutsPlaces sink a p c r (note_places formats manner number reference note)
 note_shown sink a b c p q r formats manner number reference note is label text =
     let label_place = shown (note_path number ++ BackLink number ∷ []) (label_of reference.number) in
-    let rest = text_places (hypertext_of [] number note []) (note_path number) (paragraphs_of formats manner note) in
+    let rest = text_places (hypertext_of [] number note no_cells) (note_path number) (paragraphs_of formats manner note) in
     let none : Places = [] in
     puts_same sink a c p r (label_place ∷ rest) (note_places formats manner number reference note) (sym (ap (λ (b :
     Bool). if b

@@ -10,6 +10,7 @@ use Rattle.view_places.specs.declared.element.Element.{Element}
 use Rattle.view_places.specs.declared.element.Element.TheVariants.{Table, TableHead, TableBody, Row as TableRow}
 use Rattle.view_places.specs.declared.element.Element.TheVariants.{Cell as TableCell, HeadCell}
 use Rattle.list_numbers.specs.declared.paragraph_values.ParagraphValues.{ParagraphValues}
+use Rattle.nested_tables.specs.declared.walk.NestedPlace.{NestedPlace}
 use Rattle.form_page.specs.declared.page.FormPage.{FormPage}
 use Rattle.form_page.specs.Forms.{Places, PutsPlaces}
 use Rattle.form_page.proofs.Public.{places_none, places_then}
@@ -28,9 +29,9 @@ use Rattle.doc_places.specs.declared.lists.Lists.{Lists}
 use Rattle.doc_places.specs.declared.looks.Look.{Look}
 use Rattle.doc_places.specs.Lists.{frame_at, frame_elements, level_elements, lists_after, lists_of, no_lists, with_item}
 use Rattle.doc_places.specs.Looks.{label_units, look_of}
-use Rattle.doc_places.specs.Places.{Hypertext, anchor_places, around_of, block_of, cell_at, cell_form, cell_of, is_part}
-use Rattle.doc_places.specs.Places.{item_count, item_elements, items_places, label_places, own_elements}
-use Rattle.doc_places.specs.Places.{paragraph_places, paragraphs_places, text_places}
+use Rattle.doc_places.specs.Places.{Hypertext, anchor_places, around_of, block_of, cell_at, cell_form, cell_of, is_bare}
+use Rattle.doc_places.specs.Places.{item_count, item_elements, items_places, label_places, nested_cell, nested_elements}
+use Rattle.doc_places.specs.Places.{outer_cell, own_elements, paragraph_places, paragraphs_places, text_places}
 use Rattle.doc_places.proofs.Public.{grid_of-cons}
 use Rattle.doc_html.specs.Writes.{At, Writes, head_by, label_before}
 
@@ -169,19 +170,38 @@ item_few : (lists : Lists) (item : Option ListItem) (number : ℕ) → length (i
 item_few lists None number = omega arith
 item_few lists (Some item) number = let few = level_few (with_item lists item number) 6 in omega (arith, few)
 
-cell_few_elements : (grid : Grid) (cell : InCell) → length (cell_of grid cell) ≤ 12
-cell_few_elements grid cell =
+outer_few : (grid : Grid) (cell : InCell) → length (outer_cell grid cell) ≤ 4
+outer_few grid cell =
     let form = cell_form grid cell in
     elim cell.in_head as (λ (b : Bool). length (if b then Table grid.table ∷ TableHead ∷ TableRow grid.row ∷ HeadCell
-    form ∷ [] else Table grid.table ∷ TableBody ∷ TableRow grid.row ∷ TableCell form ∷ []) ≤ 12)
+    form ∷ [] else Table grid.table ∷ TableBody ∷ TableRow grid.row ∷ TableCell form ∷ []) ≤ 4)
     [ true ↦ omega arith | false ↦ omega arith ]
+
+nested_cell_few : (cell : Option ℕ) → length (nested_cell cell) ≤ 1
+nested_cell_few None = omega arith
+nested_cell_few (Some number) = omega arith
+
+nested_few : (place : Option NestedPlace) → length (nested_elements place) ≤ 3
+nested_few None = omega arith
+nested_few (Some place) = let few = nested_cell_few place.cell in omega (arith, few)
+
+cell_few_elements : (grid : Grid) (cell : InCell) → length (cell_of grid cell) ≤ 12
+cell_few_elements grid cell =
+    let second = nested_elements cell.nested.second in
+    let third = nested_elements cell.nested.third in
+    let few = outer_few grid cell in
+    let two = nested_few cell.nested.second in
+    let three = nested_few cell.nested.third in
+    let both = length-append second third in
+    let long = length-append (outer_cell grid cell) (second ++ third) in
+    omega (arith, few, two, three, both, long)
 
 around_few : (grid : Grid) (cell : Option InCell) (item : Option ListItem) (lists : Lists) → length (around_of grid cell
     item lists) ≤ 12
 around_few grid None item lists = item_few lists item grid.number
 around_few grid (Some cell) item lists = cell_few_elements grid cell
 
-own_few : (part : Bool) (number : ℕ) (look : Look) → length (own_elements part number look) ≤ 1
+own_few : (bare : Bool) (number : ℕ) (look : Look) → length (own_elements bare number look) ≤ 1
 own_few true number look = omega arith
 own_few false number look = omega arith
 
@@ -189,9 +209,9 @@ pub block_few : (grid : Grid) (cell : Option InCell) (look : Look) (lists : List
     lists) ≤ 13
 block_few grid cell look lists =
     let around = around_of grid cell look.item lists in
-    let own = own_elements (is_part cell) grid.number look in
+    let own = own_elements (is_bare cell) grid.number look in
     let few = around_few grid cell look.item lists in
-    let one = own_few (is_part cell) grid.number look in
+    let one = own_few (is_bare cell) grid.number look in
     let long = length-append around own in
     omega (arith, few, one, long)
 

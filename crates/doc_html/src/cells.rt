@@ -1,4 +1,4 @@
-// How far the cells of a text reach.
+// How far the cells of a text reach, and the tables inside of them.
 ghost use Rattle.std.specs.Prelude.{◌≡◌, ◌+◌, ◌-◌, ◌∷◌, [], ◌==◌, ◌&&◌, not, option_map, IfOk, OnOk};
 ghost use Rattle.doc_columns.specs.Walks.{items_in, AreParts};
 ghost use Rattle.doc_view.specs.Seen.{standing_of};
@@ -6,12 +6,15 @@ ghost use Rattle.doc_places.specs.Cells.{definition_in, tables_by};
 ghost use Rattle.doc_places.specs.Places.{cells_of, has_label};
 
 use crate::anchors::next_anchor;
-use cell_spans::{Spans, Tables};
+use crate::depths::depth_by;
+use cell_spans::Tables;
 use doc_bits::Memory;
 use doc_columns::{Parts, paragraph_end};
 use doc_parts::Bookmarks;
+use doc_places::TableCells;
 use doc_view::Standing;
 use list_numbers::{ParagraphValues, ParagraphValuesList};
+use nested_tables::{Depths, NestedTables};
 use plain_doc::Mark;
 use run_lists::{Cursor, seek};
 use sprm_table::Code;
@@ -20,18 +23,20 @@ use std::alloc::Global;
 /// [MS-DOC] sprmTDefTable.
 const DEFINITION: Code = Code(0xD608);
 
-/// How far the cells of the tables of a text reach. It is linear in the paragraphs and in the cells.
+/// How far the cells of the tables of a text reach, and the tables inside of them. It is linear in the paragraphs and
+/// in the cells.
 pub(crate) fn cells_of(
     alloc: Global,
     parts: &Parts<'_>,
     bookmarks: &Bookmarks,
     values: &ParagraphValuesList,
-) -> Result<Spans, Memory>
+) -> Result<TableCells, Memory>
     requires { AreParts parts.now }
-    ensures { IfOk result (λ spans. spans ≡ cells_of bookmarks.now values.now (items_in parts.now)) }
+    ensures { IfOk result (λ cells. cells ≡ cells_of bookmarks.now values.now (items_in parts.now)) }
 {
     let len = parts.units.len();
     let mut tables = Tables::new(alloc);
+    let mut depths = Depths::new(alloc);
     let mut marks = Cursor::new();
     let mut place = 0;
     let mut number = 0;
@@ -43,11 +48,14 @@ pub(crate) fn cells_of(
         let behind = next_anchor(bookmarks, next, end);
         let is_mark = is_mark_alone(end - place, values.get(number), next, behind);
         pass(&mut tables, alloc, standing, is_mark, &last.mark)?;
+        depths.push(depth_by(standing, &last.mark, is_mark))?;
         next = behind;
         place = end;
         number += 1;
     }
-    tables.finish(alloc)
+    let spans = tables.finish(alloc)?;
+    let nested = NestedTables::of(alloc, &depths)?;
+    Ok(TableCells { spans, nested })
 }
 
 /// Goes behind a paragraph that is so, with this mark, which it has alone or not.

@@ -3,6 +3,7 @@
 
 mod anchors;
 mod cells;
+mod depths;
 mod head;
 mod heads;
 mod laws;

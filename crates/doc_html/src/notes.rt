@@ -13,11 +13,11 @@ ghost use Rattle.doc_view.specs.declared.reading.TextKind.TheVariants as text_ki
 
 use crate::reading::{Context, write_text};
 use crate::writer::Writer;
-use cell_spans::Spans;
 use char_formats::StyleFormats;
 use doc_columns::ColumnTexts;
 use doc_outer::Sink;
 use doc_parts::Bookmarks;
+use doc_places::TableCells;
 use doc_view::{Manner, Reference, References, Text, TextKind};
 use list_numbers::ParagraphValuesList;
 use std::alloc::Global;
@@ -96,7 +96,7 @@ impl Notes<'_> {
         };
         let bookmarks = Bookmarks::new(self.alloc);
         let values = ParagraphValuesList::new(self.alloc);
-        let cells = Spans::new(self.alloc);
+        let cells = TableCells::new(self.alloc);
         let context = Context {
             note: k + 1,
             bookmarks: &bookmarks,

@@ -19,11 +19,10 @@ ghost use Rattle.doc_html.specs.Writes.{IsReading, Writes, at, links_in};
 use crate::anchors::write_anchors;
 use crate::heads::{is_head, known_behind};
 use crate::writer::Writer;
-use cell_spans::Spans;
 use doc_columns::{Attached, alike_from, paragraph_end};
 use doc_outer::Sink;
 use doc_parts::Bookmarks;
-use doc_places::{Grid, Lists, Look, Origin, cell_at, label_units, push_block};
+use doc_places::{Grid, Lists, Look, Origin, TableCells, cell_at, label_units, push_block};
 use doc_view::{Bounds, Course, Reference, References, Standing, Stretch, Text, see, style_of};
 use list_numbers::ParagraphValuesList;
 use run_lists::{Cursor, seek};
@@ -88,13 +87,13 @@ impl Reading {
 }
 
 /// What else is known of a text: the number of its note, from 1, or 0 of the main text, its bookmarks, the values of its
-/// paragraphs, and how far its cells reach.
+/// paragraphs, and its cells.
 #[derive(Drop)]
 pub(crate) struct Context<'a> {
     pub(crate) note: usize,
     pub(crate) bookmarks: &'a Bookmarks,
     pub(crate) values: &'a ParagraphValuesList,
-    pub(crate) cells: &'a Spans,
+    pub(crate) cells: &'a TableCells,
 }
 
 /// Writes a text inside of the elements that are open. Its bookmarks are in order. It answers the notes that the text

@@ -21,11 +21,11 @@ use crate::notes::Notes;
 use crate::reading::{Context, write_text};
 use crate::title::title_of;
 use crate::writer::Writer;
-use cell_spans::Spans;
 use char_formats::StyleFormats;
 use doc_bits::{Memory, Units};
 use doc_columns::ColumnDocument;
 use doc_outer::{OutBlock, Sink, SinkFailed};
+use doc_places::TableCells;
 use doc_view::{Manner, Options, References, Text, TextKind, ViewFault, fonts_of};
 use form_page::{FormPage, PageForm};
 use html_page::Source;
@@ -39,7 +39,7 @@ use view_places::Element;
 struct Needs {
     formats: StyleFormats,
     values: ParagraphValuesList,
-    cells: Spans,
+    cells: TableCells,
     title: Units,
     references: References,
     block: OutBlock,
@@ -117,16 +117,18 @@ fn needs_of(alloc: Global, document: &ColumnDocument, options: Options) -> Resul
     ensures block { IfOk result (λ needs. needs.block ≡ []) }
 {
     let formats = StyleFormats::of(alloc, &document.sheet)?;
-    let title = title_of(alloc, document, &formats, options)?;
     let values = paragraph_values_of_columns(alloc, document)?;
     let cells = cells_of(alloc, &document.main.parts(), &document.bookmarks, &values)?;
+    let references = References::new(alloc, document.notes.len())?;
+    let block = OutBlock::new(alloc)?;
+    let title = title_of(alloc, document, &formats, options)?;
     Ok(Needs {
         formats,
         values,
         cells,
         title,
-        references: References::new(alloc, document.notes.len())?,
-        block: OutBlock::new(alloc)?,
+        references,
+        block,
     })
 }
 
@@ -174,14 +176,14 @@ fn write_with<K: Sink>(
     written.finish(out)
 }
 
-/// A document that is shown, with the files of its pictures, the formats of its styles, the values of its paragraphs, how
-/// far its cells reach, its title, and what of it is shown.
+/// A document that is shown, with the files of its pictures, the formats of its styles, the values of its paragraphs, its
+/// cells, its title, and what of it is shown.
 #[derive(Drop)]
 struct Shown<'a> {
     source: Source<'a>,
     formats: &'a StyleFormats,
     values: &'a ParagraphValuesList,
-    cells: &'a Spans,
+    cells: &'a TableCells,
     title: &'a Units,
     options: Options,
 }

@@ -3,3 +3,4 @@ mod AnchorLemmas
 mod PlaceLemmas
 mod PathLemmas
 mod LinkLemmas
+mod FewLemmas

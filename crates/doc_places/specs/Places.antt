@@ -1,6 +1,6 @@
 -- The places of a document: each item that is shown has one, in their order, and so has the label of each note.
 use Rattle.std.specs.Prelude.{zero, suc, ◌-◌, ◌==◌, nat_le, nat_lt, false, not, is_some, map, slice_get, take}
-use Rattle.std.specs.Prelude.{ℕ, ◌+◌, Bool, ◌&&◌, List, [], ◌∷◌, ◌++◌, length, Option, Some, None, if◌then◌else◌}
+use Rattle.std.specs.Prelude.{ℕ, ◌+◌, Bool, ◌&&◌, ◌||◌, List, [], ◌∷◌, ◌++◌, length, Option, Some, None, if◌then◌else◌}
 use Rattle.std.specs.List.{cons_option}
 use Rattle.plain_doc.specs.declared.item.Item.{Item}
 use Rattle.plain_doc.specs.declared.document.Document.{Document}
@@ -12,11 +12,15 @@ use Rattle.view_paths.specs.Paths.{Place}
 use Rattle.view_places.specs.declared.element.Element.{Element}
 use Rattle.view_places.specs.declared.element.Element.TheVariants.{Notes, Note, Table, TableHead, TableBody, Row, Cell}
 use Rattle.view_places.specs.declared.element.Element.TheVariants.{Paragraph as AParagraph, Reference as AReference}
-use Rattle.view_places.specs.declared.element.Element.TheVariants.{BackLink, HeadCell, Label}
+use Rattle.view_places.specs.declared.element.Element.TheVariants.{BackLink, HeadCell, Label, NestedTable, NestedRow}
+use Rattle.view_places.specs.declared.element.Element.TheVariants.{NestedCell}
 use Rattle.view_places.specs.declared.element.Paragraph.{Paragraph as ParagraphForm}
 use Rattle.view_places.specs.declared.element.Cell.{Cell as CellForm}
 use Rattle.view_places.specs.declared.element.Span.{Span}
 use Rattle.cell_spans.specs.Spans.{single, span_at}
+use Rattle.nested_tables.specs.declared.tables.NestedPlaces.{NestedPlaces}
+use Rattle.nested_tables.specs.declared.walk.NestedPlace.{NestedPlace}
+use Rattle.nested_tables.specs.Tables.{no_tables, places_at}
 use Rattle.view_places.specs.declared.element.Element.TheVariants.{Bold, Italic, Underline, Strike, SmallCaps, Caps}
 use Rattle.view_places.specs.declared.element.Element.TheVariants.{Raised, Lowered, Link as ALink, Anchor}
 use Rattle.doc_parts.specs.declared.bookmark_order.Bookmark.{Bookmark}
@@ -36,7 +40,8 @@ use Rattle.doc_view.specs.Labels.{label_glyphs}
 use Rattle.doc_view.specs.Seen.{Formats, Paragraph, is_here, paragraphs_of, references_in, references_of, with_values}
 use Rattle.doc_places.specs.declared.grid.Grid.{Grid}
 use Rattle.doc_places.specs.declared.grid.InCell.{InCell}
-use Rattle.doc_places.specs.Cells.{cells_in}
+use Rattle.doc_places.specs.declared.cells.TableCells.{TableCells}
+use Rattle.doc_places.specs.Cells.{cells_in, nested_in}
 use Rattle.doc_places.specs.Grid.{grid_of, is_head_row}
 use Rattle.doc_places.specs.declared.lists.ListItem.{ListItem}
 use Rattle.doc_places.specs.declared.lists.Lists.{Lists}
@@ -47,9 +52,17 @@ use Rattle.doc_places.specs.Lists.{list_elements, lists_of, with_item}
 abbrev pub Places : Type 0
 Places = List (Place Element Glyph)
 
--- how far the cell with a number in its text reaches, where it is no part of another one
-abbrev pub CellSpans : Type 0
-CellSpans = ℕ → Option Span
+-- how far the cell with a number in its text reaches, where it is no part of another one; and where the paragraph with
+-- a number is in tables inside of cells
+pub record Cells : Type 0 where
+  pub spans : ℕ → Option Span
+  pub nested : ℕ → NestedPlaces
+
+abbrev pub cells_by : TableCells → Cells
+cells_by cells = record { spans = span_at cells.spans; nested = places_at cells.nested }
+
+abbrev pub no_cells : TableCells
+no_cells = record { spans = []; nested = no_tables }
 
 -- ---- what a glyph is in within its paragraph
 
@@ -152,24 +165,39 @@ links_of note items begin place =
 
 -- ---- the places of paragraphs
 
+-- a table inside of a cell, its row and, but for the mark of the row, its cell
+abbrev pub nested_cell : Option ℕ → List Element
+nested_cell None = []
+nested_cell (Some number) = NestedCell number ∷ []
+
+abbrev pub nested_elements : Option NestedPlace → List Element
+nested_elements None = []
+nested_elements (Some place) = NestedTable place.table ∷ NestedRow place.row ∷ nested_cell place.cell
+
 -- the table, its head or its body, the row and the cell
 abbrev pub cell_form : Grid → InCell → CellForm
 cell_form grid cell = record { number = grid.cell; span = cell.span }
 
-abbrev pub cell_of : Grid → InCell → List Element
-cell_of grid cell =
+abbrev pub outer_cell : Grid → InCell → List Element
+outer_cell grid cell =
     if cell.in_head then Table grid.table ∷ TableHead ∷ Row grid.row ∷ HeadCell (cell_form grid cell) ∷ [] else Table
     grid.table ∷ TableBody ∷ Row grid.row ∷ Cell (cell_form grid cell) ∷ []
 
--- the cell of a paragraph that is so, by how far the cells of the text reach; the mark of a row is in none of them
-abbrev pub own_span : CellSpans → ℕ → Bool → Option Span
-own_span cells number keeps = if keeps then cells number else Some single
+-- and the tables inside of it
+abbrev pub cell_of : Grid → InCell → List Element
+cell_of grid cell =
+    outer_cell grid cell ++ (nested_elements cell.nested.second ++ nested_elements cell.nested.third)
 
-abbrev pub cell_at : CellSpans → Grid → Standing → Bool → Option InCell
+-- the cell of a paragraph that is so, by the cells of the text; the mark of a row is in none of them
+abbrev pub own_span : Cells → ℕ → Bool → Option Span
+own_span cells number keeps = if keeps then cells.spans number else Some single
+
+abbrev pub cell_at : Cells → Grid → Standing → Bool → Option InCell
 cell_at cells grid standing in_head =
     if not (is_in_table standing) then None else Some (record {
       in_head = in_head;
       span = own_span cells grid.ended (keeps_row standing);
+      nested = cells.nested grid.number;
     })
 
 -- an item is in its lists, by those that are open before it
@@ -191,24 +219,32 @@ abbrev pub around_of : Grid → Option InCell → Option ListItem → Lists → 
 around_of grid None item lists = item_elements lists item grid.number
 around_of grid (Some cell) item lists = cell_of grid cell
 
--- in a part of another cell nothing is seen, and there is no paragraph
-abbrev pub is_part : Option InCell → Bool
-is_part None = false
-is_part (Some cell) = not (is_some cell.span)
+-- in a part of another cell, and at the mark of a row of a table inside of a cell, nothing is seen, and there is no
+-- paragraph
+abbrev pub is_row_end : Option NestedPlace → Bool
+is_row_end None = false
+is_row_end (Some place) = not (is_some place.cell)
+
+abbrev pub is_row_mark : NestedPlaces → Bool
+is_row_mark nested = is_row_end nested.second || is_row_end nested.third
+
+abbrev pub is_bare : Option InCell → Bool
+is_bare None = false
+is_bare (Some cell) = not (is_some cell.span) || is_row_mark cell.nested
 
 abbrev pub own_elements : Bool → ℕ → Look → List Element
-own_elements part number look = if part then [] else AParagraph (paragraph_form number look) ∷ []
+own_elements bare number look = if bare then [] else AParagraph (paragraph_form number look) ∷ []
 
 -- what a paragraph is in, in a cell or not, and the paragraph
 abbrev pub block_of : Grid → Option InCell → Look → Lists → List Element
 block_of grid cell look lists =
-    around_of grid cell look.item lists ++ own_elements (is_part cell) grid.number look
+    around_of grid cell look.item lists ++ own_elements (is_bare cell) grid.number look
 
 -- the first of some paragraphs behind others: the first rows of a table that are heads are its head
 abbrev pub in_head : List Paragraph → List Paragraph → Bool
 in_head before here = (grid_of before).heads && is_head_row here
 
-abbrev pub block_at : CellSpans → List Paragraph → Paragraph → List Paragraph → List Element
+abbrev pub block_at : Cells → List Paragraph → Paragraph → List Paragraph → List Element
 block_at cells before paragraph more =
     block_of (grid_of before) (cell_at cells (grid_of before) paragraph.standing (in_head before (paragraph ∷ more)))
     (look_in paragraph) (lists_of before)
@@ -242,11 +278,11 @@ anchor_places block numbers = map (λ number. bare (block ++ Anchor number ∷ [
 pub record Hypertext : Type 0 where
   pub links : Links
   pub anchors : ℕ → ℕ → List ℕ
-  pub cells : CellSpans
+  pub cells : Cells
 
-abbrev pub hypertext_of : List Bookmark → ℕ → List Item → List (Option Span) → Hypertext
-hypertext_of bookmarks note items spans =
-    record { links = links_of note items; anchors = anchors_of bookmarks; cells = span_at spans }
+abbrev pub hypertext_of : List Bookmark → ℕ → List Item → TableCells → Hypertext
+hypertext_of bookmarks note items cells =
+    record { links = links_of note items; anchors = anchors_of bookmarks; cells = cells_by cells }
 
 -- ---- the cells of a text
 
@@ -260,8 +296,11 @@ is_mark_alone bookmarks values number place count =
     count == 1
     && (not (has_label (slice_get values number)) && lead bookmarks place == lead bookmarks (place + count))
 
-abbrev pub cells_of : List Bookmark → List ParagraphValues → List Item → List (Option Span)
-cells_of bookmarks values text = cells_in (is_mark_alone bookmarks values) text
+abbrev pub cells_of : List Bookmark → List ParagraphValues → List Item → TableCells
+cells_of bookmarks values text = record {
+  spans = cells_in (is_mark_alone bookmarks values) text;
+  nested = nested_in (is_mark_alone bookmarks values) text;
+}
 
 -- how many items paragraphs have
 abbrev pub item_count : List Paragraph → ℕ
@@ -298,7 +337,7 @@ note_path number = Notes ∷ Note number ∷ []
 abbrev pub note_places : Formats → Manner → ℕ → Reference → List Item → Places
 note_places formats manner number reference note =
     if reference.is_shown then shown (note_path number ++ BackLink number ∷ []) (label_of reference.number) ∷
-    text_places (hypertext_of [] number note []) (note_path number) (paragraphs_of formats manner note) else []
+    text_places (hypertext_of [] number note no_cells) (note_path number) (paragraphs_of formats manner note) else []
 
 -- the notes of references, the first of which has this number
 unfoldable pub notes_places : Formats → Manner → ℕ → List Reference → List (List Item) → Places

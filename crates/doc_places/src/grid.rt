@@ -1,16 +1,20 @@
 // Where a paragraph is.
 ghost use Rattle.std.specs.Prelude.{◌≡◌, ◌+◌, ◌^◌, ◌<◌, ◌≤◌, ◌++◌, ◌&&◌, [], ◌∷◌, length, true, if◌then◌else◌};
 ghost use Rattle.doc_places.specs.Grid.{grid_after};
-ghost use Rattle.cell_spans.specs.Spans.{span_at};
-ghost use Rattle.doc_places.specs.Places.{around_of, block_of, cell_at, cell_of, is_part, item_elements};
+ghost use Rattle.doc_places.specs.Places.{around_of, block_of, cell_at, cell_of, cells_by, is_bare, is_row_end};
+ghost use Rattle.doc_places.specs.Places.{is_row_mark, item_elements, nested_cell, nested_elements, outer_cell};
 ghost use Rattle.doc_places.specs.Places.{own_elements};
 ghost use Rattle.doc_view.specs.Layout.{ends_cell};
-ghost use Rattle.view_places.specs.declared.element.Element.TheVariants.{Table, TableBody, TableHead, Row, Cell, HeadCell};
+ghost use Rattle.view_places.specs.declared.element.Element.TheVariants.{Table, TableBody, TableHead, Row, Cell};
+ghost use Rattle.view_places.specs.declared.element.Element.TheVariants.{HeadCell};
+ghost use Rattle.view_places.specs.declared.element.Element.TheVariants.{NestedTable, NestedRow};
 
+use crate::cells::TableCells;
 use crate::lists::{ListItem, Lists};
 use crate::looks::Look;
-use cell_spans::{Spans, single};
+use cell_spans::single;
 use doc_view::Standing;
+use nested_tables::{NestedPlace, NestedPlaces};
 use view_paths::{MAX_DEPTH, Path};
 use view_places::{Cell as CellForm, Element, Paragraph, Span};
 
@@ -26,12 +30,13 @@ pub struct Grid {
     pub heads: bool,
 }
 
-/// The cell that a paragraph is in: whether it is in the head of its table, and how far it reaches, where it is no part of
-/// another cell.
+/// The cell that a paragraph is in: whether it is in the head of its table, how far it reaches, where it is no part of
+/// another cell, and the tables inside of it that the paragraph is in.
 #[derive(Clone, Copy)]
 pub struct InCell {
     pub in_head: bool,
     pub span: Option<Span>,
+    pub nested: NestedPlaces,
 }
 
 impl Grid {
@@ -94,24 +99,28 @@ fn count_ended(standing: Standing) -> usize
     if standing.ends_cell() { 1 } else { 0 }
 }
 
-/// The cell of a paragraph that is so, in the head of a table or not, by how far the cells of the text reach. A mark of
-/// a row is in none of them.
-pub fn cell_at(spans: &Spans, grid: Grid, standing: Standing, in_head: bool) -> Option<InCell>
-    ensures { result ≡ cell_at (span_at spans.now) grid standing in_head }
+/// The cell of a paragraph that is so, in the head of a table or not, by the cells of the text. A mark of a row is in
+/// none of them.
+pub fn cell_at(cells: &TableCells, grid: Grid, standing: Standing, in_head: bool) -> Option<InCell>
+    ensures { result ≡ cell_at (cells_by cells.now) grid standing in_head }
 {
     if !standing.is_in_table() {
         return None;
     }
     let span = if standing.keeps_row() {
-        spans.get(grid.ended)
+        cells.spans.get(grid.ended)
     } else {
         Some(single())
     };
-    Some(InCell { in_head, span })
+    Some(InCell {
+        in_head,
+        span,
+        nested: cells.nested.get(grid.number),
+    })
 }
 
 /// Puts the elements that a paragraph is in, in a cell or behind these lists, and the paragraph, inside of a path. In a
-/// cell that is a part of another one there is no paragraph.
+/// cell that is a part of another one, and at the mark of a row inside of a cell, there is no paragraph.
 pub fn push_block(
     path: &mut Path<Element>,
     grid: Grid,
@@ -123,7 +132,7 @@ pub fn push_block(
     ensures { path.new ≡ path.old ++ block_of grid cell look.now lists.now }
 {
     push_around(path, grid, cell, look.item, lists);
-    push_own(path, is_part(cell), grid.number, look);
+    push_own(path, is_bare(cell), grid.number, look);
 }
 
 /// Puts what is around a paragraph.
@@ -144,22 +153,39 @@ fn push_around(
     }
 }
 
-/// Whether a paragraph is in a cell that is a part of another one.
-fn is_part(cell: Option<InCell>) -> bool
-    ensures { result ≡ is_part cell }
+/// Whether a paragraph is in a cell that is a part of another one, or is the mark of a row inside of a cell.
+fn is_bare(cell: Option<InCell>) -> bool
+    ensures { result ≡ is_bare cell }
 {
     match cell {
         None => false,
-        Some(cell) => cell.span.is_none(),
+        Some(cell) => cell.span.is_none() || is_row_mark(cell.nested),
     }
 }
 
-/// Puts a paragraph with this number, where it is in no part of a cell.
-fn push_own(path: &mut Path<Element>, is_part: bool, number: usize, look: &Look)
-    requires { length path.old < MAX_DEPTH }
-    ensures { path.new ≡ path.old ++ own_elements is_part number look.now }
+/// Whether a paragraph is the mark of a row of a table inside of a cell.
+fn is_row_mark(nested: NestedPlaces) -> bool
+    ensures { result ≡ is_row_mark nested }
 {
-    if is_part {
+    is_row_end(nested.second) || is_row_end(nested.third)
+}
+
+/// Whether it is in no cell of a table that it is in.
+fn is_row_end(place: Option<NestedPlace>) -> bool
+    ensures { result ≡ is_row_end place }
+{
+    match place {
+        None => false,
+        Some(place) => place.cell.is_none(),
+    }
+}
+
+/// Puts a paragraph with this number, where it is seen.
+fn push_own(path: &mut Path<Element>, is_bare: bool, number: usize, look: &Look)
+    requires { length path.old < MAX_DEPTH }
+    ensures { path.new ≡ path.old ++ own_elements is_bare number look.now }
+{
+    if is_bare {
         return;
     }
     path.push(Element::Paragraph(Paragraph {
@@ -182,10 +208,57 @@ fn push_item(path: &mut Path<Element>, lists: &Lists, item: Option<ListItem>, nu
     }
 }
 
-/// Puts a table, its head or its body, a row and a cell.
+/// Puts a table, its head or its body, a row and a cell, and the tables inside of it.
 fn push_cell(path: &mut Path<Element>, grid: Grid, cell: InCell)
-    requires { length path.old + 4 ≤ MAX_DEPTH }
+    requires { length path.old + 10 ≤ MAX_DEPTH }
     ensures is { path.new ≡ path.old ++ cell_of grid cell }
+    ensures few { length path.new ≤ length path.old + 10 }
+{
+    push_outer(path, grid, cell);
+    push_nested(path, cell.nested.second);
+    push_nested(path, cell.nested.third);
+}
+
+/// Puts a table inside of a cell, its row and its cell, where there is one.
+fn push_nested(path: &mut Path<Element>, place: Option<NestedPlace>)
+    requires { length path.old + 3 ≤ MAX_DEPTH }
+    ensures is { path.new ≡ path.old ++ nested_elements place }
+    ensures few { length path.new ≤ length path.old + 3 }
+{
+    match place {
+        None => {}
+        Some(place) => push_nested_row(path, place),
+    }
+}
+
+/// Puts a table inside of a cell, its row and its cell.
+fn push_nested_row(path: &mut Path<Element>, place: NestedPlace)
+    requires { length path.old + 3 ≤ MAX_DEPTH }
+    ensures is { path.new
+        ≡ path.old ++ NestedTable place.table ∷ NestedRow place.row ∷ nested_cell place.cell }
+    ensures few { length path.new ≤ length path.old + 3 }
+{
+    path.push(Element::NestedTable(place.table));
+    path.push(Element::NestedRow(place.row));
+    push_nested_cell(path, place.cell);
+}
+
+/// Puts a cell of such a row, where there is one.
+fn push_nested_cell(path: &mut Path<Element>, cell: Option<usize>)
+    requires { length path.old < MAX_DEPTH }
+    ensures is { path.new ≡ path.old ++ nested_cell cell }
+    ensures few { length path.new ≤ length path.old + 1 }
+{
+    match cell {
+        None => {}
+        Some(number) => path.push(Element::NestedCell(number)),
+    }
+}
+
+/// Puts a table, its head or its body, a row and a cell.
+fn push_outer(path: &mut Path<Element>, grid: Grid, cell: InCell)
+    requires { length path.old + 4 ≤ MAX_DEPTH }
+    ensures is { path.new ≡ path.old ++ outer_cell grid cell }
     ensures few { length path.new ≤ length path.old + 4 }
 {
     let form = CellForm {

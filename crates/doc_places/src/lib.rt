@@ -1,6 +1,7 @@
 //! The places of a document: what its text is in.
 #![tactic(auto)]
 
+mod cells;
 mod grid;
 mod inline;
 mod laws;
@@ -8,6 +9,7 @@ mod links;
 mod lists;
 mod looks;
 
+pub use cells::TableCells;
 pub use grid::{Grid, InCell, cell_at, push_block};
 pub use inline::{push_inline, push_link};
 pub use laws::each_glyph_has_a_place;

@@ -17,7 +17,7 @@ pub use document_commands::{
     STATUS_DIFFERENT, STATUS_EDIT, STATUS_GUARD, STATUS_JSON, STATUS_NO_SUMMARY, STATUS_POSITION,
     STATUS_SAVE, STATUS_SCRIPT, STATUS_STYLES, STATUS_UNSOUND, STATUS_WRONG_SUMMARY,
 };
-pub use quota::{QUOTA_UNITS, run_under_quota};
+pub use quota::{QUOTA_UNITS, program};
 pub use run::{docbin_run, ending_of};
 pub use run_stages::{
     STATUS_DONE, STATUS_MEMORY, STATUS_MISSING, STATUS_REFUSED, STATUS_SHELF_FAULT,

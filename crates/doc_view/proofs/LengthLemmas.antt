@@ -249,6 +249,10 @@ glyphs_few [] = omega arith
 glyphs_few (item ∷ items) =
     fewer (if item.is_shown then item.glyph else None) (glyphs_in items) (length items) (glyphs_few items)
 
+pub references_few : (items : List Seen) → length (references_in items) ≤ length items
+references_few [] = omega arith
+references_few (item ∷ items) = fewer item.reference (references_in items) (length items) (references_few items)
+
 one_reference : (reference : Option Reference) (references : List Reference) → IsSmallReferenceIn reference →
     All IsSmallReference references → All IsSmallReference (cons_option reference references)
 one_reference None references small are = are

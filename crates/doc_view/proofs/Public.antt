@@ -9,6 +9,9 @@ pub use Rattle.doc_view.proofs.CourseLemmas.{references_on, seen_is}
 pub use Rattle.doc_view.proofs.HeaderLemmas.{no_references}
 -- A document has one page.
 pub use Rattle.doc_view.proofs.LawLemmas.{pages_one, same_formats}
+-- How long what is seen of a text is.
+pub use Rattle.doc_view.proofs.LengthLemmas.{IsSmall, IsSmallIn, IsSmallNumber, IsSmallReference, IsSmallSeen}
+pub use Rattle.doc_view.proofs.LengthLemmas.{references_few}
 -- The notes are put one by one.
 pub use Rattle.doc_view.proofs.NoteLemmas.{none_met, shown_by}
 -- A page that is put whole.
@@ -16,6 +19,9 @@ pub use Rattle.doc_view.proofs.PageLemmas.{failed_page, formats_there, prefix_pa
 pub use Rattle.doc_view.proofs.PageLemmas.{whole_page}
 -- What is seen of ranges of items.
 pub use Rattle.doc_view.proofs.RangeLemmas.{one_range, seen_none, seen_one, seen_range, seen_then}
+-- A page of text is as long as its document.
+pub use Rattle.doc_view.proofs.ShortLemmas.{IsShort, IsShortIn, IsShortLabel, items_of, of_text, references_short}
+pub use Rattle.doc_view.proofs.ShortLemmas.{values_short, with_values_long, with_values_short}
 -- A text is put paragraph by paragraph.
 pub use Rattle.doc_view.proofs.TextLemmas.{next_left, no_values, none_left, paragraph_begins, right_style, values_next}
 pub use Rattle.doc_view.proofs.TextLemmas.{values_none}

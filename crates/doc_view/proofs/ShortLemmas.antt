@@ -65,7 +65,7 @@ with_short : (level : ℕ) (bullet : Bool) (units : List ℕ) → length units �
 with_short level bullet [] few = tt
 with_short level bullet (unit ∷ units) few = few
 
-values_short : (document : Document) (values : List ParagraphValues) → AreParagraphValuesOf document values →
+pub values_short : (document : Document) (values : List ParagraphValues) → AreParagraphValuesOf document values →
     All AreShortValues values
 values_short document values is =
     let fonts = symbol_fonts document.carried.fonts in
@@ -247,7 +247,7 @@ paragraphs_long formats manner front (items ∷ more) =
     λ i. ending_long formats manner front items (slice_get items (length items - 1)) i
     + paragraphs_long formats manner (front ++ items) more i
 
-of_text : (formats : Formats) (manner : Manner) (items : List Item) → length items < 999999 →
+pub of_text : (formats : Formats) (manner : Manner) (items : List Item) → length items < 999999 →
     All IsShort (paragraphs_of formats manner items) × (items_of (paragraphs_of formats manner items) ≡ length items)
 of_text formats manner items few = (
   paragraphs_short formats manner [] (stretches is_inside items) (omega (arith, few, stretches_long items)),
@@ -255,7 +255,7 @@ of_text formats manner items few = (
 )
 
 -- with values
-with_values_short : (values : List ParagraphValues) (paragraphs : List Paragraph) → All AreShortValues values →
+pub with_values_short : (values : List ParagraphValues) (paragraphs : List Paragraph) → All AreShortValues values →
     All IsShort paragraphs → All IsShort (with_values values paragraphs)
 unfolding with_values
 with_values_short [] paragraphs short are = are
@@ -268,7 +268,7 @@ with_values_short (one ∷ more) (paragraph ∷ rest) short are =
     })
     (with_values_short more rest (All-tail AreShortValues one more short) (All-tail IsShort paragraph rest are))
 
-with_values_long : (values : List ParagraphValues) (paragraphs : List Paragraph) →
+pub with_values_long : (values : List ParagraphValues) (paragraphs : List Paragraph) →
     items_of (with_values values paragraphs) ≡ items_of paragraphs
 unfolding with_values
 with_values_long [] paragraphs = refl
@@ -291,7 +291,7 @@ layout_short lead formats manner (item ∷ items) few small =
 
 -- ---- references and notes
 
-references_short : (paragraphs : List Paragraph) → All IsShort paragraphs →
+pub references_short : (paragraphs : List Paragraph) → All IsShort paragraphs →
     All IsSmallReference (references_of paragraphs)
 references_short [] are = All-nil IsSmallReference
 references_short (paragraph ∷ more) are =

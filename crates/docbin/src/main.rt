@@ -2,7 +2,7 @@
 #![tactic(auto)]
 
 use doc_outer::{HostShelf, HostSink};
-use doc_run::{STATUS_MEMORY, run_under_quota};
+use doc_run::{STATUS_MEMORY, program};
 use std::alloc::{AllocError, Global};
 use std::env;
 use std::io::{Eprint, ErrorKind};
@@ -21,8 +21,7 @@ fn main(rt: HostRuntime) -> ExitCode {
     let mut shelf = HostShelf::new(alloc, PROGRAM, &rt, &rt);
     let mut out = HostSink::new(PROGRAM, &rt, &rt);
     let mut reasons = HostSink::new(PROGRAM, rt.stderr(), &rt);
-    let status = run_under_quota(alloc, &words, &mut shelf, &mut out, &mut reasons);
-    ExitCode::from(status)
+    program(alloc, &words, &mut shelf, &mut out, &mut reasons)
 }
 
 /// The words after the program's name. Words that are no UTF-8 are no command, as no words are; that is written to the

@@ -5,7 +5,6 @@ use Rattle.edit_guards.specs.Policies.{Policy}
 use Rattle.run_stages.specs.Outcomes.{Outcome}
 use Rattle.doc_run.specs.Endings.{IsEnding}
 use Rattle.docfit_run.specs.Endings as fitting
-use Rattle.docbin_c.specs.Calls.{fit_words}
 use Rattle.docbin_c.specs.Rooms.{handed}
 use Rattle.docbin_c.specs.declared.answer.DocbinAnswer.{DocbinAnswer}
 
@@ -63,6 +62,6 @@ abbrev pub Answers : List Policy → List (List ℕ) → Files → DocbinAnswer 
 Answers policies words files answer text bytes =
     LacksMemory answer text bytes ⊎ HandsEnding (IsReached policies words files) answer text bytes
 
-abbrev pub AnswersFit : Files → DocbinAnswer → (text bytes : Room) → Type 0
-AnswersFit files answer text bytes =
-    LacksMemory answer text bytes ⊎ HandsEnding (IsFitReached fit_words files) answer text bytes
+abbrev pub AnswersFit : List (List ℕ) → Files → DocbinAnswer → (text bytes : Room) → Type 0
+AnswersFit words files answer text bytes =
+    LacksMemory answer text bytes ⊎ HandsEnding (IsFitReached words files) answer text bytes

@@ -63,9 +63,14 @@ props_words position = codes "props" ∷ codes "first" ∷ decimal position ∷ 
 abbrev pub retitle_words : List ℕ → List (List ℕ)
 retitle_words title = codes "retitle" ∷ codes "first" ∷ title ∷ codes "out" ∷ []
 
--- the words of docfit
-abbrev pub fit_words : List (List ℕ)
-fit_words = codes "first" ∷ codes "out" ∷ []
+-- the words of docfit, plain or not
+abbrev pub fitting_words : (is_plain : Bool) → List (List ℕ)
+fitting_words true = codes "--plain" ∷ codes "first" ∷ codes "out" ∷ []
+fitting_words false = codes "first" ∷ codes "out" ∷ []
+
+-- the options are bits: 1 for a plain document
+abbrev pub fit_words : (options : ℕ) → List (List ℕ)
+fit_words options = fitting_words (options % 2 == 1)
 
 -- the words of docview in a form, with options or without them
 abbrev pub optional_words : (is_hidden has_headers : Bool) → (form : List ℕ) → List (List ℕ)

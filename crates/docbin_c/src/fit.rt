@@ -20,15 +20,37 @@ pub extern "C" fn docbin_fit(
     text: &mut [u8],
     out: &mut [u8],
 ) -> DocbinAnswer
-    ensures { AnswersFit (file_alone file.now) result (room text.old text.new) (room out.old out.new) }
+    ensures { AnswersFit (fit_words 0) (file_alone file.now) result (room text.old text.new) (room out.old out.new) }
 {
-    hand_over(ending_fitted(alloc, file), text, out)
+    hand_over(ending_fitted(alloc, 0, file), text, out)
 }
 
-/// The ending of `docfit`.
-fn ending_fitted(alloc: Global, file: &[u8]) -> Result<Ending, Memory>
-    ensures { IfOk result (IsFitReached fit_words (file_alone file.now)) }
+/// The same with options: 1 leaves endnotes out.
+#[unsafe(no_mangle)]
+pub extern "C" fn docbin_fit_with(
+    alloc: Global,
+    file: &[u8],
+    options: u32,
+    text: &mut [u8],
+    out: &mut [u8],
+) -> DocbinAnswer
+    ensures { AnswersFit (fit_words options) (file_alone file.now)
+        result (room text.old text.new) (room out.old out.new) }
 {
+    hand_over(ending_fitted(alloc, options, file), text, out)
+}
+
+/// The ending of `docfit` with options.
+fn ending_fitted(alloc: Global, options: u32, file: &[u8]) -> Result<Ending, Memory>
+    ensures { IfOk result (IsFitReached (fit_words options) (file_alone file.now)) }
+{
+    if options % 2 == 1 {
+        return fitted_over(
+            alloc,
+            &["--plain", FIRST, OUT],
+            GivenFiles::one(alloc, file)?,
+        );
+    }
     fitted_over(alloc, &[FIRST, OUT], GivenFiles::one(alloc, file)?)
 }
 

@@ -3,7 +3,6 @@ use Rattle.std.proofs.Common.{◌≡◌, ◌≢◌, ◌<◌, ◌⊎◌, ◌∙�
 use Rattle.std.proofs.Common.{Option, None, Some, length, arith, true≢false}
 use Rattle.doc_bits.specs.declared.places.Where.TheVariants.{File}
 use Rattle.doc_bits.specs.Number.{AreBytes}
-use Rattle.doc_bits.specs.Rules.{Hold}
 use Rattle.doc_bits.specs.Places.{Upto}
 use Rattle.doc_bits.proofs.Public.{hold_or_first}
 use Rattle.doc_outer.specs.Held.{Files}
@@ -13,24 +12,37 @@ use Rattle.run_stages.specs.Outcomes.{Outcome}
 use Rattle.run_stages.specs.Stages.{longest_file, BreaksLengthRule}
 use Rattle.run_stages.proofs.Public.{Says, settled}
 use Rattle.doc_fit.specs.Rules.{fit_rules}
-use Rattle.doc_fit.proofs.Public.{fit_single}
+use Rattle.doc_fit.specs.Refusals.{IsFitRefused}
+use Rattle.doc_fit.proofs.Public.{fit_single, long_read, read_bytes as bytes_of_read, read_one}
 use Rattle.docview_run.specs.declared.view.View.{View}
 use Rattle.docview_run.specs.Requests.{Request, page, requested}
-use Rattle.docview_run.specs.Viewed.{IsNotViewed}
+use Rattle.docview_run.specs.Viewed.{IsNotLifted, IsNotViewed}
 use Rattle.docview_run.specs.Endings.{Shows, ShowsFile}
-use Rattle.docview_run.specs.Laws.{CanView, FilesAreShown}
+use Rattle.docview_run.specs.Laws.{CanLift, CanView, FilesAreShown}
 use Rattle.docview_run.proofs.OneLemmas.{ShowsBytes, read_bytes}
 
 -- a file has a document in a view
 abbrev IsValid : Bool → List ℕ → Type 0
-IsValid strict file = IsAccepted file ⊎ ((strict ≡ false) × Hold (fit_rules file))
+IsValid strict file = IsAccepted file ⊎ ((strict ≡ false) × CanLift file)
 
 -- such a file is not too long
 not_long : (strict : Bool) (file : List ℕ) → IsValid strict file → longest_file < length file → ⊥
 not_long strict file (inl hold) long =
     hold.0.0.0.0 (File, 7143937) (refl, record { here = omega (arith, long); wrong = inr (inr long) })
-not_long strict file (inr (is, hold)) long =
-    hold.0.0.0.0 (File, 7143937) (refl, record { here = omega (arith, long); wrong = inr (inr long) })
+not_long strict file (inr (is, can)) long =
+    let same : can.read ≡ file = long_read file can.mends can.read long can.read_as in
+    can.hold.0.0.0.0 (File, 7143937)
+    (refl, record { here = rw same (omega (arith, long)); wrong = inr (inr (rw same long)) })
+
+-- what is read breaks none of the rules that are left
+not_broken : (file name : List ℕ) (outcome : Outcome) → AreBytes file → CanLift file → IsNotLifted file name outcome →
+    ⊥
+not_broken file name outcome bytes can is =
+    let one = read_one file is.mends can.mends is.read can.read bytes is.read_as can.read_as in
+    let refused : IsFitRefused can.read name outcome =
+    subst (λ (r : List ℕ). IsFitRefused r name outcome) one.read is.ends in
+    hold_or_first Upto (fit_rules can.read) refused.rule refused.place
+    (fit_single can.read (bytes_of_read file can.mends can.read bytes can.read_as)) can.hold refused.first
 
 -- and has no reason to be refused
 not_refused : (strict : Bool) (file name : List ℕ) (outcome : Outcome) → AreBytes file → IsValid strict file →
@@ -38,10 +50,8 @@ not_refused : (strict : Bool) (file name : List ℕ) (outcome : Outcome) → Are
 not_refused strict file name outcome bytes (inl hold) (inl (is, x)) =
     hold_or_first Upto (all_rules file) x.rule x.place (all_single file) hold x.first
 not_refused strict file name outcome bytes (inl hold) (inr (is, x)) = x.refused hold
-not_refused strict file name outcome bytes (inr (other, hold)) (inl (is, x)) = true≢false (sym is ∙ other)
-not_refused strict file name outcome bytes (inr (other, hold)) (inr (is, x)) =
-    let refused = x.ends in
-    hold_or_first Upto (fit_rules file) refused.rule refused.place (fit_single file bytes) hold refused.first
+not_refused strict file name outcome bytes (inr (other, can)) (inl (is, x)) = true≢false (sym is ∙ other)
+not_refused strict file name outcome bytes (inr (other, can)) (inr (is, x)) = not_broken file name outcome bytes can x
 
 shown_done : (view : View) (name file : List ℕ) (outcome : Outcome) → AreBytes file → IsValid view.strict file →
     ShowsFile view None name file outcome → outcome.status ≡ 0

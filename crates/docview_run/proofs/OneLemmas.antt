@@ -26,12 +26,13 @@ use Rattle.run_stages.specs.Outcomes.{Outcome, says}
 use Rattle.run_stages.specs.Stages.{BreaksLengthRule, Reads}
 use Rattle.run_stages.proofs.Public.{refused_one, reads_one}
 use Rattle.doc_fit.specs.Rules.{fit_rules}
-use Rattle.doc_fit.proofs.Public.{fit_single, refused_one as fit_refused_one}
+use Rattle.doc_fit.specs.Refusals.{IsFitRefused}
+use Rattle.doc_fit.proofs.Public.{fit_single, read_bytes as bytes_of_read, read_one, refused_one as fit_refused_one}
 use Rattle.docview_run.specs.declared.view.Form.{Form}
 use Rattle.docview_run.specs.declared.view.Form.TheVariants.{Text, Html, Markdown}
 use Rattle.docview_run.specs.declared.view.View.{View}
 use Rattle.docview_run.specs.Requests.{Request, help, version, page, pictured, properties, requested}
-use Rattle.docview_run.specs.Viewed.{IsNotViewed, IsViewed}
+use Rattle.docview_run.specs.Viewed.{IsLiftedOut, IsNotLifted, IsNotViewed, IsViewed}
 use Rattle.docview_run.specs.Pictured.{ArePicturesOf, IsDataIn, IsDataOf, KeepsFiles, NamesFiles, data_name}
 use Rattle.docview_run.specs.Endings.{IsPageIn, Shows, ShowsDocument, ShowsFile, ShowsName, ShowsPage, ShowsPictured}
 use Rattle.docview_run.specs.Endings.{bare}
@@ -88,19 +89,31 @@ not_viewed_one strict file name a b bytes (inl (is, x)) (inl (also, y)) =
 not_viewed_one strict file name a b bytes (inl (is, x)) (inr (other, y)) = absurd (true≢false (sym is ∙ other))
 not_viewed_one strict file name a b bytes (inr (other, x)) (inl (is, y)) = absurd (true≢false (sym is ∙ other))
 not_viewed_one strict file name a b bytes (inr (is, x)) (inr (also, y)) =
-    fit_refused_one file name a b bytes x.ends y.ends
+    let one = read_one file x.mends y.mends x.read y.read bytes x.read_as y.read_as in
+    fit_refused_one y.read name a b (bytes_of_read file y.mends y.read bytes y.read_as)
+    (subst (λ (r : List ℕ). IsFitRefused r name a) one.read x.ends) y.ends
+
+-- what is read is refused, or lifted
+lifted_or_not : (file name read : List ℕ) (outcome : Outcome) (document : Document) → AreBytes file →
+    IsNotLifted file name outcome → IsLiftedOut file read document → ⊥
+lifted_or_not file name read outcome document bytes x lifted =
+    let one = read_one file x.mends lifted.mends x.read read bytes x.read_as lifted.read_as in
+    let refused : IsFitRefused read name outcome =
+    subst (λ (r : List ℕ). IsFitRefused r name outcome) one.read x.ends in
+    let lifts = lifted.lifts in
+    hold_or_first Upto (fit_rules read) refused.rule refused.place
+    (fit_single read (bytes_of_read file lifted.mends read bytes lifted.read_as)) lifts.rules refused.first
 
 -- a file that is not shown has no document
-pub viewed_or_not : (strict : Bool) (file name : List ℕ) (outcome : Outcome) (document : Document) → AreBytes file →
-    IsNotViewed strict file name outcome → IsViewed strict file document → ⊥
-viewed_or_not strict file name outcome document bytes (inl (is, x)) (inl held) =
+viewed_or_not : (strict : Bool) (file name read : List ℕ) (outcome : Outcome) (document : Document) → AreBytes file →
+    IsNotViewed strict file name outcome → IsViewed strict file read document → ⊥
+viewed_or_not strict file name read outcome document bytes (inl (is, x)) (inl held) =
     hold_or_first Upto (all_rules file) x.rule x.place (all_single file) held.accepted x.first
-viewed_or_not strict file name outcome document bytes (inl (is, x)) (inr (other, lifted)) =
+viewed_or_not strict file name read outcome document bytes (inl (is, x)) (inr (other, lifted)) =
     true≢false (sym is ∙ other)
-viewed_or_not strict file name outcome document bytes (inr (is, x)) (inl held) = x.refused held.accepted
-viewed_or_not strict file name outcome document bytes (inr (is, x)) (inr (also, lifted)) =
-    let refused = x.ends in
-    hold_or_first Upto (fit_rules file) refused.rule refused.place (fit_single file bytes) lifted.rules refused.first
+viewed_or_not strict file name read outcome document bytes (inr (is, x)) (inl held) = x.refused held.accepted
+viewed_or_not strict file name read outcome document bytes (inr (is, x)) (inr (also, lifted)) =
+    lifted_or_not file name read outcome document bytes x lifted
 
 same_document : (view : View) (folder : Option (List ℕ)) (file : List ℕ) (document : Document) (a b : Outcome) →
     ShowsDocument view folder file document a → ShowsDocument view folder file document b → a ≡ b
@@ -115,18 +128,19 @@ same_document view folder file document a b x y =
 shown_one : (view : View) (folder : Option (List ℕ)) (file : List ℕ) (a b : Outcome) → AreBytes file →
     ShowsPage view folder file a → ShowsPage view folder file b → a ≡ b
 shown_one view folder file a b bytes x y =
-    let document : x.document ≡ y.document =
-    viewed_one view.strict view.strict file x.document y.document bytes x.viewed y.viewed in
-    same_document view folder file y.document a b
-    (subst (λ (d : Document). ShowsDocument view folder file d a) document x.shows) y.shows
+    let one : (x.read ≡ y.read) × (x.document ≡ y.document) =
+    viewed_one view.strict view.strict file x.read y.read x.document y.document bytes x.viewed y.viewed in
+    same_document view folder y.read y.document a b
+    (subst (λ (r : List ℕ). ShowsDocument view folder r y.document a) one.0
+    (subst (λ (d : Document). ShowsDocument view folder x.read d a) one.1 x.shows)) y.shows
 
 file_one : (view : View) (folder : Option (List ℕ)) (name file : List ℕ) (a b : Outcome) → AreBytes file →
     ShowsFile view folder name file a → ShowsFile view folder name file b → a ≡ b
 file_one view folder name file a b bytes (inl x) (inl y) = not_viewed_one view.strict file name a b bytes x y
 file_one view folder name file a b bytes (inl x) (inr y) =
-    absurd (viewed_or_not view.strict file name a y.document bytes x y.viewed)
+    absurd (viewed_or_not view.strict file name y.read a y.document bytes x y.viewed)
 file_one view folder name file a b bytes (inr x) (inl y) =
-    absurd (viewed_or_not view.strict file name b x.document bytes y x.viewed)
+    absurd (viewed_or_not view.strict file name x.read b x.document bytes y x.viewed)
 file_one view folder name file a b bytes (inr x) (inr y) = shown_one view folder file a b bytes x y
 
 -- what is shown is a file of bytes

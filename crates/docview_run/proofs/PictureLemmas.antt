@@ -2,8 +2,6 @@
 use Rattle.std.proofs.Common.{◌≡◌, ◌≢◌, ◌⊎◌, ◌∙◌, ◌+◌, ◌<◌, ℕ, List, [], Bool, true, false, true≢false, Option, None, Some, Result, Ok, Err, refl, sym, ap, subst, inl, inr, arith}
 use Rattle.std.specs.Prelude.{IsErrOf, OnErr}
 use Rattle.doc_bits.specs.Number.{AreBytes}
-use Rattle.doc_bits.specs.Places.{Upto}
-use Rattle.doc_bits.proofs.Public.{hold_or_first}
 use Rattle.doc_outer.specs.Counts.{GoesOn, Rose}
 use Rattle.doc_outer.specs.Held.{Files, StaysAt}
 use Rattle.doc_outer.specs.declared.shelf.Shelf.{Ghosts as Shelf}
@@ -15,10 +13,8 @@ use Rattle.file_rules.specs.declared.fault.ReadFault.{ReadFault}
 use Rattle.file_rules.specs.declared.fault.ReadFault.TheVariants.{Refused, Memory as NoMemory}
 use Rattle.doc_read.specs.Holds.{IsAccepted, all_rules}
 use Rattle.doc_read.specs.Opened.{IsOpened, OpenedFile}
-use Rattle.doc_fit.specs.declared.opening.OpenedAny.{OpenedAny}
-use Rattle.doc_fit.specs.Opened.{IsOpenedAny}
-use Rattle.doc_fit.proofs.Public.{opened_holds, opened_lifts, fit_single}
-use Rattle.doc_fit.specs.Rules.{fit_rules}
+use Rattle.file_mends.specs.declared.mends.FileMend.{FileMend}
+use Rattle.doc_fit.specs.ReadAs.{IsReadAs}
 use Rattle.doc_pictures.specs.declared.album.AlbumFault.{AlbumFault}
 use Rattle.doc_pictures.specs.declared.album.AlbumFault.TheVariants.{There, Failed, Memory}
 use Rattle.doc_pictures.specs.declared.pictures.Picture.{Picture}
@@ -30,14 +26,14 @@ use Rattle.run_stages.specs.Reading.{IsFound}
 use Rattle.run_stages.specs.Stages.{BreaksLengthRule, IsMissing, IsOverlong, IsShelfFault}
 use Rattle.docview_run.specs.declared.view.View.{View}
 use Rattle.docview_run.specs.Requests.{Request}
-use Rattle.docview_run.specs.Viewed.{IsViewed}
+use Rattle.docview_run.specs.Viewed.{IsFaultStatus, IsViewed}
 use Rattle.docview_run.specs.Pictured.{ArePicturesOf, CutsIn, CutsOf, IsDataOf, IsFileThere, IsPictureName, Leaves, LeavesHeld}
 use Rattle.docview_run.specs.Pictured.{LeavesPictures, LeavesTaken, StaysViewed, WritesOf, WritesViewed, fault_status}
 use Rattle.docview_run.specs.Endings.{IsOfFile, PrintsPage, RunEnds, ShowsFile, ShowsHeld, ShowsName, ShowsPictured}
 use Rattle.docview_run.specs.Endings.{ShowsTaken, pictured_source}
 use Rattle.docview_run.proofs.EndLemmas.{ends_weaker, memory_ends, told_ends}
 use Rattle.docview_run.proofs.SafeLemmas.{not_viewed}
-use Rattle.docview_run.proofs.ViewLemmas.{not_accepted, viewed_one}
+use Rattle.docview_run.proofs.ViewLemmas.{not_accepted, unopened_ends}
 
 -- ---- the shelf of a run
 
@@ -99,16 +95,16 @@ taken_leaves shelf strict force folder name file status before mid now is found 
 }
 
 -- the document is the one that is shown
-pub viewed_leaves : (strict force : Bool) (folder file : List ℕ) (document : Document) (status : ℕ)
-    (before after : Option Files) → IsViewed strict file document →
-    LeavesHeld force folder file document status before after →
+pub viewed_leaves : (strict force : Bool) (folder file read : List ℕ) (document : Document) (status : ℕ)
+    (before after : Option Files) → IsViewed strict file read document →
+    LeavesHeld force folder read document status before after →
     LeavesTaken strict force folder file status before after
-viewed_leaves strict force folder file document status before after viewed leaves = record {
+viewed_leaves strict force folder file read document status before after viewed leaves = record {
   others = leaves.others;
-  written = λ done. record { document = document; viewed = viewed; writes = leaves.written done };
+  written = λ done. record { read = read; document = document; viewed = viewed; writes = leaves.written done };
   cut = elim leaves.cut [
     | inl same ↦ inl same
-    | inr stays ↦ inr (record { document = document; viewed = viewed; stays = stays })
+    | inr stays ↦ inr (record { read = read; document = document; viewed = viewed; stays = stays })
   ];
 }
 
@@ -130,15 +126,15 @@ none_leaves force folder file document status held other_status = record {
 }
 
 not_shown : (view : View) (name file : List ℕ) (outcome : Outcome) →
-    ((document : Document) → IsViewed view.strict file document → ⊥) → ShowsFile view None name file outcome →
-    outcome.status ≡ 0 → ⊥
+    ((read : List ℕ) (document : Document) → IsViewed view.strict file read document → ⊥) →
+    ShowsFile view None name file outcome → outcome.status ≡ 0 → ⊥
 not_shown view name file outcome none (inl not) done = not_viewed view name file outcome not done
-not_shown view name file outcome none (inr page) done = none page.document page.viewed
+not_shown view name file outcome none (inr page) done = none page.read page.document page.viewed
 
 -- a file without a document is not shown
 pub unviewed_leaves : {K : Type 0} (sink : Sink K) (out after : K) (view : View) (force : Bool)
     (folder name file : List ℕ) (status : ℕ) (held : Option Files) →
-    ((document : Document) → IsViewed view.strict file document → ⊥) →
+    ((read : List ℕ) (document : Document) → IsViewed view.strict file read document → ⊥) →
     RunEnds (ShowsFile view None name file) sink out after status →
     LeavesTaken view.strict force folder file status held held
 unviewed_leaves sink out after view force folder name file status held none ends =
@@ -215,29 +211,29 @@ named_ends sink out after view force folder name held status ends =
 
 -- the document is the one that is shown
 pub viewed_ends : {K : Type 0} (sink : Sink K) (out after : K) (view : View) (force : Bool)
-    (folder name file : List ℕ) (document : Document) (held : Option Files) (status : ℕ) →
-    IsViewed view.strict file document →
-    RunEnds (ShowsHeld view force folder file document held) sink out after status →
+    (folder name file read : List ℕ) (document : Document) (held : Option Files) (status : ℕ) →
+    IsViewed view.strict file read document →
+    RunEnds (ShowsHeld view force folder read document held) sink out after status →
     RunEnds (ShowsTaken view force folder name held file) sink out after status
-viewed_ends sink out after view force folder name file document held status viewed =
-    ends_weaker (ShowsHeld view force folder file document held) (ShowsTaken view force folder name held file) sink out
+viewed_ends sink out after view force folder name file read document held status viewed =
+    ends_weaker (ShowsHeld view force folder read document held) (ShowsTaken view force folder name held file) sink out
     after status
     (λ outcome shown. elim shown [
-      | inl page ↦ inl (inr (record { document = document; viewed = viewed; shows = page }))
+      | inl page ↦ inl (inr (record { read = read; document = document; viewed = viewed; shows = page }))
       | inr other ↦ inr other
     ])
 
 -- a file without a document
 pub unviewed_ends : {K : Type 0} (sink : Sink K) (out after : K) (view : View) (force : Bool)
     (folder name file : List ℕ) (held : Option Files) (status : ℕ) →
-    ((document : Document) → IsViewed view.strict file document → ⊥) →
+    ((read : List ℕ) (document : Document) → IsViewed view.strict file read document → ⊥) →
     RunEnds (ShowsFile view None name file) sink out after status →
     RunEnds (ShowsTaken view force folder name held file) sink out after status
 unviewed_ends sink out after view force folder name file held status none =
     ends_weaker (ShowsFile view None name file) (ShowsTaken view force folder name held file) sink out after status
     (λ outcome shown. elim shown [
       | inl not ↦ inl (inl not)
-      | inr page ↦ absurd (none page.document page.viewed)
+      | inr page ↦ absurd (none page.read page.document page.viewed)
     ])
 
 -- the pictures whose files were written are those of the document
@@ -343,17 +339,8 @@ taken_caused status missed_before missed_now before mid now after on rose = reco
 
 -- the document of a file that was opened is shown
 pub held_viewed : (strict : Bool) (file : List ℕ) (opened : OpenedFile) → IsOpened file opened →
-    IsViewed strict file opened.document
-held_viewed strict file opened is = inl (record { accepted = is.accepted; holds = is.holds })
-
--- and that which was lifted out of it
-pub lifted_viewed : (file : List ℕ) (opened : OpenedAny) → ¬ (IsAccepted file) → IsOpenedAny file opened →
-    IsViewed false file opened.lifted.document
-lifted_viewed file opened refused is =
-    inr (
-      refl,
-      record { refused = refused; rules = opened_holds file opened is; lifts = opened_lifts file opened is },
-    )
+    IsViewed strict file file opened.document
+held_viewed strict file opened is = inl (record { accepted = is.accepted; same = refl; holds = is.holds })
 
 -- a file that was refused is not accepted
 pub refused_by : (file : List ℕ) (fault : ReadFault) → fault ≢ NoMemory → IsReadFault (all_rules file) fault →
@@ -362,19 +349,20 @@ refused_by file NoMemory other is = absurd (other refl)
 refused_by file (Refused rule place offset) other is = not_accepted file rule (place, offset) is
 
 -- a strict view has no document of a file that breaks a rule
-pub none_strict : (strict : Bool) (file : List ℕ) (document : Document) → ¬ (IsAccepted file) → strict ≡ true →
-    IsViewed strict file document → ⊥
-none_strict strict file document refused is (inl held) = refused held.accepted
-none_strict strict file document refused is (inr (lifts, lifted)) = true≢false (sym is ∙ lifts)
+pub none_strict : (strict : Bool) (file read : List ℕ) (document : Document) → ¬ (IsAccepted file) → strict ≡ true →
+    IsViewed strict file read document → ⊥
+none_strict strict file read document refused is (inl held) = refused held.accepted
+none_strict strict file read document refused is (inr (lifts, lifted)) = true≢false (sym is ∙ lifts)
 
--- and none has one of a file that breaks one of the rules that are left
-pub none_lifted : (strict : Bool) (file : List ℕ) (document : Document) (fault : ReadFault) → AreBytes file →
-    ¬ (IsAccepted file) → fault ≢ NoMemory → IsReadFault (fit_rules file) fault → IsViewed strict file document → ⊥
-none_lifted strict file document NoMemory bytes refused other is viewed = absurd (other refl)
-none_lifted strict file document (Refused rule place offset) bytes refused other first (inl held) =
-    refused held.accepted
-none_lifted strict file document (Refused rule place offset) bytes refused other first (inr (lifts, lifted)) =
-    hold_or_first Upto (fit_rules file) rule (place, offset) (fit_single file bytes) lifted.rules first
+-- what is read in place of a file is refused, or memory ran out
+pub refused_ends : {K : Type 0} (sink : Sink K) (out : K) (view : View) (force : Bool)
+    (folder name file read : List ℕ) (mends : List FileMend) (held : Option Files) (status : ℕ) →
+    ¬ (IsAccepted file) → view.strict ≡ false → IsReadAs file mends read → IsFaultStatus read status →
+    RunEnds (ShowsTaken view force folder name held file) sink out out status
+refused_ends sink out view force folder name file read mends held status refused lifts read_as is =
+    ends_weaker (ShowsFile view (Some folder) name file) (ShowsTaken view force folder name held file) sink out out
+    status (λ outcome shown. inl shown)
+    (unopened_ends sink out (Some folder) name file read mends view status refused lifts read_as is)
 
 -- the fault of an answer
 pub same_fault : {A : Type 0} (fault : AlbumFault) → IsErrOf {T = A} (Err fault) There → fault ≡ There

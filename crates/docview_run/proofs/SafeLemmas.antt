@@ -62,7 +62,7 @@ pub not_viewed : (view : View) (name file : List ℕ) (outcome : Outcome) → Is
     outcome.status ≡ 0 → ⊥
 not_viewed view name file outcome (inl (is, x)) done = other_status outcome 1 _ x.ends (omega arith) done
 not_viewed view name file outcome (inr (is, x)) done =
-    let refused = x.ends in refused_status file name refused.rule refused.place outcome refused.ends done
+    let refused = x.ends in refused_status x.read name refused.rule refused.place outcome refused.ends done
 
 file_safe : (view : View) (folder : Option (List ℕ)) (name file : List ℕ) (outcome : Outcome) →
     ShowsFile view folder name file outcome → outcome.status ≡ 0 → IsSafePage view folder outcome.text
@@ -72,7 +72,7 @@ file_safe view folder name file outcome (inr shown) done =
     let source : PageSource = record { document = shown.document; images = page.images } in
     record {
       source = source;
-      files = files_in folder file shown.document page.images page.names;
+      files = files_in folder shown.read shown.document page.images page.names;
       safe =
           subst (λ (bytes : List ℕ). IsSafeIn view.form view.options source bytes)
           (sym (ap (λ (o : Outcome). o.text) page.ends)) (safe_in view.form view.options source page.bytes page.are);

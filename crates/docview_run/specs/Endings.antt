@@ -51,11 +51,12 @@ pub record ShowsDocument (view : View) (folder : Option (List ℕ)) (file : List
   pub are : IsPageIn view.form view.options (record { document = document; images = images }) bytes
   pub ends : outcome ≡ says 0 bytes
 
--- the page of the document of a file
+-- the page of the document of a file; the files of its pictures are those of what is read in place of it
 pub record ShowsPage (view : View) (folder : Option (List ℕ)) (file : List ℕ) (outcome : Outcome) : Type 0 where
+  pub read : List ℕ
   pub document : Document
-  pub viewed : IsViewed view.strict file document
-  pub shows : ShowsDocument view folder file document outcome
+  pub viewed : IsViewed view.strict file read document
+  pub shows : ShowsDocument view folder read document outcome
 
 -- a file is shown, or it has no document
 abbrev pub ShowsFile : View → Option (List ℕ) → (name file : List ℕ) → Outcome → Type 0

@@ -79,16 +79,18 @@ abbrev pub WritesSome : (force : Bool) → (folder file : List ℕ) → Document
 WritesSome force folder file document before after =
     WritesAll force folder file document before after ⊎ CutsOf force folder file document before after
 
--- those of the document that is shown
+-- those of the document that is shown, and of what is read in place of its file
 pub record WritesViewed (strict force : Bool) (folder file : List ℕ) (before after : Option Files) : Type 0 where
+  pub read : List ℕ
   pub document : Document
-  pub viewed : IsViewed strict file document
-  pub writes : WritesAll force folder file document before after
+  pub viewed : IsViewed strict file read document
+  pub writes : WritesAll force folder read document before after
 
 pub record StaysViewed (strict force : Bool) (folder file : List ℕ) (before after : Option Files) : Type 0 where
+  pub read : List ℕ
   pub document : Document
-  pub viewed : IsViewed strict file document
-  pub stays : WritesSome force folder file document before after
+  pub viewed : IsViewed strict file read document
+  pub stays : WritesSome force folder read document before after
 
 -- the same of the file of a name
 pub record WritesShown (strict force : Bool) (folder name : List ℕ) (before after : Option Files) : Type 0 where

@@ -1,35 +1,64 @@
 -- The document of a file that is shown, and why there is none.
 use Rattle.std.specs.Prelude.{◌≡◌, ◌⊎◌, ℕ, Bool, true, false, List}
+use Rattle.doc_bits.specs.Places.{Place, IsFirstPlace}
 use Rattle.doc_bits.specs.Rules.{Hold}
 use Rattle.plain_doc.specs.declared.document.Document.{Document}
 use Rattle.doc_read.specs.Holds.{HoldsDocument, IsAccepted, all_rules}
-use Rattle.doc_fit.specs.Rules.{LiftsTo, fit_rules}
-use Rattle.doc_fit.specs.Refusals.{IsFitRefused}
+use Rattle.doc_mends.specs.declared.mends.Mend.{Mend}
+use Rattle.file_mends.specs.declared.mends.FileMend.{FileMend}
+use Rattle.doc_fit.specs.Rules.{fit_rules}
+use Rattle.doc_fit.specs.Noted.{AreNoted, IsDocumentWith}
+use Rattle.doc_fit.specs.ReadAs.{IsReadAs}
+use Rattle.doc_fit.specs.Refusals.{IsFitRefused, IsRefusalStatus}
 use Rattle.run_stages.specs.Judged.{IsRefused}
 use Rattle.run_stages.specs.Outcomes.{Outcome}
 
--- a file that breaks no rule has this document
-pub record IsHeldIn (file : List ℕ) (document : Document) : Type 0 where
+-- a file that breaks no rule is read as it is, and has this document
+pub record IsHeldIn (file read : List ℕ) (document : Document) : Type 0 where
   pub accepted : IsAccepted file
+  pub same : read ≡ file
   pub holds : HoldsDocument file document
 
--- a file that breaks a rule, but none of those that are left, has this document
-pub record IsLiftedOut (file : List ℕ) (document : Document) : Type 0 where
+-- what is read breaks none of the rules that are left, and has this document, with its endnotes as notes where they can be
+pub record IsLiftedFrom (read : List ℕ) (document : Document) : Type 0 where
+  pub rules : Hold (fit_rules read)
+  pub noted : Bool
+  pub are_noted : AreNoted false read noted
+  pub mends : List Mend
+  pub document_is : IsDocumentWith noted read document mends
+
+-- a file that breaks a rule, and what is read in place of it, with its bytes mended, has this document
+pub record IsLiftedOut (file read : List ℕ) (document : Document) : Type 0 where
   pub refused : ¬ (IsAccepted file)
-  pub rules : Hold (fit_rules file)
-  pub lifts : LiftsTo file document
+  pub mends : List FileMend
+  pub read_as : IsReadAs file mends read
+  pub lifts : IsLiftedFrom read document
 
--- the document of a file; a strict view has only that of a file that breaks no rule
-abbrev pub IsViewed : (strict : Bool) → List ℕ → Document → Type 0
-IsViewed strict file document = IsHeldIn file document ⊎ ((strict ≡ false) × IsLiftedOut file document)
+-- what is read of a file, and its document; a strict view has only that of a file that breaks no rule
+abbrev pub IsViewed : (strict : Bool) → (file read : List ℕ) → Document → Type 0
+IsViewed strict file read document =
+    IsHeldIn file read document ⊎ ((strict ≡ false) × IsLiftedOut file read document)
 
--- a file breaks a rule, and one of those that are left
+-- a file breaks a rule, and what is read in place of it breaks one of those that are left
 pub record IsNotLifted (file name : List ℕ) (outcome : Outcome) : Type 0 where
   pub refused : ¬ (IsAccepted file)
-  pub ends : IsFitRefused file name outcome
+  pub mends : List FileMend
+  pub read : List ℕ
+  pub read_as : IsReadAs file mends read
+  pub ends : IsFitRefused read name outcome
 
 -- why there is none: the first of the rules that are left, or of all rules in a strict view
 abbrev pub IsNotViewed : (strict : Bool) → (file name : List ℕ) → Outcome → Type 0
 IsNotViewed strict file name outcome =
     ((strict ≡ true) × IsRefused (all_rules file) name outcome)
     ⊎ ((strict ≡ false) × IsNotLifted file name outcome)
+
+-- the status of what is not opened: that of its first rule, or of want of memory
+pub record IsStatusOf (read : List ℕ) (status : ℕ) : Type 0 where
+  pub rule : ℕ
+  pub place : Place
+  pub first : IsFirstPlace (fit_rules read) rule place
+  pub is : IsRefusalStatus rule status
+
+abbrev pub IsFaultStatus : (read : List ℕ) → ℕ → Type 0
+IsFaultStatus read status = IsStatusOf read status ⊎ (status ≡ 6)

@@ -1,19 +1,41 @@
-// The page of a file that breaks a rule: its document is lifted out of it, and what is left out is told.
+// The page of a file that breaks a rule: its document is lifted out of what is read in place of it, and what is left out
+// and mended is told.
 ghost use Rattle.std.specs.Prelude.{◌≡◌, false, None};
+ghost use Rattle.file_mends.specs.Mends.{bytes_read};
+ghost use Rattle.file_rules.specs.Faults.{IsReadFault};
 ghost use Rattle.plain_doc.specs.Sound.{IsSound};
 ghost use Rattle.doc_read.specs.Holds.{IsAccepted};
+ghost use Rattle.doc_fit.specs.ReadAs.{IsOpenedFile};
+ghost use Rattle.doc_fit.specs.Rules.{fit_rules};
 ghost use Rattle.docview_run.specs.Endings.{IsOfFile, PrintsPage, RunEnds, ShowsFile, bare};
+ghost use Rattle.docview_run.specs.Viewed.{IsFaultStatus};
 
 use crate::View;
 use crate::run::{show_document, tell, tell_refusal};
-use doc_bits::{Memory, Text};
-use doc_fit::{OpenedAny, open_any, status_of_rule, why_not_opened};
-use doc_mends::{Mend, push_mends};
+use doc_bits::{Memory, Text, drop_then};
+use doc_fit::{OpenedAny, OpenedFile, open_file, status_of_rule, why_not_opened};
+use doc_mends::push_mends;
 use doc_outer::Sink;
+use file_mends::{FileMend, push_file_mends};
 use file_rules::ReadFault;
 use loss_report::LossLines;
 use run_stages::{STATUS_DONE, STATUS_MEMORY, reason_of_name};
 use std::alloc::Global;
+
+/// A file that was read: its name, its bytes, and what of it is shown.
+#[derive(Clone, Copy)]
+struct FileView<'a> {
+    name: &'a str,
+    file: &'a [u8],
+    view: View,
+}
+
+/// What was lifted out of a file, and the mends of its bytes.
+#[derive(Clone, Copy)]
+pub(crate) struct MendedDocument<'a> {
+    pub(crate) opened: &'a OpenedAny,
+    pub(crate) mends: &'a [FileMend],
+}
 
 /// Shows the document that is lifted out of a file which breaks a rule.
 pub(crate) fn show_lifted<K: Sink, E: Sink>(
@@ -29,53 +51,95 @@ pub(crate) fn show_lifted<K: Sink, E: Sink>(
     ensures ends { RunEnds (ShowsFile view None name.now file.now) K.Sink out.old out.new result }
     ensures after { IsOfFile result }
 {
-    match open_any(alloc, file) {
+    let Ok(found) = open_file(alloc, file, false) else {
+        return STATUS_MEMORY;
+    };
+    let shown = FileView { name, file, view };
+    let status = show_found(alloc, &shown, &found, out, reasons);
+    drop_then(found, status)
+}
+
+/// Shows what was opened in place of a file, or tells why it was not.
+fn show_found<K: Sink, E: Sink>(
+    alloc: Global,
+    shown: &FileView<'_>,
+    found: &OpenedFile,
+    out: &mut K,
+    reasons: &mut E,
+) -> u8
+    requires refused { ¬ (IsAccepted shown.now.file.now) }
+    requires lifts { shown.now.view.strict ≡ false }
+    requires opened { IsOpenedFile false shown.now.file.now found.now }
+    ensures ends { RunEnds (ShowsFile shown.now.view None shown.now.name.now shown.now.file.now)
+        K.Sink out.old out.new result }
+    ensures after { IsOfFile result }
+{
+    match &found.opened {
         Ok(opened) => {
-            let status = show_opened(alloc, name, &opened, view, out, reasons);
-            drop(opened);
-            status
+            let mended = MendedDocument {
+                opened,
+                mends: found.mended.mends(),
+            };
+            show_opened(alloc, shown.name, &mended, shown.view, out, reasons)
         }
-        Err(ReadFault::Memory) => STATUS_MEMORY,
-        Err(
-            ReadFault::Refused {
-                rule,
-                place,
-                offset,
-            },
-        ) => {
-            let why = why_not_opened(rule, file);
+        Err(fault) => {
+            let read = found.mended.bytes(shown.file);
+            tell_read_fault(alloc, shown.name, read, *fault, reasons)
+        }
+    }
+}
+
+/// Shows what was opened, and tells what is left out of it and what is mended.
+fn show_opened<K: Sink, E: Sink>(
+    alloc: Global,
+    name: &str,
+    mended: &MendedDocument<'_>,
+    view: View,
+    out: &mut K,
+    reasons: &mut E,
+) -> u8
+    requires { IsSound mended.now.opened.now.lifted.document }
+    ensures ends { RunEnds (PrintsPage view (bare mended.now.opened.now.lifted.document)) K.Sink out.old out.new result }
+    ensures after { IsOfFile result }
+{
+    let Ok(lines) = lines_of(alloc, name, mended) else {
+        return STATUS_MEMORY;
+    };
+    let status = show_document(alloc, &mended.opened.lifted.document, view, out);
+    if status == STATUS_DONE {
+        lines.tell(reasons, &mended.opened.losses);
+    }
+    status
+}
+
+/// Tells why a file is not opened, and answers the status.
+pub(crate) fn tell_read_fault<E: Sink>(
+    alloc: Global,
+    name: &str,
+    read: &[u8],
+    fault: ReadFault,
+    reasons: &mut E,
+) -> u8
+    requires { IsReadFault (fit_rules read.now) fault }
+    ensures { IsFaultStatus read.now result }
+{
+    match fault {
+        ReadFault::Refused {
+            rule,
+            place,
+            offset,
+        } => {
+            let why = why_not_opened(rule, read);
             match tell_refusal(alloc, name, rule, (place, offset), why, reasons) {
                 Ok(()) => status_of_rule(rule),
                 Err(_) => STATUS_MEMORY,
             }
         }
+        ReadFault::Memory => STATUS_MEMORY,
     }
 }
 
-/// Shows what was opened, and tells what is left out of it.
-fn show_opened<K: Sink, E: Sink>(
-    alloc: Global,
-    name: &str,
-    opened: &OpenedAny,
-    view: View,
-    out: &mut K,
-    reasons: &mut E,
-) -> u8
-    requires { IsSound opened.now.lifted.document }
-    ensures ends { RunEnds (PrintsPage view (bare opened.now.lifted.document)) K.Sink out.old out.new result }
-    ensures after { IsOfFile result }
-{
-    let Ok(lines) = lines_of(alloc, name, opened) else {
-        return STATUS_MEMORY;
-    };
-    let status = show_document(alloc, &opened.lifted.document, view, out);
-    if status == STATUS_DONE {
-        lines.tell(reasons, &opened.losses);
-    }
-    status
-}
-
-/// What is told of a document that was lifted out of a file: how lines begin, and mends.
+/// What is told of a document that was lifted out of a file: how lines begin, and the mends.
 #[derive(Drop)]
 pub(crate) struct LiftedLines {
     left_out: Text,
@@ -87,12 +151,12 @@ pub(crate) struct LiftedLines {
 pub(crate) fn lines_of(
     alloc: Global,
     name: &str,
-    opened: &OpenedAny,
+    mended: &MendedDocument<'_>,
 ) -> Result<LiftedLines, Memory> {
     Ok(LiftedLines {
         left_out: reason_of_name(alloc, name, "left out: ")?,
         mended: reason_of_name(alloc, name, "mended: ")?,
-        mends: mend_lines(alloc, &opened.mends)?,
+        mends: mend_lines(alloc, mended)?,
     })
 }
 
@@ -104,10 +168,11 @@ impl LiftedLines {
     }
 }
 
-/// The lines of mends, in one text.
-fn mend_lines(alloc: Global, mends: &[Mend]) -> Result<Text, Memory> {
+/// The lines of the mends of the bytes, and of those of the document, in one text.
+fn mend_lines(alloc: Global, mended: &MendedDocument<'_>) -> Result<Text, Memory> {
     let mut lines = Text::new(alloc);
-    push_mends(alloc, &mut lines, mends)?;
+    push_file_mends(alloc, &mut lines, mended.mends)?;
+    push_mends(alloc, &mut lines, &mended.opened.mends)?;
     Ok(lines)
 }
 

@@ -4,6 +4,7 @@ ghost use Rattle.doc_bits.specs.Number.{AreBytes};
 ghost use Rattle.doc_outer.specs.Counts.{Rose};
 ghost use Rattle.doc_outer.specs.Held.{StaysAt};
 ghost use Rattle.doc_read.specs.Holds.{IsAccepted};
+ghost use Rattle.doc_fit.specs.ReadAs.{IsOpenedFile};
 ghost use Rattle.html_page.specs.Sources.{source_of};
 ghost use Rattle.plain_doc.specs.Sound.{IsSound};
 ghost use Rattle.run_stages.specs.Leaves.{IsCaused};
@@ -13,12 +14,12 @@ ghost use Rattle.docview_run.specs.Pictured.{CutsIn, CutsOf, IsDataIn, IsFileThe
 ghost use Rattle.docview_run.specs.Pictured.{LeavesPictures, LeavesTaken, WritesIn, WritesOf, fault_status};
 
 use crate::View;
-use crate::lifting::{lines_of, show_lifted};
+use crate::lifting::{MendedDocument, lines_of, tell_read_fault};
 use crate::run::{PROGRAM, show_file, show_source, tell};
 use cfb_streams::Container;
 use doc_bits::drop_then;
 use doc_columns::ColumnDocument;
-use doc_fit::{OpenedAny, open_any};
+use doc_fit::{OpenedFile, open_file};
 use doc_outer::{Shelf, Sink};
 use doc_pictures::{Album, AlbumFault, Images, Pictures, pictures_of, write_pictures};
 use doc_read::open;
@@ -41,7 +42,7 @@ pub(crate) struct Pictured<'a> {
     pub(crate) album: Album<'a>,
 }
 
-/// The same, and the bytes of the file.
+/// The same, and the bytes of the file, or what is read in place of it.
 #[derive(Clone, Copy)]
 struct Taken<'a> {
     asked: Pictured<'a>,
@@ -124,45 +125,83 @@ fn show_refused<S: Shelf, K: Sink, E: Sink>(
     if asked.view.strict {
         return show_file(alloc, asked.name, file, asked.view, out, reasons);
     }
-    match open_any(alloc, file) {
+    let Ok(found) = open_file(alloc, file, false) else {
+        return STATUS_MEMORY;
+    };
+    let taken = Taken {
+        asked: *asked,
+        file,
+    };
+    let status = show_found(alloc, shelf, &taken, &found, out, reasons);
+    drop_then(found, status)
+}
+
+/// The same of what was opened in place of a file, or why it was not.
+fn show_found<S: Shelf, K: Sink, E: Sink>(
+    alloc: Global,
+    shelf: &mut S,
+    taken: &Taken<'_>,
+    found: &OpenedFile,
+    out: &mut K,
+    reasons: &mut E,
+) -> u8
+    requires refused { ¬ (IsAccepted taken.now.file.now) }
+    requires lifts { taken.now.asked.view.strict ≡ false }
+    requires opened { IsOpenedFile false taken.now.file.now found.now }
+    ensures ends { RunEnds (ShowsTaken taken.now.asked.view taken.now.asked.album.force taken.now.asked.album.folder.now
+        taken.now.asked.name.now (S.held shelf.old) taken.now.file.now) K.Sink out.old out.new result }
+    ensures leaves { LeavesTaken taken.now.asked.view.strict taken.now.asked.album.force taken.now.asked.album.folder.now
+        taken.now.file.now result (S.held shelf.old) (S.held shelf.new) }
+    ensures failed { result ≡ 4 → Rose (S.faults shelf.old) (S.faults shelf.new) }
+    ensures after { (result < 2) ⊎ (3 < result) }
+{
+    let read = found.mended.bytes(taken.file);
+    match &found.opened {
         Ok(opened) => {
-            let taken = Taken {
-                asked: *asked,
-                file,
+            let mended = MendedDocument {
+                opened,
+                mends: found.mended.mends(),
             };
-            let status = show_opened(alloc, shelf, &taken, &opened, out, reasons);
-            drop_then(opened, status)
+            let taken = Taken {
+                asked: taken.asked,
+                file: read,
+            };
+            show_opened(alloc, shelf, &taken, &mended, out, reasons)
         }
-        Err(ReadFault::Memory) => STATUS_MEMORY,
-        Err(ReadFault::Refused { .. }) => {
-            show_lifted(alloc, asked.name, file, asked.view, out, reasons)
-        }
+        Err(fault) => tell_read_fault(alloc, taken.asked.name, read, *fault, reasons),
     }
 }
 
-/// The same of what was opened; what is left out of it is told.
+/// The same of what was opened; what is left out of it and what is mended is told.
 fn show_opened<S: Shelf, K: Sink, E: Sink>(
     alloc: Global,
     shelf: &mut S,
     taken: &Taken<'_>,
-    opened: &OpenedAny,
+    mended: &MendedDocument<'_>,
     out: &mut K,
     reasons: &mut E,
 ) -> u8
-    requires { IsSound opened.now.lifted.document }
+    requires { IsSound mended.now.opened.now.lifted.document }
     ensures ends { RunEnds (ShowsHeld taken.now.asked.view taken.now.asked.album.force taken.now.asked.album.folder.now
-        taken.now.file.now opened.now.lifted.document (S.held shelf.old)) K.Sink out.old out.new result }
+        taken.now.file.now mended.now.opened.now.lifted.document (S.held shelf.old)) K.Sink out.old out.new result }
     ensures leaves { LeavesHeld taken.now.asked.album.force taken.now.asked.album.folder.now taken.now.file.now
-        opened.now.lifted.document result (S.held shelf.old) (S.held shelf.new) }
+        mended.now.opened.now.lifted.document result (S.held shelf.old) (S.held shelf.new) }
     ensures failed { result ≡ 4 → Rose (S.faults shelf.old) (S.faults shelf.new) }
     ensures after { (result < 2) ⊎ (3 < result) }
 {
-    let Ok(lines) = lines_of(alloc, taken.asked.name, opened) else {
+    let Ok(lines) = lines_of(alloc, taken.asked.name, mended) else {
         return STATUS_MEMORY;
     };
-    let status = show_held(alloc, shelf, taken, &opened.lifted.document, out, reasons);
+    let status = show_held(
+        alloc,
+        shelf,
+        taken,
+        &mended.opened.lifted.document,
+        out,
+        reasons,
+    );
     if status == STATUS_DONE {
-        lines.tell(reasons, &opened.losses);
+        lines.tell(reasons, &mended.opened.losses);
     }
     status
 }

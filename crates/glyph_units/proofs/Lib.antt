@@ -1,3 +1,4 @@
 pub mod Public
 mod RunLemmas
 mod ScalarLemmas
+mod SizeLemmas

@@ -16,6 +16,7 @@ use Rattle.view_places.specs.declared.element.Element.TheVariants.{Notes, Note, 
 use Rattle.view_places.specs.declared.element.Element.TheVariants.{HeadCell, List as AList, Item, Paragraph, Label}
 use Rattle.view_places.specs.declared.element.Element.TheVariants.{Reference, BackLink, Bold, Italic, Underline, Strike}
 use Rattle.view_places.specs.declared.element.Element.TheVariants.{SmallCaps, Caps, Raised, Lowered, Link, Anchor}
+use Rattle.view_places.specs.declared.element.Element.TheVariants.{NestedTable, NestedRow, NestedCell}
 use Rattle.view_places.specs.declared.glyph.Glyph.{Glyph}
 use Rattle.view_places.specs.declared.glyph.Glyph.TheVariants.{Unit, Tab, LineBreak, PageBreak, NoteMark, Picture}
 use Rattle.view_places.specs.declared.glyph.Glyph.TheVariants.{Object}
@@ -150,6 +151,9 @@ no_end-plain (Row first) = refl
 no_end-plain (Cell cell) = no_end-span cell.span
 no_end-plain (HeadCell cell) =
     have_no_end-cons (attribute (codes "scope") (codes "col")) (span_attributes cell.span) refl (no_end-span cell.span)
+no_end-plain (NestedTable first) = refl
+no_end-plain (NestedRow first) = refl
+no_end-plain (NestedCell number) = refl
 no_end-plain (AList list) = no_end-list list.is_ordered
 no_end-plain (Item number) = refl
 no_end-plain (Paragraph paragraph) = no_end-paragraph paragraph
@@ -213,6 +217,9 @@ no_end-attributes document TableBody = no_end-plain TableBody
 no_end-attributes document (Row first) = no_end-plain (Row first)
 no_end-attributes document (Cell cell) = no_end-plain (Cell cell)
 no_end-attributes document (HeadCell cell) = no_end-plain (HeadCell cell)
+no_end-attributes document (NestedTable first) = no_end-plain (NestedTable first)
+no_end-attributes document (NestedRow first) = no_end-plain (NestedRow first)
+no_end-attributes document (NestedCell number) = no_end-plain (NestedCell number)
 no_end-attributes document (AList list) = no_end-plain (AList list)
 no_end-attributes document (Item number) = no_end-plain (Item number)
 no_end-attributes document (Paragraph paragraph) = no_end-plain (Paragraph paragraph)
@@ -230,7 +237,7 @@ no_end-attributes document Lowered = no_end-plain Lowered
 no_end-attributes document (Link link) = no_end-link (url_in (instruction_of document link))
 no_end-attributes document (Anchor number) = no_end-anchor (bookmark_name document number)
 
-by_level : (level : ℕ) (P : List ℕ → Type 0) → P (codes "p") → P (codes "h1") → P (codes "h2") → P (codes "h3") → P
+pub by_level : (level : ℕ) (P : List ℕ → Type 0) → P (codes "p") → P (codes "h1") → P (codes "h2") → P (codes "h3") → P
     (codes
     "h4") → P (codes "h5") → P (codes "h6") → P (paragraph_name level)
 by_level level P p one two three four five six =
@@ -288,6 +295,12 @@ by_name (Cell cell) P section aside table thead tbody tr td th ol ul li p h1 h2 
     td
 by_name (HeadCell cell) P section aside table thead tbody tr td th ol ul li p h1 h2 h3 h4 h5 h6 span a b i u s sup
     sub = th
+by_name (NestedTable first) P section aside table thead tbody tr td th ol ul li p h1 h2 h3 h4 h5 h6 span a b i u s sup
+    sub = table
+by_name (NestedRow first) P section aside table thead tbody tr td th ol ul li p h1 h2 h3 h4 h5 h6 span a b i u s sup
+    sub = tr
+by_name (NestedCell number) P section aside table thead tbody tr td th ol ul li p h1 h2 h3 h4 h5 h6 span a b i u s sup
+    sub = td
 by_name (AList list) P section aside table thead tbody tr td th ol ul li p h1 h2 h3 h4 h5 h6 span a b i u s sup sub =
     by_order list.is_ordered P ol ul
 by_name (Item number) P section aside table thead tbody tr td th ol ul li p h1 h2 h3 h4 h5 h6 span a b i u s sup sub =

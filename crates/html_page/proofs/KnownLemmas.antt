@@ -14,6 +14,7 @@ use Rattle.view_places.specs.declared.element.Element.TheVariants.{Notes, Note, 
 use Rattle.view_places.specs.declared.element.Element.TheVariants.{HeadCell, List as AList, Item, Paragraph, Label}
 use Rattle.view_places.specs.declared.element.Element.TheVariants.{Reference, BackLink, Bold, Italic, Underline, Strike}
 use Rattle.view_places.specs.declared.element.Element.TheVariants.{SmallCaps, Caps, Raised, Lowered, Link, Anchor}
+use Rattle.view_places.specs.declared.element.Element.TheVariants.{NestedTable, NestedRow, NestedCell}
 use Rattle.view_places.specs.declared.glyph.Glyph.{Glyph}
 use Rattle.view_places.specs.declared.glyph.Glyph.TheVariants.{Unit, Tab, LineBreak, PageBreak, NoteMark, Picture}
 use Rattle.view_places.specs.declared.glyph.Glyph.TheVariants.{Object}
@@ -137,6 +138,9 @@ known_plain images (Cell cell) = known_span images cell.span
 known_plain images (HeadCell cell) =
     attribute-cons images (attribute (codes "scope") (codes "col")) (span_attributes cell.span) (inl (0, (7, refl))) (known_span images
     cell.span)
+known_plain images (NestedTable first) = no_attributes images
+known_plain images (NestedRow first) = no_attributes images
+known_plain images (NestedCell number) = no_attributes images
 known_plain images (AList list) =
     optional-one images list.is_ordered (attribute (codes "style") (codes "list-style:none")) (inl (0, (8, refl)))
 known_plain images (Item number) = no_attributes images
@@ -197,6 +201,9 @@ known_attributes_of images document TableBody = known_plain images TableBody
 known_attributes_of images document (Row first) = known_plain images (Row first)
 known_attributes_of images document (Cell cell) = known_plain images (Cell cell)
 known_attributes_of images document (HeadCell cell) = known_plain images (HeadCell cell)
+known_attributes_of images document (NestedTable first) = known_plain images (NestedTable first)
+known_attributes_of images document (NestedRow first) = known_plain images (NestedRow first)
+known_attributes_of images document (NestedCell number) = known_plain images (NestedCell number)
 known_attributes_of images document (AList list) = known_plain images (AList list)
 known_attributes_of images document (Item number) = known_plain images (Item number)
 known_attributes_of images document (Paragraph paragraph) = known_plain images (Paragraph paragraph)

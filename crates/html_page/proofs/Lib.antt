@@ -5,3 +5,4 @@ mod BracketLemmas
 mod PutLemmas
 mod UnitLemmas
 mod PathLemmas
+mod SizeLemmas

@@ -3,6 +3,7 @@ pub mod Sources
 pub mod Images
 pub mod Languages
 pub mod Pages
+pub mod Lengths
 pub mod Known
 pub mod Brackets
 pub mod Laws

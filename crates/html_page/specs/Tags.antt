@@ -12,6 +12,7 @@ use Rattle.view_places.specs.declared.element.Element.TheVariants.{Notes, Note, 
 use Rattle.view_places.specs.declared.element.Element.TheVariants.{HeadCell, List as AList, Item, Paragraph, Label}
 use Rattle.view_places.specs.declared.element.Element.TheVariants.{Reference, BackLink, Bold, Italic, Underline, Strike}
 use Rattle.view_places.specs.declared.element.Element.TheVariants.{SmallCaps, Caps, Raised, Lowered, Link, Anchor}
+use Rattle.view_places.specs.declared.element.Element.TheVariants.{NestedTable, NestedRow, NestedCell}
 use Rattle.view_places.specs.declared.element.Paragraph.{Paragraph as ParagraphForm}
 use Rattle.view_places.specs.declared.element.Span.{Span}
 use Rattle.link_targets.specs.Links.{bookmark_name, instruction_of, url_in}
@@ -35,6 +36,9 @@ name_of TableBody = codes "tbody"
 name_of (Row first) = codes "tr"
 name_of (Cell cell) = codes "td"
 name_of (HeadCell cell) = codes "th"
+name_of (NestedTable first) = codes "table"
+name_of (NestedRow first) = codes "tr"
+name_of (NestedCell number) = codes "td"
 name_of (AList list) = if list.is_ordered then codes "ol" else codes "ul"
 name_of (Item number) = codes "li"
 name_of (Paragraph paragraph) = paragraph_name paragraph.level
@@ -97,6 +101,9 @@ plain_attributes TableBody = []
 plain_attributes (Row first) = []
 plain_attributes (Cell cell) = span_attributes cell.span
 plain_attributes (HeadCell cell) = attribute (codes "scope") (codes "col") ∷ span_attributes cell.span
+plain_attributes (NestedTable first) = []
+plain_attributes (NestedRow first) = []
+plain_attributes (NestedCell number) = []
 plain_attributes (AList list) = optional list.is_ordered (attribute (codes "style") (codes "list-style:none"))
 plain_attributes (Item number) = []
 plain_attributes (Paragraph paragraph) = paragraph_attributes paragraph
@@ -149,6 +156,9 @@ ends_line TableBody = true
 ends_line (Row first) = true
 ends_line (Cell cell) = true
 ends_line (HeadCell cell) = true
+ends_line (NestedTable first) = true
+ends_line (NestedRow first) = true
+ends_line (NestedCell number) = true
 ends_line (AList list) = true
 ends_line (Item number) = true
 ends_line (Paragraph paragraph) = true

@@ -44,6 +44,9 @@ pub(crate) fn push_attributes<K: Sink>(
         | Element::TableHead
         | Element::TableBody
         | Element::Row(_)
+        | Element::NestedTable(_)
+        | Element::NestedRow(_)
+        | Element::NestedCell(_)
         | Element::Item(_)
         | Element::Bold
         | Element::Italic

@@ -19,6 +19,9 @@ pub(crate) fn name_of(element: Element) -> &'static [u8]
         Element::Row(_) => b"tr",
         Element::Cell(_) => b"td",
         Element::HeadCell(_) => b"th",
+        Element::NestedTable(_) => b"table",
+        Element::NestedRow(_) => b"tr",
+        Element::NestedCell(_) => b"td",
         Element::List(list) => list_name(list.is_ordered),
         Element::Item(_) => b"li",
         Element::Paragraph(paragraph) => paragraph_name(paragraph.level),
@@ -74,6 +77,9 @@ pub(crate) fn has_tags(element: Element) -> bool
         | Element::TableHead
         | Element::TableBody
         | Element::Row(_)
+        | Element::NestedTable(_)
+        | Element::NestedRow(_)
+        | Element::NestedCell(_)
         | Element::List(_)
         | Element::Item(_)
         | Element::Paragraph(_)
@@ -106,6 +112,9 @@ pub(crate) fn ends_line(element: Element) -> bool
         | Element::Row(_)
         | Element::Cell(_)
         | Element::HeadCell(_)
+        | Element::NestedTable(_)
+        | Element::NestedRow(_)
+        | Element::NestedCell(_)
         | Element::List(_)
         | Element::Item(_)
         | Element::Paragraph(_)

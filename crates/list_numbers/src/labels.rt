@@ -121,7 +121,7 @@ fn shown_units(alloc: Global, font: Option<SymbolFont>, units: Units) -> Result<
     Ok(shown)
 }
 
-/// The same, one by one.
+/// Units as a symbol font shows them, one by one.
 fn in_font(alloc: Global, font: SymbolFont, units: &[u16]) -> Result<Units, Memory>
     ensures { IfOk result (λ shown. shown ≡ map (shown_unit (Some font)) units.now) }
 {

@@ -12,6 +12,7 @@ use Rattle.view_paths.specs.Paths.{last_path}
 use Rattle.view_places.specs.declared.element.Element.{Element}
 use Rattle.view_places.specs.declared.element.Element.TheVariants.{Notes, Note, Table, TableHead, TableBody, Row, Cell}
 use Rattle.view_places.specs.declared.element.Element.TheVariants.{HeadCell, List as AList, Item, Paragraph, Label}
+use Rattle.view_places.specs.declared.element.Element.TheVariants.{NestedTable, NestedRow, NestedCell}
 use Rattle.view_places.specs.declared.element.Element.TheVariants.{Reference, BackLink, Bold, Italic, Underline, Strike}
 use Rattle.view_places.specs.declared.element.Element.TheVariants.{SmallCaps, Caps, Raised, Lowered, Link as ALink, Anchor}
 use Rattle.view_places.specs.declared.glyph.Glyph.{Glyph}
@@ -109,6 +110,9 @@ scheme_at document TableBody url is = absurd (cc (is))
 scheme_at document (Row first) url is = absurd (cc (is))
 scheme_at document (Cell number) url is = absurd (cc (is))
 scheme_at document (HeadCell number) url is = absurd (cc (is))
+scheme_at document (NestedTable first) url is = absurd (cc (is))
+scheme_at document (NestedRow first) url is = absurd (cc (is))
+scheme_at document (NestedCell number) url is = absurd (cc (is))
 scheme_at document (AList list) url is = absurd (cc (is))
 scheme_at document (Item number) url is = absurd (cc (is))
 scheme_at document (Paragraph paragraph) url is = absurd (cc (is))

@@ -4,5 +4,7 @@ mod PutLemmas
 mod RightLemmas
 mod PageLemmas
 mod ShapeLemmas
+mod KeptLemmas
 mod AllowedLemmas
 mod RunLemmas
+mod SizeLemmas

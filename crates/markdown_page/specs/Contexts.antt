@@ -5,6 +5,7 @@ use Rattle.std.specs.Prelude.{List, [], ◌∷◌, if◌then◌else◌}
 use Rattle.view_places.specs.declared.element.Element.{Element}
 use Rattle.view_places.specs.declared.element.Element.TheVariants.{Notes, Note, Table, TableHead, TableBody, Row, Cell}
 use Rattle.view_places.specs.declared.element.Element.TheVariants.{HeadCell, List as AList, Item, Paragraph, Label}
+use Rattle.view_places.specs.declared.element.Element.TheVariants.{NestedTable, NestedRow, NestedCell}
 use Rattle.view_places.specs.declared.element.Element.TheVariants.{Reference, BackLink, Bold, Italic, Underline, Strike}
 use Rattle.view_places.specs.declared.element.Element.TheVariants.{Link, Anchor}
 use Rattle.view_places.specs.declared.element.Element.TheVariants.{SmallCaps, Caps, Raised, Lowered}
@@ -78,6 +79,9 @@ opened context TableBody = cut context
 opened context (Row first) = row_opened context
 opened context (Cell number) = cell_opened context
 opened context (HeadCell number) = cell_opened context
+opened context (NestedTable first) = cut context
+opened context (NestedRow first) = cut context
+opened context (NestedCell number) = cut context
 opened context (AList list) = cut context
 opened context (Item number) = item_opened context
 opened context (Paragraph paragraph) = line_begun context (not (paragraph.level == 0))
@@ -128,6 +132,9 @@ closed context TableBody = cut context
 closed context (Row first) = row_closed context
 closed context (Cell number) = cell_closed context
 closed context (HeadCell number) = cell_closed context
+closed context (NestedTable first) = cut context
+closed context (NestedRow first) = cut context
+closed context (NestedCell number) = cut context
 closed context (AList list) = cut context
 closed context (Item number) = item_closed context
 closed context (Paragraph paragraph) = paragraph_closed_in context.cell context

@@ -5,5 +5,6 @@ pub mod Shape
 pub mod Runs
 pub mod Destinations
 pub mod Pages
+pub mod Lengths
 pub mod Printed
 pub mod Laws

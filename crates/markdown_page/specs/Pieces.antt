@@ -8,6 +8,7 @@ use Rattle.markdown_text.specs.Tokens.{Tag as ATag}
 use Rattle.view_places.specs.declared.element.Element.{Element}
 use Rattle.view_places.specs.declared.element.Element.TheVariants.{Notes, Note, Table, TableHead, TableBody, Row, Cell}
 use Rattle.view_places.specs.declared.element.Element.TheVariants.{HeadCell, List as AList, Item, Paragraph, Label}
+use Rattle.view_places.specs.declared.element.Element.TheVariants.{NestedTable, NestedRow, NestedCell}
 use Rattle.view_places.specs.declared.element.Element.TheVariants.{Reference, BackLink, Bold, Italic, Underline, Strike}
 use Rattle.view_places.specs.declared.element.Element.TheVariants.{Link, Anchor}
 use Rattle.view_places.specs.declared.element.Element.TheVariants.{SmallCaps, Caps, Raised, Lowered}
@@ -123,6 +124,9 @@ opening context TableBody = none
 opening context (Row first) = one (indent context)
 opening context (Cell number) = one (cell_front context)
 opening context (HeadCell number) = one (cell_front context)
+opening context (NestedTable first) = none
+opening context (NestedRow first) = none
+opening context (NestedCell number) = none
 opening context (AList list) = none
 opening context (Item number) = item_front context
 opening context (Paragraph paragraph) = paragraph_front context.cell context paragraph.level
@@ -176,6 +180,9 @@ closing line context TableBody = none
 closing line context (Row first) = row_end context
 closing line context (Cell number) = none
 closing line context (HeadCell number) = none
+closing line context (NestedTable first) = none
+closing line context (NestedRow first) = none
+closing line context (NestedCell number) = none
 closing line context (AList list) = none
 closing line context (Item number) = block_end context.begun
 closing line context (Paragraph paragraph) = paragraph_end context.cell line context

@@ -1,11 +1,13 @@
--- Places as Markdown has them: without the formats that it has no markup for, and with white space outside of emphasis,
--- which would else be none.
-use Rattle.std.specs.Prelude.{ℕ, ◌==◌, ◌-◌, nat_le, Bool, true, false, not, ◌||◌, ◌&&◌, List, [], ◌∷◌, length, filter, map}
+-- Places as Markdown has them: without the formats and the nested tables that it has no markup for, and with white
+-- space outside of emphasis, which would else be none.
+use Rattle.std.specs.Prelude.{ℕ, ◌==◌, ◌-◌, nat_le, Bool, true, false, not, ◌||◌, ◌&&◌, List, [], ◌∷◌, length, filter}
+use Rattle.std.specs.Prelude.{map}
 use Rattle.std.specs.Prelude.{Option, None, Some, slice_get, if◌then◌else◌}
 use Rattle.view_paths.specs.Paths.{Place}
 use Rattle.view_places.specs.declared.element.Element.{Element}
 use Rattle.view_places.specs.declared.element.Element.TheVariants.{Notes, Note, Table, TableHead, TableBody, Row, Cell}
 use Rattle.view_places.specs.declared.element.Element.TheVariants.{HeadCell, List as AList, Item, Paragraph, Label}
+use Rattle.view_places.specs.declared.element.Element.TheVariants.{NestedTable, NestedRow, NestedCell}
 use Rattle.view_places.specs.declared.element.Element.TheVariants.{Reference, BackLink, Bold, Italic, Underline, Strike}
 use Rattle.view_places.specs.declared.element.Element.TheVariants.{Link, Anchor}
 use Rattle.view_places.specs.declared.element.Element.TheVariants.{SmallCaps, Caps, Raised, Lowered}
@@ -27,6 +29,9 @@ kind_of TableBody = Block
 kind_of (Row first) = Block
 kind_of (Cell number) = Block
 kind_of (HeadCell number) = Block
+kind_of (NestedTable first) = Unmarked
+kind_of (NestedRow first) = Unmarked
+kind_of (NestedCell number) = Unmarked
 kind_of (AList list) = Block
 kind_of (Item number) = Block
 kind_of (Paragraph paragraph) = Block

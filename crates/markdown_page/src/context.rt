@@ -100,6 +100,9 @@ impl Context {
             Element::Notes
             | Element::TableHead
             | Element::TableBody
+            | Element::NestedTable(_)
+            | Element::NestedRow(_)
+            | Element::NestedCell(_)
             | Element::List(_)
             | Element::Label
             | Element::Reference(_)
@@ -131,6 +134,9 @@ impl Context {
             | Element::Table(_)
             | Element::TableHead
             | Element::TableBody
+            | Element::NestedTable(_)
+            | Element::NestedRow(_)
+            | Element::NestedCell(_)
             | Element::List(_)
             | Element::Label
             | Element::Reference(_)

@@ -101,6 +101,9 @@ pub(crate) fn opening(context: &Context, element: Element) -> Pieces
         | Element::Table(_)
         | Element::TableHead
         | Element::TableBody
+        | Element::NestedTable(_)
+        | Element::NestedRow(_)
+        | Element::NestedCell(_)
         | Element::List(_)
         | Element::Label
         | Element::Reference(_)
@@ -209,6 +212,9 @@ pub(crate) fn closing(line: LineState, context: &Context, element: Element) -> P
         | Element::TableBody
         | Element::Cell(_)
         | Element::HeadCell(_)
+        | Element::NestedTable(_)
+        | Element::NestedRow(_)
+        | Element::NestedCell(_)
         | Element::List(_)
         | Element::Label
         | Element::BackLink(_)

@@ -20,7 +20,7 @@ pub enum Kind {
     Emphasis,
     /// A format with a tag of HTML.
     Tagged,
-    /// A format that Markdown has nothing for.
+    /// A format, or what is in a nested table, that Markdown has nothing for.
     Unmarked,
 }
 
@@ -33,7 +33,11 @@ fn kind_of(element: Element) -> Kind
         Element::BackLink(_) => Kind::FromNote,
         Element::Bold | Element::Italic | Element::Strike => Kind::Emphasis,
         Element::Underline | Element::Raised | Element::Lowered => Kind::Tagged,
-        Element::SmallCaps | Element::Caps => Kind::Unmarked,
+        Element::SmallCaps
+        | Element::Caps
+        | Element::NestedTable(_)
+        | Element::NestedRow(_)
+        | Element::NestedCell(_) => Kind::Unmarked,
         Element::Notes
         | Element::Note(_)
         | Element::Table(_)

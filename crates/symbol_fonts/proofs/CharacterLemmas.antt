@@ -5,7 +5,8 @@ use Rattle.std.specs.Prelude.{nat_le, nat_lt, if◌then◌else◌, slice_index}
 use Rattle.std.proofs.lemmas.Bool.{and_parts, eqb-true, lt-ltb, ltb-true}
 use Rattle.std.proofs.lemmas.Bool.Decides.{nat_tests}
 use Rattle.symbol_fonts.specs.declared.characters.SymbolFont.{SymbolFont}
-use Rattle.symbol_fonts.specs.declared.characters.SymbolFont.TheVariants.{Symbol, Wingdings}
+use Rattle.symbol_fonts.specs.declared.characters.SymbolFont.TheVariants.{Symbol, Wingdings, Wingdings2}
+use Rattle.symbol_fonts.specs.declared.characters.SymbolFont.TheVariants.{Wingdings3, Webdings, Dingbats}
 use Rattle.symbol_fonts.specs.Characters.{IsShownAs, character_of, characters_of, is_sign, shown_in, shown_unit}
 use Rattle.symbol_fonts.specs.Laws.{IsCharacter, SignsAreCharacters, UnitsAreShown}
 use Rattle.doc_bits.proofs.Public.{not_true, not_zero}
@@ -31,6 +32,10 @@ are_valid (code ∷ codes) = is_valid code && are_valid codes
 tables_right : (font : SymbolFont) → are_valid (characters_of font) ≡ true
 tables_right Symbol = refl
 tables_right Wingdings = refl
+tables_right Wingdings2 = refl
+tables_right Wingdings3 = refl
+tables_right Webdings = refl
+tables_right Dingbats = refl
 
 right_at : (codes : List ℕ) (k : ℕ) → are_valid codes ≡ true → is_valid (slice_index codes k) ≡ true
 right_at [] k e = refl

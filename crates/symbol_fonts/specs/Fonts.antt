@@ -1,10 +1,11 @@
 -- The symbol fonts of a document, by its font table.
-use Rattle.std.specs.Prelude.{ℕ, zero, suc, ◌+◌, ◌==◌, Bool, false, ◌&&◌, nat_le, if◌then◌else◌, List, [], ◌∷◌, ◌++◌}
+use Rattle.std.specs.Prelude.{ℕ, zero, suc, ◌+◌, ◌==◌, Bool, false, ◌&&◌, ◌||◌, nat_le, if◌then◌else◌, List, [], ◌∷◌, ◌++◌}
 use Rattle.std.specs.Prelude.{length, take, drop, slice_range, Option, Some, None, codes, bytes_eq}
 use Rattle.std.specs.List.{flat_map}
 use Rattle.doc_bits.specs.Number.{u16_at}
 use Rattle.symbol_fonts.specs.declared.characters.SymbolFont.{SymbolFont}
-use Rattle.symbol_fonts.specs.declared.characters.SymbolFont.TheVariants.{Symbol, Wingdings}
+use Rattle.symbol_fonts.specs.declared.characters.SymbolFont.TheVariants.{Symbol, Wingdings, Wingdings2}
+use Rattle.symbol_fonts.specs.declared.characters.SymbolFont.TheVariants.{Wingdings3, Webdings, Dingbats}
 use Rattle.symbol_fonts.specs.declared.fonts.SymbolFonts.{SymbolFonts}
 
 -- [MS-DOC] SttbfFfn: so many FFNs, each behind its length in a byte
@@ -41,15 +42,31 @@ abbrev pub symbol_fonts : List ℕ → SymbolFonts
 symbol_fonts table = record {
   symbol = first_named (name_bytes (codes "Symbol")) 0 (fonts_in table);
   wingdings = first_named (name_bytes (codes "Wingdings")) 0 (fonts_in table);
+  wingdings_2 = first_named (name_bytes (codes "Wingdings 2")) 0 (fonts_in table);
+  wingdings_3 = first_named (name_bytes (codes "Wingdings 3")) 0 (fonts_in table);
+  webdings = first_named (name_bytes (codes "Webdings")) 0 (fonts_in table);
+  zapf_dingbats = first_named (name_bytes (codes "ZapfDingbats")) 0 (fonts_in table);
+  monotype_sorts = first_named (name_bytes (codes "Monotype Sorts")) 0 (fonts_in table);
 }
 
 abbrev pub is_number : Option ℕ → ℕ → Bool
 is_number None number = false
 is_number (Some font) number = font == number
 
+-- the signs of Monotype Sorts are those of Zapf Dingbats
+abbrev pub is_dingbats : SymbolFonts → ℕ → Bool
+is_dingbats fonts number = is_number fonts.zapf_dingbats number || is_number fonts.monotype_sorts number
+
+abbrev pub other_font : SymbolFonts → ℕ → Option SymbolFont
+other_font fonts number =
+    if is_number fonts.wingdings_2 number then Some Wingdings2 else
+    if is_number fonts.wingdings_3 number then Some Wingdings3 else
+    if is_number fonts.webdings number then Some Webdings else
+    if is_dingbats fonts number then Some Dingbats else None
+
 -- which symbol font the font of a number is
 abbrev pub symbol_font : SymbolFonts → Option ℕ → Option SymbolFont
 symbol_font fonts None = None
 symbol_font fonts (Some number) =
     if is_number fonts.symbol number then Some Symbol else
-    if is_number fonts.wingdings number then Some Wingdings else None
+    if is_number fonts.wingdings number then Some Wingdings else other_font fonts number

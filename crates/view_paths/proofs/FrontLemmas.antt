@@ -55,7 +55,7 @@ pub record AreApart {E : Type 0} (same : E → E → Bool) (xs ys : List E) : Ty
   pub first : behind same xs ys ≡ xs
   pub second : behind same ys xs ≡ ys
 
-behind-none : {E : Type 0} (same : E → E → Bool) (ys : List E) → behind same ys [] ≡ ys
+pub behind-none : {E : Type 0} (same : E → E → Bool) (ys : List E) → behind same ys [] ≡ ys
 behind-none same [] = refl
 behind-none same (y ∷ ys) = refl
 
@@ -89,7 +89,7 @@ shared-front same exact (x ∷ front) xs ys =
     ap (λ b. if b then x ∷ shared same (front ++ xs) (front ++ ys) else []) (same_self same exact x) ∙ ap (λ rest. x ∷
     rest) (shared-front same exact front xs ys)
 
-behind-front : {E : Type 0} (same : E → E → Bool) → IsExact same → (front xs ys : List E) → behind same (front ++ xs)
+pub behind-front : {E : Type 0} (same : E → E → Bool) → IsExact same → (front xs ys : List E) → behind same (front ++ xs)
     (front ++ ys) ≡ behind same xs ys
 behind-front same exact [] xs ys = refl
 behind-front same exact (x ∷ front) xs ys =

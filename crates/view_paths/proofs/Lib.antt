@@ -1,4 +1,5 @@
 pub mod Public
 mod FrontLemmas
 mod NestLemmas
+mod OpeningLemmas
 mod WayLemmas

@@ -1,4 +1,5 @@
 pub mod Paths
 pub mod Events
 pub mod Turns
+pub mod Openings
 pub mod Laws

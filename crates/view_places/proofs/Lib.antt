@@ -1,2 +1,3 @@
 pub mod Public
+mod FewLemmas
 mod SharedLemmas

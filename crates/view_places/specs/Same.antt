@@ -8,6 +8,7 @@ use Rattle.view_places.specs.declared.element.Element.TheVariants.{Notes, Note, 
 use Rattle.view_places.specs.declared.element.Element.TheVariants.{HeadCell, List, Item, Paragraph, Label, Reference}
 use Rattle.view_places.specs.declared.element.Element.TheVariants.{BackLink, Bold, Italic, Underline, Strike, SmallCaps}
 use Rattle.view_places.specs.declared.element.Element.TheVariants.{Caps, Raised, Lowered, Link, Anchor}
+use Rattle.view_places.specs.declared.element.Element.TheVariants.{NestedTable, NestedRow, NestedCell}
 
 -- an element with a number
 abbrev pub numbered : ℕ → ℕ → Code
@@ -63,6 +64,9 @@ code_of Raised = numbered 20 0
 code_of Lowered = numbered 21 0
 code_of (Link link) = record (numbered 22 link.note) { begin = link.begin; end = link.end }
 code_of (Anchor number) = numbered 23 number
+code_of (NestedTable first) = numbered 24 first
+code_of (NestedRow first) = numbered 25 first
+code_of (NestedCell number) = numbered 26 number
 
 abbrev pub equal : Bool → Bool → Bool
 equal one other = if one then other else not other

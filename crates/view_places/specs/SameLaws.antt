@@ -8,6 +8,7 @@ use Rattle.view_places.specs.declared.element.Element.TheVariants.{Notes, Note, 
 use Rattle.view_places.specs.declared.element.Element.TheVariants.{HeadCell, List, Item, Paragraph, Label, Reference}
 use Rattle.view_places.specs.declared.element.Element.TheVariants.{BackLink, Bold, Italic, Underline, Strike, SmallCaps}
 use Rattle.view_places.specs.declared.element.Element.TheVariants.{Caps, Raised, Lowered, Link, Anchor}
+use Rattle.view_places.specs.declared.element.Element.TheVariants.{NestedTable, NestedRow, NestedCell}
 use Rattle.view_places.specs.declared.element.Cell.{Cell as CellForm}
 use Rattle.view_places.specs.declared.element.Span.{Span}
 use Rattle.view_places.specs.Same.{code_of, equal, reached, same, same_code}
@@ -53,7 +54,10 @@ element_of code =
     if code.kind == 20 then Raised else
     if code.kind == 21 then Lowered else
     if code.kind == 22 then Link (record { note = code.number; begin = code.begin; end = code.end }) else
-    Anchor code.number
+    if code.kind == 23 then Anchor code.number else
+    if code.kind == 24 then NestedTable code.number else
+    if code.kind == 25 then NestedRow code.number else
+    NestedCell code.number
 
 span_back : (span : Option Span) → span_by (is_some span) (reached span) ≡ span
 span_back None = refl
@@ -86,6 +90,9 @@ element_of-code_of Raised = refl
 element_of-code_of Lowered = refl
 element_of-code_of (Link link) = refl
 element_of-code_of (Anchor number) = refl
+element_of-code_of (NestedTable first) = refl
+element_of-code_of (NestedRow first) = refl
+element_of-code_of (NestedCell number) = refl
 
 both_first : (a b : Bool) → (a && b) ≡ true → a ≡ true
 both_first true b e = refl

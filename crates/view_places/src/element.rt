@@ -63,6 +63,12 @@ pub enum Element {
     Cell(Cell),
     /// A cell of a row that is the head of its table.
     HeadCell(Cell),
+    /// A table inside of a cell, by the number of its first paragraph.
+    NestedTable(usize),
+    /// A row of it, by the number of its first paragraph.
+    NestedRow(usize),
+    /// A cell of it, by its number in its row.
+    NestedCell(usize),
     List(List),
     /// An item of a list, by the number of its paragraph.
     Item(usize),
@@ -200,6 +206,9 @@ impl Element {
                 other: false,
             },
             Element::Anchor(number) => Code::of(23, number),
+            Element::NestedTable(first) => Code::of(24, first),
+            Element::NestedRow(first) => Code::of(25, first),
+            Element::NestedCell(number) => Code::of(26, number),
         }
     }
 }

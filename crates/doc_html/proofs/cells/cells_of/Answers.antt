@@ -1,20 +1,22 @@
 -- The paragraphs of the text, one by one.
-use Rattle.std.proofs.Common.{◌≡◌, ◌∙◌, ◌+◌, ◌-◌, ◌&&◌, not, Some, List, Option, sym, ap, subst, arith}
-use Rattle.std.specs.Prelude.{◌==◌, slice_index, slice_get, IfOk}
+use Rattle.std.proofs.Common.{◌≡◌, ◌∙◌, ◌≤◌, ◌+◌, ◌-◌, ◌++◌, ◌&&◌, not, Some, List, sym, ap, arith, append-nil, length}
+use Rattle.std.specs.Prelude.{◌==◌, slice_index, slice_get}
 use Rattle.std.proofs.lemmas.Option.{slice_get-get_or}
 use Rattle.plain_doc.specs.Settings.{is_inside}
 use Rattle.plain_doc.specs.Stretches.{stretches}
 use Rattle.doc_columns.specs.Walks.{items_in}
 use Rattle.doc_columns.proofs.Public.{items_long, start_at, begins_at_start}
 use Rattle.cell_spans.specs.declared.tables.Tables.{Tables}
-use Rattle.cell_spans.specs.Tables.{behind_outside}
-use Rattle.view_places.specs.declared.element.Span.{Span}
+use Rattle.cell_spans.specs.Tables.{behind_outside, no_tables}
+use Rattle.nested_tables.specs.declared.depths.Depth.{Depth}
+use Rattle.nested_tables.specs.Tables.{tables_of}
+use Rattle.doc_view.specs.Seen.{standing_of}
 use Rattle.doc_view.specs.declared.standing.Standing.{Standing}
 use Rattle.doc_view.proofs.Public.{paragraph_begins}
-use Rattle.doc_places.specs.Cells.{definition_in, tables_by, tables_from}
+use Rattle.doc_places.specs.Cells.{definition_in, depth_by, depths_from, tables_by, tables_from}
 use Rattle.doc_places.specs.Places.{has_label, is_mark_alone, lead}
 use Rattle.doc_places.proofs.Public.{lead_more, lead_none}
-use Rattle.doc_html.proofs.CellLemmas.{tables_end, tables_on}
+use Rattle.doc_html.proofs.CellLemmas.{depths_end, depths_on, tables_end, tables_on}
 use Rattle.doc_html.proofs.cells.cells_of.Goals as goal
 
 pub loop-place-init : goal.loop-place-init
@@ -30,6 +32,9 @@ loop-place-init c =
       tables =
           ap (λ (tables : Tables). tables_from is_mark 0 0 tables (stretches is_inside (items_in parts)))
           c.new-tables.ensures;
+      depths =
+          ap (λ (depths : List Depth). depths ++ depths_from is_mark 0 0 (stretches is_inside (items_in parts)))
+          c.new-depths.ensures;
     }
 
 pub next_anchor-behind-requires : goal.next_anchor-behind-requires
@@ -62,6 +67,9 @@ loop-place-preserved c =
     c.is_mark_alone-is_mark.ensures
     ∙ (λ i. end - old.place == 1 && (not (has_label (c.get.ensures i)) && old.invariant.next i == (behind ∙ ap (lead
     bookmarks) back) i)) in
+    let deep : c.depth_by.result ≡ depth_by (standing_of unit last.mark) last.mark c.is_mark_alone-is_mark.result =
+    c.depth_by.ensures ∙ ap (λ (s : Standing). depth_by s last.mark c.is_mark_alone-is_mark.result)
+    c.of-standing.ensures in
     let passed =
     c.in_ok-pass.ensures
     ∙ ap (λ (s : Standing). tables_by old.tables s c.is_mark_alone-is_mark.result (definition_in last.mark))
@@ -77,6 +85,11 @@ loop-place-preserved c =
           c.requires old.place end some inside found.inside found.ends) unit_is c.seek-last.ensures.value old.tables
           c.pass.new.tables c.is_mark_alone-is_mark.result here passed
           ∙ old.invariant.tables;
+      depths =
+          depths_on is_mark old.number parts c.requires old.place end unit last some inside (paragraph_begins parts
+          c.requires old.place end some inside found.inside found.ends) unit_is c.seek-last.ensures.value old.depths
+          c.push.new.self c.depth_by.result c.is_mark_alone-is_mark.result here deep c.in_ok-push.ensures
+          ∙ old.invariant.depths;
     }
 
 pub returns : goal.returns
@@ -85,13 +98,16 @@ returns c =
     let last = c.loop-place in
     let done = c.loop-place-test.false in
     let is_mark = is_mark_alone c.args.bookmarks.now c.args.values.now in
-    let all : last.tables ≡ tables_from is_mark 0 0 c.new-tables.result (stretches is_inside (items_in parts)) =
-    sym (tables_end is_mark last.number last.place last.tables (items_in parts) (omega (
-      arith,
-      items_long parts c.requires,
-      done,
-    ))) ∙ last.invariant.tables ∙ ap (λ (t : Tables). tables_from is_mark 0 0 t (stretches is_inside (items_in parts)))
-    (sym c.new-tables.ensures) in
-    let spans : Tables → List (Option Span) = λ t. (behind_outside t).spans in
-    subst (λ (x : List (Option Span)). IfOk c.finish.result (λ s. s ≡ x)) (ap spans (all ∙ ap (λ (t : Tables).
-    tables_from is_mark 0 0 t (stretches is_inside (items_in parts))) c.new-tables.ensures)) c.finish.ensures
+    let past : length (items_in parts) ≤ last.place = omega (arith, items_long parts c.requires, done) in
+    let tables : last.tables ≡ tables_from is_mark 0 0 no_tables (stretches is_inside (items_in parts)) =
+    sym (tables_end is_mark last.number last.place last.tables (items_in parts) past) ∙ last.invariant.tables in
+    let depths : last.depths ≡ depths_from is_mark 0 0 (stretches is_inside (items_in parts)) =
+    sym (append-nil last.depths)
+    ∙ ap (λ (more : List Depth). last.depths ++ more) (sym (depths_end is_mark last.number last.place (items_in parts)
+    past))
+    ∙ last.invariant.depths in
+    let spans =
+    c.in_ok-spans.ensures ∙ ap (λ (t : Tables). (behind_outside t).spans) tables in
+    let nested =
+    c.in_ok-nested.ensures ∙ ap tables_of depths in
+    λ i. record { spans = spans i; nested = nested i }

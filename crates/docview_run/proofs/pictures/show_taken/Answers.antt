@@ -17,12 +17,12 @@ returns-in-Ok-clause-ends g c =
     let file = c.args.file.now in
     let shown = c.show_held-status in
     let document = c.document.result.now in
-    let viewed = subst (λ (d : Document). IsViewed asked.view.strict file d) (sym c.document.ensures)
+    let viewed = subst (λ (d : Document). IsViewed asked.view.strict file file d) (sym c.document.ensures)
     (held_viewed asked.view.strict file c.in-Ok.opened c.in-Ok.ensures) in
     subst (λ (status : ℕ). RunEnds (ShowsTaken asked.view asked.album.force asked.album.folder.now asked.name.now held file)
     g.K.Sink c.args.out.now shown.new.out status) (sym c.drop_then.ensures)
     (viewed_ends g.K.Sink c.args.out.now shown.new.out asked.view asked.album.force asked.album.folder.now asked.name.now
-    file document held shown.result viewed shown.ensures.ends)
+    file file document held shown.result viewed shown.ensures.ends)
 
 pub returns-in-Ok-clause-leaves : goal.returns-in-Ok-clause-leaves
 returns-in-Ok-clause-leaves g c =
@@ -32,11 +32,11 @@ returns-in-Ok-clause-leaves g c =
     let file = c.args.file.now in
     let shown = c.show_held-status in
     let document = c.document.result.now in
-    let viewed = subst (λ (d : Document). IsViewed asked.view.strict file d) (sym c.document.ensures)
+    let viewed = subst (λ (d : Document). IsViewed asked.view.strict file file d) (sym c.document.ensures)
     (held_viewed asked.view.strict file c.in-Ok.opened c.in-Ok.ensures) in
     subst (λ (status : ℕ). LeavesTaken asked.view.strict asked.album.force asked.album.folder.now file status before after)
     (sym c.drop_then.ensures)
-    (viewed_leaves asked.view.strict asked.album.force asked.album.folder.now file document shown.result before after
+    (viewed_leaves asked.view.strict asked.album.force asked.album.folder.now file file document shown.result before after
     viewed shown.ensures.leaves)
 
 pub returns-in-Ok-clause-failed : goal.returns-in-Ok-clause-failed

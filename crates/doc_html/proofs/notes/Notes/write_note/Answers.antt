@@ -1,4 +1,3 @@
-use Rattle.view_places.specs.declared.element.Span.{Span}
 use Rattle.std.proofs.Common.{◌≡◌, ◌+◌, ◌∷◌, ◌++◌, [], ◌≤◌, List, Option, ℕ, arith, subst, sym, ap, true, ◌∙◌, length, take}
 use Rattle.std.proofs.lemmas.Option.{same_Some}
 use Rattle.doc_columns.specs.Walks.{items_in}
@@ -11,7 +10,8 @@ use Rattle.doc_view.specs.declared.reading.Manner.{Manner}
 use Rattle.list_numbers.specs.declared.paragraph_values.ParagraphValues.{ParagraphValues}
 use Rattle.doc_view.specs.Seen.{Paragraph, paragraphs_of, with_values}
 use Rattle.doc_view.proofs.Public.{no_values, none_met}
-use Rattle.doc_places.specs.Places.{hypertext_of, note_path, text_places}
+use Rattle.doc_places.specs.declared.cells.TableCells.{TableCells}
+use Rattle.doc_places.specs.Places.{hypertext_of, no_cells, note_path, text_places}
 use Rattle.form_page.specs.Forms.{PutsPlaces}
 use Rattle.doc_html.proofs.NoteLemmas.{is_hidden, is_not_hidden, note_hidden, note_shown}
 use Rattle.doc_view.specs.declared.reading.TextKind.TheVariants as text_kind
@@ -51,14 +51,14 @@ returns-clause-puts g c = λ formats note are there.
     text.new.writer.page formats manner (c.args.k + 1) c.args.reference note (is_not_hidden c.args.reference.is_shown c.if-not-reference.false) label.ensures.puts
     (subst (λ (items : List Item). PutsPlaces g.K.Sink label.new.out label.new.writer.page text.new.out
     text.new.writer.page
-    (text_places (hypertext_of [] (c.args.k + 1) items []) (note_path (c.args.k + 1)) (paragraphs_of formats manner items))) same
+    (text_places (hypertext_of [] (c.args.k + 1) items no_cells) (note_path (c.args.k + 1)) (paragraphs_of formats manner items))) same
     (subst (λ (path : List Element). PutsPlaces g.K.Sink label.new.out label.new.writer.page text.new.out
     text.new.writer.page
-    (text_places (hypertext_of [] (c.args.k + 1) (items_in c.parts.result) []) path (paragraphs_of formats manner (items_in
+    (text_places (hypertext_of [] (c.args.k + 1) (items_in c.parts.result) no_cells) path (paragraphs_of formats manner (items_in
     c.parts.result)))) label.ensures.path (subst (λ (bookmarks : List Bookmark). PutsPlaces g.K.Sink label.new.out
     label.new.writer.page text.new.out text.new.writer.page (text_places (hypertext_of bookmarks (c.args.k + 1)
-    (items_in c.parts.result) []) label.new.writer.path (paragraphs_of formats manner (items_in c.parts.result))))
-    c.new-bookmarks.ensures (subst (λ (cells : List (Option Span)). PutsPlaces g.K.Sink label.new.out
+    (items_in c.parts.result) no_cells) label.new.writer.path (paragraphs_of formats manner (items_in c.parts.result))))
+    c.new-bookmarks.ensures (subst (λ (cells : TableCells). PutsPlaces g.K.Sink label.new.out
     label.new.writer.page text.new.out text.new.writer.page (text_places (hypertext_of c.new-bookmarks.result (c.args.k +
     1) (items_in c.parts.result) cells) label.new.writer.path (paragraphs_of formats manner (items_in c.parts.result))))
     c.new-cells.ensures (subst (λ (all : List Paragraph). PutsPlaces g.K.Sink label.new.out label.new.writer.page

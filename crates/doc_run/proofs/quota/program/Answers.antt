@@ -7,9 +7,9 @@ use Rattle.doc_run.specs.Endings.{IsEnding}
 use Rattle.doc_run.specs.Completeness.{CanServe}
 use Rattle.doc_run.specs.Quota.{program_policies}
 use Rattle.doc_run.proofs.OneLemmas.{ending_one}
-use Rattle.doc_run.proofs.quota.run_under_quota.OwnLists.{own-1, at-1-1}
-use Rattle.doc_run.proofs.quota.run_under_quota.Given.{Over}
-use Rattle.doc_run.proofs.quota.run_under_quota.Goals as goal
+use Rattle.doc_run.proofs.quota.program.OwnLists.{own-1, at-1-1}
+use Rattle.doc_run.proofs.quota.program.Given.{Over}
+use Rattle.doc_run.proofs.quota.program.Goals as goal
 
 -- the one guard is the quota
 quota_policies :

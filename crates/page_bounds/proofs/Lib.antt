@@ -1,0 +1,4 @@
+mod CostLemmas
+mod HtmlLemmas
+mod TextLemmas
+mod MarkdownLemmas
