@@ -103,7 +103,7 @@ docbin_answer docbin_fit(const uint8_t *file, size_t file_len, uint8_t *text, si
 
 /* What else a fit does: bits of `options`. */
 enum docfit_options {
-  DOCFIT_PLAIN = 1 /* endnotes are left out */
+  DOCFIT_PLAIN = 1 /* endnotes and comments are left out */
 };
 
 /* The same with options of `enum docfit_options` in one number, or 0: with DOCFIT_PLAIN the run of `docfit --plain first out`. */

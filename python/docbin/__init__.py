@@ -210,7 +210,7 @@ def join(first: BytesLike, second: BytesLike) -> bytes:
 
 
 def fit(data: BytesLike, plain: bool = False) -> Fitted:
-    """A document of Word 97 to 2007 as a file that docbin accepts, with what of it is left out (docs/FIT.md). Endnotes are notes of it; with `plain`
+    """A document of Word 97 to 2007 as a file that docbin accepts, with what of it is left out (docs/FIT.md). Endnotes and comments are notes of it; with `plain`
     they are left out. `NotWord97` or `Encrypted` where it is no such file or cannot be read, `RuleBroken` where it
     breaks a rule that is left."""
     status, report, made = _call("fit", _bytes(data), flags=_flags(plain=plain))

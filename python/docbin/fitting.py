@@ -37,16 +37,19 @@ _FORMS = {
     "code": r"(?P<list>\S+) (?P<code>[0-9a-f]{4}) (?P<count>\d+)",
     "repeat": r"(?P<list>\S+) (?P<code>[0-9a-f]{4}) (?P<count>\d+)",
     "endnote": r"(?P<endnote>\d+): note (?P<note>\d+)",
+    "comment": r"(?P<comment>\d+): note (?P<note>\d+)",
     "deleted": rf"{_PLACE} (?P<begin>\d+) (?P<end>\d+)(?:: (?P<made>.*))?",
     "bookmark": r"(?P<name>.*) (?P<begin>\d+) (?P<end>\d+)",
     "sheet": r"(?P<bytes>\d+)",
     "sector": r"(?P<bytes>\d+): (?P<made>.*)",
+    "style": r"(?P<style>\d+): (?P<made>emptied)",
+    "styles": r"(?P<style>\d+): (?P<made>cut)",
     "base": r"(?P<style>\d+)",
-    "mark": rf"{_PLACE} (?P<at>\d+): style (?P<style>\d+)",
+    "mark": rf"{_PLACE} (?P<at>\d+): (?:style (?P<style>\d+)|(?P<made>cells of Data))",
     "row": rf"{_PLACE} (?P<at>\d+): (?P<cells>\d+) cells",
     "end": _PLACE,
 }
-_NUMBERS, _SHOWN = ("pair", "bytes", "units", "page", "at", "count", "begin", "end", "style", "cells", "endnote", "note"), ("name", "text")
+_NUMBERS, _SHOWN = ("pair", "bytes", "units", "page", "at", "count", "begin", "end", "style", "cells", "endnote", "comment", "note"), ("name", "text")
 
 
 def unshown(text: str) -> str:

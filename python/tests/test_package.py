@@ -135,10 +135,11 @@ class Calls:
         self.raised(TypeError, docbin.fit, "hello")
 
     def test_the_lines_of_a_report(self):
-        report = ("fit: 8 bytes, left out 11, mended 10\nstream 1Table\nstorage Object Pool\npart 50 DggInfo 1234\n"
+        report = ("fit: 8 bytes, left out 11, mended 14\nstream 1Table\nstorage Object Pool\npart 50 DggInfo 1234\n"
                   "story comments 7 | a\\u005cb \u00e4\\u000d\nautotext page 24\nreference endnotes note 3 57\ncode style-char 0801 87\n"
-                  "repeat par d634 12\nbookmark a b 3 4\nsheet 12\nsomething new\nsector 37: filled\npart 11 PlcfHdd: emptied\ndeleted main 120 135: struck\n"
-                  "deleted head 6 1 2\nendnote 3: note 5\n"
+                  "repeat par d634 12\nbookmark a b 3 4\nsheet 12\nsomething new\nsector 37: filled\npart 11 PlcfHdd: emptied\nstyle 12: emptied\nstyles 20: cut\n"
+                  "deleted main 120 135: struck\n"
+                  "deleted head 6 1 2\nendnote 3: note 5\ncomment 0: note 6\nmark main 20: cells of Data\n"
                   "base 7\nmark head 6 0: style 65535\nrow main 8: 3 cells\nreference comments main 9: cut\nend note 0\n")
         got = fitting.fitted(b"", report)
         self.assertEqual(got.left_out, [docbin.Feature(kind, fields) for kind, fields in (
@@ -149,8 +150,10 @@ class Calls:
             ("bookmark", {"name": "a b", "begin": 3, "end": 4}), ("sheet", {"bytes": 12}), ("something", {"words": "new"}))])
         self.assertEqual(got.mended, [docbin.Feature(kind, fields) for kind, fields in (
             ("sector", {"bytes": 37, "made": "filled"}), ("part", {"pair": 11, "name": "PlcfHdd", "made": "emptied"}),
+            ("style", {"style": 12, "made": "emptied"}), ("styles", {"style": 20, "made": "cut"}),
             ("deleted", {"place": "main", "begin": 120, "end": 135, "made": "struck"}),
-            ("deleted", {"place": "head 6", "begin": 1, "end": 2}), ("endnote", {"endnote": 3, "note": 5}), ("base", {"style": 7}),
+            ("deleted", {"place": "head 6", "begin": 1, "end": 2}), ("endnote", {"endnote": 3, "note": 5}), ("comment", {"comment": 0, "note": 6}),
+            ("mark", {"place": "main", "at": 20, "made": "cells of Data"}), ("base", {"style": 7}),
             ("mark", {"place": "head 6", "at": 0, "style": 65535}), ("row", {"place": "main", "at": 8, "cells": 3}),
             ("reference", {"story": "comments", "place": "main", "at": 9, "made": "cut"}),
             ("end", {"place": "note 0"}))])

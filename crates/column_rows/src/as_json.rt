@@ -22,7 +22,7 @@ fn goes_as_json(alloc: Global, plain: &Document) -> Result<bool, Memory> {
     )
 }
 
-/// The same of a document that is put by columns.
+/// Whether a document by columns has the text of the plain one, and is read from it as it was.
 fn has_one_text(alloc: Global, columns: &ColumnDocument, plain: &Document) -> Result<bool, Memory> {
     let text = text_of(alloc, columns, u64::MAX)?;
     let same = text.as_str() == to_json(alloc, plain)?.as_str();

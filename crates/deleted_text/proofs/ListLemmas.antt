@@ -8,7 +8,7 @@ use Rattle.sprm_table.specs.Sprm.{Prl, SpellsSprmList}
 use Rattle.sprm_table.specs.Cursor.{SprmCursor, left, Takes}
 use Rattle.deleted_text.specs.Deletions.{is_deletion, deleted_after, deleted_by}
 
-last_or_both : (o : Option Prl) (xs ys : List Prl) → last_or o (xs ++ ys) ≡ last_or (last_or o xs) ys
+pub last_or_both : (o : Option Prl) (xs ys : List Prl) → last_or o (xs ++ ys) ≡ last_or (last_or o xs) ys
 last_or_both o [] ys = refl
 last_or_both o (x ∷ xs) ys = last_or_both (Some x) xs ys
 

@@ -12,7 +12,7 @@ use Rattle.std.proofs.lemmas.List.Elements.{All-head, All-take, All-drop}
 use Rattle.doc_bits.specs.Rules.{Nowhere}
 use Rattle.doc_bits.specs.declared.places.Story.{Story}
 use Rattle.doc_bits.specs.declared.places.Story.TheVariants.{Main}
-use Rattle.sprm_table.specs.Sprm.{Prl, IsPrl, spelling, HasSprmFaultAt}
+use Rattle.sprm_table.specs.Sprm.{Prl, IsPrl, spelling, SpellsSprmList, HasSprmFaultAt}
 use Rattle.sprm_table.specs.Codes.{IsRefusedIn}
 use Rattle.prop_map.specs.Formed.{character_groups}
 use Rattle.fib_form.specs.declared.table_parts.TablePart.TheVariants.{PlcfBteChpx}
@@ -44,7 +44,7 @@ use Rattle.deleted_text.specs.Deletions.{deleted_by, SaysDeleted}
 use Rattle.deleted_text.specs.Places.{IsDeletedAt}
 use Rattle.deleted_text.specs.Ranges.{is_deleted, run_end, range_at, text_ranges, text_flags, texts_ranges}
 use Rattle.deleted_text.specs.Ranges.{items_before, document_ranges, begins_of}
-use Rattle.deleted_text.specs.Strikes.{strike_mends, most_struck}
+use Rattle.deleted_text.specs.Strikes.{strike_mends}
 use Rattle.deleted_text.specs.Texts.{AreTextDeletions, IsStruckText}
 use Rattle.deleted_text.proofs.PlaceLemmas.{nothing_said}
 
@@ -80,41 +80,48 @@ deletion_there (prl ∷ prls) says = by_code (prl.0 == 0x0800) refl (λ rest. de
 refused_code : (code : ℕ) → code ≡ 0x0800 → IsRefusedIn character_groups code
 refused_code code is = subst (IsRefusedIn character_groups) (sym is) (refl, refl)
 
-fault_there : (list : List ℕ) → SaysDeleted list → Nowhere (HasSprmFaultAt list character_groups) → ⊥
-fault_there list says none =
-    let found = deletion_there says.prls says.deleted in
-    let front = flat_map spelling found.before in
-    let more = flat_map spelling found.after ++ says.spelt.rest in
-    let entries : All IsPrl (found.before ++ found.entry ∷ found.after) =
-    subst (All IsPrl) found.joined says.spelt.entries in
-    let all : list ≡ front ++ (spelling found.entry ++ more) =
-    says.spelt.spelt
-    ∙ (ap (λ (l : List Prl). flat_map spelling l ++ says.spelt.rest) found.joined
-    ∙ (ap (λ (l : List ℕ). l ++ says.spelt.rest) (flat_map-append spelling found.before (found.entry ∷ found.after))
-    ∙ (append_assoc front (spelling found.entry ++ flat_map spelling found.after) says.spelt.rest
+-- an entry whose code is not read is a fault of a list
+pub refused_there : (list : List ℕ) (groups : ℕ) (prls before : List Prl) (entry : Prl) (after : List Prl) →
+    SpellsSprmList list prls → prls ≡ before ++ entry ∷ after → IsRefusedIn groups entry.0 →
+    Nowhere (HasSprmFaultAt list groups) → ⊥
+refused_there list groups prls before entry after spelt joined refused none =
+    let front = flat_map spelling before in
+    let more = flat_map spelling after ++ spelt.rest in
+    let entries : All IsPrl (before ++ entry ∷ after) = subst (All IsPrl) joined spelt.entries in
+    let all : list ≡ front ++ (spelling entry ++ more) =
+    spelt.spelt
+    ∙ (ap (λ (l : List Prl). flat_map spelling l ++ spelt.rest) joined
+    ∙ (ap (λ (l : List ℕ). l ++ spelt.rest) (flat_map-append spelling before (entry ∷ after))
+    ∙ (append_assoc front (spelling entry ++ flat_map spelling after) spelt.rest
     ∙ ap (λ (l : List ℕ). front ++ l)
-    (append_assoc (spelling found.entry) (flat_map spelling found.after) says.spelt.rest)))) in
-    let left : drop (length front) list ≡ spelling found.entry ++ more =
-    ap (drop (length front)) all ∙ drop-append_seam front (spelling found.entry ++ more) in
-    let back : All IsPrl (found.entry ∷ found.after) =
-    subst (All IsPrl) (drop-append_seam found.before (found.entry ∷ found.after))
-    (All-drop IsPrl (length found.before) (found.before ++ found.entry ∷ found.after) entries) in
+    (append_assoc (spelling entry) (flat_map spelling after) spelt.rest)))) in
+    let left : drop (length front) list ≡ spelling entry ++ more =
+    ap (drop (length front)) all ∙ drop-append_seam front (spelling entry ++ more) in
+    let back : All IsPrl (entry ∷ after) =
+    subst (All IsPrl) (drop-append_seam before (entry ∷ after))
+    (All-drop IsPrl (length before) (before ++ entry ∷ after) entries) in
     none (length front) (inr (record {
-      before = found.before;
+      before = before;
       front = record {
-        entries = subst (All IsPrl) (take-append_seam found.before (found.entry ∷ found.after))
-            (All-take IsPrl (length found.before) (found.before ++ found.entry ∷ found.after) entries);
+        entries = subst (All IsPrl) (take-append_seam before (entry ∷ after))
+            (All-take IsPrl (length before) (before ++ entry ∷ after) entries);
         place = refl;
         spelt = all ∙ ap (λ (l : List ℕ). front ++ l) (sym left);
       };
       here = record {
-        prl = found.entry;
+        prl = entry;
         more = more;
-        entry = All-head IsPrl found.entry found.after back;
+        entry = All-head IsPrl entry after back;
         spelt = left;
-        refused = refused_code found.entry.0 found.code;
+        refused = refused;
       };
     }))
+
+fault_there : (list : List ℕ) → SaysDeleted list → Nowhere (HasSprmFaultAt list character_groups) → ⊥
+fault_there list says none =
+    let found = deletion_there says.prls says.deleted in
+    refused_there list character_groups says.prls found.before found.entry found.after says.spelt found.joined
+    (refused_code found.entry.0 found.code) none
 
 -- ---- no flag, no range
 
@@ -139,7 +146,7 @@ no_range story flags at none =
       to = run_end flags at;
     }) else None) not_there
 
-none_listed : {A : Type 0} (f : ℕ → Option A) (n : ℕ) → ((i : ℕ) → f i ≡ None) →
+pub none_listed : {A : Type 0} (f : ℕ → Option A) (n : ℕ) → ((i : ℕ) → f i ≡ None) →
     filter_map (λ o. o) (tabulate f n) ≡ []
 unfolding tabulate
 none_listed f zero none = refl
@@ -149,7 +156,7 @@ none_listed {A = A} f (suc n) none =
     ∙ (ap (λ (l : List A). l ++ filter_map (λ (o : Option A). o) (f n ∷ [])) (none_listed f n none)
     ∙ ap (λ (o : Option A). filter_map (λ (p : Option A). p) (o ∷ [])) (none n)))
 
-none_joined : {A : Type 0} (f : ℕ → List A) (n : ℕ) → ((i : ℕ) → f i ≡ []) → flat_map (λ l. l) (tabulate f n) ≡ []
+pub none_joined : {A : Type 0} (f : ℕ → List A) (n : ℕ) → ((i : ℕ) → f i ≡ []) → flat_map (λ l. l) (tabulate f n) ≡ []
 unfolding tabulate
 none_joined f zero none = refl
 none_joined {A = A} f (suc n) none =
@@ -216,6 +223,6 @@ struck_none r meant struck mends is =
     let none : is.ranges ≡ [] =
     is.deleted.are
     ∙ ranges_none (begins_of r.text.wd) is.deleted.flags meant (held_false r is.deleted.flags is.deleted.deletions) in (
-      is.is.document_is ∙ ap (λ (l : List DeletedRange). all_struck (struck_ranges meant (take most_struck l)) meant) none,
+      is.is.document_is ∙ ap (λ (l : List DeletedRange). all_struck (struck_ranges meant l) meant) none,
       is.is.mends_are ∙ ap (strike_mends meant) none,
     )

@@ -1,6 +1,6 @@
 -- Text is struck in one way.
 use Rattle.std.specs.Prelude.{IsTrue, slice_index_or}
-use Rattle.std.proofs.Common.{◌≡◌, ◌∙◌, ◌↔◌, sym, ap, refl, ℕ, Bool, true, false, List, take, arith}
+use Rattle.std.proofs.Common.{◌≡◌, ◌∙◌, ◌↔◌, sym, ap, refl, ℕ, Bool, true, false, List, arith}
 use Rattle.std.proofs.lemmas.List.{ext_get_or}
 use Rattle.plain_doc.specs.declared.document.Document.{Document}
 use Rattle.file_rules.specs.FileRules.{FileText}
@@ -9,7 +9,7 @@ use Rattle.doc_mends.specs.declared.mends.Mend.{Mend}
 use Rattle.doc_mends.specs.Mends.{all_struck, struck_ranges}
 use Rattle.deleted_text.specs.Places.{AreDeletions}
 use Rattle.deleted_text.specs.Ranges.{document_ranges, begins_of}
-use Rattle.deleted_text.specs.Strikes.{strike_mends, most_struck}
+use Rattle.deleted_text.specs.Strikes.{strike_mends}
 use Rattle.deleted_text.specs.Texts.{AreDeletedRanges, IsStruckText}
 
 flag_one : {P : Type 0} (a b : Bool) → (IsTrue a ↔ P) → (IsTrue b ↔ P) → a ≡ b
@@ -37,7 +37,7 @@ struck_one text meant a b mends others one other =
     let ranges : one.ranges ≡ other.ranges =
     ranges_one text meant one.ranges other.ranges one.deleted other.deleted in (
       one.is.document_is
-          ∙ (ap (λ (l : List DeletedRange). all_struck (struck_ranges meant (take most_struck l)) meant) ranges
+          ∙ (ap (λ (l : List DeletedRange). all_struck (struck_ranges meant l) meant) ranges
           ∙ sym other.is.document_is),
       one.is.mends_are ∙ (ap (strike_mends meant) ranges ∙ sym other.is.mends_are),
     )

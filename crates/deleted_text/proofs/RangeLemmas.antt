@@ -27,7 +27,7 @@ use Rattle.deleted_text.specs.Ranges.{texts_ranges, document_ranges}
 
 -- ---- what is behind a text
 
-pub left_more : (flags : List Bool) (texts : List (List Item)) (number : ℕ) (text : List Item) →
+pub left_more : {A : Type 0} (flags : List A) (texts : List (List Item)) (number : ℕ) (text : List Item) →
     slice_get texts number ≡ Some text →
     drop (length text) (drop (items_before texts number) flags) ≡ drop (items_before texts (number + 1)) flags
 left_more flags texts number text there =

@@ -1,6 +1,6 @@
 -- What striking leaves as it was.
-use Rattle.std.proofs.Common.{◌≡◌, sym, subst, refl, ℕ, List, [], ◌∷◌, length, take, arith}
-use Rattle.std.proofs.lemmas.List.Elements.{All-head, All-tail, All-take}
+use Rattle.std.proofs.Common.{◌≡◌, sym, subst, refl, ℕ, List, [], ◌∷◌, length, arith}
+use Rattle.std.proofs.lemmas.List.Elements.{All-head, All-tail}
 use Rattle.doc_bits.specs.declared.places.Story.{Story}
 use Rattle.doc_bits.specs.declared.places.Story.TheVariants.{Main, Note, Head}
 use Rattle.doc_parts.specs.Bookmarks.{AreFormedBookmarks}
@@ -14,7 +14,7 @@ use Rattle.doc_mends.proofs.Public.{ranges_stay, filtered, length-map_range}
 use Rattle.file_rules.specs.FileRules.{FileText}
 use Rattle.doc_mends.specs.declared.mends.Mend.{Mend}
 use Rattle.deleted_text.specs.Ranges.{begins_of}
-use Rattle.deleted_text.specs.Strikes.{IsStruck, most_struck}
+use Rattle.deleted_text.specs.Strikes.{IsStruck}
 use Rattle.deleted_text.specs.Texts.{IsStruckText}
 use Rattle.deleted_text.proofs.RangeLemmas.{ranges_there}
 
@@ -50,12 +50,6 @@ all_formed (range ∷ ranges) document are formed =
     all_formed ranges (changed (strike_of range) document) (ranges_stay document range ranges here rest)
     (one_formed document range here formed)
 
--- the first of them are there too
-pub first_there : (document : Document) (ranges : List DeletedRange) → AreRanges document ranges →
-    AreRanges document (take most_struck ranges)
-first_there document ranges are =
-    All-take (λ r. HasText document r.story (HasRange r.from r.to)) most_struck ranges are
-
 -- bookmarks stay formed
 pub struck_formed : (text : FileText) (meant struck : Document) (mends : List Mend) → HasFormedBookmarks meant →
     IsStruckText text meant struck mends → HasFormedBookmarks struck
@@ -63,8 +57,7 @@ struck_formed text meant struck mends formed is =
     let there : AreRanges meant is.ranges =
     subst (AreRanges meant) (sym is.deleted.are) (ranges_there (begins_of text.wd) is.deleted.flags meant) in
     subst HasFormedBookmarks (sym is.is.document_is)
-    (all_formed (struck_ranges meant (take most_struck is.ranges)) meant
-    (filtered (can_strike meant) meant (take most_struck is.ranges) (first_there meant is.ranges there)) formed)
+    (all_formed (struck_ranges meant is.ranges) meant (filtered (can_strike meant) meant is.ranges there) formed)
 
 -- where no range is, nothing is struck
 pub no_strikes : (document : Document) (ranges : List DeletedRange) → length ranges ≡ 0 →

@@ -37,7 +37,7 @@ pub fn deleted_places(
 }
 
 /// Whether bytes are a bin table: its fcs ascend.
-fn is_bin_table(bin: &[u8]) -> bool
+pub fn is_bin_table(bin: &[u8]) -> bool
     ensures { IsTrue result ↔ IsBinTable bin.now }
 {
     let len = bin.len();
@@ -52,7 +52,7 @@ fn is_bin_table(bin: &[u8]) -> bool
     true
 }
 
-/// The same of a bin table.
+/// Whether each place is deleted, by the pages of a bin table.
 fn flags_of(alloc: Global, wd: &[u8], bin: &[u8], places: &Places<'_>) -> Result<Vec<bool>, Memory>
     requires { IsBinTable bin.now }
     ensures { IfOk result (λ flags. AreDeletions wd.now bin.now places.now flags.items) }
@@ -119,7 +119,7 @@ fn not_deleted(fc: u32) -> Around
 }
 
 /// A page of the stream, where it is within it.
-fn page_in(wd: &[u8], number: u32) -> Option<&[u8]>
+pub fn page_in(wd: &[u8], number: u32) -> Option<&[u8]>
     ensures { MatchOption result (length wd.now < 512 * number + 512)
         (λ page. (512 * number + 512 ≤ length wd.now) × (page.now ≡ page_at wd.now number)) }
 {

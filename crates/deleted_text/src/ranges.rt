@@ -76,7 +76,7 @@ fn behind(flags: &[bool], count: usize) -> &[bool]
 }
 
 /// A note or a header text by its number.
-fn side_name(side: Side, number: usize) -> Story
+pub fn side_name(side: Side, number: usize) -> Story
     requires { number < 2 ^ 32 }
     ensures { result ≡ name_of side number }
 {

@@ -1,5 +1,5 @@
 // What a reviser deleted of a document is struck through.
-ghost use Rattle.std.specs.Prelude.{◌≡◌, ◌++◌, map, take, drop, IfOk, OnOk};
+ghost use Rattle.std.specs.Prelude.{◌≡◌, ◌++◌, map, IfOk, OnOk};
 ghost use Rattle.doc_mends.specs.declared.mends.Mend.TheVariants.{KeepDeleted};
 ghost use Rattle.deleted_text.specs.Ranges.{document_ranges};
 ghost use Rattle.deleted_text.specs.Strikes.{IsStruck};
@@ -9,9 +9,6 @@ use doc_bits::Memory;
 use doc_columns::ColumnDocument;
 use doc_mends::{DeletedRange, Mend, Mended, strike_deleted};
 use std::alloc::Global;
-
-/// How many ranges are struck at most.
-pub const MAX_STRUCK: usize = 2048;
 
 /// Strikes through what a reviser deleted of a document, by flags of its CPs. Where memory runs out the document may be
 /// any.
@@ -33,25 +30,10 @@ pub fn strike_text(
         document: struck,
         mut mends,
         kept,
-    } = strike_deleted(alloc, copy, first_ranges(&ranges, MAX_STRUCK))?;
+    } = strike_deleted(alloc, copy, &ranges)?;
     *document = struck;
     push_kept(&mut mends, &kept)?;
-    push_kept(&mut mends, other_ranges(&ranges, MAX_STRUCK))?;
     Ok(mends)
-}
-
-/// The first so many ranges.
-fn first_ranges(ranges: &[DeletedRange], count: usize) -> &[DeletedRange]
-    ensures { result.now ≡ take count ranges.now }
-{
-    &ranges[..count.min(ranges.len())]
-}
-
-/// The ranges behind the first so many.
-fn other_ranges(ranges: &[DeletedRange], count: usize) -> &[DeletedRange]
-    ensures { result.now ≡ drop count ranges.now }
-{
-    &ranges[count.min(ranges.len())..]
 }
 
 /// Appends the mends of ranges that stay as they are.

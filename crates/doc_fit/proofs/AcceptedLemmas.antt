@@ -1,5 +1,5 @@
--- Of a file that docbin accepts the rules of a fit hold, but for those on its parts: the rules that are left ask for less
--- or the same, and nothing of its document is struck or mended.
+-- A file that docbin accepts breaks none of the rules of a fit.
+-- The rules that are left ask for less or the same, and nothing of its document is struck or mended.
 use Rattle.std.specs.Prelude.{if◌then◌else◌}
 use Rattle.std.proofs.Common.{◌≡◌, ◌≢◌, ◌∙◌, sym, ap, subst, refl, inl, inr, ℕ, ◌+◌, ◌==◌, ◌<◌, ◌≤◌, Bool, true}
 use Rattle.std.proofs.Common.{false, List, [], length, arith}
@@ -8,11 +8,11 @@ use Rattle.doc_bits.specs.declared.places.Where.TheVariants.{File, Wd}
 use Rattle.doc_bits.specs.Number.{AreBytes, u16_at}
 use Rattle.doc_bits.specs.Rules.{Hold, Nowhere, Among}
 use Rattle.doc_bits.specs.Places.{Place, Upto, IsFirstPlace, rules_in}
-use Rattle.doc_bits.proofs.Public.{hold_in, hold_or_first, first_breaks, breaks_within}
+use Rattle.doc_bits.proofs.Public.{hold_in, hold_or_first}
 use Rattle.cfb_streams.specs.Contents.{Contents, HasNamed}
 use Rattle.cfb_streams.specs.Container.{container_rules, outer_rules, HasContents}
 use Rattle.cfb_streams.specs.Names.{wd_name}
-use Rattle.cfb_streams.proofs.Public.{outer_single, contents_unique}
+use Rattle.cfb_streams.proofs.Public.{outer_single, contents_stored, contents_unique}
 use Rattle.fib_form.specs.declared.form.Form.{Form}
 use Rattle.fib_form.specs.declared.form.Form.TheVariants.{Early, Later}
 use Rattle.fib_form.specs.Fib.{FibField, CbRgFcLcb, LaterCswNew, CswNew, NFib, fib_number, field_offset, fib_form}
@@ -27,24 +27,26 @@ use Rattle.fib_versions.proofs.Public.{version_rules-IsSingle}
 use Rattle.plain_doc.specs.declared.document.Document.{Document}
 use Rattle.plain_doc.specs.Sound.{IsSound, document_rules}
 use Rattle.plain_doc.proofs.Public.{document_rules-IsSingle}
-use Rattle.file_rules.specs.FileRules.{contents_rules, wd_rules, table_rules, rules_of_pieces, table_stream_name}
+use Rattle.file_rules.specs.FileRules.{FileText, HasText, source_of, contents_rules, wd_rules, table_rules}
+use Rattle.file_rules.specs.FileRules.{rules_of_pieces, table_stream_name}
 use Rattle.file_rules.specs.PartRules.{part_rules}
-use Rattle.file_rules.proofs.Public.{part_ascends, pieces_single, named_one, single_in, hold_out}
+use Rattle.file_rules.proofs.Public.{part_single, pieces_single, named_one, single_in, hold_out}
 use Rattle.doc_read.specs.Holds.{FileParts, HasFileParts, HoldsDocument, IsAccepted}
 use Rattle.doc_read.proofs.Public.{held_formed, held_parts}
 use Rattle.doc_losses.specs.References.{names_of}
 use Rattle.doc_losses.proofs.Public.{names_none, no_references}
-use Rattle.doc_meaning.specs.Apart.{ReadsClx}
-use Rattle.doc_meaning.proofs.Public.{held_is_meant, meant_is_held}
+use Rattle.doc_meaning.specs.Apart.{ReadsClx, IsReadTable}
+use Rattle.doc_meaning.proofs.Public.{HasFront, held_is_meant, meant_is_held}
 use Rattle.doc_mends.specs.declared.mends.Mend.{Mend}
 use Rattle.doc_mends.specs.Mending.{IsMended}
 use Rattle.doc_mends.proofs.Public.{no_mends}
-use Rattle.deleted_text.specs.Texts.{IsStruckText}
-use Rattle.deleted_text.proofs.Public.{struck_none}
+use Rattle.huge_papx.specs.Texts.{IsStruckDefined}
+use Rattle.huge_papx.proofs.Public.{struck_defined_none}
 use Rattle.doc_lift.specs.LiftedRules.{lifted_wd, lifted_wd_rules, lifted_contents_rules, read_table_rules}
 use Rattle.doc_lift.specs.LiftedFiles.{lifted_rules}
+use Rattle.doc_lift.proofs.Public.{source_held}
 use Rattle.doc_fit.specs.Rules.{HasMended}
-use Rattle.doc_fit.specs.Laws.{AcceptedFilesBreakFew}
+use Rattle.doc_fit.specs.Laws.{AcceptedFilesBreakNone}
 use Rattle.further_notes.proofs.Public.{front_fields}
 use Rattle.doc_fit.proofs.PieceLemmas.{no_further, pieces_hold}
 
@@ -187,12 +189,12 @@ sound_held file document accepted holds =
       bookmarks = held_formed file document holds;
     }
 
--- nothing of it was deleted by a reviser
+-- nothing of it was deleted by a reviser, and no row of it has its cells in Data
 held_struck : (file : List ℕ) (document : Document) (parts : FileParts) (struck : Document) (mends : List Mend) →
-    HoldsDocument file document → HasFileParts file parts → IsStruckText parts.text document struck mends →
+    HoldsDocument file document → HasFileParts file parts → IsStruckDefined parts.text document struck mends →
     (struck ≡ document) × (mends ≡ [])
 held_struck file document parts struck mends holds has is =
-    struck_none (record {
+    struck_defined_none (record {
       text = parts.text;
       lists = parts.lists;
       hold = held_parts file parts holds.rules has;
@@ -209,15 +211,12 @@ mended_held file document mended accepted holds has =
     let names = names_of parts.text.wd parts.text.table in
     let struck : is.struck ≡ document =
     (held_struck file document parts is.struck is.strikes holds has.means.has_parts
-    (subst (λ (d : Document). IsStruckText parts.text d is.struck is.strikes) (sym meant) is.struck_is)).0 in
+    (subst (λ (d : Document). IsStruckDefined parts.text d is.struck is.strikes) (sym meant) is.struck_is)).0 in
     (no_mends names document mended is.others (sound_held file document accepted holds)
     (no_references names document (unnamed file document parts holds has.means.has_parts))
     (subst (λ (d : Document). IsMended names d mended is.others) struck is.mended_is)).0
 
 -- ---- all rules
-
-abbrev IsOnParts : ℕ → Type 0
-IsOnParts number = (33 ≤ number) × (number ≤ 57)
 
 -- those on the pieces hold of what is read
 read_holds : (wd table read : List ℕ) → fib_fields (lifted_wd wd) ≡ early_fields wd (early_pairs wd) →
@@ -231,58 +230,73 @@ read_holds wd table read fields (short, (ident, (nfib, (hidden, (glossary, (size
     let known = known_size wd size in
     pieces_hold wd table read fields stories known.least long clx hold
 
--- so the first broken one is one on the parts
-read_breaks : (wd table read : List ℕ) (number : ℕ) (place : Place) →
-    Hold (rules_of_pieces (lifted_wd wd) read (all_text_length wd)) →
-    IsFirstPlace (read_table_rules wd read) number place → IsOnParts number
-read_breaks wd table read number place hold (inl pieces) =
-    absurd (hold_or_first Upto (rules_of_pieces (lifted_wd wd) read (all_text_length wd)) number place
-    (pieces_single (lifted_wd wd) read (all_text_length wd)) hold pieces)
-read_breaks wd table read number place hold (inr (pieces, (source, (is, first)))) =
-    let bounds = breaks_within (part_rules source) 33 58 number place (part_ascends source)
-    (first_breaks Upto (part_rules source) number place first) in
-    (bounds.0, omega (arith, bounds.1))
+-- and so do those on its parts
+read_breaks : (file : List ℕ) (contents : Contents) (wd read : List ℕ) (text : FileText) (number : ℕ) (place : Place) →
+    HasContents file contents → IsReadTable contents wd read → HasFront wd read (all_text_length wd) → AreBytes wd →
+    HasText contents text → Hold (part_rules (source_of text)) →
+    IsFirstPlace (read_table_rules wd read) number place → ⊥
+read_breaks file contents wd read text number place has reads front bytes has_text hold (inl pieces) =
+    hold_or_first Upto (rules_of_pieces (lifted_wd wd) read (all_text_length wd)) number place
+    (pieces_single (lifted_wd wd) read (all_text_length wd)) front.hold pieces
+read_breaks file contents wd read text number place has reads front bytes has_text hold (inr (pieces, (source, (is, first)))) =
+    hold_or_first Upto (part_rules source) number place (part_single source)
+    (source_held file contents wd read text source has reads front bytes has_text hold is) first
 
-wd_breaks : (file : List ℕ) (contents : Contents) (wd : List ℕ) (number : ℕ) (place : Place) → AreBytes file →
-    HasContents file contents → HasNamed contents.streams wd_name wd → Hold (wd_rules contents wd) →
-    IsFirstPlace (lifted_wd_rules contents wd) number place → IsOnParts number
-wd_breaks file contents wd number place bytes has named hold (inl fib) =
-    absurd (hold_or_first Upto (rules_in Wd (version_rules wd)) number place
+-- a stream of the root is a list of bytes
+named_bytes : (file : List ℕ) (contents : Contents) (name bytes : List ℕ) → AreBytes file → HasContents file contents →
+    HasNamed contents.streams name bytes → AreBytes bytes
+named_bytes file contents name bytes are has named =
+    subst AreBytes (sym named.same) (contents_stored file contents are has named.index named.stream named.here).small
+
+wd_breaks : (file : List ℕ) (contents : Contents) (wd : List ℕ) (text : FileText) (number : ℕ) (place : Place) →
+    AreBytes file → HasContents file contents → HasNamed contents.streams wd_name wd → Hold (wd_rules contents wd) →
+    HasText contents text → Hold (part_rules (source_of text)) →
+    IsFirstPlace (lifted_wd_rules contents wd) number place → ⊥
+wd_breaks file contents wd text number place bytes has named hold has_text parts (inl fib) =
+    hold_or_first Upto (rules_in Wd (version_rules wd)) number place
     (single_in Wd (version_rules wd) (version_rules-IsSingle wd))
-    (hold_in Wd (version_rules wd) (version_holds wd (hold_out Wd (fib_rules wd) hold.0))) fib)
-wd_breaks file contents wd number place bytes has named hold (inr (fib, inl missing)) =
-    absurd (hold.1.0 place missing.1.broken)
-wd_breaks file contents wd number place bytes has named hold (inr (fib, inr (there, (table, (stands, (read, (clx, first))))))) =
+    (hold_in Wd (version_rules wd) (version_holds wd (hold_out Wd (fib_rules wd) hold.0))) fib
+wd_breaks file contents wd text number place bytes has named hold has_text parts (inr (fib, inl missing)) =
+    hold.1.0 place missing.1.broken
+wd_breaks file contents wd text number place bytes has named hold has_text parts (inr (fib, inr (there, (table, (stands, (read, (clx, first))))))) =
     let own = hold.1.1 in
     let held : Hold (table_rules wd table) =
     subst (λ (t : List ℕ). Hold (table_rules wd t))
     (named_one file contents (table_stream_name wd) own.0 table has own.1.0 stands) own.1.1 in
     let rules = hold_out Wd (fib_rules wd) hold.0 in
     let fields = front_fields file contents wd_name wd bytes has named (version_holds wd rules) in
-    read_breaks wd table read number place (read_holds wd table read fields rules clx held) first
+    let reads : IsReadTable contents wd read = record { has_wd = named; own = table; has_table = stands; clx = clx } in
+    let front : HasFront wd read (all_text_length wd) = record {
+      fields = fields;
+      hold = read_holds wd table read fields rules clx held;
+    } in
+    read_breaks file contents wd read text number place has reads front
+    (named_bytes file contents wd_name wd bytes has named) has_text parts first
 
 contents_break : (file : List ℕ) (contents : Contents) (number : ℕ) (place : Place) → AreBytes file →
     Hold (contents_rules contents) → HasContents file contents →
-    IsFirstPlace (lifted_contents_rules contents) number place → IsOnParts number
-contents_break file contents number place bytes hold has (inl missing) = absurd (hold.0.0 place missing.1.broken)
+    IsFirstPlace (lifted_contents_rules contents) number place → ⊥
+contents_break file contents number place bytes hold has (inl missing) = hold.0.0 place missing.1.broken
 contents_break file contents number place bytes hold has (inr (there, (wd, (named, first)))) =
-    wd_breaks file contents wd number place bytes has named (wd_held file contents wd hold has named) first
+    let text = hold.1 in
+    wd_breaks file contents wd text.0 number place bytes has named (wd_held file contents wd hold has named) text.1.0
+    text.1.1 first
 
 lifted_break : (file : List ℕ) (number : ℕ) (place : Place) → AreBytes file → IsAccepted file →
-    IsFirstPlace (lifted_rules file) number place → IsOnParts number
+    IsFirstPlace (lifted_rules file) number place → ⊥
 lifted_break file number place bytes accepted (inl outer) =
-    absurd (hold_or_first Upto (rules_in File (outer_rules file)) number place
-    (single_in File (outer_rules file) (outer_single file)) (outer_holds file accepted.0.0) outer)
+    hold_or_first Upto (rules_in File (outer_rules file)) number place
+    (single_in File (outer_rules file) (outer_single file)) (outer_holds file accepted.0.0) outer
 lifted_break file number place bytes accepted (inr (outer, (contents, (has, first)))) =
     let container = accepted.0.1 in
     let same : container.0 ≡ contents = contents_unique file container.0 contents container.1.0 has in
     contents_break file contents number place bytes (subst (λ (c : Contents). Hold (contents_rules c)) same container.1.1)
     has first
 
-pub breaks_few : AcceptedFilesBreakFew
-breaks_few file number place bytes accepted (inl lifted) = lifted_break file number place bytes accepted lifted
-breaks_few file number place bytes accepted (inr (lifted, (document, (lifts, first)))) =
+pub breaks_none : AcceptedFilesBreakNone
+breaks_none file number place bytes accepted (inl lifted) = lifted_break file number place bytes accepted lifted
+breaks_none file number place bytes accepted (inr (lifted, (document, (lifts, first)))) =
     let held = accepted.1.0 in
     let same : document ≡ held = mended_held file held document accepted accepted.1.1.0 lifts.mended in
-    absurd (hold_or_first Upto (document_rules held) number place (document_rules-IsSingle held) accepted.1.1.1
-    (subst (λ (d : Document). IsFirstPlace (document_rules d) number place) same first))
+    hold_or_first Upto (document_rules held) number place (document_rules-IsSingle held) accepted.1.1.1
+    (subst (λ (d : Document). IsFirstPlace (document_rules d) number place) same first)

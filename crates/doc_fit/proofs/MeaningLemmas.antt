@@ -12,7 +12,7 @@ use Rattle.doc_mends.specs.Mending.{IsMended}
 use Rattle.doc_mends.proofs.Public.{one_way}
 use Rattle.doc_lift.specs.LiftedFiles.{lifted_rules}
 use Rattle.doc_lift.proofs.Public.{lifted_single}
-use Rattle.deleted_text.proofs.Public.{struck_one}
+use Rattle.huge_papx.proofs.Public.{struck_defined_one}
 use Rattle.further_notes.proofs.Public.{meant_one}
 use Rattle.doc_mends.specs.declared.mends.Mend.{Mend}
 use Rattle.doc_fit.specs.Rules.{IsMendedText, HasMended, LiftsTo, fit_rules}
@@ -28,7 +28,7 @@ pub record AreOneMended (file : List ℕ) (one other : Document) (a : HasMended 
 pub text_mended_one : (text : FileText) (meant one other : Document) (mends others : List Mend) →
     IsMendedText text meant one mends → IsMendedText text meant other others → (one ≡ other) × (mends ≡ others)
 text_mended_one text meant one other mends others a b =
-    let struck = struck_one text meant a.struck b.struck a.strikes b.strikes a.struck_is b.struck_is in
+    let struck = struck_defined_one text meant a.struck b.struck a.strikes b.strikes a.struck_is b.struck_is in
     let names = names_of text.wd text.table in
     let same = one_way names b.struck one other a.others b.others
     (subst (λ (d : Document). IsMended names d one a.others) struck.0 a.mended_is) b.mended_is in (

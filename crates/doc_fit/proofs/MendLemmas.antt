@@ -1,5 +1,5 @@
--- What a reviser deleted of what is lifted is struck.
-use Rattle.std.proofs.Common.{◌≡◌, ◌∙◌, sym, ap, subst, ℕ, List, Bool}
+-- What a reviser deleted of what is lifted is struck, and its rows get their cells.
+use Rattle.std.proofs.Common.{◌≡◌, ◌∙◌, sym, ap, subst, ℕ, List, Bool, Option}
 use Rattle.cfb_streams.specs.Contents.{HasNamed}
 use Rattle.cfb_streams.specs.Names.{wd_name}
 use Rattle.plain_doc.specs.declared.document.Document.{Document}
@@ -9,8 +9,9 @@ use Rattle.doc_lift.specs.declared.lifting.Lifted.{Lifted}
 use Rattle.doc_mends.specs.declared.mends.Mend.{Mend}
 use Rattle.deleted_text.specs.declared.ranges.StoryBegins.{StoryBegins}
 use Rattle.deleted_text.specs.Ranges.{document_ranges, begins_of}
-use Rattle.deleted_text.specs.Strikes.{IsStruck}
-use Rattle.deleted_text.specs.Texts.{AreTextDeletions, IsStruckText}
+use Rattle.deleted_text.specs.Texts.{AreTextDeletions}
+use Rattle.huge_papx.specs.Defined.{IsDefined, IsStruckThenDefined}
+use Rattle.huge_papx.specs.Texts.{AreTextOffsets, IsStruckDefined}
 use Rattle.doc_fit.specs.declared.losses.Found.{Found}
 use Rattle.doc_fit.specs.Opened.{HasDeletions, IsFoundIn}
 
@@ -31,20 +32,31 @@ own_table before found has is =
     named_one has.file container (table_stream_name has.text.wd) is.losses.table has.text.table has.has_contents there
     has.has_text.has_table
 
-pub struck_text : (before : Lifted) (found : Found) (struck : Document) (deleted flags : List Bool)
-    (mends : List Mend) → (has : HasDeletions before) → IsFoundIn before found → flags ≡ deleted →
-    deleted ≡ before.deleted.items →
-    IsStruck (document_ranges found.begins flags before.document) before.document struck mends →
-    IsStruckText has.text before.document struck mends
-struck_text before found struck deleted flags mends has is flags_are deleted_are strikes =
+pub struck_text : (before : Lifted) (found : Found) (struck : Document) (flags : List Bool)
+    (offsets : List (Option ℕ)) (mends : List Mend) → (has : HasDeletions before) → IsFoundIn before found →
+    flags ≡ before.deleted.items → offsets ≡ before.offsets.items →
+    IsStruckThenDefined found.begins (flags, offsets) before.document struck mends →
+    IsStruckDefined has.text before.document struck mends
+struck_text before found struck flags offsets mends has is flags_are offsets_are by =
     let begins : found.begins ≡ begins_of has.text.wd =
     is.begins ∙ ap begins_of (main_same before found has is) in
     record {
-      ranges = document_ranges found.begins flags before.document;
-      deleted = record {
-        flags = flags;
-        deletions = subst (AreTextDeletions has.text) (sym (flags_are ∙ deleted_are)) has.deleted;
-        are = ap (λ (b : StoryBegins). document_ranges b flags before.document) begins;
+      struck = by.struck;
+      strikes = by.strikes;
+      struck_is = record {
+        ranges = document_ranges found.begins flags before.document;
+        deleted = record {
+          flags = flags;
+          deletions = subst (AreTextDeletions has.text) (sym flags_are) has.deleted;
+          are = ap (λ (b : StoryBegins). document_ranges b flags before.document) begins;
+        };
+        is = by.struck_is;
       };
-      is = strikes;
+      definitions = by.definitions;
+      defined_is = record {
+        offsets = offsets;
+        named = subst (AreTextOffsets has.text) (sym offsets_are) has.offsets;
+        is = subst (λ (b : StoryBegins). IsDefined b offsets by.struck struck by.definitions) begins by.defined_is;
+      };
+      mends_are = by.mends_are;
     }

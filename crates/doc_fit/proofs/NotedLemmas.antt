@@ -1,19 +1,19 @@
--- A file with its endnotes as notes: what cannot be one, and that it is one.
+-- A file with its endnotes and comments as notes: what cannot be one, and that it is one.
 use Rattle.std.proofs.Common.{◌≡◌, ◌∙◌, ◌++◌, ◌≤◌, inl, inr, refl, sym, ap, subst, ℕ, Bool, true, false, List, map, arith}
-use Rattle.std.proofs.Common.{Option, Some, None}
-use Rattle.std.specs.Prelude.{MatchOption}
-use Rattle.std.proofs.lemmas.Bool.{cases_eq}
+use Rattle.std.proofs.Common.{Option, Some, None, [], ◌∷◌}
+use Rattle.std.specs.Prelude.{MatchOption, ◌||◌}
+use Rattle.std.proofs.lemmas.Bool.{cases_eq, true≢false}
 use Rattle.doc_bits.specs.declared.places.Where.TheVariants.{Wd}
 use Rattle.doc_bits.specs.Number.{AreBytes}
 use Rattle.doc_bits.specs.Rules.{Hold}
 use Rattle.doc_bits.specs.Places.{Place, Upto, IsFirstPlace}
-use Rattle.doc_bits.proofs.Public.{hold_or_first}
+use Rattle.doc_bits.proofs.Public.{hold_or_first, not_zero}
 use Rattle.cfb_streams.specs.Contents.{Contents, OuterContents, HasNamed}
 use Rattle.cfb_streams.specs.Container.{HasContents}
 use Rattle.cfb_streams.specs.Names.{wd_name}
 use Rattle.cfb_streams.proofs.Public.{contents_unique}
 use Rattle.fib_form.specs.FibRules.{fib_rules}
-use Rattle.fib_versions.specs.declared.further.Further.TheVariants.{Endnotes}
+use Rattle.fib_versions.specs.declared.further.Further.TheVariants as further
 use Rattle.fib_versions.specs.Versions.{further_count}
 use Rattle.plain_doc.specs.declared.document.Document.{Document}
 use Rattle.plain_doc.specs.Marks.{HasFormedBookmarks}
@@ -30,22 +30,28 @@ use Rattle.doc_lift.proofs.Public.{lifted_single}
 use Rattle.doc_losses.specs.References.{Names, names_of}
 use Rattle.doc_losses.specs.Marks.{named_by}
 use Rattle.doc_losses.proofs.Public.{same_names}
+use Rattle.doc_mends.specs.declared.mends.NoteStory.{NoteStory}
+use Rattle.doc_mends.specs.declared.mends.NoteStory.TheVariants as note_story
 use Rattle.doc_mends.specs.declared.mends.Mend.{Mend}
 use Rattle.doc_mends.specs.declared.mends.Mend.TheVariants.{MakeNote}
 use Rattle.doc_mends.specs.Mending.{IsMended}
 use Rattle.doc_mends.proofs.Public.{bookmarks_stay, one_way}
-use Rattle.deleted_text.specs.Texts.{IsStruckText}
-use Rattle.deleted_text.proofs.Public.{struck_one, struck_formed}
+use Rattle.huge_papx.specs.Texts.{IsStruckDefined}
+use Rattle.huge_papx.proofs.Public.{struck_defined_one, struck_defined_formed}
 use Rattle.further_notes.specs.declared.splicing.Spliced.{Spliced}
-use Rattle.further_notes.specs.Splices.{IsSpliced, HasNoSplice}
-use Rattle.further_notes.proofs.Public.{meant_one, splice_is_one, splice_formed}
+use Rattle.further_notes.specs.declared.stories.NotedStories.{NotedStories}
+use Rattle.further_notes.specs.declared.stories.NotedStories.TheVariants.{Both, Endnotes, Comments}
+use Rattle.further_notes.specs.NoteFiles.{story_of}
+use Rattle.further_notes.specs.Noted.{IsSpliced, HasNoSplice, has_story}
+use Rattle.further_notes.proofs.Public.{meant_one, splice_is_one, splice_formed, has_some}
 use Rattle.loss_report.specs.Features.{Inventory}
 use Rattle.doc_fit.specs.declared.losses.Found.{Found}
 use Rattle.doc_fit.specs.declared.opening.OpenedAny.{OpenedAny}
 use Rattle.doc_fit.specs.Opened.{IsFoundIn, IsOpenedAny}
-use Rattle.doc_fit.specs.Noted.{IsNotedText, HasNoted, CannotNote, AreNoted, IsDocumentWith, AreLinesWith, lines_left}
-use Rattle.doc_fit.specs.Noted.{HasTwoStreams, HasNoEndnotes, IsSplicedOf, HasNoSpliceOf, IsStruckLifted}
-use Rattle.doc_fit.specs.Noted.{HasFileStreams, IsNotedReport, IsOpenedNoted, IsOpenedFit}
+use Rattle.doc_fit.specs.Noted.{IsNotedText, HasNoted, CanNote, CannotNote, AreNoted, IsDocumentWith, AreLinesWith}
+use Rattle.doc_fit.specs.Noted.{HasTwoStreams, LacksStory, IsSplicedOf, HasNoSpliceOf, IsStruckLifted, lines_left}
+use Rattle.doc_fit.specs.Noted.{HasFileStreams, IsNotedReport, IsOpenedNoted, IsOpenedFit, IsFirstNoted, choices}
+use Rattle.doc_fit.specs.Noted.{IsOpenedFirst, IsOpenedAsNoted, lacks_some}
 use Rattle.doc_fit.proofs.MeaningLemmas.{mended_one}
 use Rattle.doc_fit.proofs.LossLemmas.{wd_same, table_same}
 use Rattle.doc_fit.proofs.OpenLemmas.{text_meant, opened_holds}
@@ -54,12 +60,13 @@ use Rattle.doc_fit.proofs.AcceptedLemmas.{wd_held, mended_held}
 
 -- ---- one document
 
-pub noted_text_one : (text : FileText) (meant one other : Document) (mends others : List Mend) →
-    IsNotedText text meant one mends → IsNotedText text meant other others → (one ≡ other) × (mends ≡ others)
-noted_text_one text meant one other mends others a b =
-    let struck = struck_one text meant a.struck b.struck a.strikes b.strikes a.struck_is b.struck_is in
-    let spliced = splice_is_one text.wd text.table b.struck a.spliced b.spliced a.made b.made
-    (subst (λ (d : Document). IsSpliced text.wd text.table d a.spliced a.made) struck.0 a.splice) b.splice in
+pub noted_text_one : (stories : NotedStories) (text : FileText) (meant one other : Document) (mends others : List Mend) →
+    IsNotedText stories text meant one mends → IsNotedText stories text meant other others →
+    (one ≡ other) × (mends ≡ others)
+noted_text_one stories text meant one other mends others a b =
+    let struck = struck_defined_one text meant a.struck b.struck a.strikes b.strikes a.struck_is b.struck_is in
+    let spliced = splice_is_one stories text.wd text.table b.struck a.spliced b.spliced a.made b.made
+    (subst (λ (d : Document). IsSpliced stories text.wd text.table d a.spliced a.made) struck.0 a.splice) b.splice in
     let names = names_of text.wd text.table in
     let same = one_way names b.spliced one other a.others b.others
     (subst (λ (d : Document). IsMended names d one a.others) spliced.0 a.mended_is) b.mended_is in (
@@ -73,51 +80,68 @@ means_text : (file : List ℕ) (one other : Document) → (a : MeansDocument fil
 means_text file one other a b =
     ap (λ (p : FileParts). p.text) (file_parts_one file a.parts b.parts a.has_parts b.has_parts)
 
-pub noted_one : (file : List ℕ) (one other : Document) → AreBytes file → (a : HasNoted file one) →
-    (b : HasNoted file other) → (one ≡ other) × (a.mends ≡ b.mends)
-noted_one file one other bytes a b =
+pub noted_one : (stories : NotedStories) (file : List ℕ) (one other : Document) → AreBytes file →
+    (a : HasNoted stories file one) → (b : HasNoted stories file other) → (one ≡ other) × (a.mends ≡ b.mends)
+noted_one stories file one other bytes a b =
     let meant : a.meant ≡ b.meant = meant_one file a.meant b.meant bytes a.rules a.means b.means in
     let text : a.means.parts.text ≡ b.means.parts.text = means_text file a.meant b.meant a.means b.means in
-    noted_text_one b.means.parts.text b.meant one other a.mends b.mends
-    (subst (λ (d : Document). IsNotedText b.means.parts.text d one a.mends) meant
-    (subst (λ (t : FileText). IsNotedText t a.meant one a.mends) text a.noted_is)) b.noted_is
+    noted_text_one stories b.means.parts.text b.meant one other a.mends b.mends
+    (subst (λ (d : Document). IsNotedText stories b.means.parts.text d one a.mends) meant
+    (subst (λ (t : FileText). IsNotedText stories t a.meant one a.mends) text a.noted_is)) b.noted_is
 
-pub document_one : (noted : Bool) (file : List ℕ) (one other : Document) (mends others : List Mend) → AreBytes file →
-    Hold (lifted_rules file) → IsDocumentWith noted file one mends → IsDocumentWith noted file other others →
-    (one ≡ other) × (mends ≡ others)
-document_one true file one other mends others bytes rules a b =
-    let same = noted_one file one other bytes a.noted b.noted in
+pub document_one : (noted : Option NotedStories) (file : List ℕ) (one other : Document) (mends others : List Mend) →
+    AreBytes file → Hold (lifted_rules file) → IsDocumentWith noted file one mends →
+    IsDocumentWith noted file other others → (one ≡ other) × (mends ≡ others)
+document_one (Some stories) file one other mends others bytes rules a b =
+    let same = noted_one stories file one other bytes a.noted b.noted in
     (same.0, a.mends_are ∙ (same.1 ∙ sym b.mends_are))
-document_one false file one other mends others bytes rules a b =
+document_one None file one other mends others bytes rules a b =
     let same = mended_one file one other bytes rules a.mended b.mended in
     (same.document, a.mends_are ∙ (same.mends ∙ sym b.mends_are))
 
--- endnotes are notes of both or of none
-pub are_noted_one : (plain a b : Bool) (file : List ℕ) (one other : Document) (mends others : List Mend) →
-    AreNoted plain file a → AreNoted plain file b → IsDocumentWith a file one mends →
-    IsDocumentWith b file other others → a ≡ b
-are_noted_one true a b file one other mends others x y is too = x ∙ sym y
-are_noted_one false true true file one other mends others x y is too = refl
-are_noted_one false false false file one other mends others x y is too = refl
-are_noted_one false true false file one other mends others x y is too = absurd (y one is.noted)
-are_noted_one false false true file one other mends others x y is too = absurd (x other too.noted)
+-- the same stories become notes of both
+first_one : (among : List NotedStories) (file : List ℕ) (a b : Option NotedStories) → IsFirstNoted among file a →
+    IsFirstNoted among file b → a ≡ b
+first_one [] file a b x y = x ∙ sym y
+first_one (stories ∷ others) file a b (inl x) (inl y) = x.0 ∙ sym y.0
+first_one (stories ∷ others) file a b (inl x) (inr y) = absurd (y.0 x.1.0 x.1.1)
+first_one (stories ∷ others) file a b (inr x) (inl y) = absurd (x.0 y.1.0 y.1.1)
+first_one (stories ∷ others) file a b (inr x) (inr y) = first_one others file a b x.1 y.1
 
-pub lines_with_one : (noted : Bool) (text : FileText) (inventory : Inventory) (a b : List (List ℕ)) →
+pub are_noted_one : (plain : Bool) (a b : Option NotedStories) (file : List ℕ) → AreNoted plain file a →
+    AreNoted plain file b → a ≡ b
+are_noted_one true a b file x y = x ∙ sym y
+are_noted_one false a b file x y = first_one choices file a b x y
+
+pub lines_with_one : (noted : Option NotedStories) (text : FileText) (inventory : Inventory) (a b : List (List ℕ)) →
     AreLinesWith noted text inventory a → AreLinesWith noted text inventory b → a ≡ b
 lines_with_one noted text inventory a b x y =
     x.are ∙ (ap (lines_left noted) (lines_one text inventory x.all y.all x.are_all y.are_all) ∙ sym y.are)
 
 -- ---- an accepted file
 
--- it has no endnotes
-counts_none : (wd : List ℕ) → Hold (fib_rules wd) → further_count wd Endnotes ≡ 0
-counts_none wd (_, (_, (_, (_, (_, (_, (stories, (_, parts)))))))) = elim (cases_eq (further_count wd Endnotes) 0) [
-  | inl same ↦ same
-  | inr some ↦ absurd (stories _ (record { entry = 1; below = omega arith; broken = (refl, some) }))
-]
+-- it has nothing of a further story
+counts_none : (wd : List ℕ) (story : NoteStory) → Hold (fib_rules wd) → further_count wd (story_of story) ≡ 0
+counts_none wd note_story.Endnotes (_, (_, (_, (_, (_, (_, (stories, (_, parts)))))))) =
+    elim (cases_eq (further_count wd further.Endnotes) 0) [
+      | inl same ↦ same
+      | inr some ↦ absurd (stories _ (record { entry = 1; below = omega arith; broken = (refl, some) }))
+    ]
+counts_none wd note_story.Comments (_, (_, (_, (_, (_, (_, (stories, (_, parts)))))))) =
+    elim (cases_eq (further_count wd further.Comments) 0) [
+      | inl same ↦ same
+      | inr some ↦ absurd (stories _ (record { entry = 0; below = omega arith; broken = (refl, some) }))
+    ]
 
-pub never_noted : (file : List ℕ) (document other : Document) → HoldsDocument file document → HasNoted file other → ⊥
-never_noted file document other holds has =
+-- some story is among them
+story_among : (stories : NotedStories) → (story : NoteStory) × (has_story stories story ≡ true)
+story_among Both = (note_story.Endnotes, refl)
+story_among Endnotes = (note_story.Endnotes, refl)
+story_among Comments = (note_story.Comments, refl)
+
+pub never_noted : (stories : NotedStories) (file : List ℕ) (document other : Document) →
+    HoldsDocument file document → HasNoted stories file other → ⊥
+never_noted stories file document other holds has =
     let parts = has.means.parts in
     let there = has.means.has_parts in
     let container = holds.rules.1 in
@@ -125,16 +149,17 @@ never_noted file document other holds has =
     contents_unique file container.0 parts.contents container.1.0 there.has_contents in
     let held = wd_held file parts.contents parts.text.wd
     (subst (λ (c : Contents). Hold (contents_rules c)) same container.1.1) there.has_contents there.has_text.has_wd in
-    let none = counts_none parts.text.wd (hold_out Wd (fib_rules parts.text.wd) held.0) in
-    let some = has.noted_is.splice.has.some in
+    let among = story_among stories in
+    let none = counts_none parts.text.wd among.0 (hold_out Wd (fib_rules parts.text.wd) held.0) in
+    let some = has_some stories parts.text.wd parts.text.table _ _ _ has.noted_is.splice among.0 among.1 in
     omega (arith, some, none)
 
 -- what it holds is what a fit of it is
-pub document_held : (noted : Bool) (file : List ℕ) (document other : Document) (mends : List Mend) →
+pub document_held : (noted : Option NotedStories) (file : List ℕ) (document other : Document) (mends : List Mend) →
     IsAccepted file → HoldsDocument file document → IsDocumentWith noted file other mends → other ≡ document
-document_held true file document other mends accepted holds is =
-    absurd (never_noted file document other holds is.noted)
-document_held false file document other mends accepted holds is =
+document_held (Some stories) file document other mends accepted holds is =
+    absurd (never_noted stories file document other holds is.noted)
+document_held None file document other mends accepted holds is =
     mended_held file document other accepted holds is.mended
 
 -- ---- streams of what is lifted
@@ -152,34 +177,51 @@ two_same file lifted is has =
           is.has_text.has_table,
     )
 
--- ---- where endnotes cannot be notes
+-- ---- where stories cannot be notes
 
-module _ (file : List ℕ) (lifted : Lifted) (bytes : AreBytes file) (is : IsLifted file lifted) where
+-- each of these stories has something
+lacks_none : (stories : NotedStories) (wd : List ℕ) →
+    ((story : NoteStory) → has_story stories story ≡ true → 1 ≤ further_count wd (story_of story)) →
+    lacks_some stories wd ≡ false
+lacks_none Both wd some =
+    let endnotes = some note_story.Endnotes refl in
+    let comments = some note_story.Comments refl in
+    λ i. not_zero (further_count wd further.Endnotes) (omega (arith, endnotes)) i
+    || not_zero (further_count wd further.Comments) (omega (arith, comments)) i
+lacks_none Endnotes wd some =
+    let endnotes = some note_story.Endnotes refl in
+    not_zero (further_count wd further.Endnotes) (omega (arith, endnotes))
+lacks_none Comments wd some =
+    let comments = some note_story.Comments refl in
+    not_zero (further_count wd further.Comments) (omega (arith, comments))
+
+module _ (stories : NotedStories) (file : List ℕ) (lifted : Lifted) (bytes : AreBytes file)
+    (is : IsLifted file lifted) where
   -- what the file means with them as notes is by the text and the document that are lifted
-  noted_lifted : (document : Document) → (has : HasNoted file document) →
-      IsNotedText is.text lifted.document document has.mends
+  noted_lifted : (document : Document) → (has : HasNoted stories file document) →
+      IsNotedText stories is.text lifted.document document has.mends
   noted_lifted document has =
       let meant : has.meant ≡ lifted.document =
       meant_one file has.meant lifted.document bytes is.rules has.means is.means in
       let text : has.means.parts.text ≡ is.text =
       means_text file has.meant lifted.document has.means is.means ∙ sym (text_meant file lifted is) in
-      subst (λ (d : Document). IsNotedText is.text d document has.mends) meant
-      (subst (λ (t : FileText). IsNotedText t has.meant document has.mends) text has.noted_is)
+      subst (λ (d : Document). IsNotedText stories is.text d document has.mends) meant
+      (subst (λ (t : FileText). IsNotedText stories t has.meant document has.mends) text has.noted_is)
 
-  pub no_endnotes : HasNoEndnotes lifted → CannotNote file
-  no_endnotes none document has =
-      let noted = noted_lifted document has in
-      let some = noted.splice.has.some in
-      let wd = (two_same file lifted is none.streams).0 in
-      let zero = sym (ap (λ (w : List ℕ). further_count w Endnotes) wd) ∙ none.none in
-      omega (arith, some, zero)
+  pub lacks_one : LacksStory stories lifted → CannotNote stories file
+  lacks_one lacks document has =
+      let splice = (noted_lifted document has).splice in
+      let wd = (two_same file lifted is lacks.streams).0 in
+      let none = lacks_none stories is.text.wd
+      (has_some stories is.text.wd is.text.table _ _ _ splice) in
+      true≢false (sym lacks.lacks ∙ (ap (lacks_some stories) wd ∙ none))
 
   -- ---- what is struck
 
   module _ (struck : Lifted) (strikes : List Mend) (are : IsStruckLifted lifted struck strikes) where
-    struck_there : IsStruckText is.text lifted.document struck.document strikes
+    struck_there : IsStruckDefined is.text lifted.document struck.document strikes
     struck_there =
-        subst (λ (t : FileText). IsStruckText t lifted.document struck.document strikes)
+        subst (λ (t : FileText). IsStruckDefined t lifted.document struck.document strikes)
         (text_one file lifted.outer.container are.text is.text is.has_contents are.has_text is.has_text) are.struck_is
 
     two_there : (has : HasTwoStreams struck) → (has.wd ≡ is.text.wd) × (has.table ≡ is.text.table)
@@ -211,38 +253,38 @@ module _ (file : List ℕ) (lifted : Lifted) (bytes : AreBytes file) (is : IsLif
           bytes = bytes;
         }
 
-    pub no_splice : HasNoSpliceOf struck → CannotNote file
+    pub no_splice : HasNoSpliceOf stories struck → CannotNote stories file
     no_splice none document has =
         let noted = noted_lifted document has in
         let same = two_there none.streams in
-        let one = struck_one is.text lifted.document noted.struck struck.document noted.strikes strikes
+        let one = struck_defined_one is.text lifted.document noted.struck struck.document noted.strikes strikes
         noted.struck_is struck_there in
         none.none noted.spliced noted.made
-        (subst (λ (d : Document). IsSpliced none.streams.wd none.streams.table d noted.spliced noted.made) one.0
-        (subst (λ (w : List ℕ). IsSpliced w none.streams.table noted.struck noted.spliced noted.made) (sym same.0)
-        (subst (λ (t : List ℕ). IsSpliced is.text.wd t noted.struck noted.spliced noted.made) (sym same.1)
+        (subst (λ (d : Document). IsSpliced stories none.streams.wd none.streams.table d noted.spliced noted.made) one.0
+        (subst (λ (w : List ℕ). IsSpliced stories w none.streams.table noted.struck noted.spliced noted.made) (sym same.0)
+        (subst (λ (t : List ℕ). IsSpliced stories is.text.wd t noted.struck noted.spliced noted.made) (sym same.1)
         noted.splice)))
 
     -- ---- what is noted and mended
 
-    module _ (spliced : Spliced) (splice : IsSplicedOf struck spliced) where
+    module _ (spliced : Spliced) (splice : IsSplicedOf stories struck spliced) where
       splice_there :
-          IsSpliced is.text.wd is.text.table struck.document spliced.document spliced.made.items
+          IsSpliced stories is.text.wd is.text.table struck.document spliced.document spliced.made.items
       splice_there =
           let same = two_there splice.streams in
           let made = spliced.made.items in
-          subst (λ (t : List ℕ). IsSpliced is.text.wd t struck.document spliced.document made) same.1
-          (subst (λ (w : List ℕ). IsSpliced w splice.streams.table struck.document spliced.document made) same.0
+          subst (λ (t : List ℕ). IsSpliced stories is.text.wd t struck.document spliced.document made) same.1
+          (subst (λ (w : List ℕ). IsSpliced stories w splice.streams.table struck.document spliced.document made) same.0
           splice.is)
 
       pub spliced_formed : HasFormedBookmarks spliced.document
       spliced_formed =
-          splice_formed is.text.wd is.text.table struck.document spliced.document spliced.made.items splice_there
-          (struck_formed is.text lifted.document struck.document strikes is.formed struck_there)
+          splice_formed stories is.text.wd is.text.table struck.document spliced.document spliced.made.items splice_there
+          (struck_defined_formed is.text lifted.document struck.document strikes is.formed struck_there)
 
       module _ (found : Found) (finds : IsFoundIn lifted found) (after : Document) (others : List Mend)
           (mended : IsMended (named_by found.marks) spliced.document after others) where
-        noted_there : IsNotedText is.text lifted.document after (map MakeNote spliced.made.items ++ (strikes ++ others))
+        noted_there : IsNotedText stories is.text lifted.document after (map MakeNote spliced.made.items ++ (strikes ++ others))
         noted_there =
             let losses = finds.losses in
             let wd : losses.wd ≡ is.text.wd = wd_same file lifted found.losses is losses in
@@ -266,20 +308,21 @@ module _ (file : List ℕ) (lifted : Lifted) (bytes : AreBytes file) (is : IsLif
         noted_formed = bookmarks_stay (named_by found.marks) spliced.document after others spliced_formed mended
 
         -- where a rule on documents is broken then
-        pub not_noted : (rule : ℕ) (place : Place) → IsFirstPlace (document_rules after) rule place → CannotNote file
+        pub not_noted : (rule : ℕ) (place : Place) → IsFirstPlace (document_rules after) rule place →
+            CannotNote stories file
         not_noted rule place first document has =
-            let same = noted_text_one is.text lifted.document document after has.mends
+            let same = noted_text_one stories is.text lifted.document document after has.mends
             (map MakeNote spliced.made.items ++ (strikes ++ others)) (noted_lifted document has) noted_there in
             hold_or_first Upto (document_rules after) rule place (document_rules-IsSingle after)
             (subst (λ (d : Document). Hold (document_rules d)) same.0 has.sound.rules) first
 
         pub noted_report_is : (now : Lifted) (left : List (List ℕ)) (all : List Mend) → now.document ≡ after →
-            left ≡ lines_left true found.losses → all ≡ map MakeNote spliced.made.items ++ (strikes ++ others) →
-            IsSound after → IsNotedReport file lifted now left all
+            left ≡ lines_left (Some stories) found.losses → all ≡ map MakeNote spliced.made.items ++ (strikes ++ others) →
+            IsSound after → IsNotedReport stories file lifted now left all
         noted_report_is now left all here left_is all_are sound = record {
           lifts = is;
-          noted_is = subst (λ (m : List Mend). IsNotedText is.text lifted.document now.document m) (sym all_are)
-              (subst (λ (d : Document). IsNotedText is.text lifted.document d (map MakeNote spliced.made.items ++ (strikes
+          noted_is = subst (λ (m : List Mend). IsNotedText stories is.text lifted.document now.document m) (sym all_are)
+              (subst (λ (d : Document). IsNotedText stories is.text lifted.document d (map MakeNote spliced.made.items ++ (strikes
               ++ others))) (sym here) noted_there);
           all = found.losses;
           are_all = finds.losses;
@@ -289,33 +332,81 @@ module _ (file : List ℕ) (lifted : Lifted) (bytes : AreBytes file) (is : IsLif
 
 -- ---- what is found, by the streams
 
-pub spliced_of : (lifted : Lifted) (two : HasTwoStreams lifted) (found : Option Spliced) →
-    MatchOption found (HasNoSplice two.wd two.table lifted.document)
-    (λ spliced. IsSpliced two.wd two.table lifted.document spliced.document spliced.made.items) →
-    MatchOption found (HasNoSpliceOf lifted) (IsSplicedOf lifted)
-spliced_of lifted two None none = record { streams = two; none = none }
-spliced_of lifted two (Some spliced) is = record { streams = two; is = is }
+pub spliced_of : (stories : NotedStories) (lifted : Lifted) (two : HasTwoStreams lifted) (found : Option Spliced) →
+    MatchOption found (HasNoSplice stories two.wd two.table lifted.document)
+    (λ spliced. IsSpliced stories two.wd two.table lifted.document spliced.document spliced.made.items) →
+    MatchOption found (HasNoSpliceOf stories lifted) (IsSplicedOf stories lifted)
+spliced_of stories lifted two None none = record { streams = two; none = none }
+spliced_of stories lifted two (Some spliced) is = record { streams = two; is = is }
 
 -- ---- what is opened
 
+noted_opened : (stories : NotedStories) (file : List ℕ) (opened : OpenedAny) → IsOpenedNoted stories file opened →
+    IsSound opened.lifted.document
+noted_opened stories file opened is = let by = is.by in by.sound
+
+-- what is opened so is what the file means so
+pub noted_by : (stories : NotedStories) (file : List ℕ) (before after : Lifted) (lines : List (List ℕ))
+    (mends : List Mend) → IsNotedReport stories file before after lines mends → HasNoted stories file after.document
+noted_by stories file before after lines mends by =
+    let lifts = by.lifts in
+    record {
+      rules = lifts.rules;
+      meant = before.document;
+      means = lifts.means;
+      mends = mends;
+      noted_is = subst (λ (t : FileText). IsNotedText stories t before.document after.document mends)
+          (text_meant file before lifts) by.noted_is;
+      sound = by.sound;
+    }
+
+-- so the stories can become notes
+can_note : (stories : NotedStories) (file : List ℕ) (opened : OpenedAny) → IsOpenedNoted stories file opened →
+    CanNote stories file
+can_note stories file opened is =
+    (opened.lifted.document, noted_by stories file is.before opened.lifted opened.losses opened.mends.items is.by)
+
+-- the first of these stories, or none of them
+pub first_found : (stories : NotedStories) (others : List NotedStories) (file : List ℕ) (opened : OpenedAny) →
+    IsOpenedNoted stories file opened → IsOpenedFirst (stories ∷ others) file opened
+first_found stories others file opened is = record {
+  stories = stories;
+  first = inl (refl, can_note stories file opened is);
+  by = is;
+}
+
+pub later_found : (stories : NotedStories) (others : List NotedStories) (file : List ℕ) (found : Option OpenedAny) →
+    CannotNote stories file →
+    MatchOption found (IsFirstNoted others file None) (IsOpenedFirst others file) →
+    MatchOption found (IsFirstNoted (stories ∷ others) file None) (IsOpenedFirst (stories ∷ others) file)
+later_found stories others file None cannot is = inr (cannot, is)
+later_found stories others file (Some opened) cannot is = record {
+  stories = is.stories;
+  first = inr (cannot, is.first);
+  by = is.by;
+}
+
+pub last_found : (stories : NotedStories) (file : List ℕ) (found : Option OpenedAny) →
+    MatchOption found (CannotNote stories file) (IsOpenedNoted stories file) →
+    MatchOption found (IsFirstNoted (stories ∷ []) file None) (IsOpenedFirst (stories ∷ []) file)
+last_found stories file None cannot = inr (cannot, refl)
+last_found stories file (Some opened) is = first_found stories [] file opened is
+
 pub unless_plain : (plain : Bool) (file : List ℕ) (found : Option OpenedAny) → plain ≡ false →
-    MatchOption found (CannotNote file) (IsOpenedNoted file) →
-    MatchOption found (AreNoted plain file false) (λ opened. AreNoted plain file true × IsOpenedNoted file opened)
+    MatchOption found (IsFirstNoted choices file None) (IsOpenedFirst choices file) →
+    MatchOption found (AreNoted plain file None) (IsOpenedAsNoted plain file)
 unless_plain true file found is by = absurd (cc is)
 unless_plain false file None is none = none
-unless_plain false file (Some opened) is noted = (tt, noted)
-
-noted_opened : (file : List ℕ) (opened : OpenedAny) → IsOpenedNoted file opened → IsSound opened.lifted.document
-noted_opened file opened is = let by = is.by in by.sound
+unless_plain false file (Some opened) is noted = record { stories = noted.stories; are = noted.first; by = noted.by }
 
 pub opened_fit : (plain : Bool) (file : List ℕ) (noted : Option OpenedAny) (opened made : OpenedAny) →
-    MatchOption noted (AreNoted plain file false) (λ found. AreNoted plain file true × IsOpenedNoted file found) →
+    MatchOption noted (AreNoted plain file None) (IsOpenedAsNoted plain file) →
     IsOpenedAny file opened → MatchOption noted (made ≡ opened) (λ found. made ≡ found) →
     IsOpenedFit plain file made
 opened_fit plain file None opened made never is same =
     subst (λ (o : OpenedAny). IsOpenedFit plain file o) (sym same) (record {
       holds = opened_holds file opened is;
-      noted = false;
+      noted = None;
       are = never;
       by = is;
       sound = is.sound;
@@ -323,29 +414,14 @@ opened_fit plain file None opened made never is same =
 opened_fit plain file (Some found) opened made noted is same =
     subst (λ (o : OpenedAny). IsOpenedFit plain file o) (sym same) (record {
       holds = opened_holds file opened is;
-      noted = true;
-      are = noted.0;
-      by = noted.1;
-      sound = noted_opened file found noted.1;
+      noted = Some noted.stories;
+      are = noted.are;
+      by = noted.by;
+      sound = noted_opened noted.stories file found noted.by;
     })
 
 -- a file that is not lifted
-pub not_lifted_noted : (file : List ℕ) (rule : ℕ) (place : Place) → IsFirstPlace (lifted_rules file) rule place →
-    CannotNote file
-not_lifted_noted file rule place first document has =
+pub not_lifted_noted : (stories : NotedStories) (file : List ℕ) (rule : ℕ) (place : Place) →
+    IsFirstPlace (lifted_rules file) rule place → CannotNote stories file
+not_lifted_noted stories file rule place first document has =
     hold_or_first Upto (lifted_rules file) rule place (lifted_single file) has.rules first
-
--- what is opened so is what the file means so
-pub noted_by : (file : List ℕ) (before after : Lifted) (lines : List (List ℕ)) (mends : List Mend) →
-    IsNotedReport file before after lines mends → HasNoted file after.document
-noted_by file before after lines mends by =
-    let lifts = by.lifts in
-    record {
-      rules = lifts.rules;
-      meant = before.document;
-      means = lifts.means;
-      mends = mends;
-      noted_is = subst (λ (t : FileText). IsNotedText t before.document after.document mends)
-          (text_meant file before lifts) by.noted_is;
-      sound = by.sound;
-    }

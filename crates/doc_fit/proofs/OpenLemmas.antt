@@ -15,7 +15,7 @@ use Rattle.doc_lift.specs.LiftedFiles.{IsLifted, lifted_rules}
 use Rattle.doc_mends.specs.declared.mends.Mend.{Mend}
 use Rattle.doc_mends.proofs.Public.{bookmarks_stay}
 use Rattle.doc_fit.specs.declared.opening.OpenedAny.{OpenedAny}
-use Rattle.deleted_text.proofs.Public.{struck_formed}
+use Rattle.huge_papx.proofs.Public.{struck_defined_formed}
 use Rattle.doc_fit.specs.Rules.{IsMendedText, HasMended, LiftsTo, fit_rules}
 use Rattle.doc_fit.specs.Losses.{HasLiftedStreams}
 use Rattle.doc_fit.specs.Opened.{HasDeletions, IsReported, IsOpenedAny}
@@ -80,7 +80,7 @@ mended_formed file before after lines mends is reported =
     let text = reported.text in
     let mended = reported.mended in
     bookmarks_stay (names_of text.wd text.table) mended.struck after.document mended.others
-    (struck_formed text before.document mended.struck mended.strikes is.formed mended.struck_is) mended.mended_is
+    (struck_defined_formed text before.document mended.struck mended.strikes is.formed mended.struck_is) mended.mended_is
 
 -- what of the text a reviser deleted
 pub lifted_deletions : (file : List ℕ) (lifted : Lifted) → IsLifted file lifted → HasDeletions lifted
@@ -90,6 +90,7 @@ lifted_deletions file lifted is = record {
   text = is.text;
   has_text = is.has_text;
   deleted = is.deleted;
+  offsets = is.offsets;
 }
 
 -- the streams that the report is made of

@@ -10,12 +10,11 @@ use Rattle.doc_bits.specs.Rules.{Hold, Nowhere, Among, From, rule}
 use Rattle.doc_bits.specs.Plc.{PlcPart}
 use Rattle.doc_bits.proofs.Public.{there_is, get-map, All_at, All-from_slice_get, hold_in}
 use Rattle.sprm_table.specs.Sprm.{SpellsSprmList, HasSprmFaultAt}
-use Rattle.sprm_table.proofs.Public.{spelt_unique, accepted_no_fault}
+use Rattle.sprm_table.proofs.Public.{spelt_unique}
 use Rattle.prop_map.specs.declared.modifiers.Modifier.{Modifier}
 use Rattle.prop_map.specs.Modifiers.{IsModifierOf, IsSpeltModifier}
 use Rattle.prop_map.specs.Formed.{prc_groups}
-use Rattle.prl_skips.specs.Skips.{SkipsOrStays, skipped}
-use Rattle.prl_skips.proofs.Public.{accepted_skips, modify_skips}
+use Rattle.prl_skips.proofs.Public.{modify_skips, right_skips}
 use Rattle.part_skips.specs.Prcs.{AreListsSkipped, SkipsPrcs}
 use Rattle.part_skips.proofs.Public.{prcs_length}
 use Rattle.fib_form.specs.declared.form.Form.TheVariants.{Early}
@@ -99,14 +98,6 @@ same_len wd stories =
 
 -- ---- Prcs
 
--- a list without a fault has none once its codes are skipped
-skipped_right : (old new : List ℕ) (groups : ℕ) → SkipsOrStays old new → Nowhere (HasSprmFaultAt old groups) →
-    Nowhere (HasSprmFaultAt new groups)
-skipped_right old new groups (inl skips) none =
-    λ place fault. accepted_no_fault new groups place (accepted_skips old new skips groups) fault
-skipped_right old new groups (inr stays) none =
-    subst (λ (l : List ℕ). Nowhere (HasSprmFaultAt l groups)) (sym stays.1) none
-
 -- the modifier that it has
 modifier_before : (prcs made : List (List ℕ)) (number : ℕ) (modifier : Modifier) → AreListsSkipped prcs made →
     IsPrmModifier made (Prc number) modifier → IsPrmModifier prcs (Prc number) modifier
@@ -152,7 +143,7 @@ faulty_prcs old new at plc are none = λ p broken.
         fault = record { offset = place; here = refl; broken = fault };
       };
     }) in
-    skipped_right list.0 faulty.grpprl prc_groups ((are.each number list.0 faulty.grpprl list.1 faulty.there).skips)
+    right_skips list.0 faulty.grpprl prc_groups ((are.each number list.0 faulty.grpprl list.1 faulty.there).skips)
     right faulty.fault.offset faulty.fault.broken
 
 long_prcs : (old new : ClxParts) (at : ℕ) → new.plc ≡ old.plc → AreListsSkipped old.prcs new.prcs →

@@ -14,12 +14,12 @@ use Rattle.file_mends.specs.Sectors.{FillsSector, IsCut}
 use Rattle.file_rules.specs.declared.fault.ReadFault.{ReadFault}
 use Rattle.file_rules.specs.Faults.{IsReadFault}
 use Rattle.file_mends.specs.Mends.{FileCopy, IsMendedBy, MendsRule, StaysUnmended, bytes_read}
-use Rattle.file_mends.proofs.Public.{mend_one, mend_bytes, fill_one, fill_bytes}
+use Rattle.file_mends.proofs.Public.{mend_one, mend_bytes, mend_hold, fill_one, fill_bytes}
 use Rattle.doc_fit.specs.declared.opening.OpenedAny.{OpenedAny}
 use Rattle.doc_fit.specs.declared.file_opening.OpenedFile.{OpenedFile}
 use Rattle.doc_fit.specs.Noted.{IsOpenedFit}
 use Rattle.doc_fit.specs.Rules.{fit_rules}
-use Rattle.doc_fit.specs.ReadAs.{MendsFirst, HasNoMend, MendsInTurn, MendsRules, part_count, IsReadAs}
+use Rattle.doc_fit.specs.ReadAs.{MendsFirst, HasNoMend, MendsInTurn, MendsRules, mend_count, IsReadAs}
 use Rattle.doc_fit.specs.ReadAs.{IsOpenedFile, MendsCopyFirst, StaysFirst, IsMendedOn}
 use Rattle.doc_fit.proofs.MeaningLemmas.{fit_single}
 
@@ -105,10 +105,10 @@ none_in_turn (suc more) whole (mend ∷ mends) read none is = absurd (none mend 
 -- what stays, and what is mended in turn
 stays_one : (file whole : List ℕ) (mends others : List FileMend) (a b : List ℕ) →
     IsAccepted file ⊎ HasNoMend whole → (mends ≡ []) × (a ≡ whole) → ¬ IsAccepted file →
-    MendsInTurn part_count whole others b → (mends ≡ others) × (a ≡ b)
+    MendsInTurn mend_count whole others b → (mends ≡ others) × (a ≡ b)
 stays_one file whole mends others a b (inl accepted) x refused y = absurd (refused accepted)
 stays_one file whole mends others a b (inr none) x refused y =
-    let z = none_in_turn part_count whole others b none y in (x.0 ∙ sym z.0, x.1 ∙ sym z.1)
+    let z = none_in_turn mend_count whole others b none y in (x.0 ∙ sym z.0, x.1 ∙ sym z.1)
 
 rules_one : (file whole : List ℕ) (mends others : List FileMend) (a b : List ℕ) → AreBytes whole →
     MendsRules file whole mends a → MendsRules file whole others b → (mends ≡ others) × (a ≡ b)
@@ -117,12 +117,12 @@ rules_one file whole mends others a b bytes (inl x) (inr y) = stays_one file who
 rules_one file whole mends others a b bytes (inr x) (inl y) =
     let one = stays_one file whole others mends b a y.0 y.1 x.0 x.1 in (sym one.0, sym one.1)
 rules_one file whole mends others a b bytes (inr x) (inr y) =
-    in_turn_one part_count whole mends others a b bytes x.1 y.1
+    in_turn_one mend_count whole mends others a b bytes x.1 y.1
 
 rules_bytes : (file whole : List ℕ) (mends : List FileMend) (read : List ℕ) → AreBytes whole →
     MendsRules file whole mends read → AreBytes read
 rules_bytes file whole mends read bytes (inl x) = subst AreBytes (sym x.1.1) bytes
-rules_bytes file whole mends read bytes (inr x) = in_turn_bytes part_count whole mends read bytes x.1
+rules_bytes file whole mends read bytes (inr x) = in_turn_bytes mend_count whole mends read bytes x.1
 
 -- a file is read in one way, with the same mends
 pub record AreOneRead (mends others : List FileMend) (a b : List ℕ) : Type 0 where
@@ -219,7 +219,7 @@ refused_accepted plain file copy fault fills accepted refused = record {
 -- another one is mended
 pub opened_mended : (plain : Bool) (file : List ℕ) (copy : FileCopy) (found : OpenedFile) →
     FillsSector file copy.mends (bytes_read file copy) → ¬ (IsAccepted file) →
-    IsMendedOn plain file part_count copy found → IsOpenedFile plain file found
+    IsMendedOn plain file mend_count copy found → IsOpenedFile plain file found
 opened_mended plain file copy found fills refused is = record {
   read_as = record {
     whole = bytes_read file copy;
@@ -319,13 +319,12 @@ long_in_turn most file [] read long is = is.0
 long_in_turn zero file (mend ∷ mends) read long is = absurd is
 long_in_turn (suc more) file (mend ∷ mends) read long is =
     let first = is.1.0 in
-    let rule = first.mends in
-    let place = rule.is_place in absurd (outer_short file place.hold long)
+    absurd (outer_short file (mend_hold file first.rule first.place.1 mend is.0 first.mends) long)
 
 long_rules : (file whole : List ℕ) (mends : List FileMend) (read : List ℕ) → 7143936 < length whole →
     MendsRules file whole mends read → read ≡ whole
 long_rules file whole mends read long (inl x) = x.1.1
-long_rules file whole mends read long (inr x) = long_in_turn part_count whole mends read long x.1
+long_rules file whole mends read long (inr x) = long_in_turn mend_count whole mends read long x.1
 
 long_fills : (file : List ℕ) (mends : List FileMend) (filled : List ℕ) → 7143936 < length file →
     FillsSector file mends filled → filled ≡ file

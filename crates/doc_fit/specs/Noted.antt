@@ -1,12 +1,13 @@
--- The document of a file with its endnotes as notes: they are read as footnotes are, and become notes where the document
--- breaks no rule then, once it is mended. Else it stays as it is without them.
-use Rattle.std.specs.Prelude.{◌≡◌, ℕ, Bool, true, false, not, ◌||◌, eqb, List, ◌++◌, codes, filter, map, ⊤}
+-- The document of a file with its endnotes and its comments as notes: they are read as footnotes are, and become notes
+-- where the document breaks no rule then, once it is mended. Else it stays as it is without them.
+use Rattle.std.specs.Prelude.{◌≡◌, ◌⊎◌, ℕ, Bool, true, false, not, ◌||◌, ◌==◌, eqb, List, [], ◌∷◌, ◌++◌, codes}
+use Rattle.std.specs.Prelude.{filter, map, IsTrue, Option, Some, None}
 use Rattle.std.specs.List.{starts_with}
 use Rattle.doc_bits.specs.Number.{AreBytes}
 use Rattle.doc_bits.specs.Rules.{Hold}
 use Rattle.cfb_streams.specs.Contents.{HasNamed}
 use Rattle.cfb_streams.specs.Names.{wd_name}
-use Rattle.fib_versions.specs.declared.further.Further.TheVariants.{Endnotes}
+use Rattle.fib_versions.specs.declared.further.Further.TheVariants as further
 use Rattle.fib_versions.specs.Versions.{further_count}
 use Rattle.plain_doc.specs.declared.document.Document.{Document}
 use Rattle.plain_doc.specs.Sound.{IsSound}
@@ -19,10 +20,12 @@ use Rattle.doc_mends.specs.declared.mends.MadeNote.{MadeNote}
 use Rattle.doc_mends.specs.declared.mends.Mend.{Mend}
 use Rattle.doc_mends.specs.declared.mends.Mend.TheVariants.{MakeNote}
 use Rattle.doc_mends.specs.Mending.{IsMended}
-use Rattle.deleted_text.specs.Texts.{IsStruckText}
+use Rattle.huge_papx.specs.Texts.{IsStruckDefined}
 use Rattle.loss_report.specs.Features.{Inventory}
 use Rattle.further_notes.specs.declared.splicing.Spliced.{Spliced}
-use Rattle.further_notes.specs.Splices.{IsSpliced, HasNoSplice}
+use Rattle.further_notes.specs.declared.stories.NotedStories.{NotedStories}
+use Rattle.further_notes.specs.declared.stories.NotedStories.TheVariants.{Both, Endnotes, Comments}
+use Rattle.further_notes.specs.Noted.{IsSpliced, HasNoSplice}
 use Rattle.doc_fit.specs.declared.opening.OpenedAny.{OpenedAny}
 use Rattle.doc_fit.specs.Rules.{HasMended, fit_rules}
 use Rattle.doc_fit.specs.Losses.{HasLiftedStreams, AreFitLines, AreLossLines}
@@ -30,64 +33,94 @@ use Rattle.doc_fit.specs.Opened.{IsOpenedAny}
 
 -- ---- documents
 
--- what a reviser deleted of the document of a text is struck, its endnotes become notes, and it is mended
-pub record IsNotedText (text : FileText) (meant noted : Document) (mends : List Mend) : Type 0 where
+-- what a reviser deleted of the document of a text is struck, rows get the cells that Data has for them, the texts of
+-- these stories become notes, and it is mended
+pub record IsNotedText (stories : NotedStories) (text : FileText) (meant noted : Document) (mends : List Mend) :
+    Type 0 where
   pub struck : Document
   pub strikes : List Mend
-  pub struck_is : IsStruckText text meant struck strikes
+  pub struck_is : IsStruckDefined text meant struck strikes
   pub spliced : Document
   pub made : List MadeNote
-  pub splice : IsSpliced text.wd text.table struck spliced made
+  pub splice : IsSpliced stories text.wd text.table struck spliced made
   pub others : List Mend
   pub mended_is : IsMended (names_of text.wd text.table) spliced noted others
   pub mends_are : mends ≡ map MakeNote made ++ (strikes ++ others)
 
 -- so is that of what a file means, and breaks no rule then
-pub record HasNoted (file : List ℕ) (document : Document) : Type 0 where
+pub record HasNoted (stories : NotedStories) (file : List ℕ) (document : Document) : Type 0 where
   pub rules : Hold (lifted_rules file)
   pub meant : Document
   pub means : MeansDocument file meant
   pub mends : List Mend
-  pub noted_is : IsNotedText means.parts.text meant document mends
+  pub noted_is : IsNotedText stories means.parts.text meant document mends
   pub sound : IsSound document
 
--- no endnotes of the file become notes
-abbrev pub CannotNote : List ℕ → Type 0
-CannotNote file = (document : Document) → ¬ HasNoted file document
+abbrev pub CanNote : NotedStories → List ℕ → Type 0
+CanNote stories file = (document : Document) × HasNoted stories file document
 
--- whether endnotes become notes: wherever they can, if they are to
-abbrev pub AreNoted : (plain : Bool) → List ℕ → (noted : Bool) → Type 0
-AreNoted true file noted = noted ≡ false
-AreNoted false file true = ⊤
-AreNoted false file false = CannotNote file
+-- the texts of these stories of the file do not become notes
+abbrev pub CannotNote : NotedStories → List ℕ → Type 0
+CannotNote stories file = (document : Document) → ¬ HasNoted stories file document
+
+-- Profile: both stories, or else the endnotes, or else the comments
+abbrev pub one_story : List NotedStories
+one_story = Endnotes ∷ Comments ∷ []
+
+abbrev pub choices : List NotedStories
+choices = Both ∷ one_story
+
+-- the first of these that can become notes, or none
+abbrev pub IsFirstNoted : List NotedStories → List ℕ → Option NotedStories → Type 0
+IsFirstNoted [] file noted = noted ≡ None
+IsFirstNoted (stories ∷ others) file noted =
+    ((noted ≡ Some stories) × CanNote stories file) ⊎ (CannotNote stories file × IsFirstNoted others file noted)
+
+-- which stories become notes: wherever they can, if they are to
+abbrev pub AreNoted : (plain : Bool) → List ℕ → (noted : Option NotedStories) → Type 0
+AreNoted true file noted = noted ≡ None
+AreNoted false file noted = IsFirstNoted choices file noted
 
 -- the mended document, and its mends
 pub record IsMendedOf (file : List ℕ) (document : Document) (mends : List Mend) : Type 0 where
   pub mended : HasMended file document
   pub mends_are : mends ≡ mended.mends
 
-pub record IsNotedOf (file : List ℕ) (document : Document) (mends : List Mend) : Type 0 where
-  pub noted : HasNoted file document
-  pub mends_are : mends ≡ noted.mends
+pub record IsNotedOf (stories : NotedStories) (file : List ℕ) (document : Document) (mends : List Mend) : Type 0
+  where
+    pub noted : HasNoted stories file document
+    pub mends_are : mends ≡ noted.mends
 
-abbrev pub IsDocumentWith : (noted : Bool) → List ℕ → Document → List Mend → Type 0
-IsDocumentWith true file document mends = IsNotedOf file document mends
-IsDocumentWith false file document mends = IsMendedOf file document mends
+abbrev pub IsDocumentWith : (noted : Option NotedStories) → List ℕ → Document → List Mend → Type 0
+IsDocumentWith (Some stories) file document mends = IsNotedOf stories file document mends
+IsDocumentWith None file document mends = IsMendedOf file document mends
 
 -- ---- lines
 
--- of the parts and the story of the endnotes, which are not left out where these are notes
+-- of the parts and the story of the endnotes, which are not left out where these are notes; so of the comments
 abbrev pub is_endnote_line : List ℕ → Bool
 is_endnote_line line =
     starts_with eqb line (codes "part 46 ")
     || (starts_with eqb line (codes "part 47 ")
     || (starts_with eqb line (codes "part 48 ") || starts_with eqb line (codes "story endnotes ")))
 
-abbrev pub lines_left : (noted : Bool) → List (List ℕ) → List (List ℕ)
-lines_left true lines = filter (λ line. not (is_endnote_line line)) lines
-lines_left false lines = lines
+abbrev pub is_comment_line : List ℕ → Bool
+is_comment_line line =
+    starts_with eqb line (codes "part 4 ")
+    || (starts_with eqb line (codes "part 5 ")
+    || (starts_with eqb line (codes "part 19 ") || starts_with eqb line (codes "story comments ")))
 
-pub record AreLinesWith (noted : Bool) (text : FileText) (inventory : Inventory) (lines : List (List ℕ)) : Type 0 where
+abbrev pub is_note_line : NotedStories → List ℕ → Bool
+is_note_line Both line = is_endnote_line line || is_comment_line line
+is_note_line Endnotes line = is_endnote_line line
+is_note_line Comments line = is_comment_line line
+
+abbrev pub lines_left : (noted : Option NotedStories) → List (List ℕ) → List (List ℕ)
+lines_left (Some stories) lines = filter (λ line. not (is_note_line stories line)) lines
+lines_left None lines = lines
+
+pub record AreLinesWith (noted : Option NotedStories) (text : FileText) (inventory : Inventory)
+    (lines : List (List ℕ)) : Type 0 where
   pub all : List (List ℕ)
   pub are_all : AreFitLines text inventory all
   pub are : lines ≡ lines_left noted all
@@ -106,49 +139,65 @@ pub record HasTwoStreams (lifted : Lifted) : Type 0 where
   pub table : List ℕ
   pub named_table : HasNamed lifted.outer.container.streams (table_stream_name wd) table
 
--- it has no endnotes
-pub record HasNoEndnotes (lifted : Lifted) : Type 0 where
-  pub streams : HasTwoStreams lifted
-  pub none : further_count streams.wd Endnotes ≡ 0
+-- a file has nothing of one of these stories
+abbrev pub lacks_some : NotedStories → List ℕ → Bool
+lacks_some Both wd = (further_count wd further.Endnotes == 0) || (further_count wd further.Comments == 0)
+lacks_some Endnotes wd = further_count wd further.Endnotes == 0
+lacks_some Comments wd = further_count wd further.Comments == 0
 
--- its endnotes are notes of its document, or cannot be
-pub record IsSplicedOf (lifted : Lifted) (spliced : Spliced) : Type 0 where
+pub record LacksStory (stories : NotedStories) (lifted : Lifted) : Type 0 where
   pub streams : HasTwoStreams lifted
-  pub is : IsSpliced streams.wd streams.table lifted.document spliced.document spliced.made.items
+  pub lacks : IsTrue (lacks_some stories streams.wd)
 
-pub record HasNoSpliceOf (lifted : Lifted) : Type 0 where
+-- the texts of these stories are notes of its document, or cannot be
+pub record IsSplicedOf (stories : NotedStories) (lifted : Lifted) (spliced : Spliced) : Type 0 where
   pub streams : HasTwoStreams lifted
-  pub none : HasNoSplice streams.wd streams.table lifted.document
+  pub is : IsSpliced stories streams.wd streams.table lifted.document spliced.document spliced.made.items
 
--- what a reviser deleted of what is lifted is struck
+pub record HasNoSpliceOf (stories : NotedStories) (lifted : Lifted) : Type 0 where
+  pub streams : HasTwoStreams lifted
+  pub none : HasNoSplice stories streams.wd streams.table lifted.document
+
+-- what a reviser deleted of what is lifted is struck, and rows get their cells
 pub record IsStruckLifted (before after : Lifted) (strikes : List Mend) : Type 0 where
   pub outer : after.outer ≡ before.outer
   pub text : FileText
   pub has_text : HasText before.outer.container text
-  pub struck_is : IsStruckText text before.document after.document strikes
+  pub struck_is : IsStruckDefined text before.document after.document strikes
 
--- what is lifted, before its endnotes are notes and after it is mended
-pub record IsNotedReport (file : List ℕ) (before after : Lifted) (lines : List (List ℕ)) (mends : List Mend) : Type 0
-  where
-    pub lifts : IsLifted file before
-    pub noted_is : IsNotedText lifts.text before.document after.document mends
-    pub all : List (List ℕ)
-    pub are_all : AreLossLines before all
-    pub lines_are : lines ≡ lines_left true all
-    pub sound : IsSound after.document
+-- what is lifted, before the texts of these stories are notes and after it is mended
+pub record IsNotedReport (stories : NotedStories) (file : List ℕ) (before after : Lifted) (lines : List (List ℕ))
+    (mends : List Mend) : Type 0 where
+  pub lifts : IsLifted file before
+  pub noted_is : IsNotedText stories lifts.text before.document after.document mends
+  pub all : List (List ℕ)
+  pub are_all : AreLossLines before all
+  pub lines_are : lines ≡ lines_left (Some stories) all
+  pub sound : IsSound after.document
 
--- the file with endnotes as notes
-pub record IsOpenedNoted (file : List ℕ) (opened : OpenedAny) : Type 0 where
+-- the file with the texts of these stories as notes
+pub record IsOpenedNoted (stories : NotedStories) (file : List ℕ) (opened : OpenedAny) : Type 0 where
   pub before : Lifted
-  pub by : IsNotedReport file before opened.lifted opened.losses opened.mends.items
+  pub by : IsNotedReport stories file before opened.lifted opened.losses opened.mends.items
 
-abbrev pub IsOpenedWith : (noted : Bool) → List ℕ → OpenedAny → Type 0
-IsOpenedWith true file opened = IsOpenedNoted file opened
-IsOpenedWith false file opened = IsOpenedAny file opened
+abbrev pub IsOpenedWith : (noted : Option NotedStories) → List ℕ → OpenedAny → Type 0
+IsOpenedWith (Some stories) file opened = IsOpenedNoted stories file opened
+IsOpenedWith None file opened = IsOpenedAny file opened
+
+-- with the texts of some stories as notes, which are the first that can be
+pub record IsOpenedFirst (among : List NotedStories) (file : List ℕ) (opened : OpenedAny) : Type 0 where
+  pub stories : NotedStories
+  pub first : IsFirstNoted among file (Some stories)
+  pub by : IsOpenedNoted stories file opened
+
+pub record IsOpenedAsNoted (plain : Bool) (file : List ℕ) (opened : OpenedAny) : Type 0 where
+  pub stories : NotedStories
+  pub are : AreNoted plain file (Some stories)
+  pub by : IsOpenedNoted stories file opened
 
 pub record IsOpenedFit (plain : Bool) (file : List ℕ) (opened : OpenedAny) : Type 0 where
   pub holds : Hold (fit_rules file)
-  pub noted : Bool
+  pub noted : Option NotedStories
   pub are : AreNoted plain file noted
   pub by : IsOpenedWith noted file opened
   pub sound : IsSound opened.lifted.document

@@ -8,6 +8,7 @@ use Rattle.doc_lift.specs.LiftedFiles.{IsLifted}
 use Rattle.file_rules.specs.FileRules.{FileText, HasText}
 use Rattle.deleted_text.specs.Ranges.{begins_of}
 use Rattle.deleted_text.specs.Texts.{AreTextDeletions}
+use Rattle.huge_papx.specs.Texts.{AreTextOffsets}
 use Rattle.doc_losses.specs.Marks.{AreMarksOf}
 use Rattle.doc_mends.specs.declared.mends.Mend.{Mend}
 use Rattle.doc_fit.specs.declared.losses.Found.{Found}
@@ -22,13 +23,14 @@ pub record IsFoundIn (lifted : Lifted) (found : Found) : Type 0 where
   pub marks : AreMarksOf losses.wd losses.table found.marks
   pub begins : found.begins ≡ begins_of losses.wd
 
--- the text that the streams name, and what of it a reviser deleted
+-- the text that the streams name, what of it a reviser deleted, and which places of Data its paragraphs name
 pub record HasDeletions (lifted : Lifted) : Type 0 where
   pub file : List ℕ
   pub has_contents : HasContents file lifted.outer.container
   pub text : FileText
   pub has_text : HasText lifted.outer.container text
   pub deleted : AreTextDeletions text lifted.deleted.items
+  pub offsets : AreTextOffsets text lifted.offsets.items
 
 -- what is lifted, before and after its document is mended: the lines are those of the one before
 pub record IsReported (before after : Lifted) (lines : List (List ℕ)) (mends : List Mend) : Type 0 where

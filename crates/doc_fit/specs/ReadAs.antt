@@ -1,5 +1,5 @@
--- What is read in place of a file: the file with its last sector filled, where it is cut, and with the parts emptied
--- that break their own rules.
+-- What is read in place of a file: the file with its last sector filled, where it is cut, and with the parts and the
+-- slots of the style sheet mended that break their own rules.
 use Rattle.std.specs.Prelude.{◌≡◌, ◌⊎◌, ℕ, Bool, zero, suc, List, [], ◌∷◌, ◌++◌, MatchResult}
 use Rattle.doc_bits.specs.Places.{Place, IsFirstPlace}
 use Rattle.doc_read.specs.Holds.{IsAccepted}
@@ -30,15 +30,15 @@ MendsInTurn zero file (mend ∷ mends) read = ⊥
 MendsInTurn (suc more) file (mend ∷ mends) read =
     (mended : List ℕ) × (MendsFirst file mend mended × MendsInTurn more mended mends read)
 
--- how many parts there are that a document goes without: each is emptied once
-abbrev pub part_count : ℕ
-part_count = 6
+-- how many mends there are at most: six parts that a document goes without, and ten slots of the style sheet
+abbrev pub mend_count : ℕ
+mend_count = 16
 
 -- a file that is accepted is read as it is, and so is one whose first broken rule is none that is mended
 abbrev pub MendsRules : (file whole : List ℕ) → List FileMend → List ℕ → Type 0
 MendsRules file whole mends read =
     ((IsAccepted file ⊎ HasNoMend whole) × ((mends ≡ []) × (read ≡ whole)))
-    ⊎ ((¬ IsAccepted file) × MendsInTurn part_count whole mends read)
+    ⊎ ((¬ IsAccepted file) × MendsInTurn mend_count whole mends read)
 
 -- the mends of a file, and what is read in place of it
 pub record IsReadAs (file : List ℕ) (mends : List FileMend) (read : List ℕ) : Type 0 where

@@ -8,16 +8,16 @@ use Rattle.doc_losses.specs.References.{names_of}
 use Rattle.doc_mends.specs.declared.mends.Mend.{Mend}
 use Rattle.doc_mends.specs.Mending.{IsMended}
 use Rattle.file_rules.specs.FileRules.{FileText}
-use Rattle.deleted_text.specs.Texts.{IsStruckText}
+use Rattle.huge_papx.specs.Texts.{IsStruckDefined}
 use Rattle.doc_meaning.specs.Meaning.{MeansDocument}
 use Rattle.doc_lift.specs.LiftedFiles.{lifted_rules}
 
--- what a reviser deleted of the document of a text is struck, and then the document is mended; the tables name the
--- marks of stories that are left out
+-- what a reviser deleted of the document of a text is struck, rows get the cells that Data has for them, and then the
+-- document is mended; the tables name the marks of stories that are left out
 pub record IsMendedText (text : FileText) (meant mended : Document) (mends : List Mend) : Type 0 where
   pub struck : Document
   pub strikes : List Mend
-  pub struck_is : IsStruckText text meant struck strikes
+  pub struck_is : IsStruckDefined text meant struck strikes
   pub others : List Mend
   pub mended_is : IsMended (names_of text.wd text.table) struck mended others
   pub mends_are : mends ≡ strikes ++ others

@@ -1,5 +1,5 @@
-// A file is opened as it is, or with mends of its bytes: its last sector is filled where it is cut, and a part that
-// breaks its own rule is emptied.
+// A file is opened as it is, or with mends of its bytes: its last sector is filled where it is cut, a part that breaks
+// its own rule is emptied, and so is a slot of the style sheet.
 ghost use Rattle.std.specs.Prelude.{◌≡◌, ◌↔◌, Err, IfOk, IsTrue, MatchOption, MatchResult, Ok};
 ghost use Rattle.doc_bits.specs.Number.{AreBytes};
 ghost use Rattle.doc_read.specs.Holds.{IsAccepted};
@@ -18,8 +18,8 @@ use doc_read::open;
 use file_mends::{FileMend, MendedFile, fill_sector, mend_rule};
 use std::alloc::Global;
 
-/// How many parts are emptied at most.
-const PART_COUNT: usize = 6;
+/// How many parts and slots of the style sheet are mended at most.
+const MEND_COUNT: usize = 16;
 
 /// A file that was read, with the mends of its bytes: what was opened, or the first broken rule of what was read.
 #[derive(Drop)]
@@ -28,8 +28,8 @@ pub struct OpenedFile {
     pub opened: Result<OpenedAny, ReadFault>,
 }
 
-/// Opens a file of any program from Word 97 to 2007, as it is or with its bytes mended: with its endnotes as notes, where
-/// they can be, unless it is to be plain.
+/// Opens a file of any program from Word 97 to 2007, as it is or with its bytes mended: with its endnotes and comments as
+/// notes, where they can be, unless it is to be plain.
 pub fn open_file(alloc: Global, file: &[u8], plain: bool) -> Result<OpenedFile, Memory>
     ensures { IfOk result (IsOpenedFile plain file.now) }
 {
@@ -85,7 +85,7 @@ fn open_refused(
     if accepted {
         return Ok(refused_file(mended, fault));
     }
-    open_mended(alloc, file, mended, fault, plain, PART_COUNT)
+    open_mended(alloc, file, mended, fault, plain, MEND_COUNT)
 }
 
 /// Whether docbin accepts a file.

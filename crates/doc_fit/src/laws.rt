@@ -1,7 +1,7 @@
 // A law over the definitions alone.
-ghost use Rattle.doc_fit.specs.Laws.{AcceptedFilesBreakFew};
+ghost use Rattle.doc_fit.specs.Laws.{AcceptedFilesBreakNone};
 
-/// Of a file that docbin accepts only rules on its parts, 33 to 57, may be broken.
-pub fn accepted_files_break_few()
-    ensures { AcceptedFilesBreakFew }
+/// A file that docbin accepts breaks none of the rules that are left.
+pub fn accepted_files_break_none()
+    ensures { AcceptedFilesBreakNone }
 {}

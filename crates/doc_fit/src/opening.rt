@@ -9,11 +9,11 @@ ghost use Rattle.doc_fit.specs.Opened.{HasDeletions, IsOpenedAny, IsReported};
 ghost use Rattle.doc_fit.specs.Rules.{fit_rules};
 
 use crate::losses::found_in;
-use deleted_text::strike_text;
 use doc_bits::{Memory, drop_then};
 use doc_lift::{Lifted, ReadFault, lift};
 use doc_mends::{Mend, mend};
 use doc_read::check_document;
+use huge_papx::strike_and_define;
 use loss_report::LossLines;
 use std::alloc::Global;
 use std::mem;
@@ -97,7 +97,14 @@ fn mend_lifted(alloc: Global, lifted: &mut Lifted) -> Result<Report, Memory>
 {
     let found = found_in(alloc, lifted)?;
     let deleted = mem::replace(&mut lifted.deleted, Vec::new(alloc));
-    let mut mends = strike_text(alloc, &mut lifted.document, found.begins, &deleted)?;
+    let offsets = mem::replace(&mut lifted.offsets, Vec::new(alloc));
+    let mut mends = strike_and_define(
+        alloc,
+        &mut lifted.document,
+        found.begins,
+        &deleted,
+        &offsets,
+    )?;
     let others = mend(alloc, &mut lifted.document, &found.marks)?;
     mends.extend_from_slice(&others)?;
     let losses = found.losses;

@@ -1,5 +1,5 @@
 -- What the front of a text, behind a FIB of the early form, tells of the streams.
-use Rattle.std.proofs.Common.{◌≡◌, ◌∙◌, ◌++◌, ◌+◌, ◌<◌, ◌≤◌, ◌^◌, refl, sym, ap, subst, inl, inr, ℕ, zero, suc}
+use Rattle.std.proofs.Common.{Option, ◌≡◌, ◌∙◌, ◌++◌, ◌+◌, ◌<◌, ◌≤◌, ◌^◌, refl, sym, ap, subst, inl, inr, ℕ, zero, suc}
 use Rattle.std.proofs.Common.{List, [], ◌∷◌, Bool, length, map, take, drop, arith}
 use Rattle.std.proofs.lemmas.Bool.{cases_lt}
 use Rattle.std.proofs.lemmas.List.{length-drop, length-append, take-take}
@@ -27,21 +27,24 @@ use Rattle.doc_read.specs.Opened.{IsReadOf}
 use Rattle.doc_read.proofs.Public.{bounded, leaves_room, parts-formed}
 use Rattle.doc_meaning.specs.Meaning.{MeansFrom}
 use Rattle.doc_meaning.specs.Apart.{IsReadTable}
-use Rattle.doc_meaning.proofs.Public.{clx_table_len, apart_part, HasFront, whole_text, front_text, loaded_is_meant}
-use Rattle.doc_meaning.proofs.Public.{story_same}
+use Rattle.doc_meaning.proofs.Public.{clx_table_len, apart_part, HasFront, whole_text, front_text, front_units}
+use Rattle.doc_meaning.proofs.Public.{loaded_is_meant, story_same}
 use Rattle.doc_lift.specs.declared.text_lifting.LiftedText.{LiftedText}
 use Rattle.doc_lift.specs.LiftedRules.{lifted_wd, IsReadFor}
 use Rattle.doc_lift.specs.LiftedTexts.{IsLiftedBy}
 use Rattle.deleted_text.specs.Places.{AreDeletions}
 use Rattle.deleted_text.specs.Texts.{AreTextDeletions}
+use Rattle.huge_papx.specs.Offsets.{AreOffsets}
+use Rattle.huge_papx.specs.Texts.{AreTextOffsets}
 use Rattle.fib_form.specs.Fib.{table_part}
 use Rattle.fib_form.specs.TableParts.{pair_of}
 use Rattle.fib_form.specs.declared.stories.StoryKind.{StoryKind}
 use Rattle.fib_form.specs.declared.stories.StoryKind.TheVariants.{Main, Notes, Heads}
-use Rattle.fib_form.specs.declared.table_parts.TablePart.TheVariants.{PlcfBteChpx}
+use Rattle.fib_form.specs.declared.table_parts.TablePart.TheVariants.{PlcfBteChpx, PlcfBtePapx}
 use Rattle.fkp_pages.specs.Bin.{IsBinTable}
 use Rattle.piece_table.specs.Piece.{UnitPlace, flat_pieces}
 use Rattle.file_rules.specs.Source.{story_length}
+use Rattle.file_rules.specs.Units.{text_units}
 use Rattle.file_rules.specs.FormatRules.{judged_places, text_count}
 use Rattle.file_rules.proofs.Public.{bin_tables}
 use Rattle.doc_lift.proofs.SkipLemmas.{read_table_len, read_loaded_for, read_part}
@@ -128,6 +131,7 @@ lifted_under rules below contents lifted hold is = record {
   fib = is.fib;
   units = is.units;
   deleted = is.deleted;
+  offsets = is.offsets;
   means = is.means;
   formed = is.formed;
 }
@@ -224,3 +228,40 @@ front_deleted contents wd table text_len text units read flags reads has front f
     subst (λ (b : List ℕ). AreDeletions wd b (judged_places (source_of whole)) flags) own
     (subst (λ (p : List ℕ). AreDeletions wd (table_part wd table (pair_of PlcfBteChpx)) p flags)
     (front_places wd reads.own table text units has.fields front) found)
+
+-- ---- places of Data that paragraphs name
+
+-- what is said of the places of the marks, where the bin table is one
+abbrev pub SaysOffsets : (wd table units : List ℕ) → FileText → List (Option ℕ) → Type 0
+SaysOffsets wd table units text offsets =
+    let bin = table_part wd table (pair_of PlcfBtePapx) in
+    IsBinTable bin → AreOffsets wd bin (judged_places (source_of text)) units offsets
+
+pub offsets_found : (wd table fib units : List ℕ) (text : FileText) (offsets : List (Option ℕ)) → fib ≡ wd →
+    (IsBinTable (table_part fib table (pair_of PlcfBtePapx)) →
+    AreOffsets wd (table_part fib table (pair_of PlcfBtePapx)) (judged_places (source_of text)) units offsets) →
+    SaysOffsets wd table units text offsets
+offsets_found wd table fib units text offsets same found =
+    subst (λ (f : List ℕ). IsBinTable (table_part f table (pair_of PlcfBtePapx)) →
+    AreOffsets wd (table_part f table (pair_of PlcfBtePapx)) (judged_places (source_of text)) units offsets) same found
+
+pub front_offsets : (contents : Contents) (wd table : List ℕ) (text_len : ℕ) (text : FileText) (units : List ℕ)
+    (read : FileText) (offsets : List (Option ℕ)) → (reads : IsReadTable contents wd table) → HasFront wd table text_len →
+    (front : IsFrontOf (lifted_wd wd) table text units) → IsReadFor wd table units text read →
+    Hold (layout_rules (source_of read)) → SaysOffsets wd table units text offsets →
+    AreTextOffsets (whole_text wd reads.own front.all) offsets
+front_offsets contents wd table text_len text units read offsets reads has front for hold says =
+    let whole = whole_text wd reads.own front.all in
+    let bytes = (read_part wd table units text read PlcfBtePapx has.fields front for
+    (λ e. absurd (omega (arith, e)))).bytes in
+    let bins = (bin_tables (source_of read) hold.1).1 in
+    let own : table_part wd table (pair_of PlcfBtePapx) ≡ table_part wd reads.own (pair_of PlcfBtePapx) =
+    apart_part wd reads.own table PlcfBtePapx reads.clx (λ e. absurd (omega (arith, e))) in
+    let found = says (subst IsBinTable bytes bins) in
+    let all : units ≡ text_units whole.wd whole.pieces = front_units wd table text_len text units has front in
+    subst (λ (b : List ℕ). AreOffsets wd b (judged_places (source_of whole)) (text_units whole.wd whole.pieces) offsets)
+    own
+    (subst (λ (u : List ℕ). AreOffsets wd (table_part wd table (pair_of PlcfBtePapx)) (judged_places (source_of whole)) u
+    offsets) all
+    (subst (λ (p : List ℕ). AreOffsets wd (table_part wd table (pair_of PlcfBtePapx)) p units offsets)
+    (front_places wd reads.own table text units has.fields front) found))

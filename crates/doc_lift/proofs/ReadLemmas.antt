@@ -23,7 +23,7 @@ use Rattle.doc_lift.specs.FilledTexts.{IsReadFilled, filled_rules}
 use Rattle.doc_lift.specs.Reading.{IsTextRead}
 use Rattle.doc_lift.proofs.SkipLemmas.{chosen, streams_one, skipped_len}
 use Rattle.doc_lift.proofs.LiftLemmas.{SaysDeletions, early_long, length-lifted_wd, stream_small, front_room}
-use Rattle.doc_lift.proofs.LiftLemmas.{front_deleted, read_formed}
+use Rattle.doc_lift.proofs.LiftLemmas.{front_deleted, read_formed, SaysOffsets, front_offsets}
 use Rattle.doc_lift.proofs.FillLemmas.{filled_layout, filled_meant, lifted_fault}
 
 -- the front of a text of a WordDocument, and what is read in place of it
@@ -37,8 +37,8 @@ pub record IsFrontRead (contents : Contents) (wd table units : List ℕ) (text r
 pub lifted_text : (contents : Contents) (wd table units : List ℕ) (text read : FileText) (lifted : LiftedText) →
     IsFrontRead contents wd table units text read → IsReadFilled wd units contents read lifted.document →
     lifted.units.items ≡ units → SaysDeletions wd table text lifted.deleted.items →
-    IsLiftedBy (read_table_rules wd table) contents lifted
-lifted_text contents wd table units text read lifted is found units_are says =
+    SaysOffsets wd table units text lifted.offsets.items → IsLiftedBy (read_table_rules wd table) contents lifted
+lifted_text contents wd table units text read lifted is found units_are says named =
     let count = all_text_length wd in
     let filled = found.filled in
     let source : IsLiftedSource wd table (source_of filled) = record {
@@ -59,6 +59,8 @@ lifted_text contents wd table units text read lifted is found units_are says =
       units = units_are ∙ front_units wd table count text units is.has is.front;
       deleted = front_deleted contents wd table count text units read lifted.deleted.items is.reads is.has is.front
           is.for (filled_layout wd units read filled found.filled_is found.rules) says;
+      offsets = front_offsets contents wd table count text units read lifted.offsets.items is.reads is.has is.front
+          is.for (filled_layout wd units read filled found.filled_is found.rules) named;
       means = filled_meant contents wd table count text units read filled lifted.document is.reads is.has is.front is.for
           found.filled_is found.rules found.document_is;
       formed = read_formed contents filled lifted.document found.rules found.document_is;

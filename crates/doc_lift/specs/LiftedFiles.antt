@@ -10,6 +10,7 @@ use Rattle.plain_doc.specs.Marks.{HasFormedBookmarks}
 use Rattle.file_rules.specs.Units.{text_units}
 use Rattle.file_rules.specs.FileRules.{FileText, HasText}
 use Rattle.deleted_text.specs.Texts.{AreTextDeletions}
+use Rattle.huge_papx.specs.Texts.{AreTextOffsets}
 use Rattle.doc_meaning.specs.Meaning.{MeansDocument}
 use Rattle.doc_lift.specs.declared.lifting.Lifted.{Lifted}
 use Rattle.doc_lift.specs.LiftedRules.{lifted_contents_rules}
@@ -34,5 +35,6 @@ pub record IsLifted (file : List ℕ) (lifted : Lifted) : Type 0 where
   pub fib : Hold (version_rules text.wd)
   pub units : lifted.units.items ≡ text_units text.wd text.pieces
   pub deleted : AreTextDeletions text lifted.deleted.items
+  pub offsets : AreTextOffsets text lifted.offsets.items
   pub means : MeansDocument file lifted.document
   pub formed : HasFormedBookmarks lifted.document

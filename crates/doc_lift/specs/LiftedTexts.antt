@@ -9,6 +9,7 @@ use Rattle.plain_doc.specs.Marks.{HasFormedBookmarks}
 use Rattle.file_rules.specs.Units.{text_units}
 use Rattle.file_rules.specs.FileRules.{FileText, HasText}
 use Rattle.deleted_text.specs.Texts.{AreTextDeletions}
+use Rattle.huge_papx.specs.Texts.{AreTextOffsets}
 use Rattle.doc_meaning.specs.Meaning.{MeansFrom}
 use Rattle.doc_lift.specs.declared.text_lifting.LiftedText.{LiftedText}
 
@@ -20,5 +21,6 @@ pub record IsLiftedBy (rules : Rules Place) (contents : Contents) (lifted : Lift
   pub fib : Hold (version_rules text.wd)
   pub units : lifted.units.items ≡ text_units text.wd text.pieces
   pub deleted : AreTextDeletions text lifted.deleted.items
+  pub offsets : AreTextOffsets text lifted.offsets.items
   pub means : MeansFrom contents lifted.document
   pub formed : HasFormedBookmarks lifted.document

@@ -21,13 +21,14 @@ const FLAGS: u32 = 10;
 
 /// What is lifted out of a file: its document, its streams with the names of its storages, the units of all CPs of its
 /// text, those of the stories among them that the document has no place for, and of each CP of the others whether a
-/// reviser deleted it.
+/// reviser deleted it, and which place of the stream Data its paragraph names.
 #[derive(Drop)]
 pub struct Lifted {
     pub document: ColumnDocument,
     pub outer: OuterContainer,
     pub units: Vec<u16>,
     pub deleted: Vec<bool>,
+    pub offsets: Vec<Option<u32>>,
 }
 
 /// Lifts the document of a file. The rules on documents, 60 to 71, are not checked.
@@ -46,19 +47,26 @@ pub fn lift(alloc: Global, file: &[u8]) -> Result<Lifted, ReadFault>
 
 /// What is lifted, of its parts. It takes no memory.
 fn lifted_of(outer: OuterContainer, found: LiftedText) -> Lifted
-    ensures { result
-        ≡ record { document = found.document; outer = outer; units = found.units; deleted = found.deleted } }
+    ensures { result ≡ record {
+      document = found.document;
+      outer = outer;
+      units = found.units;
+      deleted = found.deleted;
+      offsets = found.offsets;
+    } }
 {
     let LiftedText {
         document,
         units,
         deleted,
+        offsets,
     } = found;
     Lifted {
         document,
         outer,
         units,
         deleted,
+        offsets,
     }
 }
 

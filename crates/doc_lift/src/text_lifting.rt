@@ -9,9 +9,10 @@ ghost use Rattle.cfb_streams.specs.Names.{wd_name};
 ghost use Rattle.fib_versions.specs.VersionRules.{version_rules};
 ghost use Rattle.file_rules.specs.Faults.{IsReadFault};
 ghost use Rattle.deleted_text.specs.Places.{AreDeletions};
+ghost use Rattle.huge_papx.specs.Offsets.{AreOffsets};
 ghost use Rattle.fib_form.specs.Fib.{table_part};
 ghost use Rattle.fib_form.specs.TableParts.{pair_of};
-ghost use Rattle.fib_form.specs.declared.table_parts.TablePart.TheVariants.{PlcfBteChpx};
+ghost use Rattle.fib_form.specs.declared.table_parts.TablePart.TheVariants.{PlcfBteChpx, PlcfBtePapx};
 ghost use Rattle.fkp_pages.specs.Bin.{IsBinTable};
 ghost use Rattle.file_rules.specs.FileRules.{FileText, source_of, table_stream_name};
 ghost use Rattle.file_rules.specs.FormatRules.{judged_places};
@@ -24,7 +25,8 @@ ghost use Rattle.doc_lift.specs.LiftedTexts.{IsLiftedBy};
 use crate::clx_skipping::clx_skipped;
 use crate::gap_reading::{ReadText, read_filled};
 use crate::skipping::{
-    PLCF_BTE_CHPX, SkippedStreams, are_units, early_fib, keeps_sepxs, skipped_streams, with_fib,
+    PLCF_BTE_CHPX, PLCF_BTE_PAPX, SkippedStreams, are_units, early_fib, keeps_sepxs,
+    skipped_streams, with_fib,
 };
 use cfb_streams::Container;
 use deleted_text::deleted_places;
@@ -32,18 +34,20 @@ use doc_bits::Memory;
 use doc_columns::ColumnDocument;
 use fib_versions::AnyFib;
 use file_rules::{FrontText, LoadedText, ReadFault, load_front};
+use huge_papx::huge_offsets;
 use std::alloc::Global;
 
 /// The pair of the sections.
 const PLCF_SED: u16 = 6;
 
 /// What is lifted out of the streams of a file: the document, the units of all CPs of the text, and of each CP of its
-/// three stories whether a reviser deleted it.
+/// three stories whether a reviser deleted it, and which place of the stream Data its paragraph names.
 #[derive(Drop)]
 pub(crate) struct LiftedText {
     pub(crate) document: ColumnDocument,
     pub(crate) units: Vec<u16>,
     pub(crate) deleted: Vec<bool>,
+    pub(crate) offsets: Vec<Option<u32>>,
 }
 
 /// Lifts the document of `WordDocument` and of the table stream.
@@ -88,15 +92,16 @@ fn lift_read(
     let lifted = with_fib(alloc, wd, &early)?;
     let front = load_front(alloc, &lifted, early, table, fib.text_len())?;
     let deleted = deleted_cps(alloc, fib, wd, table, &front.text)?;
+    let offsets = huge_cps(alloc, fib, wd, table, &front)?;
     let skipped = skipped_streams(alloc, fib, wd, table)?;
     let found = load_skipped(alloc, fib, wd, table, &skipped, &front.units)?;
     if let Some(text) = found {
         let front = with_text(front, text);
         let read = read_filled(alloc, container, fib, front, &skipped.wd, &skipped.table)?;
-        return Ok(lifted_read(read, deleted));
+        return Ok(lifted_read(read, deleted, offsets));
     }
     let read = read_filled(alloc, container, fib, front, &lifted, table)?;
-    Ok(lifted_read(read, deleted))
+    Ok(lifted_read(read, deleted, offsets))
 }
 
 /// Of each CP of the three stories of a text, whether a reviser deleted it.
@@ -114,6 +119,24 @@ fn deleted_cps(
     let source = text.source();
     let places = source.judged_places();
     deleted_places(alloc, wd, fib.part(table, PLCF_BTE_CHPX), &places)
+}
+
+/// Of each CP of the three stories of a text, which place of the stream Data its paragraph names.
+fn huge_cps(
+    alloc: Global,
+    fib: &AnyFib<'_>,
+    wd: &[u8],
+    table: &[u8],
+    front: &FrontText<'_>,
+) -> Result<Vec<Option<u32>>, Memory>
+    ensures { IfOk result (λ offsets. IsBinTable (table_part fib.now table.now (pair_of PlcfBtePapx))
+        → AreOffsets wd.now (table_part fib.now table.now (pair_of PlcfBtePapx))
+        (judged_places (source_of front.now.text)) front.now.units.items offsets.items) }
+{
+    let source = front.text.source();
+    let places = source.judged_places();
+    let bin = fib.part(table, PLCF_BTE_PAPX);
+    huge_offsets(alloc, wd, bin, &places, &front.units)
 }
 
 /// Loads the front of skipped streams, where the units of all CPs and the Sepxs are those of the file.
@@ -177,13 +200,15 @@ fn with_text<'a>(front: FrontText<'_>, text: LoadedText<'a>) -> FrontText<'a>
 }
 
 /// What is lifted, of its parts. It takes no memory.
-fn lifted_read(read: ReadText, deleted: Vec<bool>) -> LiftedText
-    ensures { result ≡ record { document = read.document; units = read.units; deleted = deleted } }
+fn lifted_read(read: ReadText, deleted: Vec<bool>, offsets: Vec<Option<u32>>) -> LiftedText
+    ensures { result
+        ≡ record { document = read.document; units = read.units; deleted = deleted; offsets = offsets } }
 {
     let ReadText { document, units } = read;
     LiftedText {
         document,
         units,
         deleted,
+        offsets,
     }
 }

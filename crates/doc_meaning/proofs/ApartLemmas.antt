@@ -39,7 +39,7 @@ use Rattle.doc_meaning.proofs.TableLemmas.{no_range, levels_from, StandBehindPar
 
 -- ---- streams that are the same before a place
 
-range_take : (xs : List ℕ) (place from to : ℕ) → from ≤ place → to ≤ place →
+pub range_take : (xs : List ℕ) (place from to : ℕ) → from ≤ place → to ≤ place →
     slice_range (take place xs) from to ≡ slice_range xs from to
 range_take xs place from to low within =
     let whole : from + (place - from) ≡ place = omega (arith, low) in
@@ -178,7 +178,7 @@ level_before old new place at same low =
     ap (λ n. n + 2 + 2 * u16_at new n) there
     ∙ ap (λ n. text + 2 + 2 * n) (number_before old new place text 2 same (omega (arith, far)))
 
-levels_before_place : (old new : List ℕ) (place from k : ℕ) → take place new ≡ take place old →
+pub levels_before_place : (old new : List ℕ) (place from k : ℕ) → take place new ≡ take place old →
     level_start old from k ≤ place → level_start new from k ≡ level_start old from k
 unfolding level_start
 levels_before_place old new place from zero same low = refl
@@ -258,16 +258,16 @@ apart_pieces wd old new pieces (inr stays) is = subst (λ (t : List ℕ). IsClx 
 -- ---- texts
 
 -- the same text, with another table stream
-abbrev other_table : FileText → List ℕ → FileText
+abbrev pub other_table : FileText → List ℕ → FileText
 other_table text table = record text { table = table }
 
-count_same : (text : FileText) (table : List ℕ) (story : StoryKind) →
+pub count_same : (text : FileText) (table : List ℕ) (story : StoryKind) →
     story_length (source_of (other_table text table)) story ≡ story_length (source_of text) story
 count_same text table Main = refl
 count_same text table Notes = refl
 count_same text table Heads = refl
 
-bin_apart : (kind : PageKind) (wd old new : List ℕ) → ReadsClx (early_pairs wd) old new →
+pub bin_apart : (kind : PageKind) (wd old new : List ℕ) → ReadsClx (early_pairs wd) old new →
     bin_of kind (bins_of wd new) ≡ bin_of kind (bins_of wd old)
 bin_apart Chpx wd old new clx = apart_part wd old new PlcfBteChpx clx (λ e. absurd (omega (arith, e)))
 bin_apart Papx wd old new clx = apart_part wd old new PlcfBtePapx clx (λ e. absurd (omega (arith, e)))

@@ -8,6 +8,8 @@ mod ListLemmas
 mod ItemLemmas
 mod DocumentLemmas
 mod LoadedLemmas
+mod AlikeLemmas
+mod HeldLemmas
 mod FrontLemmas
 mod MeaningLemmas
 mod GapLemmas

@@ -8,6 +8,8 @@ pub use Rattle.doc_meaning.proofs.EarlyLemmas.{early_part, pair_same, story_same
 pub use Rattle.doc_meaning.proofs.FilledLemmas.{IsPair, bytes_kept, filled_is_meant, layout_holds}
 -- The front of a text, behind a FIB of the early form, is loaded in place of the text that the streams name.
 pub use Rattle.doc_meaning.proofs.FrontLemmas.{HasFront, front_get, front_loaded, front_text, front_units, whole_text}
+-- The rules 33 to 57 hold of a text that is loaded in place of one of which they hold.
+pub use Rattle.doc_meaning.proofs.HeldLemmas.{loaded_holds}
 -- What the parts hold is the same for a text that reads the same.
 pub use Rattle.doc_meaning.proofs.ListLemmas.{read_of}
 -- A text that is loaded in place of the one that the streams name reads the same, so its document is meant.

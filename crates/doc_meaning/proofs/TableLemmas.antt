@@ -76,7 +76,7 @@ range_from old new place pair behind (inl none) =
 range_from old new place pair behind (inr low) = range_behind old new place pair.0 (pair.0 + pair.1) behind low
 
 -- where a part is
-other_stands : (wd old new : List ℕ) (part : TablePart) → SkipsFirst (early_pairs wd) old new → IsOther part →
+pub other_stands : (wd old new : List ℕ) (part : TablePart) → SkipsFirst (early_pairs wd) old new → IsOther part →
     StandsFrom (sheet_to (early_pairs wd)) (fib_pair wd (pair_of part))
 other_stands wd old new part skips other =
     subst (StandsFrom (sheet_to (early_pairs wd))) (early_part wd part)
@@ -122,7 +122,7 @@ unfolding level_start
 level_up table from zero = omega arith
 level_up table from (suc k) = omega (arith, level_up table from k)
 
-levels_behind : (old new : List ℕ) (from k : ℕ) → drop from new ≡ drop from old →
+pub levels_behind : (old new : List ℕ) (from k : ℕ) → drop from new ≡ drop from old →
     level_start new from k ≡ level_start old from k
 unfolding level_start
 levels_behind old new from zero same = refl

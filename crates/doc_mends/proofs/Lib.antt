@@ -1,5 +1,7 @@
 pub mod Public
 mod MendLemmas
+mod StruckLemmas
+mod BatchLemmas
 mod BaseLemmas
 mod TextLemmas
 mod NormalLemmas

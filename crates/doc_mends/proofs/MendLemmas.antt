@@ -22,14 +22,13 @@ use Rattle.doc_bits.proofs.Public.{one_byte, set_here, set_other}
 use Rattle.plain_doc.specs.declared.item.Item.{Item}
 use Rattle.plain_doc.specs.declared.document.Document.{Document}
 use Rattle.plain_doc.proofs.Public.{length-splice}
-use Rattle.doc_patch.specs.declared.changes.Change.{Change}
 use Rattle.doc_patch.specs.Changes.{map_range, changed_at, put_changed, modified_item, with_text, changed}
 use Rattle.doc_patch.specs.Places.{text_at, HasText, HasRange}
-use Rattle.doc_patch.specs.Makes.{CanMakeAll}
 use Rattle.doc_mends.specs.declared.mends.DeletedRange.{DeletedRange}
 use Rattle.doc_mends.specs.declared.mends.Mend.TheVariants.{StrikeDeleted}
 use Rattle.doc_mends.specs.declared.judging.Judged.{Judged}
-use Rattle.doc_mends.specs.Mends.{striking, strike_of, is_short, can_strike, strikes, kept_ranges, AreRanges}
+use Rattle.doc_mends.specs.Mends.{striking, strike_of, all_struck, is_short, can_strike, strikes, kept_ranges}
+use Rattle.doc_mends.specs.Mends.{AreRanges}
 use Rattle.doc_mends.specs.Judging.{IsMendVerdict, AddsRange}
 
 -- ---- texts keep their lengths
@@ -70,7 +69,7 @@ entries_kept entries number other from to f there =
           | inr apart ↦ ap lengths (set_other entries number other (map_range f text from to) apart)
         ]
 
-texts_kept : (document : Document) (story other : Story) (from to : ℕ) (f : Item → Item) →
+pub texts_kept : (document : Document) (story other : Story) (from to : ℕ) (f : Item → Item) →
     HasText document story (HasRange from to) →
     lengths (text_at (with_text (λ text. map_range f text from to) story document) other) ≡ lengths
     (text_at document other)
@@ -84,7 +83,7 @@ texts_kept document (Head m) Main from to f there = refl
 texts_kept document (Head m) (Note n) from to f there = refl
 texts_kept document (Head m) (Head n) from to f there = entries_kept document.heads m n from to f there
 
-range_kept : (old new : Option (List Item)) (from to : ℕ) → lengths new ≡ lengths old →
+pub range_kept : (old new : Option (List Item)) (from to : ℕ) → lengths new ≡ lengths old →
     MatchOption old ⊥ (HasRange from to) → MatchOption new ⊥ (HasRange from to)
 range_kept None new from to same there = absurd there
 range_kept (Some old) None from to same there = absurd (cc same)
@@ -108,21 +107,14 @@ ranges_stay document range (other ∷ ranges) there are =
     (ranges_stay document range ranges there (All-tail (λ (r : DeletedRange). HasText document r.story (HasRange r.from
     r.to)) other ranges are))
 
--- ---- the changes can be made
-
-abbrev pub strike_all : List DeletedRange → List Change
-strike_all ranges = map strike_of ranges
-
-pub can_make : (ranges : List DeletedRange) (document : Document) → IsFormedModifier striking →
-    AreRanges document ranges → CanMakeAll (strike_all ranges) document
-can_make [] document formed are = tt
-can_make (range ∷ ranges) document formed are =
-    let here = All-head (λ (r : DeletedRange). HasText document r.story (HasRange r.from r.to)) range ranges are in
-    let rest = All-tail (λ (r : DeletedRange). HasText document r.story (HasRange r.from r.to)) range ranges are in (
-      (here, formed),
-      can_make ranges (changed (strike_of range) document) formed
-          (ranges_stay document range ranges here rest),
-    )
+pub all_ranges_stay : (document : Document) (done ranges : List DeletedRange) → AreRanges document done →
+    AreRanges document ranges → AreRanges (all_struck done document) ranges
+all_ranges_stay document [] ranges done are = are
+all_ranges_stay document (range ∷ done) ranges all are =
+    let Is : DeletedRange → Type 0 = λ r. HasText document r.story (HasRange r.from r.to) in
+    let here = All-head Is range done all in
+    all_ranges_stay (changed (strike_of range) document) done ranges
+    (ranges_stay document range done here (All-tail Is range done all)) (ranges_stay document range ranges here are)
 
 -- those that pass a test are among the ranges
 pub filtered : (p : DeletedRange → Bool) (document : Document) (ranges : List DeletedRange) →
@@ -132,49 +124,42 @@ filtered p document ranges are =
 
 -- ---- one range after the other
 
-pub judged_none : (document : Document) (judged : Judged) → judged.mends.items ≡ [] → judged.changes ≡ [] →
-    judged.kept.items ≡ [] → IsMendVerdict document [] judged
-judged_none document judged a b c =
-    record { mends = a; changes = b; kept = c }
-
-one_struck : (struck : Bool) (range : DeletedRange) (p : DeletedRange → Bool) → p range ≡ struck →
-    map StrikeDeleted (filter p (range ∷ [])) ≡ (if struck then StrikeDeleted range ∷ [] else [])
+one_struck : (can : Bool) (range : DeletedRange) (p : DeletedRange → Bool) → p range ≡ can →
+    map StrikeDeleted (filter p (range ∷ [])) ≡ (if can then StrikeDeleted range ∷ [] else [])
 one_struck true range p is = rw is refl
 one_struck false range p is = rw is refl
 
-one_kept : (struck : Bool) (range : DeletedRange) (p : DeletedRange → Bool) → p range ≡ struck →
-    filter (λ r. not (p r)) (range ∷ []) ≡ (if struck then [] else range ∷ [])
+one_put : (can : Bool) (range : DeletedRange) (p : DeletedRange → Bool) → p range ≡ can →
+    filter p (range ∷ []) ≡ (if can then range ∷ [] else [])
+one_put true range p is = rw is refl
+one_put false range p is = rw is refl
+
+one_kept : (can : Bool) (range : DeletedRange) (p : DeletedRange → Bool) → p range ≡ can →
+    filter (λ r. not (p r)) (range ∷ []) ≡ (if can then [] else range ∷ [])
 one_kept true range p is = rw is refl
 one_kept false range p is = rw is refl
 
-one_change : (struck : Bool) (range : DeletedRange) (p : DeletedRange → Bool) → p range ≡ struck →
-    map strike_of (filter p (range ∷ [])) ≡ (if struck then strike_of range ∷ [] else [])
-one_change true range p is = rw is refl
-one_change false range p is = rw is refl
-
-pub judged_more : (document : Document) (ranges : List DeletedRange) (range : DeletedRange) (struck : Bool)
-    (old new : Judged) → IsMendVerdict document ranges old → struck ≡ can_strike document range →
-    AddsRange range struck old new → IsMendVerdict document (ranges ++ range ∷ []) new
-judged_more document ranges range struck old new was is adds =
+pub judged_more : (document : Document) (ranges : List DeletedRange) (range : DeletedRange) (can : Bool)
+    (old new : Judged) → IsMendVerdict document ranges old → can ≡ can_strike document range →
+    AddsRange range can old new → IsMendVerdict document (ranges ++ range ∷ []) new
+judged_more document ranges range can old new was is adds =
     let p = can_strike document in
     let mends = filter-append p ranges (range ∷ []) in
     let kept = filter-append (λ (r : DeletedRange). not (p r)) ranges (range ∷ []) in
     record {
-      mends = adds.mends ∙ (ap (λ l. l ++ (if struck then StrikeDeleted range ∷ [] else [])) was.mends
-          ∙ (ap (λ l. strikes document ranges ++ l) (sym (one_struck struck range p (sym is)))
+      mends = adds.mends ∙ (ap (λ l. l ++ (if can then StrikeDeleted range ∷ [] else [])) was.mends
+          ∙ (ap (λ l. strikes document ranges ++ l) (sym (one_struck can range p (sym is)))
           ∙ (sym (map-append StrikeDeleted (filter p ranges) (filter p (range ∷ [])))
           ∙ ap (map StrikeDeleted) (sym mends))));
-      changes = adds.changes ∙ (ap (λ l. l ++ (if struck then strike_of range ∷ [] else [])) was.changes
-          ∙ (ap (λ l. map strike_of (filter p ranges) ++ l) (sym (one_change struck range p (sym is)))
-          ∙ (sym (map-append strike_of (filter p ranges) (filter p (range ∷ [])))
-          ∙ ap (map strike_of) (sym mends))));
-      kept = adds.kept ∙ (ap (λ l. l ++ (if struck then [] else range ∷ [])) was.kept
-          ∙ (ap (λ l. kept_ranges document ranges ++ l) (sym (one_kept struck range p (sym is))) ∙ sym kept));
+      struck = adds.struck ∙ (ap (λ l. l ++ (if can then range ∷ [] else [])) was.struck
+          ∙ (ap (λ l. filter p ranges ++ l) (sym (one_put can range p (sym is))) ∙ sym mends));
+      kept = adds.kept ∙ (ap (λ l. l ++ (if can then [] else range ∷ [])) was.kept
+          ∙ (ap (λ l. kept_ranges document ranges ++ l) (sym (one_kept can range p (sym is))) ∙ sym kept));
     }
 
 -- ---- properties from a place to another
 
-range_at : {X : Type 0} (xs : List X) (from to i : ℕ) (d : X) → i < to - from →
+pub range_at : {X : Type 0} (xs : List X) (from to i : ℕ) (d : X) → i < to - from →
     get_or (slice_range xs from to) i d ≡ get_or xs (from + i) d
 range_at xs from to i d low = get_or-take (to - from) (drop from xs) i d low ∙ get_or-drop from xs i d
 
@@ -243,11 +228,3 @@ striking_formed = record {
   chp = stay_formed character_groups empty (0x0837, 1 ∷ []) (IsPropertyMap-empty character_groups) strike_entry;
   pap = IsPropertyMap-empty paragraph_groups;
 }
-
--- the changes of checked ranges can be made
-pub judged_makes : (document : Document) (ranges : List DeletedRange) (judged : Judged) →
-    IsMendVerdict document ranges judged → AreRanges document ranges → CanMakeAll judged.changes document
-judged_makes document ranges judged is are =
-    subst (λ changes. CanMakeAll changes document) (sym is.changes)
-    (can_make (filter (can_strike document) ranges) document striking_formed
-    (filtered (can_strike document) document ranges are))

@@ -3,7 +3,7 @@
 -- Mends keep bookmarks formed: their ends go with the main text, which gets no shorter otherwise.
 pub use Rattle.doc_mends.proofs.BookmarkLemmas.{bookmarks_stay}
 -- Ranges that are checked and struck.
-pub use Rattle.doc_mends.proofs.MendLemmas.{filtered, length-map_range, ranges_stay}
+pub use Rattle.doc_mends.proofs.MendLemmas.{filtered, length-map_range, range_kept, ranges_stay, texts_kept}
 -- A document is mended in one way.
 pub use Rattle.doc_mends.proofs.OneLemmas.{one_way}
 -- A document that breaks no rule has no mends.

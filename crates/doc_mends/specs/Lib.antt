@@ -1,5 +1,7 @@
 pub mod Mends
 pub mod Judging
+pub mod Batches
+pub mod Striking
 pub mod Kept
 pub mod Sides
 pub mod Bases

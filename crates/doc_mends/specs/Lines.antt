@@ -6,15 +6,23 @@ use Rattle.text_losses.specs.declared.features.Reference.{Reference}
 use Rattle.text_losses.specs.Lines.{place_text, reference_text}
 use Rattle.doc_mends.specs.declared.mends.DeletedRange.{DeletedRange}
 use Rattle.doc_mends.specs.declared.mends.MadeNote.{MadeNote}
+use Rattle.doc_mends.specs.declared.mends.NoteStory.{NoteStory}
+use Rattle.doc_mends.specs.declared.mends.NoteStory.TheVariants.{Endnotes, Comments}
 use Rattle.doc_mends.specs.declared.mends.WrongMark.{WrongMark}
+use Rattle.doc_mends.specs.declared.mends.RowMark.{RowMark}
 use Rattle.doc_mends.specs.declared.mends.BrokenRow.{BrokenRow}
 use Rattle.doc_mends.specs.declared.mends.Mend.{Mend}
 use Rattle.doc_mends.specs.declared.mends.Mend.TheVariants as mends
 
--- the endnote, and which note it became
+abbrev pub story_word : NoteStory → List ℕ
+story_word Endnotes = codes "endnote"
+story_word Comments = codes "comment"
+
+-- the endnote or the comment, and which note it became
 abbrev pub made_line : MadeNote → List ℕ
 made_line made =
-    codes "endnote " ++ (decimal made.endnote ++ (codes ": note " ++ (decimal made.note ++ 10 ∷ [])))
+    story_word made.story
+    ++ (32 ∷ [] ++ (decimal made.number ++ (codes ": note " ++ (decimal made.note ++ 10 ∷ []))))
 
 -- the range, and that it is struck
 abbrev pub strike_line : DeletedRange → List ℕ
@@ -28,6 +36,12 @@ abbrev pub keep_line : DeletedRange → List ℕ
 keep_line range =
     codes "deleted "
     ++ (place_text range.story ++ (32 ∷ [] ++ (decimal range.from ++ (32 ∷ [] ++ (decimal range.to ++ 10 ∷ [])))))
+
+-- the mark of a row, and that it has the cells of Data
+abbrev pub cells_line : RowMark → List ℕ
+cells_line mark =
+    codes "mark "
+    ++ (place_text mark.story ++ (32 ∷ [] ++ (decimal mark.at ++ (codes ": cells of Data" ++ 10 ∷ []))))
 
 -- the number of the style
 abbrev pub base_line : ℕ → List ℕ
@@ -59,6 +73,7 @@ abbrev pub mend_line : Mend → List ℕ
 mend_line (mends.MakeNote made) = made_line made
 mend_line (mends.StrikeDeleted range) = strike_line range
 mend_line (mends.KeepDeleted range) = keep_line range
+mend_line (mends.DefineRow mark) = cells_line mark
 mend_line (mends.DropBase istd) = base_line istd
 mend_line (mends.NormalMark mark) = mark_line mark
 mend_line (mends.PlainRow row) = row_line row

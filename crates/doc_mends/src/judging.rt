@@ -1,18 +1,20 @@
 // Which ranges can be struck.
-ghost use Rattle.std.specs.Prelude.{◌≡◌, ◌^◌, ◌<◌, ◌≤◌, IfOk, OnOk, All, map, slice_range};
+ghost use Rattle.std.specs.Prelude.{◌≡◌, ◌^◌, ◌<◌, ◌≤◌, IfOk, OnOk, All, slice_range, ⊤};
 ghost use Rattle.std.specs.List.{list_all};
 ghost use Rattle.run_lists.specs.Spread.{expanded, total_len};
+ghost use Rattle.run_lists.specs.Places.{IsAt};
 ghost use Rattle.prop_map.specs.Modifiers.{IsFormedModifier};
 ghost use Rattle.prop_map.specs.Formed.{IsPropertyMap, character_groups};
-ghost use Rattle.doc_patch.specs.Places.{HasText, HasRange};
+ghost use Rattle.doc_patch.specs.Places.{HasText, items_at};
 ghost use Rattle.doc_mends.specs.Mends.{strike as settings_of_strike, striking as modifier_of_strike, is_short};
-ghost use Rattle.doc_mends.specs.Mends.{can_strike, strike_of, AreRanges};
-ghost use Rattle.doc_mends.specs.Judging.{IsMendVerdict, AddsRange};
+ghost use Rattle.doc_mends.specs.Mends.{AreRanges};
+ghost use Rattle.doc_mends.specs.Judging.{IsMendVerdict, AddsRange, IsChpWalk};
 
+use crate::batches::{is_next, range_at};
 use crate::mends::{DeletedRange, Mend};
-use doc_bits::Memory;
+use doc_bits::{Memory, Story};
 use doc_columns::{ColumnDocument, Columns};
-use doc_patch::{Change, Changes, find_text, property_characters};
+use doc_patch::{find_text, property_characters};
 use prop_map::{Modifier, PropMap};
 use run_lists::{Cursor, Run, value_until};
 use sprm_table::Code;
@@ -24,12 +26,20 @@ const STRIKE: Code = Code(0x0837);
 /// The most bytes of the properties of characters, as they are printed.
 const MAX_CHP: u64 = 255;
 
-/// Ranges that are struck, as mends and as changes, and ranges that stay as they are.
+/// Ranges that are struck, and their mends, and ranges that stay as they are.
 #[derive(Drop)]
 pub(crate) struct Judged {
     pub(crate) mends: Vec<Mend>,
-    pub(crate) changes: Changes,
+    pub(crate) struck: Vec<DeletedRange>,
     pub(crate) kept: Vec<DeletedRange>,
+}
+
+/// A walk over the runs of the properties of a text, which goes on from one range of the text to the next.
+#[derive(Drop)]
+pub(crate) struct ChpWalk<'a> {
+    pub(crate) story: Story,
+    pub(crate) runs: &'a [Run<PropMap>],
+    pub(crate) cursor: Cursor,
 }
 
 /// The properties of a struck character.
@@ -42,7 +52,7 @@ fn strike(alloc: Global) -> Result<PropMap, Memory>
 }
 
 /// The modifier that strikes characters.
-fn striking(alloc: Global) -> Result<Modifier, Memory>
+pub(crate) fn striking(alloc: Global) -> Result<Modifier, Memory>
     ensures is { IfOk result (λ modifier. modifier ≡ modifier_of_strike) }
     ensures formed { IfOk result (λ modifier. IsFormedModifier modifier) }
 {
@@ -62,78 +72,68 @@ fn stays_short(alloc: Global, chp: &PropMap, striking: &Modifier) -> Result<bool
     Ok(struck.printed_len() <= MAX_CHP)
 }
 
-/// Whether all properties from a place to before another do.
-fn runs_stay_short(
+impl<'a> ChpWalk<'a> {
+    /// At the start of a text.
+    fn of(story: Story, text: &'a Columns) -> ChpWalk<'a>
+        ensures walk { IsChpWalk text.now result }
+        ensures story { result.story ≡ story }
+        ensures start { result.cursor.begin ≡ 0 }
+    {
+        let _len = text.len();
+        ChpWalk {
+            story,
+            runs: text.chps(),
+            cursor: Cursor::new(),
+        }
+    }
+
+    /// The walk that is not behind a range: this one, or one from the start of the range's text.
+    fn toward(self, document: &'a ColumnDocument, range: DeletedRange) -> ChpWalk<'a>
+        requires walk { IsChpWalk (items_at document.now self.story) self }
+        requires there { HasText document.now range.story (λ _. ⊤) }
+        ensures walk { IsChpWalk (items_at document.now range.story) result }
+        ensures story { result.story ≡ range.story }
+        ensures ahead { result.cursor.begin ≤ range.from }
+    {
+        if is_next(range, self.story, self.cursor.begin) {
+            return self;
+        }
+        match find_text(document, range.story) {
+            None => self,
+            Some(text) => ChpWalk::of(range.story, text),
+        }
+    }
+}
+
+/// Whether all properties of a range do, to which the cursor goes.
+fn range_stays_short(
     alloc: Global,
     runs: &[Run<PropMap>],
-    from: usize,
-    to: usize,
+    cursor: &mut Cursor,
+    range: DeletedRange,
     striking: &Modifier,
 ) -> Result<bool, Memory>
-    requires ordered { from ≤ to }
-    requires within { to ≤ total_len runs.now }
+    requires at { IsAt runs.now cursor.old }
+    requires ahead { cursor.old.begin ≤ range.from }
+    requires ordered { range.from ≤ range.to }
+    requires within { range.to ≤ total_len runs.now }
     requires few { total_len runs.now < 2 ^ 32 }
     requires maps { All (IsPropertyMap character_groups) (expanded runs.now) }
     requires striking { striking.now ≡ modifier_of_strike }
     requires formed { IsFormedModifier striking.now }
-    ensures { IfOk result (λ short. short ≡ list_all is_short (slice_range (expanded runs.now) from to)) }
+    ensures at { OnOk result (IsAt runs.now cursor.new) }
+    ensures short { IfOk result (λ short.
+        short ≡ list_all is_short (slice_range (expanded runs.now) range.from range.to)) }
 {
-    let mut cursor = Cursor::new();
-    let mut at = from;
-    while at < to {
-        let (chp, end) = value_until(runs, &mut cursor, at);
+    let mut at = range.from;
+    while at < range.to {
+        let (chp, end) = value_until(runs, cursor, at);
         if !stays_short(alloc, chp, striking)? {
             return Ok(false);
         }
         at = end;
     }
     Ok(true)
-}
-
-/// Whether the properties of all items of a range do.
-fn range_stays_short(
-    alloc: Global,
-    text: &Columns,
-    from: usize,
-    to: usize,
-    striking: &Modifier,
-) -> Result<bool, Memory>
-    requires range { HasRange from to text.now }
-    requires striking { striking.now ≡ modifier_of_strike }
-    requires formed { IsFormedModifier striking.now }
-    ensures { IfOk result (λ short.
-        short ≡ list_all is_short (slice_range (map (λ item. item.chp) text.now) from to)) }
-{
-    let _len = text.len();
-    let short = runs_stay_short(alloc, text.chps(), from, to, striking)?;
-    Ok(short)
-}
-
-/// Whether a range can be struck.
-fn can_be_struck(
-    alloc: Global,
-    document: &ColumnDocument,
-    range: DeletedRange,
-    striking: &Modifier,
-) -> Result<bool, Memory>
-    requires range { HasText document.now range.story (HasRange range.from range.to) }
-    requires striking { striking.now ≡ modifier_of_strike }
-    requires formed { IsFormedModifier striking.now }
-    ensures { IfOk result (λ can. can ≡ can_strike document.now range) }
-{
-    match find_text(document, range.story) {
-        Some(text) => Ok(range_stays_short(alloc, text, range.from, range.to, striking)?),
-        None => Ok(true),
-    }
-}
-
-/// The change that strikes a range.
-fn strike_change(alloc: Global, range: DeletedRange) -> Result<Change, Memory>
-    ensures { IfOk result (λ change.
-        change ≡ strike_of range) }
-{
-    let modifier = striking(alloc)?;
-    Ok(Change::ModifyItems(range.story, range.from, range.to, modifier))
 }
 
 /// Checks the ranges of a document that a reviser deleted.
@@ -148,25 +148,26 @@ pub(crate) fn check(
     let striking = striking(alloc)?;
     let mut judged = Judged {
         mends: Vec::new(alloc),
-        changes: Changes::new(alloc),
+        struck: Vec::new(alloc),
         kept: Vec::new(alloc),
     };
+    let mut walk = ChpWalk::of(Story::Main, &document.main);
     for k in 0..ranges.len() {
-        let range = ranges[k];
-        let can = can_be_struck(alloc, document, range, &striking)?;
-        judged.add(alloc, range, can)?;
+        let range = range_at(ranges, k);
+        walk = walk.toward(document, range);
+        let can = range_stays_short(alloc, walk.runs, &mut walk.cursor, range, &striking)?;
+        judged.add(range, can)?;
     }
     Ok(judged)
 }
 
 impl Judged {
     /// Puts a range to those that are struck, or to those that stay.
-    fn add(&mut self, alloc: Global, range: DeletedRange, struck: bool) -> Result<(), Memory>
-        ensures { OnOk result (AddsRange range struck self.old self.new) }
+    fn add(&mut self, range: DeletedRange, can: bool) -> Result<(), Memory>
+        ensures { OnOk result (AddsRange range can self.old self.new) }
     {
-        if struck {
-            let change = strike_change(alloc, range)?;
-            self.changes.add(change)?;
+        if can {
+            self.struck.push(range)?;
             self.mends.push(Mend::StrikeDeleted(range))?;
         } else {
             self.kept.push(range)?;

@@ -2,6 +2,7 @@
 #![tactic(auto)]
 
 mod bases;
+mod batches;
 mod cutting;
 mod ending;
 mod judging;
@@ -14,6 +15,7 @@ mod plain_items;
 mod rows;
 mod sides;
 mod striking;
+mod struck_runs;
 mod tables;
 
 pub use bases::drop_bases;
@@ -23,6 +25,6 @@ pub use laws::{mended_rows_are_whole, mends_are_one, mends_keep_bookmarks, sound
 pub use lines::push_mends;
 pub use marking::normal_marks;
 pub use mending::mend;
-pub use mends::{BrokenRow, DeletedRange, MadeNote, Mend, Mended, WrongMark};
+pub use mends::{BrokenRow, DeletedRange, MadeNote, Mend, Mended, NoteStory, RowMark, WrongMark};
 pub use striking::strike_deleted;
 pub use tables::plain_rows;

@@ -1,12 +1,13 @@
 // The line of a mend.
 ghost use Rattle.std.specs.Prelude.{◌≡◌, ◌++◌, IfOk, OnOk};
 ghost use Rattle.std.specs.List.{flat_map};
-ghost use Rattle.doc_mends.specs.Lines.{made_line as line_of_made};
+ghost use Rattle.doc_mends.specs.Lines.{made_line as line_of_made, cells_line as line_of_cells};
+ghost use Rattle.doc_mends.specs.Lines.{story_word as word_of_story};
 ghost use Rattle.doc_mends.specs.Lines.{mend_line as line_of, strike_line as line_of_strike, keep_line as line_of_keep};
 ghost use Rattle.doc_mends.specs.Lines.{base_line as line_of_base, mark_line as line_of_mark};
 ghost use Rattle.doc_mends.specs.Lines.{row_line as line_of_row, cut_line as line_of_cut, end_line as line_of_end};
 
-use crate::mends::{BrokenRow, DeletedRange, MadeNote, Mend, WrongMark};
+use crate::mends::{BrokenRow, DeletedRange, MadeNote, Mend, NoteStory, RowMark, WrongMark};
 use doc_bits::{Memory, Story, Text};
 use std::alloc::Global;
 use text_losses::{Reference, reference_text, story_place};
@@ -37,6 +38,7 @@ fn mend_line(alloc: Global, mend: &Mend) -> Result<Text, Memory>
         Mend::MakeNote(made) => made_line(alloc, *made),
         Mend::StrikeDeleted(range) => strike_line(alloc, *range),
         Mend::KeepDeleted(range) => keep_line(alloc, *range),
+        Mend::DefineRow(mark) => cells_line(alloc, *mark),
         Mend::DropBase(istd) => base_line(alloc, *istd),
         Mend::NormalMark(mark) => mark_line(alloc, *mark),
         Mend::PlainRow(row) => row_line(alloc, *row),
@@ -45,14 +47,25 @@ fn mend_line(alloc: Global, mend: &Mend) -> Result<Text, Memory>
     }
 }
 
-/// The line of an endnote that became a note.
+/// The line of an endnote or a comment that became a note.
 fn made_line(alloc: Global, made: MadeNote) -> Result<Text, Memory>
     ensures { IfOk result (λ line. line ≡ line_of_made made) }
 {
-    let endnote = made.endnote;
+    let word = story_word(made.story);
+    let number = made.number;
     let note = made.note;
-    let line = format!(in alloc; "endnote {endnote}: note {note}\n")?;
+    let line = format!(in alloc; "{word} {number}: note {note}\n")?;
     Ok(Text::from_string(line))
+}
+
+/// The word for a text of a story.
+fn story_word(story: NoteStory) -> &'static str
+    ensures { result.now ≡ word_of_story story }
+{
+    match story {
+        NoteStory::Endnotes => "endnote",
+        NoteStory::Comments => "comment",
+    }
 }
 
 /// The line of a range that is struck.
@@ -76,6 +89,17 @@ fn keep_line(alloc: Global, range: DeletedRange) -> Result<Text, Memory>
     let from = range.from;
     let to = range.to;
     let line = format!(in alloc; "deleted {place} {from} {to}\n")?;
+    Ok(Text::from_string(line))
+}
+
+/// The line of a row's mark that gets its cells.
+fn cells_line(alloc: Global, mark: RowMark) -> Result<Text, Memory>
+    ensures { IfOk result (λ line. line ≡ line_of_cells mark) }
+{
+    let place = story_place(alloc, mark.story)?;
+    let place = place.as_str();
+    let at = mark.at;
+    let line = format!(in alloc; "mark {place} {at}: cells of Data\n")?;
     Ok(Text::from_string(line))
 }
 

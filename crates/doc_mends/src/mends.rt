@@ -19,6 +19,13 @@ pub struct WrongMark {
     pub istd: u16,
 }
 
+/// The mark of a row of a table by the number of its item.
+#[derive(Clone, Copy)]
+pub struct RowMark {
+    pub story: Story,
+    pub at: usize,
+}
+
 /// A row of a table that breaks rule 63: its first item, how many items it has up to where it breaks the rule, and how
 /// many of them end cells.
 #[derive(Clone, Copy)]
@@ -29,22 +36,32 @@ pub struct BrokenRow {
     pub cells: usize,
 }
 
-/// An endnote by its number, and the note that it became.
+/// A story whose texts become notes.
+#[derive(Clone, Copy)]
+pub enum NoteStory {
+    Endnotes,
+    Comments,
+}
+
+/// An endnote or a comment by its number, and the note that it became.
 #[derive(Clone, Copy)]
 pub struct MadeNote {
-    pub endnote: usize,
+    pub story: NoteStory,
+    pub number: usize,
     pub note: usize,
 }
 
 /// A change of a document that is named.
 #[derive(Clone, Copy)]
 pub enum Mend {
-    /// The endnote became a note.
+    /// The endnote or the comment became a note.
     MakeNote(MadeNote),
     /// The items of a range that a reviser deleted are struck through.
     StrikeDeleted(DeletedRange),
     /// A range that a reviser deleted stays as it is: the properties of one of its items would be too long.
     KeepDeleted(DeletedRange),
+    /// The mark of a row has the cells that the stream Data has for it.
+    DefineRow(RowMark),
     /// The style of this number has no base any more.
     DropBase(u16),
     /// The mark has style 0.

@@ -60,7 +60,7 @@ impl PlainMaps {
         Ok(made)
     }
 
-    /// The same, where they were met last.
+    /// What is left of properties, where they are those that were met last.
     fn known(&self, alloc: Global, pap: &PropMap) -> Result<Option<PropMap>, Memory>
         ensures { IfOk result (λ known. ForSome known (λ made. made ≡ pap_left pap.now)) }
     {

@@ -100,7 +100,7 @@ fn plain_text(alloc: Global, text: Columns) -> Result<Columns, Memory>
     Ok(made)
 }
 
-/// The same, once these rows are found.
+/// A text whose rows, which are these, became paragraphs.
 fn with_rows(alloc: Global, text: Columns, rows: &[BrokenRow]) -> Result<Columns, Memory>
     requires { rows.now ≡ text_broken_rows Main text }
     ensures { IfOk result (λ made. made ≡ text_left text) }

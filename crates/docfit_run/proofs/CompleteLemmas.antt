@@ -1,5 +1,5 @@
 -- A file in whose way nothing is is fitted.
-use Rattle.std.proofs.Common.{◌≡◌, ◌≢◌, ◌<◌, inl, inr, refl, ap, subst, ℕ, Bool, List, Some, length, arith}
+use Rattle.std.proofs.Common.{◌≡◌, ◌≢◌, ◌<◌, inl, inr, refl, ap, subst, ℕ, Bool, List, Option, Some, length, arith}
 use Rattle.doc_bits.specs.declared.places.Where.TheVariants.{File}
 use Rattle.doc_bits.specs.Number.{AreBytes}
 use Rattle.doc_bits.specs.Rules.{Hold}
@@ -12,6 +12,7 @@ use Rattle.doc_mends.specs.declared.mends.Mend.{Mend}
 use Rattle.run_stages.specs.Outcomes.{Outcome}
 use Rattle.run_stages.specs.Stages.{longest_file, BreaksLengthRule}
 use Rattle.run_stages.proofs.Public.{Says, settled}
+use Rattle.further_notes.specs.declared.stories.NotedStories.{NotedStories}
 use Rattle.doc_fit.specs.Rules.{fit_rules}
 use Rattle.doc_fit.specs.Noted.{IsDocumentWith}
 use Rattle.file_mends.specs.declared.mends.FileMend.{FileMend}
@@ -38,7 +39,7 @@ saved_done out document lines mends outcome fits (inr many) = let over = many.ov
 
 read_done : (plain : Bool) (name out read : List ℕ) (file_mends : List FileMend) (outcome : Outcome) → AreBytes read →
     Hold (fit_rules read) →
-    ((noted : Bool) (document : Document) (mends : List Mend) → IsDocumentWith noted read document mends →
+    ((noted : Option NotedStories) (document : Document) (mends : List Mend) → IsDocumentWith noted read document mends →
     FitsCompoundFile document) → JudgesRead plain name out read file_mends outcome → outcome.status ≡ 0
 read_done plain name out read file_mends outcome bytes hold fits (inl refused) =
     absurd (hold_or_first Upto (fit_rules read) refused.rule refused.place (fit_single read bytes) hold refused.first)

@@ -1,10 +1,12 @@
 -- What is opened and saved is the fit of a file.
-use Rattle.std.proofs.Common.{◌≡◌, refl, sym, subst, inl, inr, ℕ, Bool, true, false, List, Result, Ok, Err, MatchResult}
+use Rattle.std.proofs.Common.{◌≡◌, refl, sym, subst, inl, inr, ℕ, Bool, List, Result, Ok, Err, MatchResult}
+use Rattle.std.proofs.Common.{Option, Some, None}
 use Rattle.plain_doc.specs.Sound.{IsSound}
 use Rattle.file_rules.specs.declared.fault.ReadFault.{ReadFault}
 use Rattle.file_rules.specs.Faults.{IsReadFault}
 use Rattle.file_mends.specs.declared.mends.FileMend.{FileMend}
 use Rattle.run_stages.specs.Outcomes.{Outcome}
+use Rattle.further_notes.specs.declared.stories.NotedStories.{NotedStories}
 use Rattle.doc_fit.specs.declared.opening.OpenedAny.{OpenedAny}
 use Rattle.doc_fit.specs.Opened.{IsOpenedAny}
 use Rattle.doc_fit.specs.Rules.{fit_rules}
@@ -17,14 +19,14 @@ use Rattle.file_mends.specs.Mends.{bytes_read}
 use Rattle.doc_fit.specs.declared.file_opening.OpenedFile.{OpenedFile}
 use Rattle.docfit_run.specs.Fitted.{EndsOpened, IsReadFitted, IsSaved, JudgesFit}
 
-plain_fit : (plain : Bool) (out file : List ℕ) (mends : List FileMend) (opened : OpenedAny) (outcome : Outcome) → AreNoted plain file false →
+plain_fit : (plain : Bool) (out file : List ℕ) (mends : List FileMend) (opened : OpenedAny) (outcome : Outcome) → AreNoted plain file None →
     IsOpenedAny file opened → IsSaved out opened.lifted.document opened.losses
     (record { of_file = mends; of_document = opened.mends.items }) outcome →
     IsReadFitted plain out file mends outcome
 plain_fit plain out file mends opened outcome are is saved =
     let lifts = is.lifts in
     record {
-      noted = false;
+      noted = None;
       are_noted = are;
       document = opened.lifted.document;
       mends = opened.mends.items;
@@ -48,15 +50,15 @@ plain_fit plain out file mends opened outcome are is saved =
       saved = saved;
     }
 
-noted_fit : (plain : Bool) (out file : List ℕ) (mends : List FileMend) (opened : OpenedAny) (outcome : Outcome) → AreNoted plain file true →
-    IsOpenedNoted file opened → IsSaved out opened.lifted.document opened.losses
+noted_fit : (plain : Bool) (stories : NotedStories) (out file : List ℕ) (mends : List FileMend) (opened : OpenedAny)
+    (outcome : Outcome) → AreNoted plain file (Some stories) → IsOpenedNoted stories file opened → IsSaved out opened.lifted.document opened.losses
     (record { of_file = mends; of_document = opened.mends.items }) outcome →
     IsReadFitted plain out file mends outcome
-noted_fit plain out file mends opened outcome are is saved =
+noted_fit plain stories out file mends opened outcome are is saved =
     let by = is.by in
     let lifts = by.lifts in
     record {
-      noted = true;
+      noted = Some stories;
       are_noted = are;
       document = opened.lifted.document;
       mends = opened.mends.items;
@@ -66,7 +68,7 @@ noted_fit plain out file mends opened outcome are is saved =
           meant = is.before.document;
           means = lifts.means;
           mends = opened.mends.items;
-          noted_is = subst (λ (t : FileText). IsNotedText t is.before.document opened.lifted.document opened.mends.items)
+          noted_is = subst (λ (t : FileText). IsNotedText stories t is.before.document opened.lifted.document opened.mends.items)
               (text_meant file is.before lifts) by.noted_is;
           sound = by.sound;
         };
@@ -83,12 +85,14 @@ noted_fit plain out file mends opened outcome are is saved =
       saved = saved;
     }
 
-saves_fit : (plain : Bool) (out file : List ℕ) (mends : List FileMend) (opened : OpenedAny) (outcome : Outcome) (noted : Bool) →
+saves_fit : (plain : Bool) (out file : List ℕ) (mends : List FileMend) (opened : OpenedAny) (outcome : Outcome) (noted : Option NotedStories) →
     AreNoted plain file noted → IsOpenedWith noted file opened →
     IsSaved out opened.lifted.document opened.losses
     (record { of_file = mends; of_document = opened.mends.items }) outcome → IsReadFitted plain out file mends outcome
-saves_fit plain out file mends opened outcome true are is saved = noted_fit plain out file mends opened outcome are is saved
-saves_fit plain out file mends opened outcome false are is saved = plain_fit plain out file mends opened outcome are is saved
+saves_fit plain out file mends opened outcome (Some stories) are is saved =
+    noted_fit plain stories out file mends opened outcome are is saved
+saves_fit plain out file mends opened outcome None are is saved =
+    plain_fit plain out file mends opened outcome are is saved
 
 -- what is opened is fitted as it is saved, and what is refused ends so
 pub opened_fits : (plain : Bool) (name out file read : List ℕ) (mends : List FileMend)

@@ -3,3 +3,4 @@ mod PutLemmas
 mod LawLemmas
 mod OneLemmas
 mod CompleteLemmas
+mod AcceptedLemmas

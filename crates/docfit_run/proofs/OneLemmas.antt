@@ -12,6 +12,7 @@ use Rattle.full_save.specs.Layout.{full_save_image}
 use Rattle.run_stages.specs.Outcomes.{Outcome, puts}
 use Rattle.run_stages.specs.Stages.{BreaksLengthRule, Reads}
 use Rattle.run_stages.proofs.Public.{reads_one}
+use Rattle.further_notes.specs.declared.stories.NotedStories.{NotedStories}
 use Rattle.doc_fit.specs.Rules.{fit_rules}
 use Rattle.doc_fit.specs.Noted.{IsDocumentWith, AreLinesWith}
 use Rattle.doc_mends.specs.declared.mends.Mend.{Mend}
@@ -50,16 +51,15 @@ fitted_one : (plain : Bool) (out file : List ℕ) (file_mends : List FileMend) (
     Hold (fit_rules file) → IsReadFitted plain out file file_mends a → IsReadFitted plain out file file_mends b → a ≡ b
 fitted_one plain out file file_mends a b bytes hold x y =
     let noted : x.noted ≡ y.noted =
-    are_noted_one plain x.noted y.noted file x.document y.document x.mends y.mends x.are_noted y.are_noted
-    x.document_is y.document_is in
+    are_noted_one plain x.noted y.noted file x.are_noted y.are_noted in
     let one : (x.document ≡ y.document) × (x.mends ≡ y.mends) =
     document_one y.noted file x.document y.document x.mends y.mends bytes hold.0
-    (subst (λ (n : Bool). IsDocumentWith n file x.document x.mends) noted x.document_is) y.document_is in
+    (subst (λ (n : Option NotedStories). IsDocumentWith n file x.document x.mends) noted x.document_is) y.document_is in
     let inventory : x.inventory ≡ y.inventory = inventory_one file x.inventory y.inventory x.has y.has in
     let text : x.has.text ≡ y.has.text = text_same file x.inventory y.inventory x.has y.has in
     saved_one out y.document x.lines y.lines (with_file file_mends y.mends) a b
     (λ first other. lines_with_one y.noted y.has.text y.inventory x.lines y.lines
-    (subst (λ (n : Bool). AreLinesWith n y.has.text y.inventory x.lines) noted
+    (subst (λ (n : Option NotedStories). AreLinesWith n y.has.text y.inventory x.lines) noted
     (subst (λ (t : FileText). AreLinesWith x.noted t y.inventory x.lines) text
     (subst (λ (i : Inventory). AreLinesWith x.noted x.has.text i x.lines) inventory (x.lines_are first))))
     (y.lines_are other))

@@ -1,6 +1,6 @@
--- The fit of a file: the full save of the document that it means, mended, with its endnotes as notes unless it is to be
--- plain, and a line for each of its features that is left out and for each mend. What is read in place of the file may be
--- a copy with mends of its bytes.
+-- The fit of a file: the full save of the document that it means, mended, with its endnotes and comments as notes unless
+-- it is to be plain, and a line for each of its features that is left out and for each mend. What is read in place of
+-- the file may be a copy with mends of its bytes.
 use Rattle.std.specs.Prelude.{◌≡◌, ◌⊎◌, ◌+◌, ◌<◌, ℕ, Bool, List, ◌++◌, length, Option, MatchResult}
 use Rattle.std.specs.List.{flat_map}
 use Rattle.doc_bits.specs.Rules.{Hold}
@@ -15,6 +15,7 @@ use Rattle.doc_mends.specs.Lines.{mend_line}
 use Rattle.file_mends.specs.declared.mends.FileMend.{FileMend}
 use Rattle.file_mends.specs.Lines.{file_mend_line}
 use Rattle.file_mends.specs.Mends.{bytes_read}
+use Rattle.further_notes.specs.declared.stories.NotedStories.{NotedStories}
 use Rattle.doc_fit.specs.declared.file_opening.OpenedFile.{OpenedFile}
 use Rattle.loss_report.specs.Features.{Inventory}
 use Rattle.doc_outer.specs.Held.{Files}
@@ -77,7 +78,7 @@ EndsOpened name out file found outcome =
 -- what is read in place of a file is fitted under a name, with these mends of its bytes
 pub record IsReadFitted (plain : Bool) (out read : List ℕ) (file_mends : List FileMend) (outcome : Outcome) : Type 0
   where
-    pub noted : Bool
+    pub noted : Option NotedStories
     pub are_noted : AreNoted plain read noted
     pub document : Document
     pub mends : List Mend

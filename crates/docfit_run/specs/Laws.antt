@@ -1,5 +1,5 @@
 -- What the definitions of a fit imply.
-use Rattle.std.specs.Prelude.{◌≡◌, ◌≢◌, ℕ, Bool, List, Some}
+use Rattle.std.specs.Prelude.{◌≡◌, ◌≢◌, ◌⊎◌, ℕ, Bool, List, Option, Some}
 use Rattle.doc_bits.specs.Rules.{Hold}
 use Rattle.doc_outer.specs.Held.{Files}
 use Rattle.plain_doc.specs.declared.document.Document.{Document}
@@ -8,15 +8,16 @@ use Rattle.doc_read.specs.Holds.{HoldsDocument, IsAccepted, all_rules}
 use Rattle.run_stages.specs.Outcomes.{Outcome, PutFile}
 use Rattle.doc_mends.specs.declared.mends.Mend.{Mend}
 use Rattle.file_mends.specs.declared.mends.FileMend.{FileMend}
+use Rattle.further_notes.specs.declared.stories.NotedStories.{NotedStories}
 use Rattle.doc_fit.specs.Noted.{AreNoted, IsDocumentWith}
 use Rattle.doc_fit.specs.ReadAs.{IsReadAs}
 use Rattle.docfit_run.specs.Fitted.{IsFitted}
 use Rattle.docfit_run.specs.Endings.{IsEnding}
 
--- the bytes are accepted, and hold the mended document of what is read in place of a file, with its endnotes as notes
--- where they can be, unless it is to be plain
+-- the bytes are accepted, and hold the mended document of what is read in place of a file, with its endnotes and
+-- comments as notes where they can be, unless it is to be plain
 pub record IsHeldRead (plain : Bool) (read bytes : List ℕ) : Type 0 where
-  pub noted : Bool
+  pub noted : Option NotedStories
   pub are_noted : AreNoted plain read noted
   pub document : Document
   pub mends : List Mend
@@ -40,6 +41,11 @@ FitsAreHeld = (plain : Bool) (out file : List ℕ) (outcome : Outcome) (put : Pu
 abbrev pub FitIsOne : Type 0
 FitIsOne = (words : List (List ℕ)) (files : Files) (one other : Outcome) → IsEnding words (Some files) one →
     IsEnding words (Some files) other → one.status ≢ 4 → other.status ≢ 4 → one ≡ other
+
+-- how a run ends over a file that is accepted: it is fitted, or its document needs too many sectors, or the shelf, the
+-- output or memory failed. It is not refused
+abbrev pub IsAcceptedStatus : ℕ → Type 0
+IsAcceptedStatus status = (status ≡ 0) ⊎ ((status ≡ 4) ⊎ ((status ≡ 5) ⊎ ((status ≡ 6) ⊎ (status ≡ 9))))
 
 -- where a file is accepted, its fit is the full save of the document that it holds
 abbrev pub FitsSaveAccepted : Type 0

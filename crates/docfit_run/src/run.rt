@@ -2,13 +2,14 @@
 ghost use Rattle.std.specs.Prelude.{◌≡◌, ◌≢◌, ◌↔◌, ℕ, Bool, List, map, None, Some, IfOk, OnErr};
 ghost use Rattle.std.specs.String.{string_bytes};
 ghost use Rattle.doc_outer.specs.Counts.{Rose};
-ghost use Rattle.doc_outer.specs.Held.{Files, StaysAt};
+ghost use Rattle.doc_outer.specs.Held.{Files, StaysAt, file_at};
 ghost use Rattle.doc_outer.specs.Written.{Appends, AppendsPrefix};
+ghost use Rattle.doc_read.specs.Holds.{IsAccepted};
 ghost use Rattle.run_stages.specs.Leaves.{HasCause, IsCaused, IsOnlyRead, IsToldOfPut, LeavesPut};
 ghost use Rattle.run_stages.specs.Outcomes.{Outcome, says};
 ghost use Rattle.docfit_run.specs.Requests.{fit, requested, PutsUnder};
 ghost use Rattle.docfit_run.specs.Endings.{IsEnding};
-ghost use Rattle.docfit_run.specs.Laws.{FitIsOne, FitsAreFixed, FitsAreHeld, FitsSaveAccepted};
+ghost use Rattle.docfit_run.specs.Laws.{FitIsOne, FitsAreFixed, FitsAreHeld, FitsSaveAccepted, IsAcceptedStatus};
 ghost use Rattle.docfit_run.specs.Completeness.{CanFit};
 
 use crate::fitting::fit_name;
@@ -26,7 +27,7 @@ pub const PROGRAM: &str = "docfit";
 
 /// How the program is called.
 pub const HELP: &str =
-    "usage: docfit [--plain] IN OUT\n\nReads IN, a document of Word 97 to 2007, and puts its document under OUT as a file that docbin accepts. Its endnotes\nbecome notes. Prints a line for each stream, storage, part and story that is left out, and for each mend. OUT may be\nIN.\n  --plain    endnotes are left out\n  --help     this text\n  --version  the version\n";
+    "usage: docfit [--plain] IN OUT\n\nReads IN, a document of Word 97 to 2007, and puts its document under OUT as a file that docbin accepts. Its endnotes\nand comments become notes. Prints a line for each stream, storage, part and story that is left out, and for each mend.\nOUT may be IN.\n  --plain    endnotes and comments are left out\n  --help     this text\n  --version  the version\n";
 
 pub const VERSION: &str = "docfit 1.0.0\n";
 
@@ -62,7 +63,7 @@ pub fn docfit_run<S: Shelf, K: Sink, E: Sink>(
     ensures usage { result ≢ 5 → result ≢ 6
         → (result ≡ 2 ↔ requested (map string_bytes words.now) ≡ None) }
 
-    // What is put is accepted, and holds the mended document of what the file means, with its endnotes as notes where
+    // What is put is accepted, and holds the mended document of what the file means, with its further stories as notes where
     // they can be, unless it is to be plain.
     ensures held { FitsAreHeld }
 
@@ -71,6 +72,12 @@ pub fn docfit_run<S: Shelf, K: Sink, E: Sink>(
 
     // Where a file is accepted, its fit is the full save of the document that it holds.
     ensures accepted { FitsSaveAccepted }
+
+    // Such a file is not refused: it is fitted, or needs too many sectors, unless something fails.
+    ensures unrefused { (plain : Bool) (file name : List ℕ) (files : Files) (bytes : List ℕ)
+        → requested (map string_bytes words.now) ≡ Some (fit plain file name)
+        → S.held shelf.old ≡ Some files → file_at files file ≡ Some bytes → IsAccepted bytes
+        → IsAcceptedStatus result }
 
     // The fit of a fit is the same bytes.
     ensures fixed { FitsAreFixed }

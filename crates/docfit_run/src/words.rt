@@ -10,7 +10,7 @@ pub enum Asked<'a> {
     Help,
     /// Which program this is.
     Version,
-    /// The document of a file, under a name: plain, or with its endnotes as notes.
+    /// The document of a file, under a name: plain, or with its endnotes and comments as notes.
     Fit {
         plain: bool,
         file: &'a str,

@@ -1,5 +1,5 @@
 -- A file is shown, or it has no document.
-use Rattle.std.proofs.Common.{◌≡◌, ◌≢◌, ◌⊎◌, ◌∙◌, ℕ, List, Bool, Option, None, true, false, refl, sym, subst, inl, inr}
+use Rattle.std.proofs.Common.{◌≡◌, ◌≢◌, ◌⊎◌, ◌∙◌, ℕ, List, Option, None, Some, true, false, refl, sym, subst, inl, inr}
 use Rattle.std.proofs.Common.{Result, Ok, Err, MatchResult, arith}
 use Rattle.doc_bits.specs.Number.{AreBytes}
 use Rattle.doc_bits.specs.Places.{Place, IsFirstPlace, Upto}
@@ -15,6 +15,7 @@ use Rattle.doc_read.specs.Holds.{HoldsDocument, IsAccepted, all_rules}
 use Rattle.doc_read.proofs.Public.{all_single, document_one}
 use Rattle.run_stages.specs.Lines.{rule_line}
 use Rattle.run_stages.specs.Outcomes.{Outcome, says}
+use Rattle.further_notes.specs.declared.stories.NotedStories.{NotedStories}
 use Rattle.doc_fit.specs.declared.opening.OpenedAny.{OpenedAny}
 use Rattle.doc_fit.specs.declared.file_opening.OpenedFile.{OpenedFile}
 use Rattle.doc_fit.specs.Rules.{fit_rules}
@@ -55,10 +56,10 @@ held_ends sink out after name file view document status accepted holds =
 
 -- ---- what is lifted
 
--- what is opened has its document, with endnotes as notes or without
-opened_document : (read : List ℕ) (opened : OpenedAny) (noted : Bool) → IsOpenedWith noted read opened →
+-- what is opened has its document, with the texts of stories as notes or without
+opened_document : (read : List ℕ) (opened : OpenedAny) (noted : Option NotedStories) → IsOpenedWith noted read opened →
     IsDocumentWith noted read opened.lifted.document opened.mends.items
-opened_document read opened true is =
+opened_document read opened (Some stories) is =
     let by = is.by in
     let lifts = by.lifts in
     record {
@@ -67,13 +68,13 @@ opened_document read opened true is =
         meant = is.before.document;
         means = lifts.means;
         mends = opened.mends.items;
-        noted_is = subst (λ (t : FileText). IsNotedText t is.before.document opened.lifted.document opened.mends.items)
+        noted_is = subst (λ (t : FileText). IsNotedText stories t is.before.document opened.lifted.document opened.mends.items)
             (text_meant read is.before lifts) by.noted_is;
         sound = by.sound;
       };
       mends_are = refl;
     }
-opened_document read opened false is =
+opened_document read opened None is =
     let lifts = is.lifts in
     record {
       mended = record {
@@ -197,10 +198,10 @@ rule_status read rule place status first is = inl (record { rule = rule; place =
 lifted_one : (read : List ℕ) (a b : Document) → AreBytes read → IsLiftedFrom read a → IsLiftedFrom read b → a ≡ b
 lifted_one read a b bytes x y =
     let noted : x.noted ≡ y.noted =
-    are_noted_one false x.noted y.noted read a b x.mends y.mends x.are_noted y.are_noted x.document_is y.document_is in
+    are_noted_one false x.noted y.noted read x.are_noted y.are_noted in
     let one : (a ≡ b) × (x.mends ≡ y.mends) =
     fit_document_one y.noted read a b x.mends y.mends bytes x.rules.0
-    (subst (λ (n : Bool). IsDocumentWith n read a x.mends) noted x.document_is) y.document_is in
+    (subst (λ (n : Option NotedStories). IsDocumentWith n read a x.mends) noted x.document_is) y.document_is in
     one.0
 
 pub viewed_one : ViewedDocumentIsOne

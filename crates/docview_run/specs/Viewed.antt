@@ -1,11 +1,12 @@
 -- The document of a file that is shown, and why there is none.
-use Rattle.std.specs.Prelude.{◌≡◌, ◌⊎◌, ℕ, Bool, true, false, List}
+use Rattle.std.specs.Prelude.{◌≡◌, ◌⊎◌, ℕ, Bool, true, false, List, Option}
 use Rattle.doc_bits.specs.Places.{Place, IsFirstPlace}
 use Rattle.doc_bits.specs.Rules.{Hold}
 use Rattle.plain_doc.specs.declared.document.Document.{Document}
 use Rattle.doc_read.specs.Holds.{HoldsDocument, IsAccepted, all_rules}
 use Rattle.doc_mends.specs.declared.mends.Mend.{Mend}
 use Rattle.file_mends.specs.declared.mends.FileMend.{FileMend}
+use Rattle.further_notes.specs.declared.stories.NotedStories.{NotedStories}
 use Rattle.doc_fit.specs.Rules.{fit_rules}
 use Rattle.doc_fit.specs.Noted.{AreNoted, IsDocumentWith}
 use Rattle.doc_fit.specs.ReadAs.{IsReadAs}
@@ -19,10 +20,11 @@ pub record IsHeldIn (file read : List ℕ) (document : Document) : Type 0 where
   pub same : read ≡ file
   pub holds : HoldsDocument file document
 
--- what is read breaks none of the rules that are left, and has this document, with its endnotes as notes where they can be
+-- what is read breaks none of the rules that are left, and has this document, with its endnotes and comments as notes
+-- where they can be
 pub record IsLiftedFrom (read : List ℕ) (document : Document) : Type 0 where
   pub rules : Hold (fit_rules read)
-  pub noted : Bool
+  pub noted : Option NotedStories
   pub are_noted : AreNoted false read noted
   pub mends : List Mend
   pub document_is : IsDocumentWith noted read document mends

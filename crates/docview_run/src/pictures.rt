@@ -74,7 +74,7 @@ pub(crate) fn show_pictured<S: Shelf, K: Sink, E: Sink>(
     }
 }
 
-/// The same of a file that was read.
+/// Shows a file that was read, and writes the files of its pictures.
 fn show_taken<S: Shelf, K: Sink, E: Sink>(
     alloc: Global,
     shelf: &mut S,
@@ -105,7 +105,7 @@ fn show_taken<S: Shelf, K: Sink, E: Sink>(
     }
 }
 
-/// The same of a file that breaks a rule.
+/// Shows a file that breaks a rule as docfit reads it, and writes the files of its pictures.
 fn show_refused<S: Shelf, K: Sink, E: Sink>(
     alloc: Global,
     shelf: &mut S,
@@ -300,7 +300,7 @@ fn write_pictures_of<S: Shelf>(
     }
 }
 
-/// The same in the bytes of the stream with pictures.
+/// Writes the files of the pictures whose bytes the stream with pictures has.
 fn write_pictures_in<S: Shelf>(
     alloc: Global,
     shelf: &mut S,

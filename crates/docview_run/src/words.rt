@@ -26,7 +26,7 @@ pub enum Asked<'a> {
         view: View,
         file: &'a str,
     },
-    /// The same behind the files of its pictures.
+    /// The page of the document of a file, once the files of its pictures are written.
     Pictured {
         view: View,
         album: Album<'a>,
@@ -290,7 +290,7 @@ fn asked_illustrated<'a>(
     asked_pictured(view, form, folder, false, file)
 }
 
-/// The same, where files that are there are written over.
+/// What is asked for by `--pictures FOLDER --force FILE`, which writes over files that are there.
 fn asked_forced<'a>(
     view: View,
     form: &str,

@@ -6,9 +6,10 @@ use Rattle.std.proofs.lemmas.List.{get_or-replicate, get_or_past, length-replica
 use Rattle.std.proofs.lemmas.Bool.{cases_lt}
 use Rattle.std.specs.Prelude.{replicate}
 use Rattle.doc_bits.specs.Number.{AreBytes, zeros}
+use Rattle.doc_bits.specs.Rules.{Hold}
 use Rattle.doc_bits.proofs.Public.{AreBytes-take, AreBytes-drop, joined_bytes}
 use Rattle.cfb_streams.specs.Contents.{Contents, Stream}
-use Rattle.cfb_streams.specs.Container.{HasContents}
+use Rattle.cfb_streams.specs.Container.{HasContents, outer_rules}
 use Rattle.cfb_streams.specs.Names.{wd_name}
 use Rattle.cfb_streams.proofs.Public.{named_place, contents_unique}
 use Rattle.cfb_in_place.specs.InPlace.{byte_place}
@@ -19,7 +20,14 @@ use Rattle.file_mends.specs.declared.part_places.PartPlace.{PartPlace}
 use Rattle.file_mends.specs.Parts.{IsFieldPart, IsPartOfRule, pairs_from}
 use Rattle.file_mends.specs.Places.{ArePairsAt, IsPlaceIn, IsPlaceAmong, IsPartPlace, zeroed}
 use Rattle.file_mends.specs.Sectors.{FillsSector, missing_bytes}
-use Rattle.file_mends.specs.Mends.{MendsRule}
+use Rattle.file_mends.specs.declared.sheet_changes.SheetChange.{SheetChange}
+use Rattle.file_mends.specs.Rewritten.{rewritten}
+use Rattle.file_mends.specs.SheetPlaces.{SheetPlace}
+use Rattle.file_mends.specs.SheetChanges.{ChangesSheet, IsSheetRule}
+use Rattle.file_mends.specs.Mends.{MendsPart, MendsSheet, MendsRule}
+use Rattle.file_mends.proofs.RewrittenLemmas.{rewritten_bytes}
+use Rattle.file_mends.proofs.SlotLemmas.{change_bytes, sheet_change_one}
+use Rattle.file_mends.proofs.SheetLemmas.{sheet_bytes, sheet_one}
 
 -- ---- the part
 
@@ -105,14 +113,63 @@ place_one file rule offset a b x y =
 
 -- ---- mends
 
-pub mend_one : (file : List ℕ) (rule offset : ℕ) (mend other : FileMend) (mended others : List ℕ) →
-    MendsRule file rule offset mend mended → MendsRule file rule offset other others →
+part_mend_one : (file : List ℕ) (rule offset : ℕ) (mend other : FileMend) (mended others : List ℕ) →
+    MendsPart file rule offset mend mended → MendsPart file rule offset other others →
     (mend ≡ other) × (mended ≡ others)
-mend_one file rule offset mend other mended others x y =
+part_mend_one file rule offset mend other mended others x y =
     let place : x.place ≡ y.place = place_one file rule offset x.place y.place x.is_place y.is_place in (
       x.mend_is ∙ (ap (λ (p : PartPlace). PartEmptied p.pair) place ∙ sym y.mend_is),
       x.mended_is ∙ (ap (λ (p : PartPlace). zeroed p.at p.len file) place ∙ sym y.mended_is),
     )
+
+sheet_mend_one : (file : List ℕ) (rule offset : ℕ) (mend other : FileMend) (mended others : List ℕ) →
+    MendsSheet file rule offset mend mended → MendsSheet file rule offset other others →
+    (mend ≡ other) × (mended ≡ others)
+sheet_mend_one file rule offset mend other mended others x y =
+    let sheet : x.sheet ≡ y.sheet = sheet_one file x.sheet y.sheet x.is_sheet y.is_sheet in
+    let change : x.change ≡ y.change =
+    sheet_change_one y.sheet rule offset x.change y.change
+    (subst (λ (s : SheetPlace). ChangesSheet s rule offset x.change) sheet x.changes) y.changes in (
+      x.mend_is ∙ (ap (λ (c : SheetChange). c.mend) change ∙ sym y.mend_is),
+      x.mended_is
+          ∙ (ap (λ (s : SheetPlace). rewritten s.sectors (x.change).at (x.change).bytes file) sheet
+          ∙ (ap (λ (c : SheetChange). rewritten (y.sheet).sectors c.at c.bytes file) change ∙ sym y.mended_is)),
+    )
+
+-- the rules on parts are none on slots
+part_no_sheet : (wd : List ℕ) (rule offset n : ℕ) → IsPartOfRule wd rule offset n → ¬ IsSheetRule rule
+part_no_sheet wd rule offset n (inl x) (inl y) = apart ⊥ rule 52 50 x.0 y (λ e. omega (arith, e))
+part_no_sheet wd rule offset n (inl x) (inr y) = apart ⊥ rule 52 51 x.0 y (λ e. omega (arith, e))
+part_no_sheet wd rule offset n (inr (inl x)) (inl y) = apart ⊥ rule 54 50 x.0 y (λ e. omega (arith, e))
+part_no_sheet wd rule offset n (inr (inl x)) (inr y) = apart ⊥ rule 54 51 x.0 y (λ e. omega (arith, e))
+part_no_sheet wd rule offset n (inr (inr (inl x))) (inl y) = apart ⊥ rule 56 50 x.0 y (λ e. omega (arith, e))
+part_no_sheet wd rule offset n (inr (inr (inl x))) (inr y) = apart ⊥ rule 56 51 x.0 y (λ e. omega (arith, e))
+part_no_sheet wd rule offset n (inr (inr (inr x))) (inl y) = apart ⊥ rule 57 50 x.0 y (λ e. omega (arith, e))
+part_no_sheet wd rule offset n (inr (inr (inr x))) (inr y) = apart ⊥ rule 57 51 x.0 y (λ e. omega (arith, e))
+
+pub place_no_sheet : (file : List ℕ) (rule offset : ℕ) (place : PartPlace) → IsPartPlace file rule offset place →
+    ¬ IsSheetRule rule
+place_no_sheet file rule offset place is =
+    let among = is.among in
+    let one = among.is in part_no_sheet (among.stream).bytes rule offset place.pair one.part
+
+pub mend_one : (file : List ℕ) (rule offset : ℕ) (mend other : FileMend) (mended others : List ℕ) →
+    MendsRule file rule offset mend mended → MendsRule file rule offset other others →
+    (mend ≡ other) × (mended ≡ others)
+mend_one file rule offset mend other mended others (inl x) (inl y) =
+    part_mend_one file rule offset mend other mended others x y
+mend_one file rule offset mend other mended others (inl x) (inr y) =
+    let changes = y.changes in absurd (place_no_sheet file rule offset x.place x.is_place changes.rule_is)
+mend_one file rule offset mend other mended others (inr x) (inl y) =
+    let changes = x.changes in absurd (place_no_sheet file rule offset y.place y.is_place changes.rule_is)
+mend_one file rule offset mend other mended others (inr x) (inr y) =
+    sheet_mend_one file rule offset mend other mended others x y
+
+-- what is mended breaks none of the rules 1 to 14 but for rule 10
+pub mend_hold : (file : List ℕ) (rule offset : ℕ) (mend : FileMend) (mended : List ℕ) →
+    MendsRule file rule offset mend mended → Hold (outer_rules file)
+mend_hold file rule offset mend mended (inl x) = let place = x.is_place in place.hold
+mend_hold file rule offset mend mended (inr x) = let sheet = x.is_sheet in sheet.hold
 
 pub fill_one : (file : List ℕ) (mends others : List FileMend) (a b : List ℕ) → FillsSector file mends a →
     FillsSector file others b → (mends ≡ others) × (a ≡ b)
@@ -140,8 +197,13 @@ zeroed_bytes at count bytes are =
 -- what is mended is a list of bytes
 pub mend_bytes : (file : List ℕ) (rule offset : ℕ) (mend : FileMend) (mended : List ℕ) → AreBytes file →
     MendsRule file rule offset mend mended → AreBytes mended
-mend_bytes file rule offset mend mended are is =
-    subst AreBytes (sym is.mended_is) (zeroed_bytes is.place.at is.place.len file are)
+mend_bytes file rule offset mend mended are (inl x) =
+    let place = x.place in subst AreBytes (sym x.mended_is) (zeroed_bytes place.at place.len file are)
+mend_bytes file rule offset mend mended are (inr x) =
+    let sheet = x.sheet in
+    let change = x.change in
+    let small = change_bytes sheet rule offset change (sheet_bytes file sheet are x.is_sheet) x.changes in
+    subst AreBytes (sym x.mended_is) (rewritten_bytes sheet.sectors change.at change.bytes file small are)
 
 pub fill_bytes : (file : List ℕ) (mends : List FileMend) (filled : List ℕ) → AreBytes file →
     FillsSector file mends filled → AreBytes filled

@@ -1,5 +1,5 @@
 -- Where the part of a broken rule is.
-use Rattle.std.proofs.Common.{◌≡◌, ◌∙◌, inl, inr, sym, subst, ℕ, List, Option, Some, None, MatchOption, arith}
+use Rattle.std.proofs.Common.{◌≡◌, ◌⊎◌, ◌∙◌, inl, inr, sym, subst, ℕ, List, Option, Some, None, MatchOption, arith}
 use Rattle.std.proofs.Common.{◌+◌, ◌-◌, ◌<◌, ◌≤◌, [], ◌∷◌, ◌++◌, slice_get, option_map, length, take, drop, refl, ap}
 use Rattle.std.proofs.Common.{length-take, length-drop}
 use borrow.Rule.Slice.PartMut.{put_mid}
@@ -22,8 +22,14 @@ use Rattle.file_mends.specs.Parts.{IsFieldPart, IsPartOfRule}
 use Rattle.file_mends.specs.Places.{ArePairsAt, IsPlaceIn, IsPlaceAmong, IsPartPlace, zeroed}
 use Rattle.file_mends.specs.declared.mends.FileMend.{FileMend}
 use Rattle.file_mends.specs.declared.mends.FileMend.TheVariants.{PartEmptied}
-use Rattle.file_mends.specs.Mends.{FileCopy, IsMendedBy, StaysUnmended, bytes_read}
-use Rattle.file_mends.proofs.OneLemmas.{part_one}
+use Rattle.file_mends.specs.SheetChanges.{IsSheetRule}
+use Rattle.file_mends.specs.Mends.{FileCopy, MendsPart, MendsSheet, IsMendedBy, StaysUnmended, bytes_read}
+use Rattle.file_mends.proofs.OneLemmas.{part_one, place_no_sheet}
+
+-- two facts that are not
+neither_mend : {P Q : Type 0} → ¬ P → ¬ Q → ¬ (P ⊎ Q)
+neither_mend no_one no_other (inl one) = no_one one
+neither_mend no_one no_other (inr other) = no_other other
 
 -- the part of rule 52 is a table of fields
 only_field : (wd : List ℕ) (rule offset n : ℕ) → rule ≡ 52 → IsPartOfRule wd rule offset n → IsFieldPart wd offset n
@@ -177,14 +183,27 @@ put_zeros_is at count bytes filled within is =
 
 -- ---- what is read
 
--- nothing is mended
-pub stays : (file read : List ℕ) (rule offset : ℕ) (old : FileCopy) → read ≡ bytes_read file old →
+-- it is no rule on a part, and none on slots
+pub stays : (file read : List ℕ) (rule offset : ℕ) (old : FileCopy) → read ≡ bytes_read file old → ¬ IsSheetRule rule →
     ((place : PartPlace) → ¬ IsPartPlace read rule offset place) → StaysUnmended file rule offset old old
-stays file read rule offset old is none = record {
-  same = refl;
-  none = λ mend mended here. none here.place
-      (subst (λ b. IsPartPlace b rule offset here.place) (sym is) here.is_place);
-}
+stays file read rule offset old is no_sheet none =
+    let no_part : (mend : FileMend) (mended : List ℕ) → ¬ MendsPart (bytes_read file old) rule offset mend mended =
+    λ mend mended here. none here.place
+    (subst (λ b. IsPartPlace b rule offset here.place) (sym is) here.is_place) in
+    let no_slot : (mend : FileMend) (mended : List ℕ) → ¬ MendsSheet (bytes_read file old) rule offset mend mended =
+    λ mend mended here. let changes = here.changes in no_sheet changes.rule_is in
+    record { same = refl; none = λ mend mended. neither_mend (no_part mend mended) (no_slot mend mended) }
+
+-- it is one on slots, and the sheet stays
+pub sheet_stays : (file read : List ℕ) (rule offset : ℕ) (old : FileCopy) → read ≡ bytes_read file old →
+    IsSheetRule rule → ((mend : FileMend) (mended : List ℕ) → ¬ MendsSheet read rule offset mend mended) →
+    StaysUnmended file rule offset old old
+sheet_stays file read rule offset old is rule_is none =
+    let no_part : (mend : FileMend) (mended : List ℕ) → ¬ MendsPart (bytes_read file old) rule offset mend mended =
+    λ mend mended here. place_no_sheet (bytes_read file old) rule offset here.place here.is_place rule_is in
+    let no_slot : (mend : FileMend) (mended : List ℕ) → ¬ MendsSheet (bytes_read file old) rule offset mend mended =
+    λ mend mended. subst (λ b. ¬ MendsSheet b rule offset mend mended) is (none mend mended) in
+    record { same = refl; none = λ mend mended. neither_mend (no_part mend mended) (no_slot mend mended) }
 
 -- the part is emptied
 pub emptied : (file read : List ℕ) (rule offset : ℕ) (old new : FileCopy) (place : PartPlace) (mend : FileMend) →
@@ -192,14 +211,22 @@ pub emptied : (file read : List ℕ) (rule offset : ℕ) (old new : FileCopy) (p
     bytes_read file new ≡ zeroed place.at place.len (bytes_read file old) → new.mends ≡ old.mends ++ mend ∷ [] →
     mend ≡ PartEmptied place.pair → IsMendedBy file rule offset old new mend
 emptied file read rule offset old new place mend is place_is bytes list mend_is = record {
-  mends = record {
+  mends = inl (record {
     place = place;
     is_place = subst (λ b. IsPartPlace b rule offset place) is place_is;
     mend_is = mend_is;
     mended_is = bytes;
-  };
+  });
   list = list;
 }
+
+-- the sheet is changed
+pub sheet_renewed : (file read copy : List ℕ) (rule offset : ℕ) (old new : FileCopy) (mend : FileMend) →
+    read ≡ bytes_read file old → MendsSheet read rule offset mend copy →
+    new ≡ record { copy = Some copy; mends = old.mends ++ mend ∷ [] } → IsMendedBy file rule offset old new mend
+sheet_renewed file read copy rule offset old new mend is mends new_is =
+    subst (λ (n : FileCopy). IsMendedBy file rule offset old n mend) (sym new_is)
+    (record { mends = inr (subst (λ b. MendsSheet b rule offset mend copy) is mends); list = refl })
 
 -- it is within the file
 pub place_within : (file : List ℕ) (rule offset : ℕ) (place : PartPlace) → IsPartPlace file rule offset place →

@@ -1,4 +1,4 @@
 -- What other crates may cite of these proofs.
 
 -- A broken rule is mended in one way, and what is read are bytes.
-pub use Rattle.file_mends.proofs.OneLemmas.{fill_bytes, fill_one, mend_bytes, mend_one}
+pub use Rattle.file_mends.proofs.OneLemmas.{fill_bytes, fill_one, mend_bytes, mend_hold, mend_one}

@@ -1,5 +1,9 @@
 pub mod Sectors
 pub mod Parts
 pub mod Places
+pub mod Rewritten
+pub mod SheetPlaces
+pub mod Slots
+pub mod SheetChanges
 pub mod Mends
 pub mod Lines

@@ -3,7 +3,7 @@ use Rattle.std.specs.Prelude.{ℕ, List, [], ◌∷◌, ◌++◌, codes}
 use Rattle.std.specs.Fmt.{decimal}
 use Rattle.fib_versions.specs.PartNames.{name_of_part}
 use Rattle.file_mends.specs.declared.mends.FileMend.{FileMend}
-use Rattle.file_mends.specs.declared.mends.FileMend.TheVariants.{LastSectorFilled, PartEmptied}
+use Rattle.file_mends.specs.declared.mends.FileMend.TheVariants.{LastSectorFilled, PartEmptied, StyleEmptied, StylesCut}
 
 -- how many bytes were missing
 abbrev pub sector_line : ℕ → List ℕ
@@ -13,6 +13,16 @@ sector_line missing = codes "sector " ++ (decimal missing ++ (codes ": filled" +
 abbrev pub part_line : ℕ → List ℕ
 part_line n = codes "part " ++ (decimal n ++ (32 ∷ [] ++ (name_of_part n ++ (codes ": emptied" ++ 10 ∷ []))))
 
+-- the style by its number
+abbrev pub style_line : ℕ → List ℕ
+style_line istd = codes "style " ++ (decimal istd ++ (codes ": emptied" ++ 10 ∷ []))
+
+-- the first style that is gone, and all behind it
+abbrev pub styles_line : ℕ → List ℕ
+styles_line istd = codes "styles " ++ (decimal istd ++ (codes ": cut" ++ 10 ∷ []))
+
 abbrev pub file_mend_line : FileMend → List ℕ
 file_mend_line (LastSectorFilled missing) = sector_line missing
 file_mend_line (PartEmptied n) = part_line n
+file_mend_line (StyleEmptied istd) = style_line istd
+file_mend_line (StylesCut istd) = styles_line istd

@@ -1,13 +1,18 @@
-//! A file with named mends: its last sector is filled, or a part that breaks its own rule is emptied. A mended file is a
-//! copy.
+//! A file with named mends: its last sector is filled, a part that breaks its own rule is emptied, or a slot of the style
+//! sheet that breaks its rule. A mended file is a copy.
 #![tactic(auto)]
 
 mod lines;
 mod mended_file;
+mod mended_sheets;
 mod mends;
 mod part_places;
 mod parts;
+mod rewriting;
 mod sectors;
+mod sheet_changes;
+mod sheet_places;
+mod slots;
 
 pub use lines::push_file_mends;
 pub use mended_file::{MendedFile, mend_rule};

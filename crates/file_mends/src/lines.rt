@@ -2,6 +2,7 @@
 ghost use Rattle.std.specs.Prelude.{◌≡◌, ◌++◌, IfOk, OnOk};
 ghost use Rattle.std.specs.List.{flat_map};
 ghost use Rattle.file_mends.specs.Lines.{file_mend_line, part_line as line_of_part, sector_line as line_of_sector};
+ghost use Rattle.file_mends.specs.Lines.{style_line as line_of_style, styles_line as line_of_styles};
 
 use crate::mends::FileMend;
 use doc_bits::{Memory, Text};
@@ -33,6 +34,8 @@ fn mend_line(alloc: Global, mend: &FileMend) -> Result<Text, Memory>
     match mend {
         FileMend::LastSectorFilled(missing) => sector_line(alloc, *missing),
         FileMend::PartEmptied(pair) => part_line(alloc, *pair),
+        FileMend::StyleEmptied(istd) => style_line(alloc, *istd),
+        FileMend::StylesCut(istd) => styles_line(alloc, *istd),
     }
 }
 
@@ -50,5 +53,21 @@ fn part_line(alloc: Global, pair: usize) -> Result<Text, Memory>
 {
     let name = part_name(pair);
     let line = format!(in alloc; "part {pair} {name}: emptied\n")?;
+    Ok(Text::from_string(line))
+}
+
+/// The line of a style that is emptied.
+fn style_line(alloc: Global, istd: usize) -> Result<Text, Memory>
+    ensures { IfOk result (λ line. line ≡ line_of_style istd) }
+{
+    let line = format!(in alloc; "style {istd}: emptied\n")?;
+    Ok(Text::from_string(line))
+}
+
+/// The line of the first style that is gone.
+fn styles_line(alloc: Global, istd: usize) -> Result<Text, Memory>
+    ensures { IfOk result (λ line. line ≡ line_of_styles istd) }
+{
+    let line = format!(in alloc; "styles {istd}: cut\n")?;
     Ok(Text::from_string(line))
 }

@@ -3,9 +3,12 @@ ghost use Rattle.std.specs.Prelude.{◌≡◌, ◌+◌, ◌≤◌, [], ◌∷◌
 ghost use Rattle.file_mends.specs.declared.mends.FileMend.TheVariants.{PartEmptied};
 ghost use Rattle.file_mends.specs.Mends.{IsMendedBy, StaysUnmended, bytes_read};
 ghost use Rattle.file_mends.specs.Places.{zeroed};
+ghost use Rattle.file_mends.specs.SheetChanges.{IsSheetRule};
 
+use crate::mended_sheets::mended_sheet;
 use crate::mends::FileMend;
 use crate::part_places::{PartPlace, part_place};
+use crate::sheet_changes::is_sheet_rule;
 use doc_bits::Memory;
 use std::alloc::Global;
 use std::marker::Model;
@@ -88,10 +91,21 @@ impl MendedFile {
         self.mends.push(mend)?;
         Ok(mend)
     }
+
+    /// Another copy, with the mend that this is.
+    fn renew(&mut self, copy: Vec<u8>, mend: FileMend) -> Result<(), Memory>
+        ensures { OnOk result
+            (self.new ≡ record { copy = Some copy.items; mends = self.old.mends ++ mend ∷ [] }) }
+    {
+        self.copy = Some(copy);
+        self.mends.push(mend)?;
+        Ok(())
+    }
 }
 
-/// Mends a broken rule of what is read in place of a file, where it is the own rule of a part that a document goes
-/// without: the part is emptied. After want of memory nothing is said of the copy.
+/// Mends a broken rule of what is read in place of a file: where it is the own rule of a part that a document goes
+/// without, the part is emptied, and where a slot of the style sheet breaks it, the slot is emptied, or the sheet ends
+/// before it. After want of memory nothing is said of the copy.
 pub fn mend_rule(
     alloc: Global,
     file: &[u8],
@@ -103,11 +117,52 @@ pub fn mend_rule(
         (StaysUnmended file.now rule offset mended.old mended.new)
         (IsMendedBy file.now rule offset mended.old mended.new)) }
 {
+    if is_sheet_rule(rule) {
+        return mend_sheet(alloc, file, mended, rule, offset);
+    }
+    mend_part(alloc, file, mended, rule, offset)
+}
+
+/// Mends a broken rule that is no rule on slots of the style sheet.
+fn mend_part(
+    alloc: Global,
+    file: &[u8],
+    mended: &mut MendedFile,
+    rule: u8,
+    offset: u32,
+) -> Result<Option<FileMend>, Memory>
+    requires { ¬ IsSheetRule rule }
+    ensures { IfOk result (λ mend. MatchOption mend
+        (StaysUnmended file.now rule offset mended.old mended.new)
+        (IsMendedBy file.now rule offset mended.old mended.new)) }
+{
     let found = part_place(alloc, mended.bytes(file), rule, offset)?;
     let Some(place) = found else {
         return Ok(None);
     };
     let mend = mended.empty(alloc, file, place)?;
+    Ok(Some(mend))
+}
+
+/// Mends a broken rule on slots of the style sheet.
+fn mend_sheet(
+    alloc: Global,
+    file: &[u8],
+    mended: &mut MendedFile,
+    rule: u8,
+    offset: u32,
+) -> Result<Option<FileMend>, Memory>
+    requires { IsSheetRule rule }
+    ensures { IfOk result (λ mend. MatchOption mend
+        (StaysUnmended file.now rule offset mended.old mended.new)
+        (IsMendedBy file.now rule offset mended.old mended.new)) }
+{
+    let found = mended_sheet(alloc, mended.bytes(file), rule, offset)?;
+    let Some(made) = found else {
+        return Ok(None);
+    };
+    let mend = made.mend;
+    mended.renew(made.copy, mend)?;
     Ok(Some(mend))
 }
 

@@ -7,4 +7,8 @@ pub enum FileMend {
     LastSectorFilled(usize),
     /// The part of this pair is empty, and with it those that are nothing without it.
     PartEmptied(usize),
+    /// The slot of this style is empty.
+    StyleEmptied(usize),
+    /// This style and all behind it are gone.
+    StylesCut(usize),
 }

@@ -40,7 +40,7 @@ pub(crate) fn part_place(
     }
 }
 
-/// The same by the streams of a file of so many bytes.
+/// The part of one of the streams of a file of so many bytes that breaks a rule at an offset.
 fn place_among(container: &Container, file_len: usize, rule: u8, offset: u32) -> Option<PartPlace>
     ensures { MatchOption result
         ((place : PartPlace) → ¬ IsPlaceAmong container.now file_len rule offset place)
@@ -54,7 +54,7 @@ fn place_among(container: &Container, file_len: usize, rule: u8, offset: u32) ->
     None
 }
 
-/// The same by one of the streams, where it is `WordDocument`.
+/// The part of a stream, where it is `WordDocument`, that breaks a rule at an offset.
 fn place_in(
     container: &Container,
     i: usize,

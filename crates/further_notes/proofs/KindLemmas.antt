@@ -20,7 +20,8 @@ use Rattle.doc_columns.specs.declared.attached.Attached.{Attached}
 use Rattle.doc_columns.specs.Attached.{attached_of}
 use Rattle.doc_columns.specs.Columns.{item_of, items_of}
 use Rattle.further_notes.specs.Sources.{note_kinds, kind_at, notes_before}
-use Rattle.further_notes.specs.Splices.{item_noted, attached_noted, with_kinds, text_noted}
+use Rattle.doc_mends.specs.declared.mends.NoteStory.{NoteStory}
+use Rattle.further_notes.specs.Splices.{item_noted, attached_noted, unit_with, with_kinds, text_noted}
 
 -- ---- the note of an item
 
@@ -93,41 +94,49 @@ All-with_kinds P change (kind ∷ kinds) (x ∷ xs) keeps all =
 
 -- ---- items
 
--- what is beside an item changes as the item does
-noted_item : (kind : Option NoteKind) (item : Item) →
-    item_of item.unit item.chp (attached_noted kind (attached_of item)) ≡ item_noted kind item
-noted_item None item = refl
-noted_item (Some kind) item = refl
+-- what is beside an item changes as the item does, and so does its unit
+noted_item : (story : NoteStory) (kind : Option NoteKind) (item : Item) →
+    item_of (unit_with story kind item.unit) item.chp (attached_noted kind (attached_of item))
+    ≡ item_noted story kind item
+noted_item story None item = refl
+noted_item story (Some kind) item = refl
 
-items_by : List Item → (attachments : List Attached) → List Item
-items_by text attachments =
-    items_of (map (λ (item : Item). item.unit) text) (map (λ (item : Item). item.chp) text) attachments
+-- the items of a text with these units, and these things beside them
+items_by : List Item → (units : List ℕ) → (attachments : List Attached) → List Item
+items_by text units attachments = items_of units (map (λ (item : Item). item.chp) text) attachments
 
-plain_items : (text : List Item) → items_by text (map attached_of text) ≡ text
-unfolding items_by
+units_in : List Item → List ℕ
+units_in text = map (λ (item : Item). item.unit) text
+
+plain_items : (text : List Item) → items_by text (units_in text) (map attached_of text) ≡ text
+unfolding items_by units_in
 plain_items [] = refl
 plain_items (item ∷ text) = ap (λ (t : List Item). item ∷ t) (plain_items text)
 
-noted_items : (kinds : List (Option NoteKind)) (text : List Item) →
-    items_by text (with_kinds attached_noted kinds (map attached_of text)) ≡ text_noted kinds text
-unfolding items_by with_kinds
-noted_items kinds [] = refl
-noted_items [] (item ∷ text) = ap (λ (t : List Item). item ∷ t) (plain_items text)
-noted_items (kind ∷ kinds) (item ∷ text) =
+noted_items : (story : NoteStory) (kinds : List (Option NoteKind)) (text : List Item) →
+    items_by text (with_kinds (unit_with story) kinds (units_in text))
+    (with_kinds attached_noted kinds (map attached_of text))
+    ≡ text_noted story kinds text
+unfolding items_by units_in with_kinds
+noted_items story kinds [] = refl
+noted_items story [] (item ∷ text) = ap (λ (t : List Item). item ∷ t) (plain_items text)
+noted_items story (kind ∷ kinds) (item ∷ text) =
     ap
-    (λ (x : Item). x ∷ items_by text (with_kinds attached_noted kinds (map attached_of text)))
-    (noted_item kind item)
-    ∙ ap (λ (t : List Item). item_noted kind item ∷ t) (noted_items kinds text)
+    (λ (x : Item). x ∷ items_by text (with_kinds (unit_with story) kinds (units_in text))
+    (with_kinds attached_noted kinds (map attached_of text)))
+    (noted_item story kind item)
+    ∙ ap (λ (t : List Item). item_noted story kind item ∷ t) (noted_items story kinds text)
 
-pub text_of_columns : (kinds : List (Option NoteKind)) (text : List Item) (units : List ℕ) (chps : List Properties)
-    (attachments : List Attached) → units ≡ map (λ item. item.unit) text → chps ≡ map (λ item. item.chp) text →
-    attachments ≡ with_kinds attached_noted kinds (map attached_of text) →
-    items_of units chps attachments ≡ text_noted kinds text
-unfolding items_by
-text_of_columns kinds text units chps attachments a b c =
+pub text_of_columns : (story : NoteStory) (kinds : List (Option NoteKind)) (text : List Item) (units : List ℕ)
+    (chps : List Properties) (attachments : List Attached) →
+    units ≡ with_kinds (unit_with story) kinds (map (λ item. item.unit) text) →
+    chps ≡ map (λ item. item.chp) text → attachments ≡ with_kinds attached_noted kinds (map attached_of text) →
+    items_of units chps attachments ≡ text_noted story kinds text
+unfolding items_by units_in
+text_of_columns story kinds text units chps attachments a b c =
     ap (λ (l : List ℕ). items_of l chps attachments) a
-    ∙ (ap (λ (l : List Properties). items_of (map (λ (item : Item). item.unit) text) l attachments) b
-    ∙ (ap (items_by text) c ∙ noted_items kinds text))
+    ∙ (ap (λ (l : List Properties). items_of (with_kinds (unit_with story) kinds (units_in text)) l attachments) b
+    ∙ (ap (items_by text (with_kinds (unit_with story) kinds (units_in text))) c ∙ noted_items story kinds text))
 
 -- the properties are copied whole
 pub chps_are : (text : List Item) (runs : List (Run Properties)) (copy : List Properties) (len : ℕ) →
@@ -141,12 +150,13 @@ chps_are text runs copy len are is copied =
     ∙ (take_all len (expanded runs) (omega (arith, long, is)) ∙ are))
 
 -- their maps stay
-kept_maps : (kind : Option NoteKind) (item : Item) → HasPropertyMaps item → HasPropertyMaps (item_noted kind item)
-kept_maps None item maps = maps
-kept_maps (Some kind) item maps = record { chp = maps.chp; pap = maps.pap; sect = maps.sect }
+kept_maps : (story : NoteStory) (kind : Option NoteKind) (item : Item) → HasPropertyMaps item →
+    HasPropertyMaps (item_noted story kind item)
+kept_maps story None item maps = maps
+kept_maps story (Some kind) item maps = record { chp = maps.chp; pap = maps.pap; sect = maps.sect }
 
-pub noted_maps : (kinds : List (Option NoteKind)) (text : List Item) → IsFormedText text →
-    All HasPropertyMaps (text_noted kinds text)
-noted_maps kinds text formed =
-    All-with_kinds HasPropertyMaps item_noted kinds text kept_maps
+pub noted_maps : (story : NoteStory) (kinds : List (Option NoteKind)) (text : List Item) → IsFormedText text →
+    All HasPropertyMaps (text_noted story kinds text)
+noted_maps story kinds text formed =
+    All-with_kinds HasPropertyMaps (item_noted story) kinds text (kept_maps story)
     (All-weaker IsFormedItem HasPropertyMaps (λ item h. h.maps) text formed.each)

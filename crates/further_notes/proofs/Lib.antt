@@ -1,5 +1,7 @@
 pub mod Public
 mod MeantLemmas
 mod KindLemmas
+mod FileLemmas
+mod FormLemmas
 mod SourceLemmas
 mod SpliceLemmas

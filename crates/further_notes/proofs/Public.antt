@@ -2,5 +2,5 @@
 
 -- A file that breaks none of the rules 1 to 57 that are left means one document.
 pub use Rattle.further_notes.proofs.MeantLemmas.{front_fields, meant_one}
--- Endnotes become notes in one way, and bookmarks stay formed.
-pub use Rattle.further_notes.proofs.SpliceLemmas.{splice_formed, splice_is_one}
+-- Endnotes and comments become notes in one way, and bookmarks stay formed.
+pub use Rattle.further_notes.proofs.SpliceLemmas.{has_some, splice_formed, splice_is_one}

@@ -1,60 +1,118 @@
--- Endnotes become notes in one way, and bookmarks stay formed.
-use Rattle.std.proofs.Common.{◌≡◌, ◌∙◌, ap, sym, subst, ℕ, List, length, Option, Some, None}
+-- Endnotes and comments become notes in one way, and bookmarks stay formed.
+use Rattle.std.proofs.Common.{◌≡◌, ◌∙◌, ◌≤◌, true, ap, sym, subst, ℕ, List, length, Option, Some, None}
 use Rattle.std.specs.Prelude.{MatchOption}
 use Rattle.doc_bits.specs.Number.{AreBytes}
+use Rattle.fib_versions.specs.Versions.{further_count}
 use Rattle.plain_doc.specs.declared.document.Document.{Document}
 use Rattle.plain_doc.specs.Marks.{HasFormedBookmarks}
 use Rattle.doc_parts.specs.Bookmarks.{AreFormedBookmarks}
 use Rattle.doc_mends.specs.declared.mends.MadeNote.{MadeNote}
+use Rattle.doc_mends.specs.declared.mends.NoteStory.{NoteStory}
+use Rattle.doc_mends.specs.declared.mends.NoteStory.TheVariants as note_story
 use Rattle.doc_lift.specs.declared.lifting.Lifted.{Lifted}
 use Rattle.doc_lift.specs.LiftedFiles.{IsLifted}
+use Rattle.further_notes.specs.declared.splicing.NotedDocument.{NotedDocument}
 use Rattle.further_notes.specs.declared.splicing.Spliced.{Spliced}
-use Rattle.further_notes.specs.EndnoteFiles.{HasEndnoteFile, endnote_file}
+use Rattle.further_notes.specs.declared.stories.NotedStories.{NotedStories}
+use Rattle.further_notes.specs.declared.stories.NotedStories.TheVariants.{Both, Endnotes, Comments}
+use Rattle.further_notes.specs.declared.forms.NoteForm.{NoteForm}
+use Rattle.further_notes.specs.Forms.{form_of}
+use Rattle.further_notes.specs.NoteFiles.{HasNoteFile, note_file, story_of}
 use Rattle.further_notes.specs.Sources.{note_kinds, made_notes}
-use Rattle.further_notes.specs.Splices.{item_noted, with_notes, sources_of, CanSplice, IsSplice, IsSplicedBy}
-use Rattle.further_notes.specs.Splices.{IsSpliced, HasNoSpliceBy, HasNoSplice, SpliceIsOne}
+use Rattle.further_notes.specs.Splices.{item_noted, with_notes, document_with, state_of, first_state, NoteState}
+use Rattle.further_notes.specs.Splices.{CanSplice, IsSplice, IsSplicedBy, IsStep, HasNoSpliceBy, HasNoStep}
+use Rattle.further_notes.specs.Noted.{AreSteps, AreTwoSteps, IsSplicedFrom, IsSpliced, HasNoSplice, SpliceIsOne}
+use Rattle.further_notes.specs.Noted.{has_story}
 use Rattle.further_notes.proofs.MeantLemmas.{meant_one}
 use Rattle.further_notes.proofs.KindLemmas.{length-with_kinds}
 
-same_splice : (document other again one two : Document) (made others : List MadeNote) → other ≡ again →
-    IsSplice document other one made → IsSplice document again two others → (one ≡ two) × (made ≡ others)
-same_splice document other again one two made others same a b = (
-  a.document_is ∙ (ap (with_notes document) same ∙ sym b.document_is),
-  a.made_are ∙ (ap (λ (d : Document). made_notes (sources_of document d)) same ∙ sym b.made_are),
-)
+-- ---- one way
 
-pub spliced_one : (file : List ℕ) (document one two : Document) (made others : List MadeNote) →
-    IsSplicedBy file document one made → IsSplicedBy file document two others → (one ≡ two) × (made ≡ others)
-spliced_one file document one two made others a b =
-    same_splice document a.other b.other one two made others
-    (meant_one file a.other b.other a.bytes a.rules a.means b.means) a.splice b.splice
+spliced_one : (file : List ℕ) (form : NoteForm) (old one two : NoteState) → IsSplicedBy file form old one →
+    IsSplicedBy file form old two → one ≡ two
+spliced_one file form old one two a b =
+    a.splice.is
+    ∙ (ap (with_notes form old) (meant_one file a.other b.other a.bytes a.rules a.means b.means)
+    ∙ sym b.splice.is)
+
+step_one : (story : NoteStory) (wd table : List ℕ) (old one two : NoteState) → IsStep story wd table old one →
+    IsStep story wd table old two → one ≡ two
+step_one story wd table old one two a b =
+    spliced_one (note_file story wd table) (form_of story wd table) old one two a.by b.by
+
+steps_one : (stories : NotedStories) (wd table : List ℕ) (old one two : NoteState) →
+    AreSteps stories wd table old one → AreSteps stories wd table old two → one ≡ two
+steps_one Both wd table old one two a b =
+    let middle : a.middle ≡ b.middle = step_one note_story.Endnotes wd table old a.middle b.middle a.first b.first in
+    step_one note_story.Comments wd table b.middle one two
+    (subst (λ (m : NoteState). IsStep note_story.Comments wd table m one) middle a.second) b.second
+steps_one Endnotes wd table old one two a b = step_one note_story.Endnotes wd table old one two a b
+steps_one Comments wd table old one two a b = step_one note_story.Comments wd table old one two a b
 
 pub splice_is_one : SpliceIsOne
-splice_is_one wd table document one two made others a b =
-    spliced_one (endnote_file wd table) document one two made others a.by b.by
+splice_is_one stories wd table document one two made others a b =
+    let last : a.last ≡ b.last = steps_one stories wd table (first_state document) a.last b.last a.steps b.steps in (
+      a.document_is ∙ (ap (λ (s : NoteState). s.document) last ∙ sym b.document_is),
+      a.made_are ∙ (ap (λ (s : NoteState). made_notes s.origins) last ∙ sym b.made_are),
+    )
+
+-- ---- bookmarks
 
 -- the main text is as long as it was
-pub splice_formed : (wd table : List ℕ) (document spliced : Document) (made : List MadeNote) →
-    IsSpliced wd table document spliced made → HasFormedBookmarks document → HasFormedBookmarks spliced
-splice_formed wd table document spliced made is formed =
+step_formed : (story : NoteStory) (wd table : List ℕ) (old new : NoteState) → IsStep story wd table old new →
+    HasFormedBookmarks old.document → HasFormedBookmarks new.document
+step_formed story wd table old new is formed =
+    let document = old.document in
     let other = is.by.other in
-    let same : length (with_notes document other).main ≡ length document.main =
-    length-with_kinds item_noted (note_kinds other.main) document.main in
-    subst HasFormedBookmarks (sym is.by.splice.document_is)
+    let form = form_of story wd table in
+    let same : length (document_with form document other).main ≡ length document.main =
+    length-with_kinds (item_noted story) (note_kinds other.main) document.main in
+    subst (λ (s : NoteState). HasFormedBookmarks s.document) (sym is.by.splice.is)
     (subst (λ (n : ℕ). AreFormedBookmarks n document.bookmarks) (sym same) formed)
+
+steps_formed : (stories : NotedStories) (wd table : List ℕ) (old new : NoteState) →
+    AreSteps stories wd table old new → HasFormedBookmarks old.document → HasFormedBookmarks new.document
+steps_formed Both wd table old new are formed =
+    step_formed note_story.Comments wd table are.middle new are.second
+    (step_formed note_story.Endnotes wd table old are.middle are.first formed)
+steps_formed Endnotes wd table old new is formed = step_formed note_story.Endnotes wd table old new is formed
+steps_formed Comments wd table old new is formed = step_formed note_story.Comments wd table old new is formed
+
+pub splice_formed : (stories : NotedStories) (wd table : List ℕ) (document spliced : Document)
+    (made : List MadeNote) → IsSpliced stories wd table document spliced made → HasFormedBookmarks document →
+    HasFormedBookmarks spliced
+splice_formed stories wd table document spliced made is formed =
+    subst HasFormedBookmarks (sym is.document_is)
+    (steps_formed stories wd table (first_state document) is.last is.steps formed)
+
+-- ---- the stories have something
+
+steps_some : (stories : NotedStories) (wd table : List ℕ) (old new : NoteState) → AreSteps stories wd table old new →
+    (story : NoteStory) → has_story stories story ≡ true → 1 ≤ further_count wd (story_of story)
+steps_some Both wd table old new are note_story.Endnotes among = are.first.has.some
+steps_some Both wd table old new are note_story.Comments among = are.second.has.some
+steps_some Endnotes wd table old new is note_story.Endnotes among = is.has.some
+steps_some Endnotes wd table old new is note_story.Comments among = absurd (cc among)
+steps_some Comments wd table old new is note_story.Endnotes among = absurd (cc among)
+steps_some Comments wd table old new is note_story.Comments among = is.has.some
+
+pub has_some : (stories : NotedStories) (wd table : List ℕ) (document spliced : Document) (made : List MadeNote) →
+    IsSpliced stories wd table document spliced made → (story : NoteStory) → has_story stories story ≡ true →
+    1 ≤ further_count wd (story_of story)
+has_some stories wd table document spliced made is story among =
+    steps_some stories wd table (first_state document) is.last is.steps story among
 
 -- ---- where they can be
 
-pub splice_found : (file : List ℕ) (document : Document) (lifted : Lifted) (found : Option Spliced) → AreBytes file →
-    IsLifted file lifted →
-    MatchOption found (¬ CanSplice document lifted.document)
-    (λ spliced. IsSplice document lifted.document spliced.document spliced.made.items) →
-    MatchOption found (HasNoSpliceBy file document)
-    (λ spliced. IsSplicedBy file document spliced.document spliced.made.items)
-splice_found file document lifted None bytes is never = λ spliced made by.
-    never (subst (λ (d : Document). CanSplice document d)
+pub splice_found : (file : List ℕ) (form : NoteForm) (old : NoteState) (lifted : Lifted)
+    (found : Option NotedDocument) → AreBytes file → IsLifted file lifted →
+    MatchOption found (¬ CanSplice old.document lifted.document)
+    (λ new. IsSplice form old lifted.document (state_of new)) →
+    MatchOption found (HasNoSpliceBy file form old) (λ new. IsSplicedBy file form old (state_of new))
+splice_found file form old lifted None bytes is never = λ new by.
+    never (subst (λ (d : Document). CanSplice old.document d)
     (meant_one file by.other lifted.document bytes is.rules by.means is.means) by.splice.can)
-splice_found file document lifted (Some spliced) bytes is splice = record {
+splice_found file form old lifted (Some new) bytes is splice = record {
   bytes = bytes;
   rules = is.rules;
   other = lifted.document;
@@ -62,15 +120,45 @@ splice_found file document lifted (Some spliced) bytes is splice = record {
   splice = splice;
 }
 
-pub spliced_with : (wd table file : List ℕ) (document : Document) (found : Option Spliced) →
-    HasEndnoteFile wd table → file ≡ endnote_file wd table →
-    MatchOption found (HasNoSpliceBy file document)
-    (λ spliced. IsSplicedBy file document spliced.document spliced.made.items) →
-    MatchOption found (HasNoSplice wd table document)
-    (λ spliced. IsSpliced wd table document spliced.document spliced.made.items)
-spliced_with wd table file document None has is never = λ spliced made by.
-    never spliced made (subst (λ (f : List ℕ). IsSplicedBy f document spliced made) (sym is) by.by)
-spliced_with wd table file document (Some spliced) has is by = record {
+pub step_found : (story : NoteStory) (wd table file : List ℕ) (form : NoteForm) (old : NoteState)
+    (found : Option NotedDocument) → HasNoteFile story wd table → file ≡ note_file story wd table →
+    form ≡ form_of story wd table →
+    MatchOption found (HasNoSpliceBy file form old) (λ new. IsSplicedBy file form old (state_of new)) →
+    MatchOption found (HasNoStep story wd table old) (λ new. IsStep story wd table old (state_of new))
+step_found story wd table file form old None has is form_is never = λ new step.
+    never new (subst (λ (f : List ℕ). IsSplicedBy f form old new) (sym is)
+    (subst (λ (f : NoteForm). IsSplicedBy (note_file story wd table) f old new) (sym form_is) step.by))
+step_found story wd table file form old (Some new) has is form_is by = record {
   has = has;
-  by = subst (λ (f : List ℕ). IsSplicedBy f document spliced.document spliced.made.items) is by;
+  by = subst (λ (f : NoteForm). IsSplicedBy (note_file story wd table) f old (state_of new)) form_is
+      (subst (λ (f : List ℕ). IsSplicedBy f form old (state_of new)) is by);
+}
+
+-- a second story, behind the first one
+pub second_found : (wd table : List ℕ) (old middle : NoteState) (found : Option NotedDocument) →
+    IsStep note_story.Endnotes wd table old middle →
+    MatchOption found (HasNoStep note_story.Comments wd table middle)
+    (λ new. IsStep note_story.Comments wd table middle (state_of new)) →
+    MatchOption found ((new : NoteState) → ¬ AreTwoSteps wd table old new)
+    (λ new. AreTwoSteps wd table old (state_of new))
+second_found wd table old middle None first never = λ new two.
+    never new (subst (λ (m : NoteState). IsStep note_story.Comments wd table m new)
+    (step_one note_story.Endnotes wd table old two.middle middle two.first first) two.second)
+second_found wd table old middle (Some new) first second =
+    record { middle = middle; first = first; second = second }
+
+-- all of them, or not
+pub all_found : (stories : NotedStories) (wd table : List ℕ) (document : Document) (old : NoteState)
+    (found : Option Spliced) → old ≡ first_state document →
+    MatchOption found ((new : NoteState) → ¬ AreSteps stories wd table old new)
+    (λ spliced. IsSplicedFrom stories wd table old spliced) →
+    MatchOption found (HasNoSplice stories wd table document)
+    (λ spliced. IsSpliced stories wd table document spliced.document spliced.made.items)
+all_found stories wd table document old None is never = λ spliced made by.
+    never by.last (subst (λ (s : NoteState). AreSteps stories wd table s by.last) (sym is) by.steps)
+all_found stories wd table document old (Some spliced) is from = record {
+  last = from.last;
+  steps = subst (λ (s : NoteState). AreSteps stories wd table s from.last) is from.steps;
+  document_is = from.document_is;
+  made_are = from.made_are;
 }

@@ -1,3 +1,5 @@
-pub mod EndnoteFiles
+pub mod NoteFiles
+pub mod Forms
 pub mod Sources
 pub mod Splices
+pub mod Noted

@@ -1,4 +1,4 @@
--- A document with its endnotes as notes: the items that refer to endnotes refer to notes, and the texts of the endnotes
+-- A document with its endnotes or its comments as notes: the items that refer to them refer to notes, and their texts
 -- are among the notes, in the order of the references. No item is added to the main text.
 use Rattle.std.specs.Prelude.{◌≡◌, ℕ, ◌<◌, ◌≤◌, ◌&&◌, false, List, [], ◌∷◌, length, Option, Some, None, is_some}
 use Rattle.doc_bits.specs.Number.{AreBytes}
@@ -7,22 +7,33 @@ use Rattle.plain_doc.specs.declared.item.Item.{Item}
 use Rattle.plain_doc.specs.declared.item.NoteKind.{NoteKind}
 use Rattle.plain_doc.specs.declared.document.Document.{Document}
 use Rattle.doc_columns.specs.declared.attached.Attached.{Attached}
-use Rattle.doc_mends.specs.declared.mends.MadeNote.{MadeNote}
+use Rattle.doc_mends.specs.declared.mends.NoteStory.{NoteStory}
 use Rattle.doc_meaning.specs.Meaning.{MeansDocument}
 use Rattle.doc_lift.specs.LiftedFiles.{lifted_rules}
+use Rattle.further_notes.specs.declared.origins.NoteOrigin.{NoteOrigin}
 use Rattle.further_notes.specs.declared.sources.NoteSource.{NoteSource}
-use Rattle.further_notes.specs.EndnoteFiles.{HasEndnoteFile, endnote_file}
-use Rattle.further_notes.specs.Sources.{note_kinds, kind_at, notes_before, note_sources, note_texts, made_notes}
+use Rattle.further_notes.specs.declared.splicing.NotedDocument.{NotedDocument}
+use Rattle.further_notes.specs.declared.forms.NoteForm.{NoteForm}
+use Rattle.further_notes.specs.Forms.{form_of, unit_noted}
+use Rattle.further_notes.specs.NoteFiles.{HasNoteFile, note_file}
+use Rattle.further_notes.specs.Sources.{note_kinds, kind_at, notes_before, note_sources, note_texts, note_origins}
 
--- an item that refers to a note of this kind, where there is one
-abbrev pub item_noted : Option NoteKind → Item → Item
-item_noted None item = item
-item_noted (Some kind) item = record item { note = Some kind }
+-- ---- the main text
 
--- the same of what is beside a unit
+-- a unit of which the item refers to a note of this kind, where there is one
+abbrev pub unit_with : NoteStory → Option NoteKind → ℕ → ℕ
+unit_with story None unit = unit
+unit_with story (Some kind) unit = unit_noted story unit
+
+-- what is beside it
 abbrev pub attached_noted : Option NoteKind → Attached → Attached
 attached_noted None attached = attached
 attached_noted (Some kind) attached = record attached { note = Some kind }
+
+-- the item
+abbrev pub item_noted : NoteStory → Option NoteKind → Item → Item
+item_noted story None item = item
+item_noted story (Some kind) item = record item { unit = unit_noted story item.unit; note = Some kind }
 
 -- entries changed by the kinds at their places
 unfoldable pub with_kinds : {A : Type 0} → (Option NoteKind → A → A) → List (Option NoteKind) → List A → List A
@@ -30,60 +41,69 @@ with_kinds change kinds [] = []
 with_kinds change [] (entry ∷ entries) = entry ∷ entries
 with_kinds change (kind ∷ kinds) (entry ∷ entries) = change kind entry ∷ with_kinds change kinds entries
 
-abbrev pub text_noted : List (Option NoteKind) → List Item → List Item
-text_noted kinds text = with_kinds item_noted kinds text
+abbrev pub text_noted : NoteStory → List (Option NoteKind) → List Item → List Item
+text_noted story kinds text = with_kinds (item_noted story) kinds text
 
--- each reference to an endnote is in the main text, at an item that refers to no footnote, and there is one
-pub record HasReferences (footnotes endnotes : List (Option NoteKind)) (count : ℕ) : Type 0 where
+-- ---- one story
+
+-- each reference of the other document is in the main text, at an item that refers to no note, and there is one
+pub record HasReferences (own others : List (Option NoteKind)) (count : ℕ) : Type 0 where
   pub some : 1 ≤ count
-  pub within : notes_before endnotes (length footnotes) ≡ count
-  pub apart : (at : ℕ) → at < length footnotes → (is_some (kind_at footnotes at) && is_some (kind_at endnotes at)) ≡
-      false
+  pub within : notes_before others (length own) ≡ count
+  pub apart : (at : ℕ) → at < length own → (is_some (kind_at own at) && is_some (kind_at others at)) ≡ false
 
 abbrev pub CanSplice : Document → Document → Type 0
 CanSplice document other = HasReferences (note_kinds document.main) (note_kinds other.main) (length other.notes)
+
+-- a document, and which of its notes are of further stories
+pub record NoteState : Type 0 where
+  pub document : Document
+  pub origins : List (Option NoteOrigin)
+
+abbrev pub state_of : NotedDocument → NoteState
+state_of noted = record { document = noted.document; origins = noted.origins.items }
+
+-- none is
+abbrev pub first_state : Document → NoteState
+first_state document = record { document = document; origins = [] }
 
 -- where the notes come from
 abbrev pub sources_of : Document → Document → List NoteSource
 sources_of document other = note_sources (note_kinds document.main) (note_kinds other.main)
 
 -- the document with the notes of another one, at the items of the same places
-abbrev pub with_notes : Document → Document → Document
-with_notes document other = record document {
-  main = text_noted (note_kinds other.main) document.main;
-  notes = note_texts document.notes other.notes (sources_of document other);
+abbrev pub document_with : NoteForm → Document → Document → Document
+document_with form document other = record document {
+  main = text_noted form.story (note_kinds other.main) document.main;
+  notes = note_texts form document.notes other.notes (sources_of document other);
 }
 
--- and which notes of the other one they are
-pub record IsSplice (document other spliced : Document) (made : List MadeNote) : Type 0 where
-  pub can : CanSplice document other
-  pub document_is : spliced ≡ with_notes document other
-  pub made_are : made ≡ made_notes (sources_of document other)
+abbrev pub with_notes : NoteForm → NoteState → Document → NoteState
+with_notes form old other = record {
+  document = document_with form old.document other;
+  origins = note_origins form.story old.origins (sources_of old.document other);
+}
+
+pub record IsSplice (form : NoteForm) (old : NoteState) (other : Document) (new : NoteState) : Type 0 where
+  pub can : CanSplice old.document other
+  pub is : new ≡ with_notes form old other
 
 -- so of the notes of a file that breaks none of the rules 1 to 57 that are left
-pub record IsSplicedBy (file : List ℕ) (document spliced : Document) (made : List MadeNote) : Type 0 where
+pub record IsSplicedBy (file : List ℕ) (form : NoteForm) (old new : NoteState) : Type 0 where
   pub bytes : AreBytes file
   pub rules : Hold (lifted_rules file)
   pub other : Document
   pub means : MeansDocument file other
-  pub splice : IsSplice document other spliced made
+  pub splice : IsSplice form old other new
 
--- the endnotes of two streams are notes of the document, and which they are
-pub record IsSpliced (wd table : List ℕ) (document spliced : Document) (made : List MadeNote) : Type 0 where
-  pub has : HasEndnoteFile wd table
-  pub by : IsSplicedBy (endnote_file wd table) document spliced made
+-- the texts of a story of two streams become notes
+pub record IsStep (story : NoteStory) (wd table : List ℕ) (old new : NoteState) : Type 0 where
+  pub has : HasNoteFile story wd table
+  pub by : IsSplicedBy (note_file story wd table) (form_of story wd table) old new
 
--- they cannot be
-abbrev pub HasNoSpliceBy : List ℕ → Document → Type 0
-HasNoSpliceBy file document = (spliced : Document) (made : List MadeNote) → ¬ IsSplicedBy file document spliced made
+-- they cannot
+abbrev pub HasNoSpliceBy : (file : List ℕ) → NoteForm → NoteState → Type 0
+HasNoSpliceBy file form old = (new : NoteState) → ¬ IsSplicedBy file form old new
 
-abbrev pub HasNoSplice : (wd table : List ℕ) → Document → Type 0
-HasNoSplice wd table document =
-    (spliced : Document) (made : List MadeNote) → ¬ IsSpliced wd table document spliced made
-
--- they are in one way
-abbrev pub SpliceIsOne : Type 0
-SpliceIsOne =
-    (wd table : List ℕ) (document one other : Document) (made others : List MadeNote) →
-    IsSpliced wd table document one made → IsSpliced wd table document other others →
-    (one ≡ other) × (made ≡ others)
+abbrev pub HasNoStep : NoteStory → (wd table : List ℕ) → NoteState → Type 0
+HasNoStep story wd table old = (new : NoteState) → ¬ IsStep story wd table old new

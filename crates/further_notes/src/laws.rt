@@ -1,7 +1,7 @@
 // A law over the definitions alone.
-ghost use Rattle.further_notes.specs.Splices.{SpliceIsOne};
+ghost use Rattle.further_notes.specs.Noted.{SpliceIsOne};
 
-/// Endnotes become notes in one way.
+/// Endnotes and comments become notes in one way.
 pub fn splice_is_one()
     ensures { SpliceIsOne }
 {}

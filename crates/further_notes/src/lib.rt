@@ -1,12 +1,16 @@
-//! Endnotes of a file of any program as notes of its document.
+//! Endnotes and comments of a file of any program as notes of its document.
 #![tactic(auto)]
 
 mod files;
+mod forms;
 mod laws;
 mod main_text;
+mod origins;
+mod references;
 mod sources;
 mod splicing;
+mod stories;
 
 pub use laws::splice_is_one;
-pub use sources::NoteSource;
-pub use splicing::{Spliced, with_endnotes};
+pub use splicing::{Spliced, with_further_notes};
+pub use stories::NotedStories;

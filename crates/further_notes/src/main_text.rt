@@ -3,9 +3,12 @@ ghost use Rattle.std.specs.Prelude.{◌≡◌, map, IfOk};
 ghost use Rattle.doc_columns.specs.Attached.{attached_of};
 ghost use Rattle.further_notes.specs.Sources.{note_kinds as kinds_of, kind_at as kind_there};
 ghost use Rattle.further_notes.specs.Splices.{attached_noted as noted_of, text_noted as noted_text, with_kinds};
+ghost use Rattle.further_notes.specs.Splices.{unit_with as unit_of};
 
+use crate::forms::unit_noted;
 use doc_bits::Memory;
 use doc_columns::{Attached, Columns};
+use doc_mends::NoteStory;
 use plain_doc::NoteKind;
 use run_lists::{Cursor, Runs, Shared, copy_runs, seek};
 use std::alloc::Global;
@@ -32,19 +35,46 @@ pub(crate) fn kind_at(kinds: &[Option<NoteKind>], at: usize) -> Option<NoteKind>
     if at < kinds.len() { kinds[at] } else { None }
 }
 
-/// A text whose items refer to notes of these kinds beside their own.
+/// A text whose items refer to notes of these kinds beside their own, which are of the story.
 pub(crate) fn text_noted(
     alloc: Global,
+    story: NoteStory,
     text: &Columns,
     kinds: &[Option<NoteKind>],
 ) -> Result<Columns, Memory>
-    ensures { IfOk result (λ made. made ≡ noted_text kinds.now text.now) }
+    ensures { IfOk result (λ made. made ≡ noted_text story kinds.now text.now) }
 {
     let len = text.len();
-    let units = Vec::from_slice(alloc, text.units())?;
+    let units = units_noted(alloc, story, text.units(), kinds)?;
     let chps = copy_runs(alloc, text.chps(), &mut Cursor::new(), 0, len)?;
     let attachments = attachments_noted(alloc, text, kinds)?;
     Ok(Columns::from_parts(units, chps, attachments))
+}
+
+/// Its units then.
+fn units_noted(
+    alloc: Global,
+    story: NoteStory,
+    units: &[u16],
+    kinds: &[Option<NoteKind>],
+) -> Result<Vec<u16>, Memory>
+    ensures { IfOk result (λ made. made.items ≡ with_kinds (unit_of story) kinds.now units.now) }
+{
+    let mut made = Vec::with_capacity(alloc, units.len())?;
+    for at in 0..units.len() {
+        made.push(unit_with(story, kind_at(kinds, at), units[at]))?;
+    }
+    Ok(made)
+}
+
+/// A unit of which the item refers to a note of this kind, where there is one.
+fn unit_with(story: NoteStory, kind: Option<NoteKind>, unit: u16) -> u16
+    ensures { result ≡ unit_of story kind unit }
+{
+    match kind {
+        Some(_) => unit_noted(story, unit),
+        None => unit,
+    }
 }
 
 /// What is beside its units then.

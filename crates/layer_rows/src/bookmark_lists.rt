@@ -23,7 +23,7 @@ fn replaces(list: &mut Bookmarks, second: Bookmark) -> bool {
     first.is_named(&[0x61]) && list.get(0).is_named(&[0x62])
 }
 
-/// The same of a list of one bookmark.
+/// Whether the first of a list of one bookmark is given back where another one is put in its place.
 fn is_replaced(alloc: Global) -> Result<bool, Memory> {
     let first = bookmark_of(alloc, 0x61)?;
     let second = bookmark_of(alloc, 0x62)?;

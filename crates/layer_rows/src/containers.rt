@@ -140,7 +140,7 @@ fn is_laid_out(alloc: Global, row: &Row) -> Result<bool, LayoutFault> {
     )
 }
 
-/// The same of each.
+/// Whether the container of each row is laid out as the row says.
 fn are_laid_out(alloc: Global, rows: &[Row]) -> Result<bool, LayoutFault> {
     for row in rows {
         if !is_laid_out(alloc, row)? {
@@ -178,7 +178,7 @@ fn the_largest_container_fits_and_the_next_does_not(rt: HostRuntime) -> Result<(
     Ok(())
 }
 
-/// The same bytes with others at these places.
+/// A file with other bytes at these places.
 pub(crate) fn with_bytes(
     alloc: Global,
     file: &[u8],

@@ -113,7 +113,7 @@ fn is_left(guards: &[Box<dyn Guard>], left: &Left) -> bool {
     }
 }
 
-/// The same of each.
+/// Whether each row is as a guard allows it.
 fn are_left(guards: &[Box<dyn Guard>], rows: &[Left]) -> bool {
     for left in rows {
         if !is_left(guards, left) {

@@ -30,7 +30,7 @@ fn are_alike(alloc: Global, map: &PropMap, count: usize) -> Result<bool, Memory>
     Ok(!other.equal(map))
 }
 
-/// The same of a map of two properties.
+/// Whether copies of a map of two properties are equal to it, and another map is not.
 fn are_two_alike(alloc: Global, count: usize) -> Result<bool, Memory> {
     is_made(
         two_properties(alloc),

@@ -220,7 +220,7 @@ fn goes(list: &mut PieceList, from: u32, to: u32) -> Result<bool, Memory> {
     Ok(count == 1_024 && put && found && is_without(list, from, to))
 }
 
-/// The same of a list that was split in an order.
+/// Whether a range goes from a list that was split in an order.
 fn is_erased(alloc: Global, order: Order, from: u32, to: u32) -> Result<bool, Memory> {
     let mut list = many_pieces(alloc, order, SOME, SOME_UNITS)?;
     let gone = goes(&mut list, from, to);
@@ -238,7 +238,7 @@ const RANGES: [(u32, u32); 6] = [
     (1, 3),
 ];
 
-/// The same of each range.
+/// Whether each range goes from a list that was split in an order.
 fn are_erased(alloc: Global, order: Order, ranges: &[(u32, u32)]) -> Result<bool, Memory> {
     for range in ranges {
         if !is_erased(alloc, order, range.0, range.1)? {

@@ -17,7 +17,7 @@ fn put_new<S: Shelf>(shelf: &mut S, name: &str) -> Result<(), PutFault> {
     shelf.put(name, NEW)
 }
 
-/// The same by these files.
+/// What a put of `NEW` under a name answers, by these files.
 pub(crate) fn put_by<F: Files + Drop, E: Eprint + Drop>(
     alloc: Global,
     files: F,
@@ -28,7 +28,7 @@ pub(crate) fn put_by<F: Files + Drop, E: Eprint + Drop>(
     put_new(&mut shelf, name)
 }
 
-/// The same by the files of the system.
+/// What a put of `NEW` under a name answers, by the files of the system.
 fn put<R: Files + Eprint + AllocGlobal>(rt: &R, name: &str) -> Result<(), PutFault> {
     put_by(rt.alloc(), rt, rt, name)
 }
@@ -109,7 +109,7 @@ fn reads_on<S: Shelf>(shelf: &mut S, name: &str) -> bool {
     first && put && reads(shelf, name, 4, b"byte")
 }
 
-/// The same by these files.
+/// Whether a file of these files that is read on in order gives the bytes that were put in between.
 fn is_let_go<F: Files + Drop, E: Eprint + Drop>(
     alloc: Global,
     files: F,

@@ -80,7 +80,7 @@ fn takes(list: &mut BlockList<Mark>, row: &Row) -> Result<bool, Memory> {
     )
 }
 
-/// The same of a list that is new.
+/// Whether a new list takes entries as the row says.
 fn are_taken(alloc: Global, row: &Row) -> Result<bool, Memory> {
     let mut list = BlockList::new(alloc);
     let taken = takes(&mut list, row);
@@ -88,7 +88,7 @@ fn are_taken(alloc: Global, row: &Row) -> Result<bool, Memory> {
     taken
 }
 
-/// The same of each row.
+/// Whether a new list takes entries as each row says.
 fn are_all_taken(alloc: Global, rows: &[Row]) -> Result<bool, Memory> {
     for row in rows {
         if !are_taken(alloc, row)? {

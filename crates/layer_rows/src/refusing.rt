@@ -237,7 +237,7 @@ fn is_put<R: Files + Eprint + AllocGlobal>(rt: &R, row: &Row) -> io::Result<bool
     Ok(answer == row.2 && held && !left)
 }
 
-/// The same of each row.
+/// Whether each put of the rows is answered so.
 fn are_put<R: Files + Eprint + AllocGlobal>(rt: &R, rows: &[Row]) -> io::Result<bool> {
     for row in rows {
         if !is_put(rt, row)? {

@@ -286,7 +286,7 @@ fn is_as(alloc: Global, old: &[u8], new: &[u8], row: &(Before, After)) -> Result
     Ok(differs && count && is_read(alloc, old, new, row)?)
 }
 
-/// The same of the file that the change of the row makes.
+/// Whether the file that the change of the row makes is as the row says.
 fn is_changed(alloc: Global, old: &[u8], row: &(Before, After)) -> Result<bool, LayoutFault> {
     let new = file_after(alloc, old, row.0)?;
     let same = is_as(alloc, old, new.as_slice(), row);
@@ -294,7 +294,7 @@ fn is_changed(alloc: Global, old: &[u8], row: &(Before, After)) -> Result<bool, 
     Ok(same?)
 }
 
-/// The same of the file before of the row.
+/// Whether the change of the row, put into its file before, makes what the row says.
 fn is_put(alloc: Global, row: &(Before, After)) -> Result<bool, LayoutFault> {
     let old = file_before(alloc, row.0)?;
     let changed = is_changed(alloc, &old, row);
@@ -302,7 +302,7 @@ fn is_put(alloc: Global, row: &(Before, After)) -> Result<bool, LayoutFault> {
     changed
 }
 
-/// The same of each row.
+/// Whether each change of the rows makes what its row says.
 fn are_all_put(alloc: Global, rows: &[(Before, After)]) -> Result<bool, LayoutFault> {
     for row in rows {
         if !is_put(alloc, row)? {
@@ -359,7 +359,7 @@ fn have_lengths(alloc: Global, old: &[u8]) -> Result<bool, Memory> {
     )
 }
 
-/// The same of a small file.
+/// Whether changes may be put into a small file exactly where they have their lengths.
 fn small_has_lengths(alloc: Global) -> Result<bool, LayoutFault> {
     let old = laid_out(alloc, SMALL)?;
     let right = have_lengths(alloc, old.as_slice());

@@ -43,7 +43,7 @@ fn is_read(alloc: Global, row: &Row) -> Result<bool, Memory> {
     Ok(fills(row.0, &list, row.3))
 }
 
-/// The same of each.
+/// Whether the list of each row is read so.
 fn are_read(alloc: Global, rows: &[Row]) -> Result<bool, Memory> {
     for row in rows {
         if !is_read(alloc, row)? {

@@ -1,6 +1,9 @@
--- What the places of a document cost, where each element costs something where it is opened, and each glyph where it is shown.
-use Rattle.std.proofs.Common.{◌≡◌, ℕ, zero, suc, ◌+◌, ◌-◌, ◌*◌, ◌<◌, ◌≤◌, ◌==◌, Bool, true, false, not, ◌&&◌, ◌||◌, List, []}
-use Rattle.std.proofs.Common.{◌∷◌, ◌++◌, map, length, Option, None, Some, refl, sym, ap, subst, ◌∙◌, arith, if◌then◌else◌}
+-- What the places of a document cost, where each element costs something where it is opened, and each glyph where it is
+-- shown.
+use Rattle.std.proofs.Common.{◌≡◌, ℕ, zero, suc, ◌+◌, ◌-◌, ◌*◌, ◌<◌, ◌≤◌, ◌==◌, Bool, true, false, not, ◌&&◌, ◌||◌}
+use Rattle.std.proofs.Common.{List, []}
+use Rattle.std.proofs.Common.{◌∷◌, ◌++◌, map, length, Option, None, Some, refl, sym, ap, subst, ◌∙◌, arith}
+use Rattle.std.proofs.Common.{if◌then◌else◌}
 use Rattle.std.proofs.Common.{add-mul, mul_comm}
 use Rattle.std.specs.Prelude.{⊤, nat_le, nat_lt, is_some}
 use Rattle.std.specs.List.{All, cons_option, filter_map}
@@ -31,7 +34,8 @@ use Rattle.doc_view.proofs.Public.{IsSmallSeen}
 use Rattle.doc_places.specs.declared.lists.ListItem.{ListItem}
 use Rattle.doc_places.specs.Looks.{item_in, label_units, shown_units, units_of_label}
 use Rattle.doc_places.specs.Places.{Hypertext, Places, anchor_places, bare, count_of, inline_elements, item_places}
-use Rattle.doc_places.specs.Places.{items_places, label_of, label_places, link_elements, paragraph_places, place_of, shown}
+use Rattle.doc_places.specs.Places.{items_places, label_of, label_places, link_elements, paragraph_places, place_of}
+use Rattle.doc_places.specs.Places.{shown}
 use Rattle.doc_places.proofs.Public.{few_bare, few_inline}
 
 -- ---- lists
@@ -56,7 +60,8 @@ each {A = A} count (x ∷ xs) =
 
 -- ---- costs
 
--- how a page shapes its places and the blocks that they are in, what an element and a glyph cost, and the most of it: of an
+-- how a page shapes its places and the blocks that they are in, what an element and a glyph cost, and the most of it:
+-- of an
 -- element with small numbers, of one that is heavy beyond that, of a glyph, and of one of a label
 pub record Costs : Type 0 where
   pub shape : Place Element Glyph → Place Element Glyph
@@ -82,7 +87,8 @@ pub record IsShape (c : Costs) : Type 0 where
       c.shape (within block place) ≡ within (c.outer block) (c.shape place)
   pub less_outer : (block : List Element) → total c.cost (c.outer block) ≤ total c.cost block
   pub less_path : (place : Place Element Glyph) → total c.cost (c.shape place).path ≤ total c.cost place.path
-  pub less_shown : (place : Place Element Glyph) → glyph_cost c.show (c.shape place).glyph ≤ glyph_cost c.show place.glyph
+  pub less_shown : (place : Place Element Glyph) → glyph_cost c.show (c.shape place).glyph ≤ glyph_cost c.show
+      place.glyph
   pub label : (glyph : Glyph) → (c.shape (shown (Label ∷ []) glyph)).path ≡ Label ∷ []
 
 -- what places cost behind a path
@@ -94,7 +100,8 @@ cost_from c before places =
 abbrev pub path_behind : Costs → List Element → Places → List Element
 path_behind c before places = last_path before (map c.shape places)
 
-pub cost-append : (c : Costs) (before : List Element) (xs ys : Places) → cost_from c before (xs ++ ys) ≡ cost_from c before
+pub cost-append : (c : Costs) (before : List Element) (xs ys : Places) → cost_from c before (xs ++ ys) ≡ cost_from c
+    before
     xs + cost_from c (path_behind c before xs) ys
 cost-append c before xs ys =
     let first = map c.shape xs in
@@ -112,7 +119,8 @@ cost-append c before xs ys =
 abbrev place_cost : Costs → Place Element Glyph → ℕ
 place_cost c place = total c.cost place.path + glyph_cost c.show place.glyph
 
-shaped_less : (c : Costs) → IsShape c → (places : Places) → total (place_cost c) (map c.shape places) ≤ total (place_cost c)
+shaped_less : (c : Costs) → IsShape c → (places : Places) → total (place_cost c) (map c.shape places) ≤ total
+    (place_cost c)
     places
 shaped_less c shape [] = omega arith
 shaped_less c shape (place ∷ places) =
@@ -128,12 +136,14 @@ cost_each c shape before places =
     omega (
       arith,
       opened_less same c.cost before all,
-      total-both (λ (place : Place Element Glyph). total c.cost place.path) (λ place. glyph_cost c.show place.glyph) all,
+      total-both (λ (place : Place Element Glyph). total c.cost place.path) (λ place. glyph_cost c.show place.glyph)
+          all,
       shaped_less c shape places,
     )
 
 -- one place
-pub one_cost : (c : Costs) → IsShape c → (before path : List Element) (glyph : Glyph) → cost_from c before (shown path glyph ∷
+pub one_cost : (c : Costs) → IsShape c → (before path : List Element) (glyph : Glyph) → cost_from c before (shown path
+    glyph ∷
     []) ≤ total c.cost path + c.show glyph
 one_cost c shape before path glyph =
     let long : total (place_cost c) (shown path glyph ∷ []) ≤ total c.cost path + c.show glyph = omega arith in
@@ -145,7 +155,8 @@ one_cost c shape before path glyph =
 abbrev pub item_cost : Costs → ℕ
 item_cost c = c.element * 8 + c.glyph
 
-small_cost : (c : Costs) → AreSmall c → (path : List Element) → AreFew IsSmall 8 0 path → total c.cost path ≤ c.element * 8
+small_cost : (c : Costs) → AreSmall c → (path : List Element) → AreFew IsSmall 8 0 path → total c.cost path ≤
+    c.element * 8
 small_cost c small path few = omega (arith, few_cost IsSmall c.cost c.element c.extra small.elements 8 0 path few)
 
 one_item : (c : Costs) → AreSmall c → (link : Option Link) (count : ℕ) (seen : Seen) → IsSmallSeen seen → count + 1 <
@@ -170,7 +181,8 @@ one_item c small link count seen few low =
         ) in
         long
 
-    where_shown : (is_shown : Bool) (there : Option Glyph) → IsSmallIn there → total (place_cost c) (if is_shown then place_of
+    where_shown : (is_shown : Bool) (there : Option Glyph) → IsSmallIn there → total (place_cost c) (if is_shown then
+        place_of
         [] link count seen there ∷ [] else []) ≤ item_cost c
     where_shown true there few = some there few
     where_shown false there few = omega arith
@@ -179,8 +191,10 @@ count_less : (reference : Option Reference) → count_of reference ≤ 1
 count_less None = omega arith
 count_less (Some reference) = omega arith
 
-items_cost : (c : Costs) → AreSmall c → (links : ℕ → Option Link) (count place : ℕ) (seen : List Seen) → All IsSmallSeen seen
-    → count + length seen < 999999 → total (place_cost c) (items_places links [] count place seen) ≤ total (λ one. item_cost
+items_cost : (c : Costs) → AreSmall c → (links : ℕ → Option Link) (count place : ℕ) (seen : List Seen) → All
+    IsSmallSeen seen
+    → count + length seen < 999999 → total (place_cost c) (items_places links [] count place seen) ≤ total (λ one.
+    item_cost
     c) seen
 unfolding items_places
 items_cost c small links count place [] few low = omega arith
@@ -226,7 +240,8 @@ label_glyph_cost c small code =
     (either_glyph c.show c.unit (code == 0x1E) (Some (Unit 0x2011)) None (small.units 0x2011) (omega arith)))))
     (small.units (if is_windows code then windows_unit code else code)))
   where
-    no_break : (test : Bool) (other : Option Glyph) → glyph_cost c.show other ≤ c.unit → glyph_cost c.show (if test && not
+    no_break : (test : Bool) (other : Option Glyph) → glyph_cost c.show other ≤ c.unit → glyph_cost c.show (if test &&
+        not
         true then Some PageBreak else other) ≤ c.unit
     no_break true other few = few
     no_break false other few = few
@@ -240,7 +255,8 @@ glyphs_cost : (c : Costs) → AreSmall c → (units : List ℕ) → total c.show
     c.unit) units
 glyphs_cost c small [] = omega arith
 glyphs_cost c small (code ∷ units) =
-    let long : total c.show (cons_option (label_glyph code) (filter_map label_glyph units)) ≤ c.unit + total (λ (code : ℕ).
+    let long : total c.show (cons_option (label_glyph code) (filter_map label_glyph units)) ≤ c.unit + total (λ (code
+    : ℕ).
     c.unit) units =
     omega (
       arith,
@@ -254,11 +270,13 @@ glyphs_cost c small (code ∷ units) =
 abbrev label_place : Costs → Glyph → Place Element Glyph
 label_place c glyph = c.shape (shown (Label ∷ []) glyph)
 
-shown_label : (c : Costs) → IsShape c → (glyphs : List Glyph) → shown_cost c.show (map (label_place c) glyphs) ≤ total c.show
+shown_label : (c : Costs) → IsShape c → (glyphs : List Glyph) → shown_cost c.show (map (label_place c) glyphs) ≤ total
+    c.show
     glyphs
 shown_label c shape [] = omega arith
 shown_label c shape (glyph ∷ glyphs) =
-    let long : glyph_cost c.show (label_place c glyph).glyph + shown_cost c.show (map (label_place c) glyphs) ≤ c.show glyph +
+    let long : glyph_cost c.show (label_place c glyph).glyph + shown_cost c.show (map (label_place c) glyphs) ≤ c.show
+    glyph +
     total c.show glyphs =
     omega (arith, shape.less_shown (shown (Label ∷ []) glyph), shown_label c shape glyphs) in
     long
@@ -268,7 +286,8 @@ opened_label : (c : Costs) → IsShape c → (before : List Element) (glyphs : L
 opened_label c shape before [] = omega arith
 opened_label c shape before (glyph ∷ glyphs) =
     let path = Label ∷ [] in
-    let new : List Element → ℕ = λ there. total c.cost (behind same there before ++ opened_from same there (map (label_place
+    let new : List Element → ℕ = λ there. total c.cost (behind same there before ++ opened_from same there (map
+    (label_place
     c) glyphs)) in
     let there : new (label_place c glyph).path ≡ new path = ap new (shape.label glyph) in
     let none : opened_from same path (map (label_place c) glyphs) ≡ [] =
@@ -295,7 +314,8 @@ mapped c (glyph ∷ glyphs) = ap (λ (more : Places). label_place c glyph ∷ mo
 abbrev pub label_cost : Costs → ℕ
 label_cost c = c.element + c.unit * 65
 
-label_places_cost : (c : Costs) → AreSmall c → IsShape c → (before : List Element) (units : List ℕ) → length units ≤ 64 →
+label_places_cost : (c : Costs) → AreSmall c → IsShape c → (before : List Element) (units : List ℕ) → length units ≤
+    64 →
     cost_from c before (label_places [] units) ≤ label_cost c
 label_places_cost c small shape before [] few = omega arith
 label_places_cost c small shape before (code ∷ units) few =
@@ -306,7 +326,8 @@ label_places_cost c small shape before (code ∷ units) few =
     omega (
       arith,
       last,
-      ap (λ (places : Places). total c.cost (opened_from same before places) + shown_cost c.show places) (mapped c glyphs),
+      ap (λ (places : Places). total c.cost (opened_from same before places) + shown_cost c.show places) (mapped c
+          glyphs),
       opened_label c shape before glyphs,
       shown_label c shape glyphs,
       total-append c.show (filter_map label_glyph all) (Unit 0x20 ∷ []),
@@ -331,7 +352,8 @@ anchors_within block [] = refl
 anchors_within block (number ∷ numbers) =
     ap (λ (more : Places). bare (block ++ Anchor number ∷ []) ∷ more) (anchors_within block numbers)
 
-label_within : (block : List Element) (glyphs : List Glyph) → map (shown (block ++ Label ∷ [])) glyphs ≡ map (within block)
+label_within : (block : List Element) (glyphs : List Glyph) → map (shown (block ++ Label ∷ [])) glyphs ≡ map (within
+    block)
     (map (shown (Label ∷ [])) glyphs)
 label_within block [] = refl
 label_within block (glyph ∷ glyphs) =
@@ -348,10 +370,12 @@ place_within : (block : List Element) (link : Option Link) (count : ℕ) (seen :
 place_within block link count seen None = refl
 place_within block link count seen (Some glyph) = refl
 
-item_within : (block : List Element) (link : Option Link) (count : ℕ) (seen : Seen) → item_places block link count seen ≡
+item_within : (block : List Element) (link : Option Link) (count : ℕ) (seen : Seen) → item_places block link count
+    seen ≡
     map (within block) (item_places [] link count seen)
 item_within block link count seen =
-    elim seen.is_shown as (λ (b : Bool). (if b then place_of block link count seen seen.glyph ∷ [] else []) ≡ map (within
+    elim seen.is_shown as (λ (b : Bool). (if b then place_of block link count seen seen.glyph ∷ [] else []) ≡ map
+    (within
     block) (if b then place_of [] link count seen seen.glyph ∷ [] else [])) [
       | true ↦ ap (λ (place : Place Element Glyph). place ∷ []) (place_within block link count seen seen.glyph)
       | false ↦ refl
@@ -367,33 +391,41 @@ items_within block links count place (seen ∷ more) =
     (λ i. item_within block (links place) count seen i ++ items_within block links (count + count_of seen.reference)
     (place + 1) more i) ∙ sym (map-append (within block) here rest)
 
-places_within : (block : List Element) (links : ℕ → Option Link) (count begin : ℕ) (numbers : List ℕ) (here : Bool) (units :
+places_within : (block : List Element) (links : ℕ → Option Link) (count begin : ℕ) (numbers : List ℕ) (here : Bool)
+    (units :
     List ℕ) (seen : List Seen) → anchor_places block numbers ++ ((if here then label_places block units else []) ++
-    items_places links block count begin seen) ≡ map (within block) (inner_places links count begin numbers here units seen)
+    items_places links block count begin seen) ≡ map (within block) (inner_places links count begin numbers here units
+    seen)
 places_within block links count begin numbers here units seen =
     let anchors = anchor_places [] numbers in
     let label : Places = if here then label_places [] units else [] in
     let items = items_places links [] count begin seen in
-    (λ i. anchors_within block numbers i ++ (where_within block here units i ++ items_within block links count begin seen i))
+    (λ i. anchors_within block numbers i ++ (where_within block here units i ++ items_within block links count begin
+    seen i))
     ∙ (ap (λ (more : Places). map (within block) anchors ++ more) (sym (map-append (within block) label items))
     ∙ sym (map-append (within block) anchors (label ++ items)))
 
-anchors_cost : (c : Costs) (numbers : List ℕ) → total (place_cost c) (anchor_places [] numbers) ≡ total (λ number. c.cost
+anchors_cost : (c : Costs) (numbers : List ℕ) → total (place_cost c) (anchor_places [] numbers) ≡ total (λ number.
+    c.cost
     (Anchor number)) numbers
 anchors_cost c [] = refl
 anchors_cost c (number ∷ numbers) =
-    let long : ((c.cost (Anchor number) + 0) + 0) + total (place_cost c) (anchor_places [] numbers) ≡ c.cost (Anchor number)
+    let long : ((c.cost (Anchor number) + 0) + 0) + total (place_cost c) (anchor_places [] numbers) ≡ c.cost (Anchor
+    number)
     + total (λ (number : ℕ). c.cost (Anchor number)) numbers =
     omega (arith, anchors_cost c numbers) in
     long
 
-where_here : (c : Costs) → AreSmall c → IsShape c → (before : List Element) (here : Bool) (units : List ℕ) → length units ≤
+where_here : (c : Costs) → AreSmall c → IsShape c → (before : List Element) (here : Bool) (units : List ℕ) → length
+    units ≤
     64 → cost_from c before (if here then label_places [] units else []) ≤ label_cost c
 where_here c small shape before true units few = label_places_cost c small shape before units few
 where_here c small shape before false units few = omega arith
 
-inner_cost : (c : Costs) → AreSmall c → IsShape c → (links : ℕ → Option Link) (count begin : ℕ) (numbers : List ℕ) (here :
-    Bool) (units : List ℕ) (seen : List Seen) → All IsSmallSeen seen → length units ≤ 64 → count + length seen < 999999 →
+inner_cost : (c : Costs) → AreSmall c → IsShape c → (links : ℕ → Option Link) (count begin : ℕ) (numbers : List ℕ)
+    (here :
+    Bool) (units : List ℕ) (seen : List Seen) → All IsSmallSeen seen → length units ≤ 64 → count + length seen <
+    999999 →
     cost_from c [] (inner_places links count begin numbers here units seen) ≤ total (λ number. c.cost (Anchor number))
     numbers + (label_cost c + total (λ one. item_cost c) seen)
 inner_cost c small shape links count begin numbers here units seen few short low =
@@ -413,7 +445,8 @@ inner_cost c small shape links count begin numbers here units seen few short low
     )
 
 -- places inside of a block are shaped inside of what is kept of it
-shaped_inside : (c : Costs) → IsShape c → (block : List Element) → All IsOuter block → (places : Places) → map c.shape (map
+shaped_inside : (c : Costs) → IsShape c → (block : List Element) → All IsOuter block → (places : Places) → map c.shape
+    (map
     (within block) places) ≡ map (within (c.outer block)) (map c.shape places)
 shaped_inside c shape block outer [] = refl
 shaped_inside c shape block outer (place ∷ places) =
@@ -423,13 +456,15 @@ shaped_inside c shape block outer (place ∷ places) =
 abbrev pub block_cost : Costs → ℕ
 block_cost c = c.element * 15 + c.extra * 6
 
-inside_cost : (c : Costs) → AreSmall c → IsShape c → (before block : List Element) → AreFew IsOuter 15 6 block → (places :
+inside_cost : (c : Costs) → AreSmall c → IsShape c → (before block : List Element) → AreFew IsOuter 15 6 block →
+    (places :
     Places) → cost_from c before (map (within block) places) ≤ block_cost c + cost_from c [] places
 inside_cost c small shape before block few places =
     let inner = map c.shape places in
     omega (
       arith,
-      ap (λ (all : Places). total c.cost (opened_from same before all) + shown_cost c.show all) (shaped_inside c shape block
+      ap (λ (all : Places). total c.cost (opened_from same before all) + shown_cost c.show all) (shaped_inside c shape
+          block
           few.small places),
       opened_within same same_exact c.cost before (c.outer block) inner,
       shown_within c.show (c.outer block) inner,
@@ -441,8 +476,10 @@ inside_cost c small shape before block few places =
 abbrev pub text_cost : Costs → ℕ
 text_cost c = block_cost c + (label_cost c + item_cost c)
 
-within_cost : (c : Costs) → AreSmall c → IsShape c → (before block : List Element) → AreFew IsOuter 15 6 block → (links : ℕ →
-    Option Link) (count begin : ℕ) (numbers : List ℕ) (here : Bool) (units : List ℕ) (seen : List Seen) → All IsSmallSeen
+within_cost : (c : Costs) → AreSmall c → IsShape c → (before block : List Element) → AreFew IsOuter 15 6 block →
+    (links : ℕ →
+    Option Link) (count begin : ℕ) (numbers : List ℕ) (here : Bool) (units : List ℕ) (seen : List Seen) → All
+    IsSmallSeen
     seen → length units ≤ 64 → count + length seen < 999999 → here ≡ some_shown seen → (seen ≡ [] → numbers ≡ []) →
     cost_from c before (map (within block) (inner_places links count begin numbers here units seen)) ≤ total (λ one.
     text_cost c) seen + total (λ number. c.cost (Anchor number)) numbers
@@ -454,8 +491,10 @@ within_cost c small shape before block blocks links count begin numbers here uni
 within_cost c small shape before block blocks links count begin numbers here units (one ∷ more) few short low is none =
     let seen = one ∷ more in
     let inner = inner_places links count begin numbers here units seen in
-    let item : total (λ (one : Seen). item_cost c) seen ≡ item_cost c + total (λ (one : Seen). item_cost c) more = refl in
-    let all : total (λ (one : Seen). text_cost c) seen ≡ text_cost c + total (λ (one : Seen). text_cost c) more = refl in
+    let item : total (λ (one : Seen). item_cost c) seen ≡ item_cost c + total (λ (one : Seen). item_cost c) more =
+    refl in
+    let all : total (λ (one : Seen). text_cost c) seen ≡ text_cost c + total (λ (one : Seen). text_cost c) more = refl
+    in
     omega (
       arith,
       item,
@@ -477,9 +516,11 @@ label_short item (Some values) short = by values.label short.label
         [ true ↦ omega arith | false ↦ short ]
 
 pub paragraph_cost : (c : Costs) → AreSmall c → IsShape c → (before block : List Element) → AreFew IsOuter 15 6 block →
-    (hypertext : Hypertext) (count begin : ℕ) (paragraph : Paragraph) → IsShort paragraph → count + length paragraph.items <
+    (hypertext : Hypertext) (count begin : ℕ) (paragraph : Paragraph) → IsShort paragraph → count + length
+    paragraph.items <
     999999 → (paragraph.items ≡ [] → hypertext.anchors begin (begin + length paragraph.items) ≡ []) → cost_from c before
-    (paragraph_places hypertext block count begin paragraph) ≤ total (λ one. text_cost c) paragraph.items + total (λ number.
+    (paragraph_places hypertext block count begin paragraph) ≤ total (λ one. text_cost c) paragraph.items + total (λ
+    number.
     c.cost (Anchor number)) (hypertext.anchors begin (begin + length paragraph.items))
 paragraph_cost c small shape before block blocks hypertext count begin paragraph short low none =
     let numbers = hypertext.anchors begin (begin + length paragraph.items) in
@@ -490,6 +531,7 @@ paragraph_cost c small shape before block blocks hypertext count begin paragraph
       arith,
       within_cost c small shape before block blocks links count begin numbers (is_here paragraph) units paragraph.items
           short.items few low refl none,
-      ap (λ (places : Places). cost_from c before places) (places_within block links count begin numbers (is_here paragraph)
+      ap (λ (places : Places). cost_from c before places) (places_within block links count begin numbers (is_here
+          paragraph)
           units paragraph.items),
     )

@@ -1,6 +1,7 @@
 -- A page in HTML is as long as its document.
 use Rattle.std.proofs.Common.{◌≡◌, ℕ, ◌+◌, ◌-◌, ◌*◌, ◌<◌, ◌≤◌, Bool, true, false, List, [], ◌∷◌, ◌++◌, map, length, suc}
-use Rattle.std.proofs.Common.{Option, None, Some, refl, sym, ap, subst, ◌∙◌, arith, if◌then◌else◌, length-append, length-take}
+use Rattle.std.proofs.Common.{Option, None, Some, refl, sym, ap, subst, ◌∙◌, arith, if◌then◌else◌, length-append}
+use Rattle.std.proofs.Common.{length-take}
 use Rattle.std.specs.Prelude.{slice_get, encode_utf8_all, codes, nat_lt, option_map}
 use Rattle.std.proofs.lemmas.Nat.{mul-le}
 use Rattle.std.specs.List.{filter_map, flat_map, sum_by}
@@ -50,15 +51,22 @@ alone_few : (test : Bool) (code : ℕ) (text : List ℕ) → length text ≤ 6 �
 alone_few true code text few = omega arith
 alone_few false code text few = few
 
-hex_few : (test : Bool) (one other : List ℕ) → length one ≤ 4 → length other ≤ 4 → length (if test then one else other) ≤ 4
+hex_few : (test : Bool) (one other : List ℕ) → length one ≤ 4 → length other ≤ 4 → length (if test then one else
+    other) ≤ 4
 hex_few true one other a b = a
 hex_few false one other a b = b
 
 character_few : (code : ℕ) → length (anchor_character code) ≤ 6
 character_few code =
     let hex = hex_text code in
-    let digits : length hex ≤ 4 = hex_few (nat_lt code 256) (byte_text code) (word_text code) (omega arith) (omega arith) in
-    alone_few (is_anchor_character code) code (46 ∷ (hex ++ 46 ∷ [])) (omega (arith, digits, length-append hex (46 ∷ [])))
+    let digits : length hex ≤ 4 = hex_few (nat_lt code 256) (byte_text code) (word_text code) (omega arith) (omega
+    arith) in
+    alone_few (is_anchor_character code) code (46 ∷ (hex ++ 46 ∷ [])) (omega (
+      arith,
+      digits,
+      length-append hex (46 ∷
+          []),
+    ))
 
 characters_few : (units : List ℕ) → length (characters units) ≤ length units
 unfolding characters
@@ -180,12 +188,14 @@ bookmarks_cost document =
       units_total list,
     )
   where
-    units_total : (list : List Bookmark) → total (λ (bookmark : Bookmark). 36 * length bookmark.name) list ≡ 36 * sum_by (λ
+    units_total : (list : List Bookmark) → total (λ (bookmark : Bookmark). 36 * length bookmark.name) list ≡ 36 *
+        sum_by (λ
         bookmark. length bookmark.name) list
     units_total [] = refl
     units_total (bookmark ∷ list) =
         let sum = sum_by-cons (λ (bookmark : Bookmark). length bookmark.name) bookmark list in
-        let long : 36 * length bookmark.name + total (λ (bookmark : Bookmark). 36 * length bookmark.name) list ≡ 36 * sum_by
+        let long : 36 * length bookmark.name + total (λ (bookmark : Bookmark). 36 * length bookmark.name) list ≡ 36 *
+        sum_by
         (λ bookmark. length bookmark.name) (bookmark ∷ list) =
         omega (arith, sum, units_total list) in
         long
@@ -226,9 +236,11 @@ html_short options source most bytes sound short page =
     let opened = opened_from same [] places in
     let text : length bytes ≡ length (encode_utf8_all (page_text source head places)) =
     ap (λ (b : List ℕ). length b) page.text in
-    let spread : (((63 * 15 + 0 * 6) + ((63 + 6 * 65) + (63 * 8 + (54 + most)))) + (63 * 3 + 54)) * item_count document ≤ (2200 +
+    let spread : (((63 * 15 + 0 * 6) + ((63 + 6 * 65) + (63 * 8 + (54 + most)))) + (63 * 3 + 54)) * item_count
+    document ≤ (2200 +
     most) * item_count document =
-    mul-le (((63 * 15 + 0 * 6) + ((63 + 6 * 65) + (63 * 8 + (54 + most)))) + (63 * 3 + 54)) (item_count document) (2200 + most)
+    mul-le (((63 * 15 + 0 * 6) + ((63 + 6 * 65) + (63 * 8 + (54 + most)))) + (63 * 3 + 54)) (item_count document)
+    (2200 + most)
     (item_count document) (omega arith) (omega arith) in
     omega (
       arith,
@@ -239,8 +251,10 @@ html_short options source most bytes sound short page =
       total-less (tags_size document) (λ e. own e + address_bytes document e) (parted document) opened,
       total-both own (address_bytes document) opened,
       sum_is (address_bytes document) opened,
-      document_cost (costs source most) 54 (are_small source most short) (is_shape source most) (label_few source.images)
+      document_cost (costs source most) 54 (are_small source most short) (is_shape source most) (label_few
+          source.images)
           page.formats page.values options document sound page.are_values,
-      ap (λ (all : Places). total own (opened_from same [] all) + shown_cost (show_size source.images) all) (unshaped places),
+      ap (λ (all : Places). total own (opened_from same [] all) + shown_cost (show_size source.images) all) (unshaped
+          places),
       bookmarks_cost document,
     )

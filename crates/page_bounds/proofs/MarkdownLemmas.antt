@@ -1,5 +1,6 @@
 -- A page in Markdown is as long as its document.
-use Rattle.std.proofs.Common.{◌≡◌, ℕ, ◌+◌, ◌-◌, ◌*◌, ◌<◌, ◌≤◌, false, List, [], ◌∷◌, ◌++◌, length, Option, None, Some, refl, ap, arith}
+use Rattle.std.proofs.Common.{◌≡◌, ℕ, ◌+◌, ◌-◌, ◌*◌, ◌<◌, ◌≤◌, false, List, [], ◌∷◌, ◌++◌, length, Option, None, Some}
+use Rattle.std.proofs.Common.{refl, ap, arith}
 use Rattle.std.specs.Prelude.{encode_utf8_all}
 use Rattle.std.specs.List.{sum_by}
 use Rattle.std.proofs.lemmas.Nat.{mul-le}
@@ -66,7 +67,8 @@ is_shape document = record {
   inside = shaped_inside;
   less_outer = λ block. filter_less (own_size document) (λ e. keeps Block false (kind_of e)) block;
   less_path = λ place.
-      filter_less (own_size document) (λ e. keeps (inner_kind place.path) (is_space place.glyph) (kind_of e)) place.path;
+      filter_less (own_size document) (λ e. keeps (inner_kind place.path) (is_space place.glyph) (kind_of e))
+      place.path;
   less_shown = shaped_shown show_most;
   label = λ glyph. refl;
 }
@@ -75,17 +77,20 @@ label_few : IsLabelCost show_most 45
 label_few None small = omega arith
 label_few (Some number) small = omega arith
 
-anchors_few : (document : Document) (count : ℕ) → total (λ number. own_size document (Anchor number)) (numbers 0 count) ≤ 29
+anchors_few : (document : Document) (count : ℕ) → total (λ number. own_size document (Anchor number)) (numbers 0
+    count) ≤ 29
     * count
 anchors_few document count =
     omega (
       arith,
-      total-less (λ (number : ℕ). own_size document (Anchor number)) (λ number. 29) (λ number. omega arith) (numbers 0 count),
+      total-less (λ (number : ℕ). own_size document (Anchor number)) (λ number. 29) (λ number. omega arith) (numbers 0
+          count),
       each 29 (numbers 0 count),
       length-numbers 0 count,
     )
 
-parted : (document : Document) (e : Element) → marks_size document e ≤ own_size document e + destination_bytes document e
+parted : (document : Document) (e : Element) → marks_size document e ≤ own_size document e + destination_bytes
+    document e
 parted document e = omega arith
 
 pub markdown_short : MarkdownPagesAreShort
@@ -97,7 +102,8 @@ markdown_short options document bytes sound page =
     let text : length bytes ≡ length (encode_utf8_all (page_text document places)) =
     ap (λ (b : List ℕ). length b) page.text in
     let most : (((29 * 15 + 518 * 6) + ((29 + 13 * 65) + (29 * 8 + 45))) + (29 * 3 + 45)) * count ≤ 4900 * count =
-    mul-le (((29 * 15 + 518 * 6) + ((29 + 13 * 65) + (29 * 8 + 45))) + (29 * 3 + 45)) count 4900 count (omega arith) (omega
+    mul-le (((29 * 15 + 518 * 6) + ((29 + 13 * 65) + (29 * 8 + 45))) + (29 * 3 + 45)) count 4900 count (omega arith)
+    (omega
     arith) in
     omega (
       arith,
@@ -107,7 +113,8 @@ markdown_short options document bytes sound page =
       total-less (marks_size document) (λ e. own e + destination_bytes document e) (parted document) opened,
       total-both own (destination_bytes document) opened,
       sum_is (destination_bytes document) opened,
-      document_cost (costs document) 45 (are_small document) (is_shape document) label_few page.formats page.values options
+      document_cost (costs document) 45 (are_small document) (is_shape document) label_few page.formats page.values
+          options
           document sound page.are_values,
       anchors_few document (length document.bookmarks),
     )

@@ -1,6 +1,8 @@
 -- What the places of texts cost, and those of a document.
-use Rattle.std.proofs.Common.{◌≡◌, ℕ, zero, suc, ◌+◌, ◌-◌, ◌*◌, ◌<◌, ◌≤◌, Bool, true, false, List, [], ◌∷◌, ◌++◌, map, length}
-use Rattle.std.proofs.Common.{Option, None, Some, refl, sym, ap, subst, ◌∙◌, arith, if◌then◌else◌, append_assoc, length-append, add-mul}
+use Rattle.std.proofs.Common.{◌≡◌, ℕ, zero, suc, ◌+◌, ◌-◌, ◌*◌, ◌<◌, ◌≤◌, Bool, true, false, List, [], ◌∷◌, ◌++◌, map}
+use Rattle.std.proofs.Common.{length}
+use Rattle.std.proofs.Common.{Option, None, Some, refl, sym, ap, subst, ◌∙◌, arith, if◌then◌else◌, append_assoc}
+use Rattle.std.proofs.Common.{length-append, add-mul}
 use Rattle.std.specs.Prelude.{⊤, slice_get}
 use Rattle.std.specs.List.{All, sum_by}
 use Rattle.std.proofs.lemmas.List.Elements.{All-head, All-nil, All-tail}
@@ -33,12 +35,14 @@ use Rattle.doc_view.specs.Seen.{Formats, Paragraph, paragraphs_of, references_in
 use Rattle.doc_view.proofs.Public.{IsSmallNumber, IsSmallReference, references_few, IsSmall as IsSmallGlyph, IsShort}
 use Rattle.doc_view.proofs.Public.{items_of, of_text, references_short, values_short, with_values_long}
 use Rattle.doc_view.proofs.Public.{with_values_short}
-use Rattle.doc_places.specs.Places.{Hypertext, Places, anchors_of, block_at, cells_of, hypertext_of, item_count, label_of, lead, no_cells, places_of}
+use Rattle.doc_places.specs.Places.{Hypertext, Places, anchors_of, block_at, cells_of, hypertext_of, item_count}
+use Rattle.doc_places.specs.Places.{label_of, lead, no_cells, places_of}
 use Rattle.doc_places.specs.Places.{note_path, note_places, notes_places, numbers, paragraph_places, paragraphs_places}
 use Rattle.doc_places.specs.Places.{shown, text_places}
 use Rattle.doc_places.proofs.Public.{lead_few, lead_more, lead_none, few_block, few_note_path, small_cells}
 use Rattle.cell_spans.proofs.Public.{small_span_at}
-use Rattle.page_bounds.proofs.CostLemmas.{AreSmall, Costs, IsShape, cost-append, cost_from, each, one_cost, paragraph_cost}
+use Rattle.page_bounds.proofs.CostLemmas.{AreSmall, Costs, IsShape, cost-append, cost_from, each, one_cost}
+use Rattle.page_bounds.proofs.CostLemmas.{paragraph_cost}
 use Rattle.page_bounds.proofs.CostLemmas.{path_behind, spread, spread-suc, text_cost}
 
 -- ---- anchors
@@ -58,7 +62,8 @@ numbers-add first (suc one) other =
     ap (λ (n : ℕ). numbers first n) more ∙ (ap (λ (rest : List ℕ). first ∷ rest) (numbers-add (first + 1) one other)
     ∙ ap (λ (n : ℕ). (first ∷ numbers (first + 1) one) ++ numbers n other) next)
 
-anchors_joined : (cost : Element → ℕ) (bookmarks : List Bookmark) (begin middle end : ℕ) → begin ≤ middle → middle ≤ end →
+anchors_joined : (cost : Element → ℕ) (bookmarks : List Bookmark) (begin middle end : ℕ) → begin ≤ middle → middle ≤
+    end →
     anchors_total cost bookmarks begin middle + anchors_total cost bookmarks middle end ≡ anchors_total cost bookmarks
     begin end
 anchors_joined cost bookmarks begin middle end low high =
@@ -106,7 +111,8 @@ all_anchors cost bookmarks end =
     )
 
 -- numbers of entries of a list
-shifted : (f : ℕ → ℕ) (first count : ℕ) → total f (numbers (first + 1) count) ≡ total (λ n. f (suc n)) (numbers first count)
+shifted : (f : ℕ → ℕ) (first count : ℕ) → total f (numbers (first + 1) count) ≡ total (λ n. f (suc n)) (numbers first
+    count)
 shifted f first zero = refl
 shifted f first (suc count) =
     let one : first + 1 ≡ suc first = omega arith in
@@ -115,11 +121,13 @@ shifted f first (suc count) =
     omega (arith, ap f one, shifted f (first + 1) count) in
     long
 
-pub numbered_total : {A : Type 0} (f : Option A → ℕ) (xs : List A) → total (λ number. f (slice_get xs number)) (numbers 0
+pub numbered_total : {A : Type 0} (f : Option A → ℕ) (xs : List A) → total (λ number. f (slice_get xs number))
+    (numbers 0
     (length xs)) ≡ total (λ x. f (Some x)) xs
 numbered_total f [] = refl
 numbered_total f (x ∷ xs) =
-    let rest : total (λ number. f (slice_get (x ∷ xs) number)) (numbers (0 + 1) (length xs)) ≡ total (λ number. f (slice_get
+    let rest : total (λ number. f (slice_get (x ∷ xs) number)) (numbers (0 + 1) (length xs)) ≡ total (λ number. f
+    (slice_get
     xs number)) (numbers 0 (length xs)) =
     shifted (λ number. f (slice_get (x ∷ xs) number)) 0 (length xs) in
     let long : f (Some x) + total (λ number. f (slice_get (x ∷ xs) number)) (numbers (0 + 1) (length xs)) ≡ f (Some x) +
@@ -140,16 +148,21 @@ sum_is f (x ∷ xs) = ap (λ (n : ℕ). f x + n) (sum_is f xs) ∙ sym (sum_by-c
 nil_length : {A : Type 0} (xs : List A) → xs ≡ [] → length xs ≡ 0
 nil_length xs is = ap (λ ys. length ys) is
 
-paragraphs_cost : (c : Costs) → AreSmall c → IsShape c → (hypertext : Hypertext) (bookmarks : List Bookmark) → hypertext.anchors ≡ anchors_of bookmarks → ((number : ℕ) →
-    IsSmallSpanIn (hypertext.cells.spans number)) → (outer : List Element) → AreFew IsOuter 2 0 outer → (path : List Element)
+paragraphs_cost : (c : Costs) → AreSmall c → IsShape c → (hypertext : Hypertext) (bookmarks : List Bookmark) →
+    hypertext.anchors ≡ anchors_of bookmarks → ((number : ℕ) →
+    IsSmallSpanIn (hypertext.cells.spans number)) → (outer : List Element) → AreFew IsOuter 2 0 outer → (path : List
+    Element)
     (before : List Paragraph) (count : ℕ) (paragraphs : List Paragraph) → All IsShort paragraphs → count + items_of
-    paragraphs < 999999 → cost_from c path (paragraphs_places hypertext outer before count paragraphs) ≤ text_cost c * items_of paragraphs + anchors_total c.cost bookmarks (item_count before) (item_count before +
+    paragraphs < 999999 → cost_from c path (paragraphs_places hypertext outer before count paragraphs) ≤ text_cost c *
+    items_of paragraphs + anchors_total c.cost bookmarks (item_count before) (item_count before +
     items_of paragraphs)
 unfolding paragraphs_places
 paragraphs_cost c small shape hypertext bookmarks anchors cells outer few path before count [] short low = omega arith
-paragraphs_cost c small shape hypertext bookmarks anchors cells outer few path before count (paragraph ∷ more) short low =
+paragraphs_cost c small shape hypertext bookmarks anchors cells outer few path before count (paragraph ∷ more) short
+    low =
     let block = outer ++ block_at hypertext.cells before paragraph more in
-    let blocks = few_joined IsOuter 2 13 0 6 outer (block_at hypertext.cells before paragraph more) few (few_block hypertext.cells
+    let blocks = few_joined IsOuter 2 13 0 6 outer (block_at hypertext.cells before paragraph more) few (few_block
+    hypertext.cells
     cells before paragraph more) in
     let at = item_count before in
     let items = paragraph.items in
@@ -165,13 +178,20 @@ paragraphs_cost c small shape hypertext bookmarks anchors cells outer few path b
       arith,
       spread bound (length items) (items_of more),
       paragraph_cost c small shape path block blocks hypertext count at paragraph (All-head IsShort
-          paragraph more short) (omega (arith, low)) (λ is. own ∙ no_anchors bookmarks at (length items) (nil_length items is)),
+          paragraph more short) (omega (arith, low)) (λ is. own ∙ no_anchors bookmarks at (length items) (nil_length
+          items is)),
       each bound items,
       ap (total (λ (number : ℕ). c.cost (Anchor number))) own,
       cost-append c path here rest,
       paragraphs_cost c small shape hypertext bookmarks anchors cells outer few (path_behind c path here)
-          (paragraph ∷ before) behind more (All-tail IsShort paragraph more short) (omega (arith, low, references_few items)),
-      anchors_joined c.cost bookmarks at (at + length items) ((at + length items) + items_of more) (omega arith) (omega arith),
+          (paragraph ∷ before) behind more (All-tail IsShort paragraph more short) (omega (
+            arith,
+            low,
+            references_few
+                items,
+          )),
+      anchors_joined c.cost bookmarks at (at + length items) ((at + length items) + items_of more) (omega arith)
+          (omega arith),
       ap (anchors_total c.cost bookmarks at) (ends at (length items) (items_of more)),
     ) in
     long
@@ -191,8 +211,10 @@ IsLabelCost show label = (number : Option ℕ) → IsSmallNumber number → show
 no_cell_reaches : (number : ℕ) → IsSmallSpanIn ((hypertext_of [] 0 [] no_cells).cells.spans number)
 no_cell_reaches number = small_span_at [] (All-nil IsSmallSpanIn) number
 
-one_note : (c : Costs) (label : ℕ) → AreSmall c → IsShape c → IsLabelCost c.show label → (formats : Formats) (manner : Manner) (path : List Element) (number : ℕ) (reference :
-    Reference) (note : List Item) → IsSmallReference reference → number < 1000000 → length note < 999999 → cost_from c path (note_places formats manner number reference note) ≤ note_cost c label + text_cost c *
+one_note : (c : Costs) (label : ℕ) → AreSmall c → IsShape c → IsLabelCost c.show label → (formats : Formats) (manner :
+    Manner) (path : List Element) (number : ℕ) (reference :
+    Reference) (note : List Item) → IsSmallReference reference → number < 1000000 → length note < 999999 → cost_from c
+    path (note_places formats manner number reference note) ≤ note_cost c label + text_cost c *
     length note
 one_note c label small shape labels formats manner path number reference note mark low few =
     where_shown reference.is_shown
@@ -220,19 +242,24 @@ one_note c label small shape labels formats manner path number reference note ma
           cost-append c path first rest,
           one_cost c shape path here (label_of reference.number),
           total-append c.cost outer (BackLink number ∷ []),
-          few_cost IsOuter c.cost c.element c.extra (λ e own. small.elements e (outer_small e own)) 2 0 outer (few_note_path
+          few_cost IsOuter c.cost c.element c.extra (λ e own. small.elements e (outer_small e own)) 2 0 outer
+              (few_note_path
               number low),
           small.elements (BackLink number) low,
           labels reference.number mark.number,
-          paragraphs_cost c small shape hypertext [] refl no_cell_reaches outer (few_note_path number low) (path_behind c
+          paragraphs_cost c small shape hypertext [] refl no_cell_reaches outer (few_note_path number low)
+              (path_behind c
               path first) [] 0 paragraphs text.0 (omega (arith, text.1, few)),
           ap (λ (n : ℕ). bound * n) text.1,
         ) in
         long
 
-notes_cost : (c : Costs) (label : ℕ) → AreSmall c → IsShape c → IsLabelCost c.show label → (formats : Formats) (manner : Manner) (path : List Element) (number : ℕ) (references : List
-    Reference) (notes : List (List Item)) → All IsSmallReference references → number + length references < 1000000 → sum_by
-    length notes < 999999 → cost_from c path (notes_places formats manner number references notes) ≤ note_cost c label * length references + text_cost c * sum_by length notes
+notes_cost : (c : Costs) (label : ℕ) → AreSmall c → IsShape c → IsLabelCost c.show label → (formats : Formats) (manner
+    : Manner) (path : List Element) (number : ℕ) (references : List
+    Reference) (notes : List (List Item)) → All IsSmallReference references → number + length references < 1000000 →
+    sum_by
+    length notes < 999999 → cost_from c path (notes_places formats manner number references notes) ≤ note_cost c label
+    * length references + text_cost c * sum_by length notes
 unfolding notes_places
 notes_cost c label small shape labels formats manner path number [] notes marks low few = omega arith
 notes_cost c label small shape labels formats manner path number (reference ∷ references) [] marks low few = omega arith
@@ -271,7 +298,8 @@ few_references (paragraph ∷ more) =
     ) in
     long
 
-pub document_cost : (c : Costs) (label : ℕ) → AreSmall c → IsShape c → IsLabelCost c.show label → (formats : Formats) (values : List ParagraphValues) (options : Options) (document :
+pub document_cost : (c : Costs) (label : ℕ) → AreSmall c → IsShape c → IsLabelCost c.show label → (formats : Formats)
+    (values : List ParagraphValues) (options : Options) (document :
     Document) → IsSound document → AreParagraphValuesOf document values → cost_from c [] (places_of formats values
     options document) ≤ (text_cost c + note_cost c label) * all_items document + total (λ
     number. c.cost (Anchor number)) (numbers 0 (length document.bookmarks))
@@ -313,7 +341,10 @@ document_cost c label small shape labels formats values options document sound a
       ap (λ (n : ℕ). bound * n) same_count,
       all_anchors c.cost document.bookmarks (0 + items_of paragraphs),
       notes_cost c label small shape labels formats (note_manner options document) (path_behind c [] first) 1
-          references document.notes (references_short paragraphs short) (omega (arith, few, referred)) (omega (arith, few)),
+          references document.notes (references_short paragraphs short) (omega (arith, few, referred)) (omega (
+            arith,
+            few,
+          )),
     ) in
     long
   where

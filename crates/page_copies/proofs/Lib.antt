@@ -5,4 +5,5 @@ mod AnswerLemmas
 mod NameLemmas
 mod PageLemmas
 mod ListLemmas
+mod AfterLemmas
 mod OneLemmas

@@ -56,7 +56,7 @@ kept_paragraphs false true old new e skips = inl skips
 kept_paragraphs true false old new e skips = absurd (cc e)
 kept_paragraphs false false old new e skips = absurd (cc e)
 
-kept_page : (kind : PageKind) (bins : BinTables) (number : ℕ) (old new : List ℕ) →
+pub kept_page : (kind : PageKind) (bins : BinTables) (number : ℕ) (old new : List ℕ) →
     names_page (bin_of kind bins) number ≡ true →
     SkipsPage (kind_alone (names_page bins.characters number) (names_page bins.paragraphs number)) old new →
     IsKeptPage kind old new

@@ -1,5 +1,7 @@
 -- What other crates may cite of these proofs.
 
+-- Where a stream has a list, the stream with skipped pages has it at the same place, skipped or as it was.
+pub use Rattle.page_copies.proofs.AfterLemmas.{HasListAfter, list_after, same_after}
 -- The lists of skipped pages, by the bin tables.
 pub use Rattle.page_copies.proofs.ListLemmas.{IsKeptPage, copy_acts, list_before}
 -- The pages that the first ranges of a bin table name.

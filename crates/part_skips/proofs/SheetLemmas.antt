@@ -161,7 +161,7 @@ slots_all old now count place front stshif are all = record {
 -- ---- what the sheet is
 
 -- the words of the Stshif
-head_word : (old new : List ℕ) (at : ℕ) → SkipsSlots old new → at + 2 ≤ 20 → u16_at new at ≡ u16_at old at
+pub head_word : (old new : List ℕ) (at : ℕ) → SkipsSlots old new → at + 2 ≤ 20 → u16_at new at ≡ u16_at old at
 head_word old new at s low =
     let size = s.stshif.size in
     word_there old new at (λ i below. s.front (at + i) (omega arith))
@@ -177,7 +177,7 @@ head_same old new s =
     let eighteen = head_word old new 18 s (omega arith) in
     rw (six, eight, ten, twelve, fourteen, sixteen, eighteen) refl
 
-place_same : (old new : List ℕ) (istd : ℕ) → SkipsSlots old new → istd ≤ cstd old →
+pub place_same : (old new : List ℕ) (istd : ℕ) → SkipsSlots old new → istd ≤ cstd old →
     slot_place new istd ≡ slot_place old istd
 place_same old new zero s low = ap (λ n. even_up (2 + n)) (head_word old new 0 s (omega arith))
 place_same old new (suc istd) s low =
@@ -185,7 +185,7 @@ place_same old new (suc istd) s low =
     let slot = s.slots istd (omega arith) in
     ap even_up (ap (counted_end new) before ∙ ap (λ n. slot_place old istd + 2 + n) slot.count)
 
-base_high : (part : List ℕ) → HasStshif part → 8 < std_base part
+pub base_high : (part : List ℕ) → HasStshif part → 8 < std_base part
 base_high part h = elim h.base [ inl ten ↦ omega arith | inr more ↦ omega arith ]
 
 slot_before : (old new : List ℕ) (istd : ℕ) (slot : Option Style) → SkipsSlots old new → istd < cstd old →

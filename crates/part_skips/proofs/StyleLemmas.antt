@@ -72,7 +72,7 @@ is_put old new from to ordered within p =
 
 -- ---- numbers and places
 
-word_same : (old new : List ℕ) (at n : ℕ) → ((i : ℕ) → i < n → slice_index new i ≡ slice_index old i) → at + 2 ≤ n →
+pub word_same : (old new : List ℕ) (at n : ℕ) → ((i : ℕ) → i < n → slice_index new i ≡ slice_index old i) → at + 2 ≤ n →
     u16_at new at ≡ u16_at old at
 word_same old new at n same low = number_at-same new old at at 2 (λ i below. same (at + i) (omega arith))
 
@@ -84,13 +84,13 @@ upxes_low std base = omega arith
 abbrev pub SameFront : ℕ → List ℕ → List ℕ → Type 0
 SameFront base old new = (i : ℕ) → i < upx_place old base 0 + 2 → slice_index new i ≡ slice_index old i
 
-first_same : (base : ℕ) (old new : List ℕ) → SameFront base old new → upx_place new base 0 ≡ upx_place old base 0
+pub first_same : (base : ℕ) (old new : List ℕ) → SameFront base old new → upx_place new base 0 ≡ upx_place old base 0
 first_same base old new same =
     let low = upxes_low old base in
     ap (λ n. even_up (base + 4 + 2 * n)) (word_same old new base (upx_place old base 0 + 2) same (omega arith))
 
 -- where the first upx ends
-first_end : (base : ℕ) (old new : List ℕ) → SameFront base old new →
+pub first_end : (base : ℕ) (old new : List ℕ) → SameFront base old new →
     counted_end new (upx_place new base 0) ≡ counted_end old (upx_place old base 0)
 first_end base old new same =
     let place = first_same base old new same in
@@ -98,10 +98,10 @@ first_end base old new same =
     ∙ ap (λ n. upx_place old base 0 + 2 + n)
     (word_same old new (upx_place old base 0) (upx_place old base 0 + 2) same (omega arith))
 
-second_same : (base : ℕ) (old new : List ℕ) → SameFront base old new → upx_place new base 1 ≡ upx_place old base 1
+pub second_same : (base : ℕ) (old new : List ℕ) → SameFront base old new → upx_place new base 1 ≡ upx_place old base 1
 second_same base old new same = ap even_up (first_end base old new same)
 
-stk_same : (base : ℕ) (old new : List ℕ) → SameFront base old new → stk new ≡ stk old
+pub stk_same : (base : ℕ) (old new : List ℕ) → SameFront base old new → stk new ≡ stk old
 stk_same base old new same =
     let low = upxes_low old base in
     ap (λ n. n % 16) (word_same old new 2 (upx_place old base 0 + 2) same (omega arith))
@@ -113,7 +113,9 @@ back_front base old new same =
 -- ---- a style of paragraphs
 
 pub record HasBothLists (base : ℕ) (old new : List ℕ) : Type 0 where
+  pub len : length new ≡ length old
   pub front : SameFront base old new
+  pub second : u16_at new (upx_place old base 1) ≡ u16_at old (upx_place old base 1)
   pub pap : SkipsOrStays (paragraph_list old base) (paragraph_list new base)
   pub chp : SkipsOrStays (upx old base 1) (upx new base 1)
 
@@ -158,7 +160,9 @@ both_lists base old new std s =
     sym (range_same s.mid old (q + 2) (counted_end old q) (omega arith) second_within
     (λ i low high. one.above i (omega arith))) ∙ ap (slice_range s.mid (q + 2)) (sym mid_end) in
     record {
+      len = all ∙ len;
       front = front;
+      second = chp_count ∙ count;
       pap = subst (λ l. SkipsOrStays l (paragraph_list new base)) (sym pap_old)
           (subst (SkipsOrStays (slice_range old (p + 2 + 2) end)) (sym (pap_new ∙ pap_mid)) one.skips);
       chp = subst (λ l. SkipsOrStays l (upx new base 1)) (sym chp_old)
@@ -187,6 +191,7 @@ second_counted base old mid std para first =
 -- ---- a style of characters
 
 pub record HasOneList (base : ℕ) (old new : List ℕ) : Type 0 where
+  pub len : length new ≡ length old
   pub front : SameFront base old new
   pub chp : SkipsOrStays (upx old base 0) (upx new base 0)
 
@@ -204,7 +209,7 @@ one_list base old new std s =
     let chp_new : upx new base 0 ≡ slice_range new (p + 2) end =
     ap (λ n. slice_range new (n + 2) (counted_end new (upx_place new base 0))) new_p
     ∙ ap (slice_range new (p + 2)) new_end in
-    record { front = front; chp = subst (SkipsOrStays (upx old base 0)) (sym chp_new) put.skips }
+    record { len = put.len; front = front; chp = subst (SkipsOrStays (upx old base 0)) (sym chp_new) put.skips }
 
 -- ---- what a style is
 

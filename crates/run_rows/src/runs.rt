@@ -28,7 +28,7 @@ fn runs(alloc: Global, json: &str, guards: &mut [Box<dyn Guard>]) -> Result<bool
     }
 }
 
-/// The same of the commands of a script.
+/// Whether the commands of a script are run to their end.
 fn ends(alloc: Global, script: &Script, guards: &mut [Box<dyn Guard>]) -> Result<bool, RunFault>
     requires few { length script.now ≤ most_commands }
     requires saved { EndsWithSave script.now }

@@ -1,26 +1,22 @@
-use Rattle.std.proofs.Common.{◌≡◌, ◌∙◌, ◌++◌, ap, sym, subst, List, map, take, drop, length, append_assoc, arith}
+use Rattle.std.proofs.Common.{◌≡◌, ◌∙◌, ◌++◌, ap, sym, subst, List, map, length, arith}
 use Rattle.plain_doc.specs.declared.document.Document.{Document}
 use Rattle.doc_mends.specs.declared.mends.DeletedRange.{DeletedRange}
-use Rattle.doc_mends.specs.declared.mends.Mend.{Mend}
 use Rattle.doc_mends.specs.declared.mends.Mend.TheVariants.{KeepDeleted}
 use Rattle.doc_mends.specs.Mends.{AreRanges, all_struck, struck_ranges, strikes, kept_ranges}
 use Rattle.deleted_text.specs.Ranges.{document_ranges}
-use Rattle.deleted_text.specs.Strikes.{IsStruck, most_struck}
+use Rattle.deleted_text.specs.Strikes.{IsStruck}
 use Rattle.deleted_text.proofs.RangeLemmas.{ranges_there}
-use Rattle.deleted_text.proofs.StrikeLemmas.{first_there, no_strikes}
+use Rattle.deleted_text.proofs.StrikeLemmas.{no_strikes}
 use Rattle.deleted_text.proofs.striking.strike_text.Goals as goal
 
 pub strike_deleted-requires : goal.strike_deleted-requires
 strike_deleted-requires c =
     let document = c.args.document.now in
-    let ranges = c.in_ok-ranges.ranges.items in
-    let there : AreRanges document ranges =
-    subst (AreRanges document) (sym c.in_ok-ranges.ensures) (ranges_there c.args.begins c.args.flags.now document) in
-    let first : c.first_ranges.result.now ≡ take most_struck ranges =
-    c.first_ranges.ensures ∙ ap (take most_struck) c.deref.ensures.value in
-    subst (λ (l : List DeletedRange). AreRanges c.in_ok-copy.copy l) (sym first)
-    (subst (λ (d : Document). AreRanges d (take most_struck ranges)) (sym c.in_ok-copy.ensures)
-    (first_there document ranges there))
+    let ranges = document_ranges c.args.begins c.args.flags.now document in
+    subst (λ (l : List DeletedRange). AreRanges c.in_ok-copy.copy l)
+    (sym (c.deref.ensures.value ∙ c.in_ok-ranges.ensures))
+    (subst (λ (d : Document). AreRanges d ranges) (sym c.in_ok-copy.ensures)
+    (ranges_there c.args.begins c.args.flags.now document))
 
 pub returns-then-len-eq0 : goal.returns-then-len-eq0
 returns-then-len-eq0 c =
@@ -34,28 +30,20 @@ pub returns : goal.returns
 returns c =
     let document = c.args.document.now in
     let ranges = document_ranges c.args.begins c.args.flags.now document in
-    let first = take most_struck ranges in
     let copy : c.in_ok-copy.copy ≡ document = c.in_ok-copy.ensures in
-    let given = c.first_ranges.result.now in
-    let all : given ≡ first =
-    c.first_ranges.ensures ∙ ap (take most_struck) (c.deref.ensures.value ∙ c.in_ok-ranges.ensures) in
-    let struck : c.in_ok-struck.field-0.document ≡ all_struck (struck_ranges document first) document =
+    let given = c.deref.result.now in
+    let all : given ≡ ranges = c.deref.ensures.value ∙ c.in_ok-ranges.ensures in
+    let struck : c.in_ok-struck.field-0.document ≡ all_struck (struck_ranges document ranges) document =
     c.in_ok-struck.ensures.document
     ∙ (ap (λ (d : Document). all_struck (struck_ranges d given) d) copy
     ∙ ap (λ (l : List DeletedRange). all_struck (struck_ranges document l) document) all) in
-    let mends : c.in_ok-struck.field-0.mends.items ≡ strikes document first =
+    let mends : c.in_ok-struck.field-0.mends.items ≡ strikes document ranges =
     c.in_ok-struck.ensures.mends ∙ (ap (λ (d : Document). strikes d given) copy ∙ ap (strikes document) all) in
-    let kept : c.deref-2.result.now ≡ kept_ranges document first =
+    let kept : c.deref-2.result.now ≡ kept_ranges document ranges =
     c.deref-2.ensures.value
     ∙ (c.in_ok-struck.ensures.kept
     ∙ (ap (λ (d : Document). kept_ranges d given) copy ∙ ap (kept_ranges document) all)) in
-    let others : c.other_ranges.result.now ≡ drop most_struck ranges =
-    c.other_ranges.ensures ∙ ap (drop most_struck) (c.deref-3.ensures.value ∙ c.in_ok-ranges.ensures) in
     record {
       document_is = struck;
-      mends_are = c.in_ok-push_kept-2.ensures
-          ∙ (ap (λ (l : List Mend). l ++ map KeepDeleted c.other_ranges.result.now) c.in_ok-push_kept.ensures
-          ∙ (append_assoc c.in_ok-struck.field-0.mends.items (map KeepDeleted c.deref-2.result.now)
-          (map KeepDeleted c.other_ranges.result.now)
-          ∙ (λ i. mends i ++ (map KeepDeleted (kept i) ++ map KeepDeleted (others i)))));
+      mends_are = c.in_ok-push_kept.ensures ∙ (λ i. mends i ++ map KeepDeleted (kept i));
     }

@@ -15,52 +15,57 @@ use Rattle.doc_fit.proofs.noting.note_lifted.Goals as goal
 pub splice_lifted-requires : goal.splice_lifted-requires
 splice_lifted-requires c =
     let file = c.args.file.now in
+    let stories = c.args.stories in
     let bytes : AreBytes file = λ i. omega (arith, c.type_inv.file i) in
-    struck_streams file c.args.lifted.now bytes c.requires c.strike_lifted.new.lifted c.in_ok-strikes.strikes.items
+    struck_streams stories file c.args.lifted.now bytes c.requires c.strike_lifted.new.lifted c.in_ok-strikes.strikes.items
     c.in_ok-strikes.ensures
 
 pub returns-in_default : goal.returns-in_default
 returns-in_default c =
     let file = c.args.file.now in
+    let stories = c.args.stories in
     let bytes : AreBytes file = λ i. omega (arith, c.type_inv.file i) in
     let struck = c.strike_lifted.new.lifted in
-    no_splice file c.args.lifted.now bytes c.requires struck c.in_ok-strikes.strikes.items c.in_ok-strikes.ensures
-    (subst (λ (o : Option Spliced). MatchOption o (HasNoSpliceOf struck) (IsSplicedOf struck)) c.in_default.is
+    no_splice stories file c.args.lifted.now bytes c.requires struck c.in_ok-strikes.strikes.items c.in_ok-strikes.ensures
+    (subst (λ (o : Option Spliced). MatchOption o (HasNoSpliceOf stories struck) (IsSplicedOf stories struck)) c.in_default.is
     c.in_ok-spliced.ensures)
 
 pub mend-requires : goal.mend-requires
 mend-requires c =
     let file = c.args.file.now in
+    let stories = c.args.stories in
     let bytes : AreBytes file = λ i. omega (arith, c.type_inv.file i) in
     let struck = c.strike_lifted.new.lifted in
-    spliced_formed file c.args.lifted.now bytes c.requires struck c.in_ok-strikes.strikes.items c.in_ok-strikes.ensures
+    spliced_formed stories file c.args.lifted.now bytes c.requires struck c.in_ok-strikes.strikes.items c.in_ok-strikes.ensures
     c.in-Some.spliced
-    (subst (λ (o : Option Spliced). MatchOption o (HasNoSpliceOf struck) (IsSplicedOf struck)) c.in-Some.is
+    (subst (λ (o : Option Spliced). MatchOption o (HasNoSpliceOf stories struck) (IsSplicedOf stories struck)) c.in-Some.is
     c.in_ok-spliced.ensures)
 
 pub check_document-requires : goal.check_document-requires
 check_document-requires c =
     let file = c.args.file.now in
+    let stories = c.args.stories in
     let bytes : AreBytes file = λ i. omega (arith, c.type_inv.file i) in
     let struck = c.strike_lifted.new.lifted in
-    noted_formed file c.args.lifted.now bytes c.requires struck c.in_ok-strikes.strikes.items c.in_ok-strikes.ensures
+    noted_formed stories file c.args.lifted.now bytes c.requires struck c.in_ok-strikes.strikes.items c.in_ok-strikes.ensures
     c.in-Some.spliced
-    (subst (λ (o : Option Spliced). MatchOption o (HasNoSpliceOf struck) (IsSplicedOf struck)) c.in-Some.is
+    (subst (λ (o : Option Spliced). MatchOption o (HasNoSpliceOf stories struck) (IsSplicedOf stories struck)) c.in-Some.is
     c.in_ok-spliced.ensures) c.in_ok-found.found c.in_ok-found.ensures c.mend.new.document
     c.in_ok-others.others.items c.in_ok-others.ensures.ok
 
 pub returns-in-Ok : goal.returns-in-Ok
 returns-in-Ok c =
     let file = c.args.file.now in
+    let stories = c.args.stories in
     let bytes : AreBytes file = λ i. omega (arith, c.type_inv.file i) in
     let struck = c.strike_lifted.new.lifted in
     let strikes : List Mend = c.in_ok-strikes.strikes.items in
     let made = c.in-Some.spliced.made.items in
-    let mends : c.in_ok-report-in-Ok.report.mends.items ≡ map MakeNote made ++ (strikes ++ c.in_ok-others.others.items) =
-    c.in_ok-report-in-Ok.ensures.mends
+    let mends : c.in_ok-mends-in-Ok.mends.items ≡ map MakeNote made ++ (strikes ++ c.in_ok-others.others.items) =
+    c.in_ok-mends-in-Ok.ensures
     ∙ (λ i. map MakeNote (c.deref.ensures.value i) ++ (strikes ++ c.deref-in-Ok.ensures.value i)) in
-    noted_report_is file c.args.lifted.now bytes c.requires struck strikes c.in_ok-strikes.ensures c.in-Some.spliced
-    (subst (λ (o : Option Spliced). MatchOption o (HasNoSpliceOf struck) (IsSplicedOf struck)) c.in-Some.is
+    noted_report_is stories file c.args.lifted.now bytes c.requires struck strikes c.in_ok-strikes.ensures c.in-Some.spliced
+    (subst (λ (o : Option Spliced). MatchOption o (HasNoSpliceOf stories struck) (IsSplicedOf stories struck)) c.in-Some.is
     c.in_ok-spliced.ensures) c.in_ok-found.found c.in_ok-found.ensures c.mend.new.document
     c.in_ok-others.others.items c.in_ok-others.ensures.ok
     (record {
@@ -68,17 +73,19 @@ returns-in-Ok c =
       outer = c.strike_lifted.new.lifted.outer;
       units = c.strike_lifted.new.lifted.units;
       deleted = c.strike_lifted.new.lifted.deleted;
-    }) c.in_ok-report-in-Ok.report.losses c.in_ok-report-in-Ok.report.mends.items refl
-    c.in_ok-report-in-Ok.ensures.losses mends c.in-Ok.ensures
+      offsets = c.strike_lifted.new.lifted.offsets;
+    }) c.in_ok-losses-in-Ok.losses c.in_ok-mends-in-Ok.mends.items refl
+    c.in_ok-losses-in-Ok.ensures mends c.in-Ok.ensures
 
 pub returns-in-Err-Refused : goal.returns-in-Err-Refused
 returns-in-Err-Refused c =
     let file = c.args.file.now in
+    let stories = c.args.stories in
     let bytes : AreBytes file = λ i. omega (arith, c.type_inv.file i) in
     let struck = c.strike_lifted.new.lifted in
-    not_noted file c.args.lifted.now bytes c.requires struck c.in_ok-strikes.strikes.items c.in_ok-strikes.ensures
+    not_noted stories file c.args.lifted.now bytes c.requires struck c.in_ok-strikes.strikes.items c.in_ok-strikes.ensures
     c.in-Some.spliced
-    (subst (λ (o : Option Spliced). MatchOption o (HasNoSpliceOf struck) (IsSplicedOf struck)) c.in-Some.is
+    (subst (λ (o : Option Spliced). MatchOption o (HasNoSpliceOf stories struck) (IsSplicedOf stories struck)) c.in-Some.is
     c.in_ok-spliced.ensures) c.in_ok-found.found c.in_ok-found.ensures c.mend.new.document
     c.in_ok-others.others.items c.in_ok-others.ensures.ok c.in-Err-Refused.field-0-0
     (c.in-Err-Refused.field-0-1, c.in-Err-Refused.field-0-2)

@@ -1,4 +1,4 @@
-use Rattle.std.proofs.Common.{refl}
+use Rattle.std.proofs.Common.{◌∙◌, refl}
 use Rattle.doc_fit.proofs.MendLemmas.{struck_text}
 use Rattle.doc_fit.proofs.noting.strike_lifted.Goals as goal
 
@@ -10,7 +10,8 @@ returns c =
       outer = refl;
       text = has.text;
       has_text = has.has_text;
-      struck_is = struck_text before c.args.found.now c.strike_text.new.document c.replace-deleted.result.items
-          c.deref.result.now c.in_ok-strikes.strikes.items has c.requires.found c.deref.ensures.value
-          (λ i. (c.replace-deleted.ensures.value i).items) c.in_ok-strikes.ensures;
+      struck_is = struck_text before c.args.found.now c.strike_and_define.new.document c.deref.result.now
+          c.deref-2.result.now c.in_ok-strikes.strikes.items has c.requires.found
+          (c.deref.ensures.value ∙ (λ i. (c.replace-deleted.ensures.value i).items))
+          (c.deref-2.ensures.value ∙ (λ i. (c.replace-offsets.ensures.value i).items)) c.in_ok-strikes.ensures;
     }

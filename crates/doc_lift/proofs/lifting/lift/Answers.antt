@@ -46,6 +46,7 @@ returns-in-Ok-lift_contents c =
       fib = is.fib;
       units = is.units;
       deleted = is.deleted;
+      offsets = is.offsets;
       means = file_means file contents found.document outer.1.0 is.means;
       formed = is.formed;
     })

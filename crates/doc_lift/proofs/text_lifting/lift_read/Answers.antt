@@ -16,7 +16,7 @@ use Rattle.doc_lift.specs.LiftedTexts.{IsLiftedBy}
 use Rattle.doc_lift.specs.FilledTexts.{filled_rules}
 use Rattle.doc_lift.specs.Reading.{IsReadWith, IsTextRead}
 use Rattle.doc_lift.proofs.LiftLemmas.{written_front, has_front, stream_small, early_long, early_same}
-use Rattle.doc_lift.proofs.LiftLemmas.{length-lifted_wd, read_small, deleted_found}
+use Rattle.doc_lift.proofs.LiftLemmas.{length-lifted_wd, read_small, deleted_found, offsets_found}
 use Rattle.doc_lift.proofs.ReadLemmas.{IsFrontRead, lifted_text, refused_text, text_room, skipped_read}
 use Rattle.doc_lift.proofs.ReadLemmas.{plain_read_streams, found_for, found_skipped, none_for}
 use Rattle.doc_lift.proofs.text_lifting.lift_read.Goals as goal
@@ -215,12 +215,15 @@ returns-in-Some c =
     subst (λ (us : List ℕ). IsReadWith wd contents read us c.in_ok-read.read) units_are found in
     let says = deleted_found wd table c.args.fib.now text c.in_ok-deleted.deleted.items c.requires.same
     c.in_ok-deleted.ensures in
+    let named = offsets_found wd table c.args.fib.now units text c.in_ok-offsets.offsets.items c.requires.same
+    c.in_ok-offsets.ensures in
     subst (IsLiftedBy (read_table_rules wd table) contents) (sym c.lifted_read.ensures)
     (lifted_text contents wd table units text read (record {
       document = c.in_ok-read.read.document;
       units = c.in_ok-read.read.units;
       deleted = c.in_ok-deleted.deleted;
-    }) is own.document_is own.units_are says)
+      offsets = c.in_ok-offsets.offsets;
+    }) is own.document_is own.units_are says named)
 
 pub read_filled-requires-2-clause-room : goal.read_filled-requires-2-clause-room
 read_filled-requires-2-clause-room c =
@@ -348,9 +351,12 @@ returns c =
     c.in_ok-read-2.ensures in
     let says = deleted_found wd table c.args.fib.now text c.in_ok-deleted.deleted.items c.requires.same
     c.in_ok-deleted.ensures in
+    let named = offsets_found wd table c.args.fib.now units text c.in_ok-offsets.offsets.items c.requires.same
+    c.in_ok-offsets.ensures in
     subst (IsLiftedBy (read_table_rules wd table) contents) (sym c.lifted_read-2.ensures)
     (lifted_text contents wd table units text text (record {
       document = c.in_ok-read-2.read.document;
       units = c.in_ok-read-2.read.units;
       deleted = c.in_ok-deleted.deleted;
-    }) is own.document_is own.units_are says)
+      offsets = c.in_ok-offsets.offsets;
+    }) is own.document_is own.units_are says named)

@@ -1,10 +1,12 @@
-use Rattle.std.proofs.Common.{◌∙◌, subst, map}
+use Rattle.std.proofs.Common.{◌∙◌, subst, sym, inl, inr, refl, map}
 use Rattle.std.specs.String.{string_bytes}
 use Rattle.docfit_run.specs.Endings.{IsEnding}
 use Rattle.docfit_run.proofs.LawLemmas.{fits_are_held, fits_save_accepted, fits_are_fixed}
 use Rattle.docfit_run.proofs.OneLemmas.{fit_is_one}
 use Rattle.docfit_run.proofs.PutLemmas.{ending_usage}
 use Rattle.docfit_run.proofs.CompleteLemmas.{complete}
+use Rattle.docfit_run.proofs.AcceptedLemmas.{unrefused}
+use Rattle.docfit_run.specs.Laws.{IsAcceptedStatus}
 use Rattle.docfit_run.proofs.run.docfit_run.Goals as goal
 
 pub returns-in_default-clause-held : goal.returns-in_default-clause-held
@@ -55,3 +57,17 @@ returns-in-Ok-write_all-clause-complete g c plain file name files asked told can
     let is = subst (λ held. IsEnding words held ending) told c.in-Ok.ensures.ending in
     c.status.ensures ∙ complete words plain file name files ending asked can is
     (λ e. no_fault (c.in-Ok.ensures.cause.shelf_fault e))
+
+pub returns-in_default-clause-unrefused : goal.returns-in_default-clause-unrefused
+returns-in_default-clause-unrefused g c plain file name files bytes asked told there accepted =
+    inr (inr (inr (inl refl)))
+
+pub returns-in-Ok-write_all-clause-unrefused : goal.returns-in-Ok-write_all-clause-unrefused
+returns-in-Ok-write_all-clause-unrefused g c plain file name files bytes asked told there accepted =
+    let words = map string_bytes c.args.words.now in
+    let ending = c.in-Ok.ending in
+    let is = subst (λ held. IsEnding words held ending) told c.in-Ok.ensures.ending in
+    subst IsAcceptedStatus (sym c.status.ensures) (unrefused words plain file name files bytes ending asked there accepted is)
+
+pub returns-clause-unrefused : goal.returns-clause-unrefused
+returns-clause-unrefused g c plain file name files bytes asked told there accepted = inr (inr (inl refl))

@@ -1,5 +1,5 @@
 use Rattle.std.proofs.Common.{◌≡◌, take, length}
-use Rattle.further_notes.specs.EndnoteFiles.{with_numbers}
+use Rattle.further_notes.specs.NoteFiles.{with_numbers}
 use Rattle.further_notes.proofs.files.put_numbers.Given as goal
 
 -- the numbers so far

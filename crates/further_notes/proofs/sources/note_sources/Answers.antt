@@ -16,30 +16,30 @@ loop-at-init c = search rules
 
 pub loop-at-preserved : goal.loop-at-preserved
 loop-at-preserved c =
-    let footnotes : List (Option NoteKind) = c.args.footnotes.now in
-    let endnotes : List (Option NoteKind) = c.args.endnotes.now in
+    let own : List (Option NoteKind) = c.args.own.now in
+    let others : List (Option NoteKind) = c.args.others.now in
     let at = c.loop-at.at in
-    let own = c.loop-at.own in
+    let before = c.loop-at.before in
     let more = c.loop-at.more in
-    let before = c.loop-at.invariant in
-    let here : Option NoteKind = get_or footnotes at None in
+    let so_far = c.loop-at.invariant in
+    let here : Option NoteKind = get_or own at None in
     let pick : List (Option NoteSource) → List NoteSource = filter_map (λ (o : Option NoteSource). o) in
-    let there : kind_at footnotes at ≡ here = unwrap_or-slice_get footnotes at None in
-    let source : c.source_by.result ≡ source_by here (kind_at endnotes at) own more =
-    c.source_by.ensures ∙ ap (λ (k : Option NoteKind). source_by here k own more) c.kind_at-endnote.ensures in
-    let footnote_more = before_more footnotes at in
-    let endnote_more = before_more endnotes at in
-    let one : c.one_if-own.result ≡ count_by is_some (kind_at footnotes at ∷ []) =
-    c.one_if-own.ensures.count ∙ ap (λ (k : Option NoteKind). count_by is_some (k ∷ [])) (sym there) in
-    let other : c.one_if-more.result ≡ count_by is_some (kind_at endnotes at ∷ []) =
-    c.one_if-more.ensures.count ∙ ap (λ (k : Option NoteKind). count_by is_some (k ∷ [])) c.kind_at-endnote.ensures in
+    let there : kind_at own at ≡ here = unwrap_or-slice_get own at None in
+    let source : c.source_by.result ≡ source_by here (kind_at others at) before more =
+    c.source_by.ensures ∙ ap (λ (k : Option NoteKind). source_by here k before more) c.kind_at-other.ensures in
+    let own_more = before_more own at in
+    let other_more = before_more others at in
+    let one : c.one_if-before.result ≡ count_by is_some (kind_at own at ∷ []) =
+    c.one_if-before.ensures.count ∙ ap (λ (k : Option NoteKind). count_by is_some (k ∷ [])) (sym there) in
+    let other : c.one_if-more.result ≡ count_by is_some (kind_at others at ∷ []) =
+    c.one_if-more.ensures.count ∙ ap (λ (k : Option NoteKind). count_by is_some (k ∷ [])) c.kind_at-other.ensures in
     record {
       list = c.in_ok-push_source.ensures
           ∙ (ap (λ (o : Option NoteSource). c.loop-at.list.items ++ pick (o ∷ [])) source
-          ∙ source_more footnotes endnotes at own more here c.loop-at.list.items
-          (slice_get-get_or footnotes at None c.loop-at-test.true) before.own before.more before.list);
-      own = omega (arith, footnote_more, one, before.own);
-      more = omega (arith, endnote_more, other, before.more);
-      few = omega (arith, before.few, c.one_if-own.ensures.few);
-      some = omega (arith, before.some, c.one_if-more.ensures.few);
+          ∙ source_more own others at before more here c.loop-at.list.items
+          (slice_get-get_or own at None c.loop-at-test.true) so_far.before so_far.more so_far.list);
+      before = omega (arith, own_more, one, so_far.before);
+      more = omega (arith, other_more, other, so_far.more);
+      few = omega (arith, so_far.few, c.one_if-before.ensures.few);
+      some = omega (arith, so_far.some, c.one_if-more.ensures.few);
     }

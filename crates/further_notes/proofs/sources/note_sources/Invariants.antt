@@ -7,9 +7,9 @@ use Rattle.further_notes.proofs.sources.note_sources.Given as goal
 -- the notes so far, and how many of each kind
 abbrev pub invariant-loop-at : goal.invariant-loop-at
 invariant-loop-at l = record {
-  list : l.list.items ≡ filter_map (λ source. source) (tabulate (source_at l.footnotes l.endnotes) l.at);
-  own : l.own ≡ notes_before l.footnotes l.at;
-  more : l.more ≡ notes_before l.endnotes l.at;
-  few : l.own ≤ l.at;
+  list : l.list.items ≡ filter_map (λ source. source) (tabulate (source_at l.own l.others) l.at);
+  before : l.before ≡ notes_before l.own l.at;
+  more : l.more ≡ notes_before l.others l.at;
+  few : l.before ≤ l.at;
   some : l.more ≤ l.at;
 }

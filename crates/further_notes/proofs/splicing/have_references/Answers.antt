@@ -10,16 +10,16 @@ use Rattle.further_notes.proofs.splicing.have_references.Goals as goal
 
 pub loop-at-preserved : goal.loop-at-preserved
 loop-at-preserved c =
-    let footnotes : List (Option NoteKind) = c.args.footnotes.now in
-    let endnotes : List (Option NoteKind) = c.args.endnotes.now in
+    let own : List (Option NoteKind) = c.args.own.now in
+    let others : List (Option NoteKind) = c.args.others.now in
     let at = c.loop-at.at in
     let before = c.loop-at.invariant in
-    let there : kind_at footnotes at ≡ get_or footnotes at None = unwrap_or-slice_get footnotes at None in
-    let more = before_more endnotes at in
-    let one : c.one_if-found.result ≡ count_by is_some (kind_at endnotes at ∷ []) =
-    c.one_if-found.ensures.count ∙ ap (λ (k : Option NoteKind). count_by is_some (k ∷ [])) c.kind_at-endnote.ensures in
-    let both : (is_some (kind_at footnotes at) && is_some (kind_at endnotes at)) ≡ false =
-    (λ i. is_some (there i) && is_some (sym c.kind_at-endnote.ensures i))
+    let there : kind_at own at ≡ get_or own at None = unwrap_or-slice_get own at None in
+    let more = before_more others at in
+    let one : c.one_if-found.result ≡ count_by is_some (kind_at others at ∷ []) =
+    c.one_if-found.ensures.count ∙ ap (λ (k : Option NoteKind). count_by is_some (k ∷ [])) c.kind_at-other.ensures in
+    let both : (is_some (kind_at own at) && is_some (kind_at others at)) ≡ false =
+    (λ i. is_some (there i) && is_some (sym c.kind_at-other.ensures i))
     ∙ (sym c.are_both.ensures ∙ c.if-are_both.false) in
     record {
       found = omega (arith, more, one, before.found);
@@ -28,6 +28,6 @@ loop-at-preserved c =
         | inl front ↦ before.apart i front
         | inr last ↦
             let same : at ≡ i = omega (arith, low, last) in
-            subst (λ (k : ℕ). (is_some (kind_at footnotes k) && is_some (kind_at endnotes k)) ≡ false) same both
+            subst (λ (k : ℕ). (is_some (kind_at own k) && is_some (kind_at others k)) ≡ false) same both
       ];
     }

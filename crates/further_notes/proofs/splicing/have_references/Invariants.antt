@@ -6,7 +6,7 @@ use Rattle.further_notes.proofs.splicing.have_references.Given as goal
 -- the references so far, and no item refers to both
 abbrev pub invariant-loop-at : goal.invariant-loop-at
 invariant-loop-at l = record {
-  found : l.found ≡ notes_before l.endnotes l.at;
+  found : l.found ≡ notes_before l.others l.at;
   few : l.found ≤ l.at;
-  apart : (i : ℕ) → i < l.at → (is_some (kind_at l.footnotes i) && is_some (kind_at l.endnotes i)) ≡ false;
+  apart : (i : ℕ) → i < l.at → (is_some (kind_at l.own i) && is_some (kind_at l.others i)) ≡ false;
 }

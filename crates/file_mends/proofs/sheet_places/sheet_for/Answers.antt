@@ -1,0 +1,2 @@
+use Rattle.file_mends.proofs.SheetLemmas.{none_in}
+use Rattle.file_mends.proofs.sheet_places.sheet_for.Goals as goal

@@ -1,0 +1,116 @@
+// Where the style sheet of a file is.
+ghost use Rattle.std.specs.Prelude.{◌≡◌, ◌<◌, ◌≤◌, ◌^◌, MatchOption, Some, length, slice_get};
+ghost use Rattle.cfb_streams.specs.Contents.{Stream};
+ghost use Rattle.fib_form.specs.Fib.{fib_pair, table_part};
+ghost use Rattle.file_mends.specs.SheetPlaces.{IsSheetAmong, IsSheetBy, IsSheetIn, IsSheetOf};
+ghost use Rattle.file_mends.specs.SheetPlaces.{SheetPlace as Sheet};
+
+use cfb_streams::{Container, equal_names, table_name, word_document};
+use doc_bits::{get16, get32};
+use fib_form::{EARLY_SIZE, F_WHICH_TBL_STM, FLAGS, RG_FC_LCB, bit_of};
+use std::marker::Model;
+
+/// [MS-DOC] FibRgFcLcb97: the place of the pair of the style sheet.
+const STSHF: usize = RG_FC_LCB + 8;
+
+/// Where the style sheet begins in the table stream, its bytes, and the sectors of the table stream.
+#[derive(Drop)]
+pub(crate) struct SheetPlace<'a> {
+    pub(crate) at: usize,
+    pub(crate) part: &'a [u8],
+    pub(crate) sectors: &'a [u32],
+}
+
+impl<'a> Model for SheetPlace<'a> {
+    ghost use Rattle.std.specs.Prelude.{◌<◌, ◌^◌, length};
+    ghost use Rattle.file_mends.specs.SheetPlaces.{SheetPlace};
+
+    ghost Value = { SheetPlace };
+
+    ghost view = { λ s. record { at = s.at; part = s.part.now; sectors = s.sectors.now } };
+
+    ghost invariant = { λ s. (s.at < 2 ^ 32) × (length s.part.now < 2 ^ 32) };
+}
+
+/// The style sheet of a file, by its streams.
+pub(crate) fn sheet_among(container: &Container) -> Option<SheetPlace<'_>>
+    ensures { MatchOption result
+        ((sheet : Sheet) → ¬ IsSheetAmong container.now sheet)
+        (IsSheetAmong container.now) }
+{
+    for i in 0..container.count() {
+        if let Some(sheet) = sheet_by(container, i) {
+            return Some(sheet);
+        }
+    }
+    None
+}
+
+/// The same by one of them, where it is `WordDocument`.
+fn sheet_by(container: &Container, i: usize) -> Option<SheetPlace<'_>>
+    requires { i < length container.now.streams }
+    ensures { MatchOption result
+        ((stream : Stream) (sheet : Sheet) → slice_get container.now.streams i ≡ Some stream
+        → ¬ IsSheetBy container.now stream sheet)
+        (IsSheetAmong container.now) }
+{
+    if !equal_names(container.name(i), word_document()) {
+        return None;
+    }
+    let wd = container.bytes(i);
+    if wd.len() < EARLY_SIZE {
+        return None;
+    }
+    sheet_for(container, wd)
+}
+
+/// The style sheet of a `WordDocument`.
+fn sheet_for<'a>(container: &'a Container, wd: &[u8]) -> Option<SheetPlace<'a>>
+    requires { 900 ≤ length wd.now }
+    ensures { MatchOption result
+        ((sheet : Sheet) → ¬ IsSheetIn container.now wd.now sheet)
+        (IsSheetIn container.now wd.now) }
+{
+    for i in 0..container.count() {
+        if let Some(sheet) = sheet_in(container, i, wd) {
+            return Some(sheet);
+        }
+    }
+    None
+}
+
+/// The same in one of the streams, where it is the table stream.
+fn sheet_in<'a>(container: &'a Container, i: usize, wd: &[u8]) -> Option<SheetPlace<'a>>
+    requires within { i < length container.now.streams }
+    requires long { 900 ≤ length wd.now }
+    ensures { MatchOption result
+        ((stream : Stream) (sheet : Sheet) → slice_get container.now.streams i ≡ Some stream
+        → ¬ IsSheetOf stream wd.now sheet)
+        (IsSheetIn container.now wd.now) }
+{
+    let which = bit_of(get16(wd, FLAGS), F_WHICH_TBL_STM) as u8;
+    if !equal_names(container.name(i), table_name(which)) {
+        return None;
+    }
+    let Some(sectors) = container.chain(i) else {
+        return None;
+    };
+    let part = sheet_part(wd, container.bytes(i));
+    Some(SheetPlace {
+        at: get32(wd, STSHF) as usize,
+        part,
+        sectors,
+    })
+}
+
+/// The bytes of the style sheet, as far as they are in the table stream.
+fn sheet_part<'a>(wd: &[u8], table: &'a [u8]) -> &'a [u8]
+    requires { 900 ≤ length wd.now }
+    ensures part { result.now ≡ table_part wd.now table.now 1 }
+    ensures short { length result.now < 2 ^ 32 }
+{
+    let from = get32(wd, STSHF) as usize;
+    let to = from + get32(wd, STSHF + 4) as usize;
+    let end = to.min(table.len());
+    &table[from.min(end)..end]
+}
