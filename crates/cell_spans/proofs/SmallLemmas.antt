@@ -9,7 +9,8 @@ use Rattle.view_places.specs.declared.element.Span.{Span}
 use Rattle.view_places.proofs.Public.{IsSmallSpan, IsSmallSpanIn}
 use Rattle.cell_spans.specs.declared.rows.RowCell.{RowCell}
 use Rattle.cell_spans.specs.declared.tables.Tables.{Tables}
-use Rattle.cell_spans.specs.Spans.{Row, cell_span, column_count, edges_of_rows, is_below, is_between, known_span}
+use Rattle.cell_spans.specs.Spans.{Row, cell_span, column_count, edges_of_rows, is_part_below, is_edge_within}
+use Rattle.cell_spans.specs.Spans.{known_span}
 use Rattle.cell_spans.specs.Spans.{row_count, rows_below, single, singles, span_at, spans_from, table_spans}
 use Rattle.cell_spans.specs.Tables.{behind_outside, no_tables}
 
@@ -29,7 +30,7 @@ small_row : (edges : List ℕ) (before : Row) (rows : List Row) (row : Row) → 
 small_row edges before rows [] = All-nil IsSmallSpanIn
 small_row edges before rows (cell ∷ row) =
     All-cons IsSmallSpanIn (cell_span edges before rows cell) (map (cell_span edges before rows) row)
-    (small_cell (cell.is_part || is_below before cell) (record {
+    (small_cell (cell.is_part || is_part_below before cell) (record {
       columns = column_count edges cell;
       rows = row_count cell rows;
     }) (record {

@@ -6,22 +6,14 @@ use Rattle.std.proofs.lemmas.Bool.{cases_lt}
 use Rattle.doc_bits.proofs.Public.{and_true, take_step}
 use Rattle.cell_spans.specs.Definition.{ascends, is_wide}
 use Rattle.std.proofs.Math.ListN.{drop_of_length-le}
-use Rattle.std.proofs.Math.Seq.{drop-cons}
 use Rattle.std.proofs.lemmas.List.{map-append, take_all}
-use Rattle.std.proofs.lemmas.Option.{get_or_from_slice_get, slice_get_within}
 use Rattle.view_places.specs.declared.element.Span.{Span}
 use Rattle.cell_spans.specs.declared.rows.RowCell.{RowCell}
-use Rattle.cell_spans.specs.Rows.{cells_of, joins_behind, row_cell}
-use Rattle.cell_spans.specs.Spans.{Row, before_at, cell_span, edges_of, edges_of_rows, edges_with, goes_on_in, known_row}
+use Rattle.cell_spans.specs.Rows.{row_cells_from, joins_behind, row_cell}
+use Rattle.cell_spans.specs.Spans.{Row, before_at, cell_span, edges_of, edges_of_rows, edges_with, has_part_in}
+use Rattle.cell_spans.specs.Spans.{known_row}
 use Rattle.cell_spans.specs.Spans.{row_at, rows_below, spans_from}
-
--- what is from a place on
-pub rest_is : {A : Type 0} (xs : List A) (k : ℕ) (x : A) → slice_get xs k ≡ Some x → drop k xs ≡ x ∷ drop (k + 1) xs
-rest_is {A = A} xs k x is =
-    let one : suc k ≡ k + 1 = omega arith in
-    subst (λ (n : ℕ). drop k xs ≡ x ∷ drop n xs) one
-    (drop-cons xs k x (slice_get_within xs k x is) ∙ ap (λ (y : A). y ∷ drop (suc k) xs) (get_or_from_slice_get xs k x x
-    is))
+use Rattle.run_lists.proofs.Public.{run_and_rest}
 
 -- one more of what elements give
 pub mapped_step : {A B : Type 0} (f : A → B) (start at next : List B) (xs : List A) (k : ℕ) (x : A) (y : B) →
@@ -45,7 +37,7 @@ pub edges_step : (edges mid next : List ℕ) (cells : Row) (k : ℕ) (cell : Row
 unfolding edges_of
 edges_step edges mid next cells k cell there one other =
     ap (λ (e : List ℕ). edges_of e (drop (k + 1) cells)) (other ∙ ap (λ (e : List ℕ). edges_with e cell.right) one)
-    ∙ ap (λ (rest : Row). edges_of edges rest) (sym (rest_is cells k cell there))
+    ∙ ap (λ (rest : Row). edges_of edges rest) (sym (run_and_rest cells k cell there))
 
 pub edges_end : (edges : List ℕ) (cells : Row) (k : ℕ) → length cells ≤ k → edges_of edges (drop k cells) ≡ edges
 unfolding edges_of
@@ -57,7 +49,7 @@ pub rows_step : (edges next : List ℕ) (rows : List Row) (k : ℕ) (row shown :
 unfolding edges_of_rows
 rows_step edges next rows k row shown there same is =
     ap (λ (e : List ℕ). edges_of_rows e (drop (k + 1) rows)) (is ∙ ap (edges_of edges) same)
-    ∙ ap (λ (rest : List Row). edges_of_rows edges rest) (sym (rest_is rows k row there))
+    ∙ ap (λ (rest : List Row). edges_of_rows edges rest) (sym (run_and_rest rows k row there))
 
 pub rows_end : (edges : List ℕ) (rows : List Row) (k : ℕ) → length rows ≤ k → edges_of_rows edges (drop k rows) ≡ edges
 unfolding edges_of_rows
@@ -68,36 +60,37 @@ rows_end edges rows k all = ap (λ (rest : List Row). edges_of_rows edges rest) 
 pub cells_step : (definition : List ℕ) (in_head : Bool) (k : ℕ) (joins next_joins blank : Bool) (blanks : List Bool)
     (cell : RowCell) (cells next : Row) → slice_get blanks k ≡ Some blank →
     cell ≡ row_cell definition in_head k joins blank (drop (k + 1) blanks) → next_joins ≡ joins_behind definition k cell
-    → next ≡ cells ++ cell ∷ [] → next ++ cells_of definition in_head (k + 1) next_joins (drop (k + 1) blanks)
-    ≡ cells ++ cells_of definition in_head k joins (drop k blanks)
-unfolding cells_of
+    → next ≡ cells ++ cell ∷ [] → next ++ row_cells_from definition in_head (k + 1) next_joins (drop (k + 1) blanks)
+    ≡ cells ++ row_cells_from definition in_head k joins (drop k blanks)
+unfolding row_cells_from
 cells_step definition in_head k joins next_joins blank blanks cell cells next there is joins_is next_is =
     let rest = drop (k + 1) blanks in
-    (λ i. next_is i ++ cells_of definition in_head (k + 1) (joins_is i) rest)
-    ∙ append_assoc cells (cell ∷ []) (cells_of definition in_head (k + 1) (joins_behind definition k cell) rest)
-    ∙ (λ i. cells ++ (is i ∷ cells_of definition in_head (k + 1) (joins_behind definition k (is i)) rest))
-    ∙ ap (λ (all : List Bool). cells ++ cells_of definition in_head k joins all) (sym (rest_is blanks k blank there))
+    (λ i. next_is i ++ row_cells_from definition in_head (k + 1) (joins_is i) rest)
+    ∙ append_assoc cells (cell ∷ []) (row_cells_from definition in_head (k + 1) (joins_behind definition k cell) rest)
+    ∙ (λ i. cells ++ (is i ∷ row_cells_from definition in_head (k + 1) (joins_behind definition k (is i)) rest))
+    ∙ ap (λ (all : List Bool). cells ++ row_cells_from definition in_head k joins all) (sym (run_and_rest blanks k blank
+    there))
 
 pub cells_end : (definition : List ℕ) (in_head : Bool) (k : ℕ) (joins : Bool) (blanks : List Bool) → length blanks ≤ k →
-    cells_of definition in_head k joins (drop k blanks) ≡ []
-unfolding cells_of
+    row_cells_from definition in_head k joins (drop k blanks) ≡ []
+unfolding row_cells_from
 cells_end definition in_head k joins blanks all =
-    ap (λ (rest : List Bool). cells_of definition in_head k joins rest) (drop_of_length-le blanks all)
+    ap (λ (rest : List Bool). row_cells_from definition in_head k joins rest) (drop_of_length-le blanks all)
 
 -- ---- rows
 
 pub below_more : (cell : RowCell) (rows : List Row) (k : ℕ) (row : Row) → slice_get rows k ≡ Some row →
-    goes_on_in cell row ≡ true → rows_below cell (drop k rows) ≡ rows_below cell (drop (k + 1) rows) + 1
+    has_part_in cell row ≡ true → rows_below cell (drop k rows) ≡ rows_below cell (drop (k + 1) rows) + 1
 unfolding rows_below
 below_more cell rows k row there on =
-    ap (rows_below cell) (rest_is rows k row there)
+    ap (rows_below cell) (run_and_rest rows k row there)
     ∙ ap (λ (b : Bool). if b then rows_below cell (drop (k + 1) rows) + 1 else 0) on
 
 pub below_ends : (cell : RowCell) (rows : List Row) (k : ℕ) (row : Row) → slice_get rows k ≡ Some row →
-    goes_on_in cell row ≡ false → rows_below cell (drop k rows) ≡ 0
+    has_part_in cell row ≡ false → rows_below cell (drop k rows) ≡ 0
 unfolding rows_below
 below_ends cell rows k row there off =
-    ap (rows_below cell) (rest_is rows k row there)
+    ap (rows_below cell) (run_and_rest rows k row there)
     ∙ ap (λ (b : Bool). if b then rows_below cell (drop (k + 1) rows) + 1 else 0) off
 
 pub below_none : (cell : RowCell) (rows : List Row) (k : ℕ) → length rows ≤ k → rows_below cell (drop k rows) ≡ 0
@@ -125,7 +118,7 @@ table_step edges rows k row at next there is =
     ∙ ap (λ (r : Row). (at ++ map (cell_span edges before rest) r) ++ spans_from edges row rest) (row_there rows k row
     there)
     ∙ append_assoc at here (spans_from edges row rest)
-    ∙ ap (λ (all : List Row). at ++ spans_from edges before all) (sym (rest_is rows k row there))
+    ∙ ap (λ (all : List Row). at ++ spans_from edges before all) (sym (run_and_rest rows k row there))
 
 pub table_end : (edges : List ℕ) (rows : List Row) (k : ℕ) (before : Row) → length rows ≤ k →
     spans_from edges before (drop k rows) ≡ []

@@ -37,8 +37,8 @@ abbrev pub joins_behind : List ℕ → ℕ → RowCell → Bool
 joins_behind definition number cell = is_first definition number || cell.is_part
 
 -- the cells from a number on
-unfoldable pub cells_of : List ℕ → Bool → ℕ → Bool → List Bool → List RowCell
-cells_of definition in_head number joins [] = []
-cells_of definition in_head number joins (blank ∷ blanks) =
+unfoldable pub row_cells_from : List ℕ → Bool → ℕ → Bool → List Bool → List RowCell
+row_cells_from definition in_head number joins [] = []
+row_cells_from definition in_head number joins (blank ∷ blanks) =
     let cell = row_cell definition in_head number joins blank blanks in
-    cell ∷ cells_of definition in_head (number + 1) (joins_behind definition number cell) blanks
+    cell ∷ row_cells_from definition in_head (number + 1) (joins_behind definition number cell) blanks

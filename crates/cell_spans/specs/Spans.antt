@@ -24,12 +24,12 @@ unfoldable pub edges_of_rows : List ℕ → List Row → List ℕ
 edges_of_rows edges [] = edges
 edges_of_rows edges (row ∷ rows) = edges_of_rows (edges_of edges row) rows
 
-abbrev pub is_between : RowCell → ℕ → Bool
-is_between cell edge = nat_lt cell.left edge && nat_le edge cell.right
+abbrev pub is_edge_within : RowCell → ℕ → Bool
+is_edge_within cell edge = nat_lt cell.left edge && nat_le edge cell.right
 
 -- a column is between each two neighbours of the edges
 abbrev pub column_count : List ℕ → RowCell → ℕ
-column_count edges cell = min (max (count_by (is_between cell) edges) 1) 999
+column_count edges cell = min (max (count_by (is_edge_within cell) edges) 1) 999
 
 -- ---- rows
 
@@ -43,20 +43,20 @@ abbrev pub is_above : RowCell → RowCell → Bool
 is_above cell above = above.is_vertical && (not above.is_part && is_one above cell)
 
 -- a part of the cell above it, in the row before
-abbrev pub is_below : Row → RowCell → Bool
-is_below before cell = cell.goes_on && list_any (is_above cell) before
+abbrev pub is_part_below : Row → RowCell → Bool
+is_part_below before cell = cell.goes_on && list_any (is_above cell) before
 
 -- a part of a cell above it
-abbrev pub is_on : RowCell → RowCell → Bool
-is_on cell below = below.goes_on && (not below.is_part && is_one cell below)
+abbrev pub is_part_of_cell : RowCell → RowCell → Bool
+is_part_of_cell cell below = below.goes_on && (not below.is_part && is_one cell below)
 
-abbrev pub goes_on_in : RowCell → Row → Bool
-goes_on_in cell row = list_any (is_on cell) row
+abbrev pub has_part_in : RowCell → Row → Bool
+has_part_in cell row = list_any (is_part_of_cell cell) row
 
 -- how many rows at the front of these have a part of the cell
 unfoldable pub rows_below : RowCell → List Row → ℕ
 rows_below cell [] = 0
-rows_below cell (row ∷ rows) = if goes_on_in cell row then rows_below cell rows + 1 else 0
+rows_below cell (row ∷ rows) = if has_part_in cell row then rows_below cell rows + 1 else 0
 
 abbrev pub row_count : RowCell → List Row → ℕ
 row_count cell rows = if not cell.is_vertical then 1 else min (rows_below cell rows + 1) 65534
@@ -66,7 +66,7 @@ row_count cell rows = if not cell.is_vertical then 1 else min (rows_below cell r
 -- by the row before and the rows behind: a part of another cell has no span of its own
 abbrev pub cell_span : List ℕ → Row → List Row → RowCell → Option Span
 cell_span edges before rows cell =
-    if cell.is_part || is_below before cell then None else Some (record {
+    if cell.is_part || is_part_below before cell then None else Some (record {
       columns = column_count edges cell;
       rows = row_count cell rows;
     })

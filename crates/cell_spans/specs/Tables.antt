@@ -2,7 +2,7 @@
 use Rattle.std.specs.Prelude.{ℕ, Bool, true, false, ◌&&◌, List, [], ◌∷◌, ◌++◌}
 use Rattle.cell_spans.specs.declared.tables.Tables.{Tables}
 use Rattle.cell_spans.specs.Definition.{right_definition}
-use Rattle.cell_spans.specs.Rows.{cells_of}
+use Rattle.cell_spans.specs.Rows.{row_cells_from}
 use Rattle.cell_spans.specs.Spans.{singles, table_spans}
 
 abbrev pub no_tables : Tables
@@ -28,7 +28,8 @@ behind_cell tables is_mark = record tables {
 -- behind the end of a row: its cells are in the head where all rows so far are heads
 abbrev pub behind_row : Tables → Bool → List ℕ → Tables
 behind_row tables is_head definition = record tables {
-  rows = tables.rows ++ cells_of (right_definition definition) (tables.heads && is_head) 0 false tables.blanks ∷ [];
+  rows = tables.rows ++ row_cells_from (right_definition definition) (tables.heads && is_head) 0 false tables.blanks ∷
+      [];
   blanks = [];
   begins = true;
   heads = tables.heads && is_head;

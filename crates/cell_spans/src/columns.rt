@@ -1,7 +1,7 @@
 // The columns of a table.
 ghost use Rattle.std.specs.Prelude.{◌≡◌, ◌≤◌, ◌==◌, ◌++◌, [], ◌∷◌, length, if◌then◌else◌, IfOk, OnOk};
 ghost use Rattle.std.specs.List.{count_by, list_any};
-ghost use Rattle.cell_spans.specs.Spans.{column_count, edges_with, edges_of, edges_of_rows, is_between};
+ghost use Rattle.cell_spans.specs.Spans.{column_count, edges_with, edges_of, edges_of_rows, is_edge_within};
 
 use crate::rows::{RowCell, RowCells};
 use doc_bits::Memory;
@@ -82,7 +82,7 @@ fn has_edge(edges: &[u16], edge: u16) -> bool
 
 /// How many edges are behind the left one of a cell, up to its right one.
 fn count_between(edges: &[u16], cell: RowCell) -> usize
-    ensures { result ≡ count_by (is_between cell) edges.now }
+    ensures { result ≡ count_by (is_edge_within cell) edges.now }
 {
     let mut count = 0;
     for one in edges {
@@ -93,7 +93,7 @@ fn count_between(edges: &[u16], cell: RowCell) -> usize
 
 /// 1 where an edge is between those of a cell.
 fn count_one(edge: u16, cell: RowCell) -> usize
-    ensures is { result ≡ (if is_between cell edge then 1 else 0) }
+    ensures is { result ≡ (if is_edge_within cell edge then 1 else 0) }
     ensures few { result ≤ 1 }
 {
     if cell.left < edge && edge <= cell.right {

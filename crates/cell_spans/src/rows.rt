@@ -1,7 +1,7 @@
 // The cells of rows.
 ghost use Rattle.std.specs.Prelude.{◌≡◌, ◌≤◌, ◌<◌, ◌+◌, ◌++◌, [], ◌∷◌, ◌&&◌, ◌||◌, not, length, drop, slice_get, Bool};
 ghost use Rattle.std.specs.Prelude.{Some, false, IfOk, OnOk};
-ghost use Rattle.cell_spans.specs.Rows.{cells_of, ends, is_first, is_merged, joins_behind, parts_end, row_cell};
+ghost use Rattle.cell_spans.specs.Rows.{row_cells_from, ends, is_first, is_merged, joins_behind, parts_end, row_cell};
 
 use crate::definition::{edge, flag};
 use doc_bits::Memory;
@@ -133,7 +133,7 @@ pub(crate) fn cells_of(
     in_head: bool,
     blanks: &[bool],
 ) -> Result<RowCells, Memory>
-    ensures { IfOk result (λ cells. cells ≡ cells_of definition.now in_head 0 false blanks.now) }
+    ensures { IfOk result (λ cells. cells ≡ row_cells_from definition.now in_head 0 false blanks.now) }
 {
     let mut cells = RowCells::new(alloc);
     let mut joins = false;

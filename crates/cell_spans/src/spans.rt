@@ -1,8 +1,9 @@
 // How far the cells of a table reach.
 ghost use Rattle.std.specs.Prelude.{◌≡◌, ◌≤◌, ◌<◌, ◌+◌, ◌++◌, [], ◌∷◌, length, drop, map, IfOk, OnOk};
 ghost use Rattle.std.specs.List.{list_any};
-ghost use Rattle.cell_spans.specs.Spans.{before_at, cell_span, goes_on_in, is_above, is_below, is_one, row_count};
-ghost use Rattle.cell_spans.specs.Spans.{is_on, row_at, rows_below, single, singles, span_at, spans_from, table_spans};
+ghost use Rattle.cell_spans.specs.Spans.{before_at, cell_span, has_part_in, is_above, is_part_below, is_one, row_count};
+ghost use Rattle.cell_spans.specs.Spans.{is_part_of_cell, row_at, rows_below, single, singles, span_at, spans_from};
+ghost use Rattle.cell_spans.specs.Spans.{table_spans};
 
 use crate::columns::{Edges, edges_of};
 use crate::rows::{RowCell, RowCells};
@@ -152,7 +153,7 @@ fn is_one(above: RowCell, below: RowCell) -> bool
 
 /// Whether a cell is a part of one above it.
 fn is_below(before: &[RowCell], cell: RowCell) -> bool
-    ensures { result ≡ is_below before.now cell }
+    ensures { result ≡ is_part_below before.now cell }
 {
     cell.goes_on && some_above(before, cell)
 }
@@ -203,7 +204,7 @@ fn rows_below(rows: &[RowCells], next: usize, cell: RowCell) -> usize
 
 /// Whether a cell goes on in a row.
 fn goes_on_in(row: &[RowCell], cell: RowCell) -> bool
-    ensures { result ≡ goes_on_in cell row.now }
+    ensures { result ≡ has_part_in cell row.now }
 {
     for below in row {
         if is_on(cell, *below) {
@@ -214,7 +215,7 @@ fn goes_on_in(row: &[RowCell], cell: RowCell) -> bool
 }
 
 fn is_on(cell: RowCell, below: RowCell) -> bool
-    ensures { result ≡ is_on cell below }
+    ensures { result ≡ is_part_of_cell cell below }
 {
     below.goes_on && !below.is_part && is_one(cell, below)
 }

@@ -7,7 +7,7 @@ use Rattle.doc_bits.specs.Rules.{Among, LeastOrNone}
 use Rattle.doc_bits.proofs.Public.{least_same}
 use Rattle.cfb_sectors.specs.SectorChain.{HasSector}
 use Rattle.cfb_directory.specs.Reach.{entry_place, IsReachedEntry, IsLink, IsNamedBefore, BreaksLink}
-use Rattle.cfb_directory.specs.Links.{ListsLinks, IsFirstNamed, IsWrongAt}
+use Rattle.cfb_directory.specs.Links.{ListsLinks, IsFirstNamed, IsWrongLinkAt}
 use Rattle.cfb_sectors.proofs.Public.{pushed_before, pushed_last, length_pushed}
 
 -- the links of the root's child and of the first entries
@@ -106,10 +106,11 @@ before_first file directory links first link lists f there b =
 
 -- the least place of all listed links is that of all links
 pub links_least : (file directory links : List ℕ) (o : Option ℕ) → ListsLinks file directory links →
-    LeastOrNone (Among (length links) (λ i. IsWrongAt file directory (slice_index links i))) o →
+    LeastOrNone (Among (length links) (λ i. IsWrongLinkAt file directory (slice_index links i))) o →
     LeastOrNone (BreaksLink file directory) o
 links_least file directory links o lists =
-    least_same (Among (length links) (λ i. IsWrongAt file directory (slice_index links i))) (BreaksLink file directory)
+    least_same (Among (length links) (λ i. IsWrongLinkAt file directory (slice_index links i))) (BreaksLink file
+    directory)
     o
     (λ p w. record {
       link = subst (IsLink file directory) (sym w.broken.here) (lists.sound w.entry w.below);

@@ -1,16 +1,16 @@
 -- The order of names is that of the entries that have them, and equal names are in none.
 use Rattle.std.proofs.Common.{◌≡◌, inl, inr, ℕ, ◌<◌, List, length, slice_index, ap, sym, ◌∙◌, arith}
-use Rattle.cfb_directory.specs.Directory.{entry_unit, upper_case, IsNameOf, EntryBefore, ComesBefore}
+use Rattle.cfb_directory.specs.Directory.{entry_unit, upper_case, IsEntryName, EntryBefore, IsNameBefore}
 use Rattle.cfb_directory.specs.Directory.{AreSameNames, HaveOneName}
 
 -- the units of an entry's name, in upper case
-upper_unit : (file : List ℕ) (at : ℕ) (name : List ℕ) → IsNameOf file at name → (i : ℕ) → i < length name →
+upper_unit : (file : List ℕ) (at : ℕ) (name : List ℕ) → IsEntryName file at name → (i : ℕ) → i < length name →
     upper_case (entry_unit file at i) ≡ upper_case (slice_index name i)
 upper_unit file at name is i low = ap upper_case (sym (is.units i low))
 
 -- a name that comes before another, and the entry
-pub EntryBefore-names : (file : List ℕ) (at other : ℕ) (name later : List ℕ) → IsNameOf file at name →
-    IsNameOf file other later → ComesBefore name later → EntryBefore file at other
+pub EntryBefore-names : (file : List ℕ) (at other : ℕ) (name later : List ℕ) → IsEntryName file at name →
+    IsEntryName file other later → IsNameBefore name later → EntryBefore file at other
 EntryBefore-names file at other name later a b h =
     let x = a.long in
     let y = b.long in
@@ -37,8 +37,8 @@ EntryBefore-names file at other name later a b h =
     ]
 
 -- an entry that comes before another, and the name
-pub ComesBefore-entries : (file : List ℕ) (at other : ℕ) (name later : List ℕ) → IsNameOf file at name →
-    IsNameOf file other later → EntryBefore file at other → ComesBefore name later
+pub ComesBefore-entries : (file : List ℕ) (at other : ℕ) (name later : List ℕ) → IsEntryName file at name →
+    IsEntryName file other later → EntryBefore file at other → IsNameBefore name later
 ComesBefore-entries file at other name later a b h =
     let x = a.long in
     let y = b.long in
@@ -67,7 +67,7 @@ ComesBefore-entries file at other name later a b h =
 
 -- names that are equal to a third are not in order
 pub same_not_before : (name other third : List ℕ) → AreSameNames name third → AreSameNames other third →
-    ¬ ComesBefore name other
+    ¬ IsNameBefore name other
 same_not_before name other third a b before =
     let la = a.long in
     let lb = b.long in

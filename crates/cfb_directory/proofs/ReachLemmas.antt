@@ -4,15 +4,15 @@ use Rattle.std.proofs.Common.{length, slice_index, sym, ap, ◌∙◌, subst, ar
 use Rattle.std.proofs.lemmas.Bool.{cases_lt}
 use Rattle.cfb_sectors.specs.SectorChain.{HasSector}
 use Rattle.cfb_directory.specs.Directory.{entry_left, entry_right, entry_child}
-use Rattle.cfb_directory.specs.Seen.{IsSeen, Follows}
-use Rattle.cfb_directory.specs.Reach.{entry_place, entry_count, IsEntry, IsReachedEntry, child, left, right}
+use Rattle.cfb_directory.specs.Seen.{IsSeen, FollowsLink}
+use Rattle.cfb_directory.specs.Reach.{entry_place, entry_count, IsLinkedEntry, IsReachedEntry, child, left, right}
 use Rattle.cfb_directory.specs.Reach.{ListsReached}
 use Rattle.cfb_directory.specs.Reach.{AmongReached}
 use Rattle.doc_bits.specs.Rules.{Among, LeastOrNone}
 use Rattle.doc_bits.proofs.Public.{least_same, length_below}
 
 -- what is in the old list is in the new one
-pub follows_has : (count link : ℕ) (old new : List ℕ) (k : ℕ) → Follows count link old new → HasSector old k →
+pub follows_has : (count link : ℕ) (old new : List ℕ) (k : ℕ) → FollowsLink count link old new → HasSector old k →
     HasSector new k
 follows_has count link old new k f has =
     let longer = f.longer in let inside = has.inside in
@@ -21,28 +21,33 @@ follows_has count link old new k f has =
 -- the list has only entries that are reached, the root's child, and what the first `next` of it name
 pub record IsClosedTo (file directory order : List ℕ) (next : ℕ) : Type 0 where
   pub sound : (i : ℕ) → i < length order → IsReachedEntry file directory (slice_index order i)
-  pub first : IsEntry directory (entry_child file (entry_place directory 0)) → HasSector order
+  pub first : IsLinkedEntry directory (entry_child file (entry_place directory 0)) → HasSector order
       (entry_child file (entry_place directory 0))
-  pub lefts : (i : ℕ) → i < next → IsEntry directory (entry_left file (entry_place directory (slice_index order i))) →
+  pub lefts : (i : ℕ) → i < next → IsLinkedEntry directory (entry_left file (entry_place directory (slice_index order
+      i))) →
       HasSector order (entry_left file (entry_place directory (slice_index order i)))
-  pub rights : (i : ℕ) → i < next → IsEntry directory (entry_right file (entry_place directory (slice_index order i))) →
+  pub rights : (i : ℕ) → i < next → IsLinkedEntry directory (entry_right file (entry_place directory (slice_index order
+      i))) →
       HasSector order (entry_right file (entry_place directory (slice_index order i)))
   pub short : next ≤ length order
 
 -- what holds of all old entries and of the link's holds of all new ones
-follows_all : (P : ℕ → Type 0) (directory : List ℕ) (count link : ℕ) (old new : List ℕ) → Follows count link old new →
-    ((i : ℕ) → i < length new → IsEntry directory (slice_index new i)) →
-    ((i : ℕ) → i < length old → P (slice_index old i)) → (IsEntry directory link → P link) → (i : ℕ) → i < length new →
+follows_all : (P : ℕ → Type 0) (directory : List ℕ) (count link : ℕ) (old new : List ℕ) → FollowsLink count link old new
+    →
+    ((i : ℕ) → i < length new → IsLinkedEntry directory (slice_index new i)) →
+    ((i : ℕ) → i < length old → P (slice_index old i)) → (IsLinkedEntry directory link → P link) → (i : ℕ) → i < length
+    new →
     P (slice_index new i)
 follows_all P directory count link old new f within all base i h = elim (cases_lt i (length old)) [
   | inl lo ↦ subst P (sym (f.front i lo)) (all i lo)
-  | inr hi ↦ let e = f.added i hi h in subst P (sym e) (base (subst (IsEntry directory) e (within i h)))
+  | inr hi ↦ let e = f.added i hi h in subst P (sym e) (base (subst (IsLinkedEntry directory) e (within i h)))
 ]
 
 -- the child alone
 pub closed_begin : (file directory order : List ℕ) (link count : ℕ) →
-    link ≡ entry_child file (entry_place directory 0) → count ≡ entry_count directory → Follows count link [] order →
-    ((i : ℕ) → i < length order → IsEntry directory (slice_index order i)) → IsClosedTo file directory order 0
+    link ≡ entry_child file (entry_place directory 0) → count ≡ entry_count directory → FollowsLink count link [] order
+    →
+    ((i : ℕ) → i < length order → IsLinkedEntry directory (slice_index order i)) → IsClosedTo file directory order 0
 closed_begin file directory order link count e n f within = record {
   sound = follows_all (IsReachedEntry file directory) directory count link [] order f within (λ i h. absurd (omega
       arith))
@@ -59,9 +64,9 @@ pub closed_step : (file directory old mid new : List ℕ) (next l r count other 
     IsClosedTo file directory old next → next < length old →
     l ≡ entry_left file (entry_place directory (slice_index old next)) →
     r ≡ entry_right file (entry_place directory (slice_index old next)) → count ≡ entry_count directory →
-    other ≡ entry_count directory → Follows count l old mid → Follows other r mid new →
-    ((i : ℕ) → i < length mid → IsEntry directory (slice_index mid i)) →
-    ((i : ℕ) → i < length new → IsEntry directory (slice_index new i)) → IsClosedTo file directory new (next + 1)
+    other ≡ entry_count directory → FollowsLink count l old mid → FollowsLink other r mid new →
+    ((i : ℕ) → i < length mid → IsLinkedEntry directory (slice_index mid i)) →
+    ((i : ℕ) → i < length new → IsLinkedEntry directory (slice_index new i)) → IsClosedTo file directory new (next + 1)
 closed_step file directory old mid new next l r count other c low le re n n2 f g within_mid within_new =
     let longer = f.longer in let longer2 = g.longer in
     let at : (i : ℕ) → i < length old →
@@ -81,12 +86,12 @@ closed_step file directory old mid new next l r count other c low le re n n2 f g
         | inl lo ↦
             let e = at i (omega arith) in
             subst (λ x. HasSector new (entry_left file (entry_place directory x))) (sym e)
-            (has _ (c.lefts i lo (subst (λ x. IsEntry directory (entry_left file (entry_place directory x))) e
+            (has _ (c.lefts i lo (subst (λ x. IsLinkedEntry directory (entry_left file (entry_place directory x))) e
             there)))
         | inr hi ↦
             let e : slice_index new i ≡ slice_index old next = put i (omega arith) in
-            let there2 : IsEntry directory l = subst (IsEntry directory) (sym le)
-            (subst (λ x. IsEntry directory (entry_left file (entry_place directory x))) e there) in
+            let there2 : IsLinkedEntry directory l = subst (IsLinkedEntry directory) (sym le)
+            (subst (λ x. IsLinkedEntry directory (entry_left file (entry_place directory x))) e there) in
             subst (λ x. HasSector new (entry_left file (entry_place directory x))) (sym e)
             (subst (HasSector new) le (follows_has other r mid new l g
             (f.there there2.0 (let high = there2.1 in omega arith))))
@@ -95,12 +100,12 @@ closed_step file directory old mid new next l r count other c low le re n n2 f g
         | inl lo ↦
             let e = at i (omega arith) in
             subst (λ x. HasSector new (entry_right file (entry_place directory x))) (sym e)
-            (has _ (c.rights i lo (subst (λ x. IsEntry directory (entry_right file (entry_place directory x))) e
+            (has _ (c.rights i lo (subst (λ x. IsLinkedEntry directory (entry_right file (entry_place directory x))) e
             there)))
         | inr hi ↦
             let e : slice_index new i ≡ slice_index old next = put i (omega arith) in
-            let there2 : IsEntry directory r = subst (IsEntry directory) (sym re)
-            (subst (λ x. IsEntry directory (entry_right file (entry_place directory x))) e there) in
+            let there2 : IsLinkedEntry directory r = subst (IsLinkedEntry directory) (sym re)
+            (subst (λ x. IsLinkedEntry directory (entry_right file (entry_place directory x))) e there) in
             subst (λ x. HasSector new (entry_right file (entry_place directory x))) (sym e)
             (subst (HasSector new) re (g.there there2.0 (let high = there2.1 in omega arith)))
       ];
@@ -111,19 +116,19 @@ closed_step file directory old mid new next l r count other c low le re n n2 f g
 pub closed_complete : (file directory order : List ℕ) (next : ℕ) {k : ℕ} → IsClosedTo file directory order next →
     length order ≤ next → IsReachedEntry file directory k → HasSector order k
 closed_complete file directory order next c high (child k e there) = subst (HasSector order) e
-    (c.first (subst (IsEntry directory) (sym e) there))
+    (c.first (subst (IsLinkedEntry directory) (sym e) there))
 closed_complete file directory order next c high (left from k r e there) =
     let has = closed_complete file directory order next c high r in
     let inside = has.inside in
     let same : entry_left file (entry_place directory (slice_index order has.index)) ≡ k =
     ap (λ x. entry_left file (entry_place directory x)) has.here ∙ e in
-    subst (HasSector order) same (c.lefts has.index (omega arith) (subst (IsEntry directory) (sym same) there))
+    subst (HasSector order) same (c.lefts has.index (omega arith) (subst (IsLinkedEntry directory) (sym same) there))
 closed_complete file directory order next c high (right from k r e there) =
     let has = closed_complete file directory order next c high r in
     let inside = has.inside in
     let same : entry_right file (entry_place directory (slice_index order has.index)) ≡ k =
     ap (λ x. entry_right file (entry_place directory x)) has.here ∙ e in
-    subst (HasSector order) same (c.rights has.index (omega arith) (subst (IsEntry directory) (sym same) there))
+    subst (HasSector order) same (c.rights has.index (omega arith) (subst (IsLinkedEntry directory) (sym same) there))
 
 -- the list is that of the entries that are reached
 pub closed_lists : (file directory order : List ℕ) (seen : List Bool) (next : ℕ) →
@@ -142,7 +147,7 @@ seen_short order seen s = length_below order (length seen) (λ i h. (s.within i 
 
 -- what is listed is above 0 and there
 pub seen_entries : (directory order : List ℕ) (seen : List Bool) → IsSeen order seen →
-    length seen ≡ entry_count directory → (i : ℕ) → i < length order → IsEntry directory (slice_index order i)
+    length seen ≡ entry_count directory → (i : ℕ) → i < length order → IsLinkedEntry directory (slice_index order i)
 seen_entries directory order seen s n i h = let w = s.within i h in let low = w.0 in let top = w.1 in (low, omega arith)
 
 -- the least place of all listed entries is that of all entries that are reached
@@ -156,7 +161,7 @@ reached_least file directory order each o lists =
     { entry = has.index; below = has.inside; broken = subst (λ k. each k p) (sym has.here) w.broken })
 
 -- an entry that is reached is above 0 and there
-pub reached_there : (file directory : List ℕ) {k : ℕ} → IsReachedEntry file directory k → IsEntry directory k
+pub reached_there : (file directory : List ℕ) {k : ℕ} → IsReachedEntry file directory k → IsLinkedEntry directory k
 reached_there file directory (child k e there) = there
 reached_there file directory (left from k r e there) = there
 reached_there file directory (right from k r e there) = there

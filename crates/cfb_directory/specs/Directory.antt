@@ -30,8 +30,8 @@ abbrev pub entry_child : List ℕ → ℕ → ℕ
 entry_child file at = u32_at file (at + 76)
 
 -- NOSTREAM: no entry is named
-abbrev pub no_entry : ℕ
-no_entry = 0xFFFF_FFFF
+abbrev pub no_stream_entry : ℕ
+no_stream_entry = 0xFFFF_FFFF
 
 -- the CLSID
 abbrev pub entry_clsid : List ℕ → ℕ → List ℕ
@@ -42,15 +42,15 @@ abbrev pub entry_start : List ℕ → ℕ → ℕ
 entry_start file at = u32_at file (at + 116)
 
 -- Profile: the size of the stream in bytes, without the upper half of its field
-abbrev pub entry_size : List ℕ → ℕ → ℕ
-entry_size file at = u32_at file (at + 120)
+abbrev pub entry_stream_size : List ℕ → ℕ → ℕ
+entry_stream_size file at = u32_at file (at + 120)
 
 -- Profile: the upper case of a unit, of ASCII letters alone
 abbrev pub upper_case : ℕ → ℕ
 upper_case unit = if nat_lt unit 97 then unit else (if nat_lt unit 123 then unit - 32 else unit)
 
 -- the entry's name, unit by unit
-pub record IsNameOf (file : List ℕ) (at : ℕ) (name : List ℕ) : Type 0 where
+pub record IsEntryName (file : List ℕ) (at : ℕ) (name : List ℕ) : Type 0 where
   pub long : entry_name_length file at ≡ 2 * length name + 2
   pub units : (i : ℕ) → i < length name → slice_index name i ≡ entry_unit file at i
 
@@ -84,6 +84,6 @@ pub record IsNameLessAt (name other : List ℕ) (place : ℕ) : Type 0 where
   pub front : (i : ℕ) → i < place → upper_case (slice_index name i) ≡ upper_case (slice_index other i)
   pub less : upper_case (slice_index name place) < upper_case (slice_index other place)
 
-abbrev pub ComesBefore : List ℕ → List ℕ → Type 0
-ComesBefore name other =
+abbrev pub IsNameBefore : List ℕ → List ℕ → Type 0
+IsNameBefore name other =
     (length name < length other) ⊎ ((length name ≡ length other) × ((place : ℕ) × IsNameLessAt name other place))

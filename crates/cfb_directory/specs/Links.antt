@@ -23,6 +23,6 @@ pub record IsFirstNamed (file links : List ℕ) (count : ℕ) (first : List ℕ)
       NamesEntry file links entry (slice_index first entry)
 
 -- the link at a place is wrong
-pub record IsWrongAt (file directory : List ℕ) (link place : ℕ) : Type 0 where
+pub record IsWrongLinkAt (file directory : List ℕ) (link place : ℕ) : Type 0 where
   pub here : place ≡ link
   pub wrong : IsWrongLink file directory place

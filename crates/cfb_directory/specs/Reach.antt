@@ -2,14 +2,14 @@
 use Rattle.std.specs.Prelude.{◌≡◌, ◌≢◌, ◌⊎◌, ℕ, ◌+◌, ◌*◌, ◌/◌, ◌%◌, ◌<◌, ◌≤◌, List, length, slice_index}
 use Rattle.doc_bits.specs.Number.{u32_at}
 use Rattle.cfb_sectors.specs.SectorChain.{HasSector, IsFullPath}
-use Rattle.cfb_sectors.specs.Chain.{Head, fat_table, HoldsChain, BreaksChain}
+use Rattle.cfb_sectors.specs.Chain.{ChainHead, fat_table, HoldsChain, BreaksChain}
 use Rattle.cfb_sectors.specs.Header.{sector_len}
 use Rattle.cfb_directory.specs.Directory.{entry_left, entry_right, entry_child, entry_type, entry_name_length}
-use Rattle.cfb_directory.specs.Directory.{no_entry}
+use Rattle.cfb_directory.specs.Directory.{no_stream_entry}
 use Rattle.cfb_directory.specs.Directory.{HaveOneName}
 
 -- the chain of the directory starts at the number at 48
-abbrev pub directory_head : List ℕ → Head
+abbrev pub directory_head : List ℕ → ChainHead
 directory_head file = record { field = 48; start = u32_at file 48; unit = sector_len; size = 0 }
 
 -- the path from the directory's start has more than 256 sectors
@@ -36,22 +36,23 @@ abbrev pub entry_count : List ℕ → ℕ
 entry_count directory = 4 * length directory
 
 -- a link names an entry above 0 that is there
-abbrev pub IsEntry : List ℕ → ℕ → Type 0
-IsEntry directory k = (0 < k) × (k < entry_count directory)
+abbrev pub IsLinkedEntry : List ℕ → ℕ → Type 0
+IsLinkedEntry directory k = (0 < k) × (k < entry_count directory)
 
 -- the entries that are reached from the root's child by left and right: no fewer, and no others
 pub data IsReachedEntry (file directory : List ℕ) : ℕ → Type 0 where
-  child : (k : ℕ) → entry_child file (entry_place directory 0) ≡ k → IsEntry directory k → IsReachedEntry file directory
+  child : (k : ℕ) → entry_child file (entry_place directory 0) ≡ k → IsLinkedEntry directory k → IsReachedEntry file
+      directory
       k
   left : (from k : ℕ) → IsReachedEntry file directory from → entry_left file (entry_place directory from) ≡ k →
-      IsEntry directory k → IsReachedEntry file directory k
+      IsLinkedEntry directory k → IsReachedEntry file directory k
   right : (from k : ℕ) → IsReachedEntry file directory from → entry_right file (entry_place directory from) ≡ k →
-      IsEntry directory k → IsReachedEntry file directory k
+      IsLinkedEntry directory k → IsReachedEntry file directory k
 
 -- a list of the entries that are reached, each of them once
 pub record ListsReached (file directory order : List ℕ) : Type 0 where
   pub sound : (i : ℕ) → i < length order → IsReachedEntry file directory (slice_index order i)
-  pub within : (i : ℕ) → i < length order → IsEntry directory (slice_index order i)
+  pub within : (i : ℕ) → i < length order → IsLinkedEntry directory (slice_index order i)
   pub complete : (k : ℕ) → IsReachedEntry file directory k → HasSector order k
   pub distinct : (i j : ℕ) → i < j → j < length order → slice_index order i ≢ slice_index order j
 
@@ -74,8 +75,8 @@ pub record IsNamedBefore (file directory : List ℕ) (place : ℕ) : Type 0 wher
 
 -- a link that names entry 0, an entry that is not there, or one that was named
 pub record IsWrongLink (file directory : List ℕ) (place : ℕ) : Type 0 where
-  pub names : u32_at file place ≢ no_entry
-  pub wrong : (¬ IsEntry directory (u32_at file place)) ⊎ IsNamedBefore file directory place
+  pub names : u32_at file place ≢ no_stream_entry
+  pub wrong : (¬ IsLinkedEntry directory (u32_at file place)) ⊎ IsNamedBefore file directory place
 
 pub record BreaksLink (file directory : List ℕ) (place : ℕ) : Type 0 where
   pub link : IsLink file directory place
@@ -128,7 +129,7 @@ BreaksName file directory = AmongReached file directory (IsWrongName file direct
 pub record IsWrongStorage (file directory : List ℕ) (entry place : ℕ) : Type 0 where
   pub here : place ≡ entry_place directory entry + 76
   pub storage : entry_type file (entry_place directory entry) ≡ 1
-  pub child : entry_child file (entry_place directory entry) ≢ no_entry
+  pub child : entry_child file (entry_place directory entry) ≢ no_stream_entry
 
 -- rule 10
 abbrev pub BreaksStorage : List ℕ → List ℕ → ℕ → Type 0

@@ -10,7 +10,7 @@ pub record IsSeen (order : List ℕ) (seen : List Bool) : Type 0 where
   pub distinct : (i j : ℕ) → i < j → j < length order → slice_index order i ≢ slice_index order j
 
 -- the new list is the old one with the entry that the link names at its end, where that was not in it
-pub record Follows (count link : ℕ) (old new : List ℕ) : Type 0 where
+pub record FollowsLink (count link : ℕ) (old new : List ℕ) : Type 0 where
   pub longer : length old ≤ length new
   pub front : (i : ℕ) → i < length old → slice_index new i ≡ slice_index old i
   pub added : (i : ℕ) → length old ≤ i → i < length new → slice_index new i ≡ link

@@ -4,7 +4,7 @@ ghost use Rattle.doc_bits.specs.Rules.{LeastOrNone};
 ghost use Rattle.cfb_sectors.specs.Chain.{AreSectorsOf};
 ghost use Rattle.cfb_directory.specs.Directory.{upper_case};
 ghost use Rattle.cfb_directory.specs.Reach.{entry_place as place_of, entry_count, BreaksRoot, ListsReached};
-ghost use Rattle.cfb_directory.specs.Seen.{IsSeen, Follows};
+ghost use Rattle.cfb_directory.specs.Seen.{IsSeen, FollowsLink};
 
 use cfb_sectors::SECTOR_LEN;
 use doc_bits::{Memory, get16, get32};
@@ -72,7 +72,7 @@ pub(crate) fn wrong_root(file: &[u8], directory: &[u32]) -> Option<u32>
 fn follow(order: &mut Vec<u32>, seen: &mut [bool], link: u32) -> Result<(), Memory>
     requires { IsSeen order.old.items seen.old }
     ensures seen { OnOk result (IsSeen order.new.items seen.new) }
-    ensures follows { OnOk result (Follows (length seen.old) link order.old.items order.new.items) }
+    ensures follows { OnOk result (FollowsLink (length seen.old) link order.old.items order.new.items) }
 {
     let entry = link as usize;
     if entry > 0 && entry < seen.len() && !seen[entry] {

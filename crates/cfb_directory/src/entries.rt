@@ -1,13 +1,13 @@
 // The entries of the directory that the root reaches, after the rules 6 to 9; and rule 10.
 ghost use Rattle.std.specs.Prelude.{◌≡◌, ◌+◌, ◌<◌, ◌≤◌, IfOk, MatchResult, length};
 ghost use Rattle.cfb_sectors.specs.Chain.{AreSectorsOf};
-ghost use Rattle.cfb_directory.specs.Directory.{IsNameOf, entry_clsid, entry_name_length};
+ghost use Rattle.cfb_directory.specs.Directory.{IsEntryName, entry_clsid, entry_name_length};
 ghost use Rattle.cfb_directory.specs.Reach.{IsDirectory, IsReachedEntry, IsWrongNameLength, BreaksStorage};
 ghost use Rattle.cfb_directory.specs.Reach.{entry_place as place_of};
 ghost use Rattle.cfb_directory.specs.Order.{ListsFilled};
 ghost use Rattle.doc_bits.specs.Rules.{Nowhere, rule};
 ghost use Rattle.cfb_directory.specs.StreamEntries.{IsStreamEntry};
-ghost use Rattle.cfb_directory.specs.Entries.{AreEntries, IsBody, tree_rules};
+ghost use Rattle.cfb_directory.specs.Entries.{AreSoundEntries, IsBody, tree_rules};
 ghost use Rattle.cfb_sectors.specs.Judged.{IsCfbFault};
 
 use crate::body::{Body, body_of};
@@ -38,13 +38,14 @@ pub struct Entries<'a> {
 }
 
 impl<'a> Model for Entries<'a> {
-    ghost use Rattle.cfb_directory.specs.Entries.{EntryLists, lists_of, AreEntries};
+    ghost use Rattle.cfb_directory.specs.Entries.{EntryLists, entry_lists_of, AreSoundEntries};
 
     ghost Value = { EntryLists };
 
-    ghost view = { λ e. lists_of e.file.now e.directory.items e.reached.items e.streams.items };
+    ghost view = { λ e. entry_lists_of e.file.now e.directory.items e.reached.items e.streams.items };
 
-    ghost invariant = { λ e. AreEntries (lists_of e.file.now e.directory.items e.reached.items e.streams.items) };
+    ghost invariant = { λ e. AreSoundEntries (entry_lists_of e.file.now e.directory.items e.reached.items
+        e.streams.items) };
 }
 
 impl<'a> Entries<'a> {
@@ -53,7 +54,7 @@ impl<'a> Entries<'a> {
         requires inside { AreSectorsOf file.now directory.items }
         requires directory_is { IsDirectory file.now directory.items }
         ensures { MatchResult result
-            (λ e. (e.file ≡ file.now) × (e.directory ≡ directory.items) × AreEntries e)
+            (λ e. (e.file ≡ file.now) × (e.directory ≡ directory.items) × AreSoundEntries e)
             (IsCfbFault (tree_rules file.now directory.items)) }
     {
         refuse(RULE_ROOT, wrong_root(file, &directory))?;
@@ -98,7 +99,7 @@ impl<'a> Entries<'a> {
     /// The directory's sectors.
     pub fn directory(&self) -> &[u32]
         ensures sectors { result.now ≡ self.now.directory }
-        ensures are { AreEntries self.now }
+        ensures are { AreSoundEntries self.now }
     {
         &self.directory
     }
@@ -128,7 +129,7 @@ impl<'a> Entries<'a> {
     /// The name of an entry that the root reaches.
     pub fn name(&self, alloc: Global, entry: u32) -> Result<Vec<u16>, Memory>
         requires { IsReachedEntry self.now.file self.now.directory entry }
-        ensures { IfOk result (λ name. IsNameOf self.now.file (place_of self.now.directory entry) name.items) }
+        ensures { IfOk result (λ name. IsEntryName self.now.file (place_of self.now.directory entry) name.items) }
     {
         let at = entry_place(self.file, &self.directory, entry as usize);
         let name = read_name(alloc, self.file, at)?;
@@ -147,7 +148,7 @@ impl<'a> Entries<'a> {
 fn read_name(alloc: Global, file: &[u8], at: usize) -> Result<Vec<u16>, Memory>
     requires inside { at + 128 ≤ length file.now }
     requires len { ¬ IsWrongNameLength (entry_name_length file.now at) }
-    ensures { IfOk result (λ name. IsNameOf file.now at name.items) }
+    ensures { IfOk result (λ name. IsEntryName file.now at name.items) }
 {
     let count = (get16(file, at + NAME_LEN) as usize / 2).saturating_sub(1);
     let mut name = Vec::new(alloc);

@@ -4,7 +4,7 @@ ghost use Rattle.doc_bits.specs.Rules.{LeastOrNone};
 ghost use Rattle.cfb_sectors.specs.Chain.{AreSectorsOf};
 ghost use Rattle.cfb_directory.specs.Reach.{entry_count, ListsReached, IsNamedBefore, IsWrongLink, BreaksLink};
 ghost use Rattle.cfb_directory.specs.Reach.{BreaksTree, AmongReached, IsWrongType, IsWrongStorage, BreaksStorage};
-ghost use Rattle.cfb_directory.specs.Links.{ListsLinks, IsFirstNamed, IsWrongAt};
+ghost use Rattle.cfb_directory.specs.Links.{ListsLinks, IsFirstNamed, IsWrongLinkAt};
 ghost use Rattle.doc_bits.specs.Number.{u32_at};
 
 use crate::directory::{
@@ -96,7 +96,7 @@ fn wrong_link(
     requires named { IsFirstNamed file.now links.now (length links.now) first.now }
     requires count { length first.now ≡ entry_count directory.now }
     requires inside { link + 4 ≤ length file.now }
-    ensures { LeastOrNone (IsWrongAt file.now directory.now link) result }
+    ensures { LeastOrNone (IsWrongLinkAt file.now directory.now link) result }
 {
     if is_wrong_link(file, directory, links, first, link) {
         Some(link)

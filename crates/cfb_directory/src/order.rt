@@ -6,7 +6,7 @@ ghost use Rattle.cfb_directory.specs.Directory.{entry_name_length, entry_type, E
 ghost use Rattle.cfb_directory.specs.Reach.{entry_count, entry_place as place_of, ListsReached, IsDirectory};
 ghost use Rattle.cfb_directory.specs.Reach.{BreaksName};
 ghost use Rattle.cfb_directory.specs.Order.{AreOrdered, ListsStreams, ListsFilled, IsFirstAfter, IsPutIn, PutsWanted};
-ghost use Rattle.cfb_directory.specs.Storages.{IsFilled};
+ghost use Rattle.cfb_directory.specs.Storages.{IsStorageWithChild};
 
 use crate::directory::{
     CHILD, ENTRY_TYPE, NAME_LEN, NOSTREAM, TYPE_STORAGE, TYPE_STREAM, entry_place, upper,
@@ -118,7 +118,7 @@ fn put_storage(
     requires short { entry_name_length file.now (place_of directory.now entry) ≤ 64 }
     requires order { AreOrdered file.now directory.now entries.old.items }
     ensures { OnOk result (PutsWanted file.now directory.now
-        (IsFilled file.now directory.now entry) entry entries.old.items entries.new.items) }
+        (IsStorageWithChild file.now directory.now entry) entry entries.old.items entries.new.items) }
 {
     let at = entry_place(file, directory, entry as usize);
     if file[at + ENTRY_TYPE] != TYPE_STORAGE || get32(file, at + CHILD) == NOSTREAM {

@@ -3,10 +3,10 @@ use Rattle.std.proofs.Common.{ℕ, refl, sym, subst}
 use Rattle.cfb_streams.specs.Names.{wd_name}
 use Rattle.cfb_streams.specs.Contents.{Contents}
 use Rattle.cfb_in_place.specs.Change.{NamedChange}
-use Rattle.cfb_in_place.specs.Contract.{IsNamed, CanBeAppended, HasLengths, FitsChange}
+use Rattle.cfb_in_place.specs.Contract.{IsNamed, CanBePutInPlace, HasLengths, FitsChange}
 
 pub can_be : (contents : Contents) (change : NamedChange) → HasLengths change.change → ((i : ℕ) × IsNamed contents i
-    wd_name) → ((i : ℕ) × IsNamed contents i change.name) → ((i : ℕ) → FitsChange contents change i) → CanBeAppended
+    wd_name) → ((i : ℕ) × IsNamed contents i change.name) → ((i : ℕ) → FitsChange contents change i) → CanBePutInPlace
     contents change.change change.name
 can_be contents change lengths main other fits = record {
   two = record {
@@ -21,7 +21,7 @@ can_be contents change lengths main other fits = record {
   table_short = lengths.table_short;
 }
 
-pub all_fit : (contents : Contents) (change : NamedChange) → CanBeAppended contents change.change change.name → (i :
+pub all_fit : (contents : Contents) (change : NamedChange) → CanBePutInPlace contents change.change change.name → (i :
     ℕ) →
     FitsChange contents change i
 all_fit contents change can i is = (λ other. can.two.apart i i is other refl, (can.two.long i is, can.grown_short i is))

@@ -6,7 +6,7 @@ use Rattle.cfb_streams.specs.Contents.{Stream, Contents, HasNamed}
 use Rattle.cfb_streams.specs.Container.{HasContents}
 use Rattle.cfb_in_place.specs.Change.{StreamChange, grown_bytes}
 use Rattle.cfb_in_place.specs.InPlace.{StaysInPlace}
-use Rattle.cfb_in_place.specs.Contract.{IsNamed, CanBeAppended, IsSavedInPlace}
+use Rattle.cfb_in_place.specs.Contract.{IsNamed, CanBePutInPlace, IsSavedInPlace}
 use Rattle.cfb_in_place.proofs.InPlaceLemmas.{same_stream}
 use Rattle.cfb_streams.proofs.Public.{named_place}
 use Rattle.cfb_in_place.proofs.ContentsAgain.{save_stays, grown_bytes_are}
@@ -37,7 +37,7 @@ pub can_append : (file : List ℕ) (contents : Contents) (change : StreamChange)
     HasContents file
     contents → HasNamed contents.streams wd_name wd → HasNamed contents.streams name table → length name ≢ length
     wd_name → 4096 ≤ length wd → length change.fib ≤ 4096 → 4096 ≤ length change.table → length (grown_bytes change wd)
-    < 2 ^ 31 → length change.table < 2 ^ 31 → CanBeAppended contents change name
+    < 2 ^ 31 → length change.table < 2 ^ 31 → CanBePutInPlace contents change name
 can_append file contents change name wd table has one other apart long fib least grown short = record {
   two = record {
     main = (one.index, is_named contents wd_name wd one);

@@ -7,12 +7,12 @@ use Rattle.std.proofs.lemmas.List.{get_or_append_left, get_or-append_right}
 use Rattle.std.proofs.lemmas.List.FromFn.{length-range_with_len, get_or-range_with_len}
 use Rattle.cfb_sectors.specs.Header.{valid_below}
 use Rattle.cfb_sectors.specs.SectorChain.{HasSector, IsSectorPath, IsSectorChain, last_of}
-use Rattle.cfb_sectors.specs.Chain.{Table, Head, fat_table, HoldsChain}
+use Rattle.cfb_sectors.specs.Chain.{Table, ChainHead, fat_table, HoldsChain}
 use Rattle.cfb_directory.specs.Directory.{entry_start}
 use Rattle.cfb_directory.specs.Reach.{entry_place, IsDirectory, directory_head}
 use Rattle.cfb_directory.specs.StreamEntries.{stream_head}
 use Rattle.cfb_streams.specs.StreamRules.{Owner, of_directory, of_stream, Owns}
-use Rattle.cfb_layout.specs.Sectors.{start_of}
+use Rattle.cfb_layout.specs.Sectors.{chain_start}
 use Rattle.cfb_layout.proofs.Public.{chains_chain, owners_apart}
 use Rattle.cfb_in_place.specs.Change.{fresh_from}
 use Rattle.cfb_in_place.specs.Appended.{chain_after}
@@ -98,7 +98,8 @@ chain_join entry valid start next xs ys path chain joins apart =
     }
 
 -- a head that says the same
-pub head_again : (table : Table) (head other : Head) (xs : List ℕ) → other.start ≡ head.start → other.size ≡ head.size
+pub head_again : (table : Table) (head other : ChainHead) (xs : List ℕ) → other.start ≡ head.start → other.size ≡
+    head.size
     → other.unit ≡ head.unit → HoldsChain table head xs → HoldsChain table other xs
 head_again table head other xs start size unit holds =
     let same = ap (λ u. length xs * u) unit in
@@ -156,7 +157,8 @@ entry_again s owner x other another own low =
     free))
 
 -- so its chain stays
-pub holds_again : (s : Save) (owner : Owner) (head other : Head) (xs : List ℕ) → owner ≢ of_stream s.chains.grown_entry
+pub holds_again : (s : Save) (owner : Owner) (head other : ChainHead) (xs : List ℕ) → owner ≢ of_stream
+    s.chains.grown_entry
     → owner ≢ of_stream s.chains.table_entry → ((x : ℕ) → HasSector xs x → Owns s.old s.has.parts owner x) →
     other.start ≡ head.start → other.size ≡ head.size → other.unit ≡ head.unit → HoldsChain (fat_table s.old) head xs
     → HoldsChain (fat_table s.new) other xs
@@ -179,7 +181,8 @@ directory_again s = record {
 }
 
 -- the added chains
-added_run : (s : Save) (i start count : ℕ) → i < 2 → start ≡ s.added.from + start_of (s.added.grown ∷ (s.added.fresh ∷
+added_run : (s : Save) (i start count : ℕ) → i < 2 → start ≡ s.added.from + chain_start (s.added.grown ∷ (s.added.fresh
+    ∷
     [])) i → count ≡ slice_index (s.added.grown ∷ (s.added.fresh ∷ [])) i → 0 < count →
     IsSectorChain (fat_table s.new).entry (valid_below s.new) start (range_with_len start count)
 added_run s i start count low at is some =

@@ -10,9 +10,9 @@ use Rattle.doc_bits.specs.Number.{zeros}
 use Rattle.doc_bits.proofs.Public.{length-range, there_is}
 use Rattle.cfb_sectors.specs.Header.{sector_count, sector_bytes, valid_below}
 use Rattle.cfb_sectors.specs.SectorChain.{HasSector}
-use Rattle.cfb_sectors.specs.Chain.{Head, fat_table, HoldsChain}
+use Rattle.cfb_sectors.specs.Chain.{ChainHead, fat_table, HoldsChain}
 use Rattle.cfb_sectors.proofs.Public.{holds_unique}
-use Rattle.cfb_directory.specs.Directory.{IsNameOf, EntryBefore, upper_case, entry_size, entry_clsid}
+use Rattle.cfb_directory.specs.Directory.{IsEntryName, EntryBefore, upper_case, entry_stream_size, entry_clsid}
 use Rattle.cfb_directory.specs.Directory.{entry_name_units, AreSameNames}
 use Rattle.cfb_directory.specs.Reach.{entry_place, IsReachedEntry}
 use Rattle.cfb_directory.specs.Order.{ListsStreams}
@@ -21,7 +21,7 @@ use Rattle.cfb_directory.proofs.Public.{reached_there}
 use Rattle.cfb_streams.specs.StreamRules.{Owner, of_fat, of_directory, of_mini_fat, of_mini_stream, of_stream, Owns}
 use Rattle.cfb_streams.specs.Contents.{Stream, Contents}
 use Rattle.cfb_streams.specs.Container.{mini_bytes, IsStreamOf, HasContents}
-use Rattle.cfb_layout.specs.Sectors.{padded}
+use Rattle.cfb_layout.specs.Sectors.{padded_to_unit}
 use Rattle.cfb_layout.proofs.Public.{owners_apart, entries_apart}
 use Rattle.cfb_in_place.specs.Change.{StreamChange, OldChains, grown_bytes, added_sectors, fresh_from}
 use Rattle.cfb_in_place.specs.Appended.{SameBytes, joined, chain_after, IsTouched, in_grown, in_fat, in_mini_fat}
@@ -91,7 +91,8 @@ quiet_of s owner x quiet own low (in_directory has) = owners_apart s.old s.has.p
     (save_accepted s) quiet.not_directory own has
 quiet_of s owner x quiet own low (in_added from below) = let is = (counts_of s).from in omega arith
 
-joined_again : (s : Save) (owner : Owner) (head : Head) (xs : List ℕ) → IsQuiet s owner → HoldsChain (fat_table s.old)
+joined_again : (s : Save) (owner : Owner) (head : ChainHead) (xs : List ℕ) → IsQuiet s owner → HoldsChain (fat_table
+    s.old)
     head xs → ((x : ℕ) → HasSector xs x → Owns s.old s.has.parts owner x) → joined s.new xs ≡ joined s.old xs
 joined_again s owner head xs quiet holds own = joined_all (sector_bytes 512 512 s.new) (sector_bytes 512 512 s.old) xs
     (λ i h.
@@ -114,9 +115,9 @@ mini_bytes_again s = elim s.has.mini_stream [
 ]
 
 -- names and their order
-name_again : (s : Save) (k : ℕ) (name : List ℕ) → IsReachedEntry s.old s.has.parts.directory k → IsNameOf s.old
+name_again : (s : Save) (k : ℕ) (name : List ℕ) → IsReachedEntry s.old s.has.parts.directory k → IsEntryName s.old
     (entry_place
-    s.has.parts.directory k) name → IsNameOf s.new (entry_place s.has.parts.directory k) name
+    s.has.parts.directory k) name → IsEntryName s.new (entry_place s.has.parts.directory k) name
 name_again s k name reached is =
     let inside = (reached_there s.old s.has.parts.directory reached).1 in
     let len = name_length_again s k inside in
@@ -203,7 +204,8 @@ stream_kept s k stream one another is =
                   sectors = short.body.sectors;
                   holds = small_again s k short.body.sectors one another short.body.is_small short.body.holds;
                   joined = short.body.joined ∙ (ap (λ n. take n (flat_map (sector_bytes 0 64 (mini_bytes s.old
-                      s.has.parts)) short.body.sectors)) (sym size) ∙ ap (λ xs. take (entry_size s.new (entry_place
+                      s.has.parts)) short.body.sectors)) (sym size) ∙ ap (λ xs. take (entry_stream_size s.new
+                      (entry_place
                       directory k)) xs) (sym joined_small));
                 };
                 chain = short.chain;
@@ -229,7 +231,7 @@ stream_kept s k stream one another is =
                   is_large = record { is_entry = entry; large = omega arith };
                   holds = large_again s k long.sectors one another long.body.is_large long.body.holds;
                   joined = long.body.joined ∙ (ap (λ n. take n (joined s.old long.sectors)) (sym size) ∙ ap (λ xs.
-                      take (entry_size s.new (entry_place directory k)) xs) (sym bytes));
+                      take (entry_stream_size s.new (entry_place directory k)) xs) (sym bytes));
                 };
                 chain = long.chain;
               }))
@@ -262,7 +264,8 @@ stream_grown s stream is =
         body = record {
           is_large = record { is_entry = entry; large = omega arith };
           holds = grown_again s;
-          joined = front_of bytes rest (entry_size s.new at) size ∙ ap (λ xs. take (entry_size s.new at) xs)
+          joined = front_of bytes rest (entry_stream_size s.new at) size ∙ ap (λ xs. take (entry_stream_size s.new at)
+              xs)
               (sym s.saved.sectors.grown);
         };
         chain = refl;
@@ -277,8 +280,8 @@ table_stream s stream = record {
   chain = Some (range_with_len (fresh_from s.added) s.added.fresh);
 }
 
-padded_front : (xs : List ℕ) (n : ℕ) → n ≡ length xs → xs ≡ take n (padded 512 0 xs)
-unfolding padded
+padded_front : (xs : List ℕ) (n : ℕ) → n ≡ length xs → xs ≡ take n (padded_to_unit 512 0 xs)
+unfolding padded_to_unit
 padded_front xs n is = front_of xs _ n is
 
 stream_table : (s : Save) (stream : Stream) → IsStreamOf s.old s.has.parts s.chains.table_entry stream → IsStreamOf
@@ -296,7 +299,8 @@ stream_table s stream is =
         body = record {
           is_large = record { is_entry = entry; large = omega arith };
           holds = table_again s;
-          joined = padded_front s.change.table (entry_size s.new at) size ∙ ap (λ xs. take (entry_size s.new at) xs)
+          joined = padded_front s.change.table (entry_stream_size s.new at) size ∙ ap (λ xs. take (entry_stream_size
+              s.new at) xs)
               (sym s.saved.sectors.table);
         };
         chain = refl;
@@ -422,7 +426,7 @@ grown_stream_is s stream is =
             let same = holds_unique (fat_table s.old) (stream_head s.old 512 at) long.sectors s.chains.grown
             long.body.holds s.are.grown.holds in
             record {
-              bytes_are = long.body.joined ∙ (ap (λ xs. take (entry_size s.old at) (joined s.old xs)) same ∙ sym
+              bytes_are = long.body.joined ∙ (ap (λ xs. take (entry_stream_size s.old at) (joined s.old xs)) same ∙ sym
                   s.are.grown.joined);
               chain_is = long.chain ∙ ap (λ xs. Some xs) same;
             }

@@ -13,9 +13,9 @@ use Rattle.cfb_sectors.specs.Header.{sector_count}
 use Rattle.cfb_directory.specs.Directory.{entry_start}
 use Rattle.cfb_directory.specs.Reach.{entry_place}
 use Rattle.cfb_in_place.specs.Change.{grown_bytes, fresh_from}
-use Rattle.cfb_in_place.specs.Roles.{IsPlaced}
+use Rattle.cfb_in_place.specs.Roles.{IsSectorAt}
 use Rattle.cfb_in_place.specs.Sources.{NewHead, headed, four_entries, Sources, old_sector}
-use Rattle.cfb_in_place.specs.Sources.{part_bytes}
+use Rattle.cfb_in_place.specs.Sources.{part_sector_bytes}
 use Rattle.cfb_in_place.specs.Sources.{entry_after as entry_with}
 use Rattle.cfb_in_place.specs.declared.roles.Part.TheVariants.{Directory}
 use Rattle.cfb_in_place.proofs.PickLemmas.{pick, pick_low, pick_high}
@@ -173,8 +173,8 @@ entry_made b k xs old = elim (cases_eq k b.chains.grown_entry) [
 
 -- a sector of the directory
 pub directory_made : (b : Before) (sources : Sources) (s index : ℕ) → AreOf b sources → s < sector_count b.old →
-    IsPlaced
-    (parts_of b).entries s index → IsMade b s (part_bytes b.old sources s index Directory)
+    IsSectorAt
+    (parts_of b).entries s index → IsMade b s (part_sector_bytes b.old sources s index Directory)
 unfolding four_entries
 directory_made b sources s index are low of =
     let directory = b.has.parts.directory in
@@ -198,7 +198,8 @@ directory_made b sources s index are low of =
     } in
     let made : (k : ℕ) → k < 4 → IsNewEntry b (4 * index + k) (slice_range bytes (128 * k) (128 * k + 128)) (f k) = λ k
     h. entry_made b (4 * index + k) (slice_range bytes (128 * k) (128 * k + 128)) (old k h) in
-    let same : part_bytes b.old sources s index Directory ≡ flat_map f (range_with_len 0 4) = ap (λ g. four_entries g
+    let same : part_sector_bytes b.old sources s index Directory ≡ flat_map f (range_with_len 0 4) = ap (λ g.
+    four_entries g
     sources.table_head (4 * index) bytes) are.grown_head ∙ ap (λ t. four_entries (grown_head_of b) t (4 * index) bytes)
     are.table_head in
     subst (λ (new : List ℕ). IsMade b s new) (sym same) (record {

@@ -4,7 +4,7 @@ use Rattle.std.proofs.Common.{◌∙◌}
 use Rattle.std.proofs.Common.{arith}
 use Rattle.std.proofs.lemmas.Bool.{cases_lt}
 use Rattle.cfb_sectors.specs.SectorChain.{end_of_chain}
-use Rattle.cfb_layout.specs.Sectors.{chains_from, chain_entries, start_of}
+use Rattle.cfb_layout.specs.Sectors.{chains_from, chain_entries, chain_start}
 use Rattle.cfb_layout.proofs.Public.{chains_at, chain_next, chain_last}
 use Rattle.cfb_in_place.specs.Change.{Added, fresh_from, fat_from}
 use Rattle.cfb_in_place.specs.Tables.{IsNewEntry}
@@ -15,7 +15,7 @@ in_first : (added : Added) (s : ℕ) → added.from ≤ s → s < fresh_from add
     (s - added.from)
 in_first added s low h =
     let counts : List ℕ = added.grown ∷ (added.fresh ∷ []) in
-    let first : start_of counts 0 ≡ 0 = refl in
+    let first : chain_start counts 0 ≡ 0 = refl in
     chains_at added.from counts 0 (s - added.from) (s - added.from) added.from (omega arith) (omega arith)
     (omega arith) (omega arith)
 
@@ -24,7 +24,7 @@ in_second : (added : Added) (s : ℕ) → fresh_from added ≤ s → s < fat_fro
     (s - fresh_from added)
 in_second added s low h =
     let counts : List ℕ = added.grown ∷ (added.fresh ∷ []) in
-    let second : start_of counts 1 ≡ 0 + added.grown = refl in
+    let second : chain_start counts 1 ≡ 0 + added.grown = refl in
     chains_at added.from counts 1 (s - fresh_from added) (s - added.from) (fresh_from added) (omega arith)
     (omega arith) (omega arith) (omega arith)
 

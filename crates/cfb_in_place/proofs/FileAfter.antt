@@ -13,7 +13,7 @@ use Rattle.cfb_sectors.specs.Chain.{fat_table}
 use Rattle.cfb_sectors.proofs.Public.{fat_few}
 use Rattle.cfb_streams.specs.Contents.{Contents}
 use Rattle.cfb_streams.specs.Container.{container_rules, HasContents}
-use Rattle.cfb_layout.specs.Sectors.{chains_from, free_sector, fat_sector_mark, padded}
+use Rattle.cfb_layout.specs.Sectors.{chains_from, free_sector, fat_sector_mark, padded_to_unit}
 use Rattle.cfb_layout.proofs.Public.{IsAccepted, accepted}
 use Rattle.cfb_in_place.specs.Change.{StreamChange, OldChains, Added}
 use Rattle.cfb_in_place.specs.Change.{added_sectors, grown_count, fresh_count, grown_bytes}
@@ -116,7 +116,8 @@ byte_in b x o =
     b.has.parts.directory x + o / 128) (o % 128) old)
     (pick (place_in (chain_after b.chains (added_of b)) x) (length (chain_after b.chains (added_of b))) (slice_index
     (grown_joined b) (512 * place_in (chain_after b.chains (added_of b)) x + o))
-    (pick x (fresh_from (added_of b)) old (pick x (fat_from (added_of b)) (slice_index (padded 512 0 b.change.table)
+    (pick x (fresh_from (added_of b)) old (pick x (fat_from (added_of b)) (slice_index (padded_to_unit 512 0
+    b.change.table)
     (512 * (x - fresh_from (added_of b)) + o)) old)))))
 
 -- a byte of the header

@@ -8,15 +8,15 @@ use Rattle.doc_bits.specs.Number.{AreBytes}
 use Rattle.doc_bits.specs.Rules.{Hold}
 use Rattle.cfb_streams.specs.StreamRules.{Parts}
 use Rattle.cfb_streams.specs.Contents.{Stream, Contents}
-use Rattle.cfb_streams.specs.Layout.{Places, IsLayout}
+use Rattle.cfb_streams.specs.Layout.{LayoutPlaces, IsSoundLayout}
 use Rattle.cfb_streams.specs.Container.{container_rules}
 use Rattle.cfb_layout.specs.declared.faults.LayoutFault.{LayoutFault}
 use Rattle.cfb_layout.specs.declared.faults.LayoutFault.TheVariants.{TooLarge, Memory}
 use Rattle.cfb_in_place.specs.Change.{StreamChange, OldChains, Added, grown_bytes, added_sectors, fresh_from}
 use Rattle.cfb_in_place.specs.Appended.{IsSavedBehind, chain_after}
 use Rattle.cfb_in_place.specs.Save.{CanSave, IsReady, FitsAfter, IsSave, IsSaveFault, AreStreamsAfter, AreContentsAfter}
-use Rattle.cfb_in_place.specs.Contract.{CanBeAppended, AreNamedChains, IsSavedInPlace, IsInPlaceFault}
-use Rattle.cfb_in_place.specs.Sources.{Sources, HasAllParts, AreSources, written}
+use Rattle.cfb_in_place.specs.Contract.{CanBePutInPlace, AreNamedChains, IsSavedInPlace, IsInPlaceFault}
+use Rattle.cfb_in_place.specs.Sources.{Sources, HasAllParts, AreSources, written_sectors}
 use Rattle.cfb_in_place.proofs.FileAfter.{added_of, file_after}
 use Rattle.cfb_in_place.proofs.SectorsThere.{saved_behind}
 use Rattle.cfb_in_place.proofs.ReadyLemmas.{before_of, of_ready}
@@ -47,17 +47,19 @@ has_all_parts old parts chains change added ready bytes sources are = parts_ther
 pub saved_is : (old new : List ℕ) (parts : Parts) (chains : OldChains) (change : StreamChange) (added : Added) → IsReady
     old parts chains change added → AreBytes old → (sources : Sources) → AreSources old parts chains added change
     sources
-    → new ≡ written old added sources → IsSavedBehind old new parts chains added change
+    → new ≡ written_sectors old added sources → IsSavedBehind old new parts chains added change
 saved_is old new parts chains change added ready bytes sources are e =
     let b = before_of old parts chains change added ready bytes in
-    let same : new ≡ file_after b = e ∙ (ap (λ (a : Added). written old a sources) ready.is ∙ written_is b sources
+    let same : new ≡ file_after b = e ∙ (ap (λ (a : Added). written_sectors old a sources) ready.is ∙ written_is b
+    sources
     (sources_of old parts chains change added ready sources are)) in
     of_ready old parts chains change added ready (λ p a. IsSavedBehind old new p chains a change)
     (subst (λ (f : List ℕ). IsSavedBehind old f b.has.parts chains (added_of b) change) (sym same) (saved_behind b))
 
 -- the change may be put into the file
 pub can_save : (old : List ℕ) (contents : Contents) (change : StreamChange) (name : List ℕ) (chains : OldChains) (places
-    : Places) → Hold (container_rules old) → CanBeAppended contents change name → places.file ≡ old → IsLayout places →
+    : LayoutPlaces) → Hold (container_rules old) → CanBePutInPlace contents change name → places.file ≡ old →
+    IsSoundLayout places →
     AreNamedChains old contents name chains → CanSave old places.parts chains change
 can_save old contents change name chains places hold can same layout named = record {
   contents = contents;
@@ -117,7 +119,8 @@ streams_after streams i j one other chains added change a b ne =
 
 -- the file after is accepted and read
 pub in_place : (old new : List ℕ) (contents : Contents) (change : StreamChange) (name : List ℕ) (chains : OldChains)
-    (places : Places) → Hold (container_rules old) → CanBeAppended contents change name → places.file ≡ old → IsLayout
+    (places : LayoutPlaces) → Hold (container_rules old) → CanBePutInPlace contents change name → places.file ≡ old →
+    IsSoundLayout
     places → AreNamedChains old contents name chains → FitsAfter old (added_sectors old chains change) → IsSavedBehind
     old new places.parts chains (added_sectors old chains change) change → IsSavedInPlace old new contents change name
 in_place old new contents change name chains places hold can same layout named fits saved =
@@ -164,7 +167,8 @@ in_place old new contents change name chains places hold can same layout named f
 -- too many sectors
 pub too_many : (old : List ℕ) (contents : Contents) (change : StreamChange) (name : List ℕ) (chains : OldChains)
     (fault :
-    LayoutFault) → CanBeAppended contents change name → AreNamedChains old contents name chains → IsSaveFault old chains
+    LayoutFault) → CanBePutInPlace contents change name → AreNamedChains old contents name chains → IsSaveFault old
+    chains
     change fault → IsInPlaceFault old contents change name fault
 too_many old contents change name chains (TooLarge count) can named is = record {
   chains = chains;

@@ -7,25 +7,25 @@ use Rattle.cfb_sectors.specs.Header.{sector_bytes}
 use Rattle.std.proofs.lemmas.Bool.{cases_order}
 use Rattle.std.proofs.lemmas.Option.{slice_get_within}
 use Rattle.cfb_sectors.specs.Chain.{fat_table, HoldsChain}
-use Rattle.cfb_directory.specs.Directory.{entry_size}
+use Rattle.cfb_directory.specs.Directory.{entry_stream_size}
 use Rattle.cfb_directory.specs.Order.{ListsStreams}
 use Rattle.cfb_directory.specs.Reach.{entry_place, IsDirectory}
 use Rattle.cfb_streams.specs.StreamRules.{Parts, IsMiniFat, IsMiniStream}
 use Rattle.cfb_streams.specs.Contents.{Stream, Contents}
-use Rattle.cfb_streams.specs.Layout.{Places, IsLayout}
+use Rattle.cfb_streams.specs.Layout.{LayoutPlaces, IsSoundLayout}
 use Rattle.cfb_streams.specs.Container.{HasContents, IsStreamOf, mini_bytes}
 use Rattle.cfb_streams.proofs.Public.{directory_unique, mini_fat_unique, mini_stream_unique, lists_unique}
 use Rattle.cfb_streams.specs.Names.{wd_name}
 use Rattle.cfb_layout.proofs.Public.{entries_apart}
 use Rattle.cfb_in_place.specs.Change.{StreamChange, OldChains, grown_bytes}
-use Rattle.cfb_in_place.specs.Contract.{IsNamed, AreTwoStreams, CanBeAppended, AreNamedChains}
+use Rattle.cfb_in_place.specs.Contract.{IsNamed, AreTwoStreams, CanBePutInPlace, AreNamedChains}
 use Rattle.cfb_in_place.specs.Save.{LeavesSectors, nothing, mini_sectors, sectors, AreOldChains, IsMiniChain}
 use Rattle.cfb_in_place.specs.Save.{CanBePut}
 
 -- the parts are those of the file's contents
-pub there_parts : (file : List ℕ) (contents : Contents) (has : HasContents file contents) (places : Places) →
+pub there_parts : (file : List ℕ) (contents : Contents) (has : HasContents file contents) (places : LayoutPlaces) →
     places.file
-    ≡ file → IsLayout places → places.parts ≡ has.parts
+    ≡ file → IsSoundLayout places → places.parts ≡ has.parts
 there_parts file contents has places same layout =
     let parts = places.parts in
     let d = directory_unique file parts.directory has.parts.directory (subst (λ f. IsDirectory f parts.directory) same
@@ -48,8 +48,8 @@ there_parts file contents has places same layout =
     first ∙ (second ∙ third)
 
 -- and the entries of the streams are those
-pub there_entries : (file : List ℕ) (contents : Contents) (has : HasContents file contents) (places : Places) →
-    places.file ≡ file → IsLayout places → places.streams ≡ has.entries
+pub there_entries : (file : List ℕ) (contents : Contents) (has : HasContents file contents) (places : LayoutPlaces) →
+    places.file ≡ file → IsSoundLayout places → places.streams ≡ has.entries
 there_entries file contents has places same layout =
     let parts = there_parts file contents has places same layout in
     let first = subst (λ f. ListsStreams f places.parts.directory places.streams) same layout.are_entries.in_order in
@@ -124,7 +124,7 @@ old_chains file parts chains one other found =
         | inl empty ↦ absurd (let none = ap (λ (xs : List ℕ). length xs) empty.bytes in omega arith)
         | inr rest ↦ elim rest [
           | inl short ↦ absurd (let cut = ap (λ (xs : List ℕ). length xs) short.body.joined in let less = length-take
-              (entry_size file (entry_place parts.directory chains.grown_entry)) (flat_map (sector_bytes 0 64
+              (entry_stream_size file (entry_place parts.directory chains.grown_entry)) (flat_map (sector_bytes 0 64
               (mini_bytes file parts)) short.body.sectors) in let small =
               short.body.is_small.small in omega arith)
           | inr long ↦
@@ -132,7 +132,7 @@ old_chains file parts chains one other found =
               record {
                 is_large = long.body.is_large;
                 holds = subst (λ (xs : List ℕ). HoldsChain (fat_table file) _ xs) (sym same) long.body.holds;
-                joined = found.bytes_are ∙ (long.body.joined ∙ ap (λ (xs : List ℕ). take (entry_size file
+                joined = found.bytes_are ∙ (long.body.joined ∙ ap (λ (xs : List ℕ). take (entry_stream_size file
                     (entry_place parts.directory chains.grown_entry)) (flat_map (sector_bytes 512 512 file) xs)) (sym
                     same));
               }
@@ -144,8 +144,8 @@ old_chains file parts chains one other found =
     }
 
 -- a stream that is there has an entry
-pub entry_inside : (file : List ℕ) (contents : Contents) (has : HasContents file contents) (places : Places) →
-    places.file ≡ file → IsLayout places → (i : ℕ) → i < length contents.streams → i < length places.streams
+pub entry_inside : (file : List ℕ) (contents : Contents) (has : HasContents file contents) (places : LayoutPlaces) →
+    places.file ≡ file → IsSoundLayout places → (i : ℕ) → i < length contents.streams → i < length places.streams
 entry_inside file contents has places same layout i h =
     let entries = ap (λ (xs : List ℕ). length xs) (there_entries file contents has places same layout) in
     let len = has.streams.len in
@@ -201,7 +201,7 @@ named_chains file contents name chains has two i j one other grown table bytes o
 
 -- the change may be put there
 pub put_there : (file : List ℕ) (contents : Contents) (change : StreamChange) (name : List ℕ) (chains : OldChains) →
-    CanBeAppended contents change name → AreNamedChains file contents name chains → CanBePut chains change
+    CanBePutInPlace contents change name → AreNamedChains file contents name chains → CanBePut chains change
 put_there file contents change name chains can named = record {
   fib = can.fib;
   table = can.table;
@@ -212,7 +212,8 @@ put_there file contents change name chains can named = record {
 
 -- what the other stream's entry is for its mini chain
 pub other_stream : (file : List ℕ) (contents : Contents) (name : List ℕ) (has : HasContents file contents) (places :
-    Places) → places.file ≡ file → IsLayout places → (j entry : ℕ) (other : IsNamed contents j name) → entry ≡
+    LayoutPlaces) → places.file ≡ file → IsSoundLayout places → (j entry : ℕ) (other : IsNamed contents j name) → entry
+    ≡
     slice_index places.streams j → IsStreamOf file places.parts entry other.stream
 other_stream file contents name has places same layout j entry other is =
     let parts = there_parts file contents has places same layout in

@@ -9,7 +9,7 @@ use Rattle.std.proofs.lemmas.List.Concat.{get_or-flat_map}
 use Rattle.cfb_sectors.specs.Header.{sector_bytes}
 use Rattle.cfb_sectors.specs.Chain.{AreSectorsOf}
 use Rattle.cfb_sectors.proofs.Public.{length-sector, length-joined}
-use Rattle.cfb_directory.specs.Directory.{entry_size}
+use Rattle.cfb_directory.specs.Directory.{entry_stream_size}
 use Rattle.cfb_directory.specs.Reach.{entry_place}
 use Rattle.cfb_directory.specs.StreamEntries.{stream_head}
 use Rattle.cfb_streams.specs.Contents.{Stream, Contents}
@@ -74,7 +74,7 @@ long_body file name bytes sectors h =
 
 pub bytes_short : (file bytes sectors : List ℕ) → HasBody file bytes sectors → length bytes ≤ 512 * length sectors
 bytes_short file bytes sectors h =
-    let size = entry_size file (entry_place h.directory h.entry) in
+    let size = entry_stream_size file (entry_place h.directory h.entry) in
     let len = ap length h.body.joined in
     let cut = length-take size (joined file sectors) in
     let enough = h.body.holds.enough in
@@ -84,7 +84,7 @@ bytes_short file bytes sectors h =
 pub stream_byte : (file bytes sectors : List ℕ) (x : ℕ) → HasBody file bytes sectors → x < length bytes →
     slice_index bytes x ≡ slice_index file (byte_place sectors x)
 stream_byte file bytes sectors x h low =
-    let size = entry_size file (entry_place h.directory h.entry) in
+    let size = entry_stream_size file (entry_place h.directory h.entry) in
     let len = ap length h.body.joined in
     let cut = length-take size (joined file sectors) in
     let short = bytes_short file bytes sectors h in

@@ -8,7 +8,7 @@ use Rattle.cfb_sectors.specs.Header.{fat_sector_count, fat_sectors}
 use Rattle.cfb_sectors.specs.Chain.{AreSectorsOf}
 use Rattle.cfb_sectors.specs.Claims.{AreDistinctBelow}
 use Rattle.cfb_sectors.proofs.Public.{fat_inside}
-use Rattle.cfb_directory.specs.Directory.{entry_size}
+use Rattle.cfb_directory.specs.Directory.{entry_stream_size}
 use Rattle.cfb_directory.specs.Reach.{entry_place, entry_count, directory_head}
 use Rattle.cfb_directory.specs.StreamEntries.{stream_head}
 use Rattle.cfb_streams.specs.StreamRules.{Parts}
@@ -91,7 +91,7 @@ front_of old parts chains change can =
     let large = can.are.grown.is_large.large in
     let enough = can.are.grown.holds.enough in
     let cut = ap (λ (xs : List ℕ). length xs) can.are.grown.joined in
-    let len = length-take (entry_size old at) (joined old chains.grown) in
+    let len = length-take (entry_stream_size old at) (joined old chains.grown) in
     omega arith
 
 -- and its sectors hold it

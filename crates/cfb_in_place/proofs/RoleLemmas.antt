@@ -13,7 +13,7 @@ use Rattle.cfb_layout.proofs.Public.{range_more}
 use Rattle.cfb_in_place.specs.declared.roles.Part.{Part}
 use Rattle.cfb_in_place.specs.declared.roles.Part.TheVariants.{Fat, MiniFat, Directory, Grown, Fresh}
 use Rattle.cfb_in_place.specs.declared.roles.Role.{Role}
-use Rattle.cfb_in_place.specs.Roles.{AreGiven, PartSectors, IsPlaced, IsOfPart, AreRoles, other_role}
+use Rattle.cfb_in_place.specs.Roles.{AreGiven, PartSectors, IsSectorAt, IsOfPart, AreRoles, other_role}
 use Rattle.cfb_in_place.proofs.PickLemmas.{place_in, place_there, place_has}
 use Rattle.doc_bits.proofs.Public.{set_here, set_other}
 
@@ -81,7 +81,7 @@ row_more front numbers new from at n end a b here last =
 
 -- a sector's role: that of the part, or the one it had
 given_role : (old new : List Role) (sectors : List ℕ) (part : Part) (s : ℕ) (role : Role) → AreGiven old new sectors
-    part → slice_get new s ≡ Some role → (IsPlaced sectors s role.index × (role.part ≡ part)) ⊎ ((¬ HasSector sectors
+    part → slice_get new s ≡ Some role → (IsSectorAt sectors s role.index × (role.part ≡ part)) ⊎ ((¬ HasSector sectors
     s) × (slice_get old s ≡ Some role))
 given_role old new sectors part s role is here = elim (cases_lt (place_in sectors s) (length sectors)) [
   | inl low ↦
@@ -91,7 +91,7 @@ given_role old new sectors part s role is here = elim (cases_lt (place_in sector
       let same : role ≡ record { part = part; index = place_in sectors s } = cc in
       let index : place_in sectors s ≡ role.index = sym (ap (λ (r : Role). r.index) same) in
       inl (
-        subst (λ i. IsPlaced sectors s i) index (record { inside = low; here = at }),
+        subst (λ i. IsSectorAt sectors s i) index (record { inside = low; here = at }),
         ap (λ (r : Role). r.part) same,
       )
   | inr high ↦

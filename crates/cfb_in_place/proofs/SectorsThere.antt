@@ -18,7 +18,7 @@ use Rattle.cfb_streams.specs.StreamRules.{of_stream}
 use Rattle.cfb_streams.specs.Contents.{Contents}
 use Rattle.cfb_streams.specs.Container.{container_rules, HasContents}
 use Rattle.cfb_streams.proofs.Public.{chain_inside}
-use Rattle.cfb_layout.specs.Sectors.{padded}
+use Rattle.cfb_layout.specs.Sectors.{padded_to_unit}
 use Rattle.cfb_layout.proofs.Public.{length-padded, run_sector, IsRun, run_join, has_either}
 use Rattle.cfb_in_place.specs.Change.{StreamChange, OldChains, grown_bytes, added_sectors, fresh_from, fat_from}
 use Rattle.cfb_in_place.specs.Change.{sectors_after}
@@ -190,7 +190,7 @@ fresh_not_grown b x from = place_none (chain_after b.chains (added_of b)) x (λ 
     has.index has.inside in let here = has.here in omega arith)
 
 pub fresh_byte : (b : Before) (k o : ℕ) → k < (added_of b).fresh → byte_in b (slice_index (range_with_len (fresh_from
-    (added_of b)) (added_of b).fresh) k) o ≡ slice_index (padded 512 0 b.change.table) (512 * k + o)
+    (added_of b)) (added_of b).fresh) k) o ≡ slice_index (padded_to_unit 512 0 b.change.table) (512 * k + o)
 unfolding byte_in
 fresh_byte b k o h =
     let chain = chain_after b.chains (added_of b) in
@@ -203,10 +203,12 @@ fresh_byte b k o h =
     ∙ (pick_high (place_in b.has.parts.directory x) (length b.has.parts.directory) _ _ apart.entries
     ∙ (pick_high (place_in chain x) (length chain) _ _ (fresh_not_grown b x (omega arith))
     ∙ (pick_high x (fresh_from (added_of b)) _ _ (omega arith)
-    ∙ (pick_low x (fat_from (added_of b)) _ _ (omega arith) ∙ ap (λ n. slice_index (padded 512 0 b.change.table) n)
+    ∙ (pick_low x (fat_from (added_of b)) _ _ (omega arith) ∙ ap (λ n. slice_index (padded_to_unit 512 0 b.change.table)
+    n)
     at)))))
 
-table_is : (b : Before) → joined (file_after b) (range_with_len (fresh_from (added_of b)) (added_of b).fresh) ≡ padded
+table_is : (b : Before) → joined (file_after b) (range_with_len (fresh_from (added_of b)) (added_of b).fresh) ≡
+    padded_to_unit
     512 0 b.change.table
 table_is b =
     let run = range_with_len (fresh_from (added_of b)) (added_of b).fresh in
@@ -216,7 +218,7 @@ table_is b =
     let fits = b.fits in
     let low : (i : ℕ) → i < length run → slice_index run i < sectors_after b.old (added_of b) = λ i h. let at =
     get_or-range_with_len (fresh_from (added_of b)) (added_of b).fresh i 0 (omega arith) in omega arith in
-    joined_is b run (padded 512 0 b.change.table) (inside_of b run (omega arith) low) (omega arith) low
+    joined_is b run (padded_to_unit 512 0 b.change.table) (inside_of b run (omega arith) low) (omega arith) low
     (λ k o h less. fresh_byte b k o (omega arith))
 
 -- all other sectors

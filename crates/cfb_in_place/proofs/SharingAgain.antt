@@ -6,7 +6,7 @@ use Rattle.std.proofs.lemmas.Bool.{cases_lt, cases_eq}
 use Rattle.doc_bits.specs.Rules.{Nowhere}
 use Rattle.cfb_sectors.specs.Header.{fat_sector_count, fat_sectors}
 use Rattle.cfb_sectors.specs.SectorChain.{HasSector}
-use Rattle.cfb_sectors.specs.Chain.{Head, fat_table, HoldsChain}
+use Rattle.cfb_sectors.specs.Chain.{ChainHead, fat_table, HoldsChain}
 use Rattle.cfb_sectors.proofs.Public.{length-fat_sectors, fat_sectors-at, fat_valid, holds_unique}
 use Rattle.cfb_directory.specs.Reach.{entry_place}
 use Rattle.cfb_directory.specs.StreamEntries.{stream_head}
@@ -31,7 +31,8 @@ pub record IsOld (s : Save) (owner : Owner) (x : ℕ) : Type 0 where
   pub own : Owns s.old s.has.parts owner x
   pub low : x < s.added.from
 
-held_low : (s : Save) (head : Head) (xs : List ℕ) (x : ℕ) → HoldsChain (fat_table s.old) head xs → HasSector xs x → x <
+held_low : (s : Save) (head : ChainHead) (xs : List ℕ) (x : ℕ) → HoldsChain (fat_table s.old) head xs → HasSector xs x →
+    x <
     s.added.from
 held_low s head xs x holds has =
     let from = (counts_of s).from in

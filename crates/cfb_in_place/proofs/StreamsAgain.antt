@@ -7,9 +7,9 @@ use Rattle.doc_bits.specs.Rules.{Nowhere}
 use Rattle.doc_bits.specs.Number.{u32_at}
 use Rattle.doc_bits.proofs.Public.{there_is}
 use Rattle.cfb_sectors.specs.SectorChain.{HasSector}
-use Rattle.cfb_sectors.specs.Chain.{Table, Head, fat_table, HoldsChain}
+use Rattle.cfb_sectors.specs.Chain.{Table, ChainHead, fat_table, HoldsChain}
 use Rattle.cfb_sectors.proofs.Public.{holds_none, length-cut, full_unique, chain_full}
-use Rattle.cfb_directory.specs.Directory.{entry_start, entry_size}
+use Rattle.cfb_directory.specs.Directory.{entry_start, entry_stream_size}
 use Rattle.cfb_directory.specs.Reach.{entry_place, entry_count, BreaksDirectory, directory_head}
 use Rattle.cfb_directory.specs.StreamEntries.{IsStreamEntry, IsLargeStream, IsSmallStream, stream_head}
 use Rattle.cfb_directory.proofs.Public.{reached_there}
@@ -37,7 +37,8 @@ start_again s k low one another =
     (omega arith)
 
 pub size_again : (s : Save) (k : ℕ) → k < entry_count s.has.parts.directory → k ≢ s.chains.grown_entry → k ≢
-    s.chains.table_entry → entry_size s.new (entry_place s.has.parts.directory k) ≡ entry_size s.old (entry_place
+    s.chains.table_entry → entry_stream_size s.new (entry_place s.has.parts.directory k) ≡ entry_stream_size s.old
+    (entry_place
     s.has.parts.directory k)
 size_again s k low one another =
     let at = entry_place s.has.parts.directory k in
@@ -55,7 +56,8 @@ root_not_table s =
     let there = reached_there s.old s.has.parts.directory s.are.table.reached in
     let above = there.0 in λ e. omega arith
 
-pub root_size : (s : Save) → entry_size s.new (entry_place s.has.parts.directory 0) ≡ entry_size s.old (entry_place
+pub root_size : (s : Save) → entry_stream_size s.new (entry_place s.has.parts.directory 0) ≡ entry_stream_size s.old
+    (entry_place
     s.has.parts.directory 0)
 root_size s = size_again s 0 (root_there s) (root_not_grown s) (root_not_table s)
 
@@ -139,7 +141,7 @@ old_stream s k entry =
     }
 
 -- its chain
-pub record HasOldChain (table : Table) (head : Head) : Type 0 where
+pub record HasOldChain (table : Table) (head : ChainHead) : Type 0 where
   pub sectors : List ℕ
   pub holds : HoldsChain table head sectors
 
@@ -194,7 +196,7 @@ large_again s k xs one another large holds =
 pub old_long : (s : Save) → 4096 ≤ length s.chains.bytes
 old_long s =
     let directory = s.has.parts.directory in
-    let size = entry_size s.old (entry_place directory s.chains.grown_entry) in
+    let size = entry_stream_size s.old (entry_place directory s.chains.grown_entry) in
     let inside = chain_inside s.old (stream_head s.old 512 (entry_place directory s.chains.grown_entry))
     s.chains.grown (save_accepted s).whole s.are.grown.holds in
     let len = length-cut 512 512 s.old s.chains.grown s.chains.bytes size (λ k h. let room = inside.inside k h in
@@ -221,8 +223,9 @@ small_other s k small =
     let table = s.saved.directory.table.size_is in
     let long = s.put.table in
     let more = grown_long s in
-    let place : (e : ℕ) → k ≡ e → entry_size s.new (entry_place s.has.parts.directory k) ≡ entry_size s.new (entry_place
-    s.has.parts.directory e) = λ e same. ap (λ j. entry_size s.new (entry_place s.has.parts.directory j)) same in (
+    let place : (e : ℕ) → k ≡ e → entry_stream_size s.new (entry_place s.has.parts.directory k) ≡ entry_stream_size
+    s.new (entry_place
+    s.has.parts.directory e) = λ e same. ap (λ j. entry_stream_size s.new (entry_place s.has.parts.directory j)) same in (
       λ e. let at = place s.chains.grown_entry e in omega arith,
       λ e. let at = place s.chains.table_entry e in
           omega arith,

@@ -10,13 +10,13 @@ use Rattle.std.proofs.lemmas.List.FromFn.{length-range_with_len, get_or-range_wi
 use Rattle.doc_bits.specs.Number.{zeros}
 use Rattle.cfb_sectors.specs.Header.{fat_sectors, sector_count}
 use Rattle.cfb_sectors.specs.SectorChain.{HasSector}
-use Rattle.cfb_layout.specs.Sectors.{padded}
+use Rattle.cfb_layout.specs.Sectors.{padded_to_unit}
 use Rattle.cfb_layout.proofs.Public.{length-padded}
 use Rattle.cfb_in_place.specs.Change.{fresh_from, fat_from, end_of, sectors_after}
 use Rattle.cfb_in_place.specs.Appended.{chain_after, IsTouched, in_grown, in_fat, in_mini_fat, in_directory, in_added}
-use Rattle.cfb_in_place.specs.Roles.{IsPlaced, IsNoPart}
+use Rattle.cfb_in_place.specs.Roles.{IsSectorAt, IsNoPart}
 use Rattle.cfb_in_place.specs.Sources.{rest_behind, Sources}
-use Rattle.cfb_in_place.specs.Sources.{part_bytes}
+use Rattle.cfb_in_place.specs.Sources.{part_sector_bytes}
 use Rattle.cfb_in_place.specs.declared.roles.Part.TheVariants.{Grown, Fresh, Other}
 use Rattle.cfb_in_place.proofs.FileAfter.{Before, added_of, sizes_of, grown_joined}
 use Rattle.cfb_in_place.proofs.SectorsThere.{grown_byte, fresh_byte, kept_byte, length_grown_joined}
@@ -29,8 +29,8 @@ unfolding grown_joined rest_behind zeros
 grown_same b sources are = are.grown
 
 pub grown_made : (b : Before) (sources : Sources) (s index : ℕ) → AreOf b sources →
-    IsPlaced (parts_of b).grown s index →
-    IsMade b s (part_bytes b.old sources s index Grown)
+    IsSectorAt (parts_of b).grown s index →
+    IsMade b s (part_sector_bytes b.old sources s index Grown)
 grown_made b sources s index are of =
     let same = grown_same b sources are in
     let len = ap (λ (xs : List ℕ). length xs) same in
@@ -47,8 +47,8 @@ grown_made b sources s index are of =
     }
 
 pub table_made : (b : Before) (sources : Sources) (s index : ℕ) → AreOf b sources →
-    IsPlaced (parts_of b).fresh s index →
-    IsMade b s (part_bytes b.old sources s index Fresh)
+    IsSectorAt (parts_of b).fresh s index →
+    IsMade b s (part_sector_bytes b.old sources s index Fresh)
 table_made b sources s index are of =
     let count = length-range_with_len (fresh_from (added_of b)) (added_of b).fresh in
     let fresh = (sizes_of b).fresh in
@@ -62,7 +62,7 @@ table_made b sources s index are of =
           range_index sources.table (512 * index) (512 * index + 512) o (omega arith)
           ∙ (ap (λ (xs : List ℕ). slice_index xs (512 * index + o)) are.table
           ∙ moved b (slice_index (range_with_len (fresh_from (added_of b)) (added_of b).fresh) index) s o o (slice_index
-          (padded 512 0 b.change.table) (512 * index + o)) (fresh_byte b index o (omega arith)) of.here refl);
+          (padded_to_unit 512 0 b.change.table) (512 * index + o)) (fresh_byte b index o (omega arith)) of.here refl);
     }
 
 -- a number of one of two lists, and of a row
@@ -123,7 +123,7 @@ other_quiet b s none (in_added from h) = added_has b s from h none
 
 pub other_made : (b : Before) (sources : Sources) (s index : ℕ) → s < sectors_after b.old (added_of b) → IsNoPart
     (parts_of b)
-    s → IsMade b s (part_bytes b.old sources s index Other)
+    s → IsMade b s (part_sector_bytes b.old sources s index Other)
 other_made b sources s index h none =
     let low = other_low b s h none in
     let len = length-range b.old ((s + 1) * 512) ((s + 1) * 512 + 512) (omega arith) in

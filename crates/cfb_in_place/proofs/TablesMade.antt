@@ -8,9 +8,9 @@ use Rattle.doc_bits.specs.Number.{number_bytes}
 use Rattle.cfb_sectors.specs.Header.{fat_sector_count}
 use Rattle.cfb_sectors.specs.SectorChain.{HasSector}
 use Rattle.cfb_layout.proofs.Public.{length-table}
-use Rattle.cfb_in_place.specs.Roles.{PartSectors, sectors_of_parts, IsPlaced}
+use Rattle.cfb_in_place.specs.Roles.{PartSectors, sectors_of_parts, IsSectorAt}
 use Rattle.cfb_in_place.specs.Sources.{Sources}
-use Rattle.cfb_in_place.specs.Sources.{cut_at, part_bytes, AreMinisAfter, AreSources}
+use Rattle.cfb_in_place.specs.Sources.{cut_at, part_sector_bytes, AreMinisAfter, AreSources}
 use Rattle.cfb_in_place.specs.declared.roles.Part.TheVariants.{Fat, MiniFat}
 use Rattle.cfb_in_place.proofs.PickLemmas.{place_in, place_there, place_has}
 use Rattle.cfb_in_place.proofs.FileAfter.{Before, added_of, fats_after, byte_in}
@@ -36,9 +36,9 @@ pub record IsMade (b : Before) (s : ℕ) (bytes : List ℕ) : Type 0 where
 pub moved : (b : Before) (x s p o v : ℕ) → byte_in b x p ≡ v → x ≡ s → p ≡ o → v ≡ byte_in b s o
 moved b x s p o v h e f = sym h ∙ (ap (λ k. byte_in b k p) e ∙ ap (λ k. byte_in b s k) f)
 
-pub fat_made : (b : Before) (sources : Sources) (s index : ℕ) → AreOf b sources → IsPlaced (parts_of b).fats s index →
+pub fat_made : (b : Before) (sources : Sources) (s index : ℕ) → AreOf b sources → IsSectorAt (parts_of b).fats s index →
     IsMade
-    b s (part_bytes b.old sources s index Fat)
+    b s (part_sector_bytes b.old sources s index Fat)
 unfolding fats_after
 fat_made b sources s index are of =
     let count = length-fats_after b in
@@ -85,8 +85,9 @@ mini_is b mini s are h =
           are.are.kept s none ∙ (are.table.each s (omega arith) ∙ sym (mini_kept b s none))
     ]
 
-pub mini_made : (b : Before) (sources : Sources) (s index : ℕ) → AreOf b sources → IsPlaced (parts_of b).minis s index →
-    IsMade b s (part_bytes b.old sources s index MiniFat)
+pub mini_made : (b : Before) (sources : Sources) (s index : ℕ) → AreOf b sources → IsSectorAt (parts_of b).minis s index
+    →
+    IsMade b s (part_sector_bytes b.old sources s index MiniFat)
 mini_made b sources s index are of =
     let minis = b.has.parts.mini_fat in
     let first = are.mini.are.len in

@@ -5,7 +5,8 @@ use Rattle.doc_bits.specs.Rules.{Nowhere}
 use Rattle.doc_bits.specs.Number.{u32_at, number_at}
 use Rattle.cfb_directory.specs.Directory.{entry_unit, entry_name_length, entry_type, upper_case}
 use Rattle.cfb_directory.specs.Directory.{HaveOneName}
-use Rattle.cfb_directory.specs.Reach.{entry_place, entry_count, IsEntry, IsReachedEntry, child, left, right, IsLink}
+use Rattle.cfb_directory.specs.Reach.{entry_place, entry_count, IsLinkedEntry, IsReachedEntry, child, left, right}
+use Rattle.cfb_directory.specs.Reach.{IsLink}
 use Rattle.cfb_directory.specs.Reach.{BreaksRoot, BreaksTree, BreaksName, BreaksStorage, IsWrongNameLength}
 use Rattle.cfb_directory.specs.StreamEntries.{IsStreamEntry}
 use Rattle.cfb_directory.proofs.Public.{reached_there, name_length, name_short}
@@ -134,7 +135,7 @@ tree_again s = λ p b. (tree_before s).tree p (elim b [
         wrong = record {
           names = λ e. broken.wrong.names (same ∙ e);
           wrong = elim broken.wrong.wrong [
-            | inl outside ↦ inl (λ there. outside (subst (λ k. IsEntry s.has.parts.directory k) (sym same) there))
+            | inl outside ↦ inl (λ there. outside (subst (λ k. IsLinkedEntry s.has.parts.directory k) (sym same) there))
             | inr twice ↦
                 let earlier = link_before s twice.earlier twice.link in
                 inr (record {

@@ -10,10 +10,10 @@ use Rattle.std.proofs.lemmas.Option.{slice_get-get_or, slice_get_within, get_or_
 use Rattle.cfb_sectors.specs.Header.{sector_count}
 use Rattle.cfb_layout.proofs.Public.{length-padded}
 use Rattle.cfb_in_place.specs.Change.{fresh_from, sectors_after}
-use Rattle.cfb_in_place.specs.Roles.{IsPlaced, IsOfPart, other_role}
+use Rattle.cfb_in_place.specs.Roles.{IsSectorAt, IsOfPart, other_role}
 use Rattle.cfb_in_place.specs.Sources.{header_after, Sources}
-use Rattle.cfb_in_place.specs.Sources.{part_bytes, sector_after, HasPart, HasAllParts}
-use Rattle.cfb_in_place.specs.Sources.{written}
+use Rattle.cfb_in_place.specs.Sources.{part_sector_bytes, sector_after, HasPart, HasAllParts}
+use Rattle.cfb_in_place.specs.Sources.{written_sectors}
 use Rattle.cfb_in_place.specs.declared.roles.Part.{Part}
 use Rattle.cfb_in_place.specs.declared.roles.Part.TheVariants.{Fat, MiniFat, Directory, Grown, Fresh, Other}
 use Rattle.cfb_in_place.specs.declared.roles.Role.{Role}
@@ -30,7 +30,7 @@ use Rattle.cfb_in_place.proofs.StreamsMade.{grown_same, grown_made, table_made, 
 use Rattle.cfb_in_place.proofs.HeaderMade.{length_header, header_is}
 
 -- a sector of the directory is an old one
-pub entry_low : (b : Before) (s index : ℕ) → IsPlaced (parts_of b).entries s index → s < sector_count b.old
+pub entry_low : (b : Before) (s index : ℕ) → IsSectorAt (parts_of b).entries s index → s < sector_count b.old
 entry_low b s index of =
     let low = directory_low b index of.inside in
     let here = of.here in
@@ -38,7 +38,7 @@ entry_low b s index of =
     omega arith
 
 pub part_made : (b : Before) (sources : Sources) (s index : ℕ) (part : Part) → AreOf b sources → s < sectors_after b.old
-    (added_of b) → IsOfPart (parts_of b) s index part → IsMade b s (part_bytes b.old sources s index part)
+    (added_of b) → IsOfPart (parts_of b) s index part → IsMade b s (part_sector_bytes b.old sources s index part)
 part_made b sources s index Fat are h of = fat_made b sources s index are of
 part_made b sources s index MiniFat are h of = mini_made b sources s index are of
 part_made b sources s index Directory are h of = directory_made b sources s index are (entry_low b s index of) of
@@ -95,8 +95,9 @@ sector_made b sources s are h =
     part_made b sources s role.index role.part are h (are.roles.each s role (slice_get-get_or sources.roles s other_role
     (omega arith)))
 
-pub written_is : (b : Before) (sources : Sources) → AreOf b sources → written b.old (added_of b) sources ≡ file_after b
-unfolding written
+pub written_is : (b : Before) (sources : Sources) → AreOf b sources → written_sectors b.old (added_of b) sources ≡
+    file_after b
+unfolding written_sectors
 written_is b sources are =
     let head = header_after b.old (added_of b) in
     let f = sector_after b.old sources in
@@ -118,7 +119,8 @@ written_is b sources are =
 
 -- a sector of the list has its role's bytes
 pub sector_is : (old : List ℕ) (sources : Sources) (s : ℕ) (role : Role) → slice_get sources.roles s ≡ Some role →
-    sector_after old sources s ≡ part_bytes old sources s role.index role.part
+    sector_after old sources s ≡ part_sector_bytes old sources s role.index role.part
 unfolding sector_after
-sector_is old sources s role here = ap (λ (r : Role). part_bytes old sources s r.index r.part) (get_or_from_slice_get
+sector_is old sources s role here = ap (λ (r : Role). part_sector_bytes old sources s r.index r.part)
+    (get_or_from_slice_get
     sources.roles s role other_role here)

@@ -6,10 +6,10 @@ use Rattle.doc_bits.specs.Number.{u32_at, zeros}
 use Rattle.cfb_sectors.specs.Header.{sector_count, fat_sector_count, fat_sector, fat_sectors, sector_bytes}
 use Rattle.cfb_sectors.specs.SectorChain.{HasSector}
 use Rattle.cfb_sectors.specs.Header.{sector_len}
-use Rattle.cfb_directory.specs.Directory.{entry_start, entry_size}
+use Rattle.cfb_directory.specs.Directory.{entry_start, entry_stream_size}
 use Rattle.cfb_directory.specs.Reach.{entry_place, entry_count}
 use Rattle.cfb_streams.specs.StreamRules.{Parts}
-use Rattle.cfb_layout.specs.Sectors.{padded}
+use Rattle.cfb_layout.specs.Sectors.{padded_to_unit}
 use Rattle.cfb_in_place.specs.Change.{StreamChange, grown_bytes, OldChains, Added, fresh_from, fat_from, end_of}
 use Rattle.cfb_in_place.specs.Change.{sectors_after}
 use Rattle.cfb_in_place.specs.Tables.{ChangesTables}
@@ -30,7 +30,7 @@ pub record ChangesHeader (old new : List ℕ) (added : Added) : Type 0 where
 -- [MS-CFB] Directory Entry: the start and the size of an entry, with the upper half of the size
 pub record HasStart (file : List ℕ) (at start size : ℕ) : Type 0 where
   pub start_is : entry_start file at ≡ start
-  pub size_is : entry_size file at ≡ size
+  pub size_is : entry_stream_size file at ≡ size
   pub upper : u32_at file (at + 124) ≡ 0
 
 -- the entries of the two streams, and all others
@@ -65,7 +65,7 @@ pub record ChangesSectors (old new : List ℕ) (parts : Parts) (chains : OldChai
     (change : StreamChange) : Type 0 where
   pub grown : joined new (chain_after chains added) ≡ grown_bytes change chains.bytes ++ drop (length
       (grown_bytes change chains.bytes)) (joined old chains.grown ++ zeros (sector_len * added.grown))
-  pub table : joined new (range_with_len (fresh_from added) added.fresh) ≡ padded sector_len 0 change.table
+  pub table : joined new (range_with_len (fresh_from added) added.fresh) ≡ padded_to_unit sector_len 0 change.table
   pub kept : (s : ℕ) → s < sector_count old → ¬ IsTouched old parts chains added s →
       SameBytes old new ((s + 1) * sector_len) sector_len
 

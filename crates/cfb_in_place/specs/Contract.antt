@@ -26,7 +26,7 @@ pub record AreTwoStreams (contents : Contents) (name : List ℕ) : Type 0 where
 
 -- the change may be put there: a front no longer than the least stream with sectors of its own, and streams below 2^31
 -- bytes
-pub record CanBeAppended (contents : Contents) (change : StreamChange) (name : List ℕ) : Type 0 where
+pub record CanBePutInPlace (contents : Contents) (change : StreamChange) (name : List ℕ) : Type 0 where
   pub two : AreTwoStreams contents name
   pub fib : length change.fib ≤ 4096
   pub table : 4096 ≤ length change.table
@@ -45,7 +45,7 @@ FitsChange contents change i =
     (length (grown_bytes change.change is.stream.bytes) < 2 ^ 31))
 
 -- the entry of the stream with the name
-pub record HasEntry (contents : Contents) (entries name : List ℕ) (entry : ℕ) : Type 0 where
+pub record HasStreamEntry (contents : Contents) (entries name : List ℕ) (entry : ℕ) : Type 0 where
   pub index : ℕ
   pub is : IsNamed contents index name
   pub here : slice_index entries index ≡ entry
@@ -54,8 +54,8 @@ pub record HasEntry (contents : Contents) (entries name : List ℕ) (entry : ℕ
 pub record AreNamedChains (file : List ℕ) (contents : Contents) (name : List ℕ) (chains : OldChains) : Type 0 where
   pub has : HasContents file contents
   pub are : AreOldChains file has.parts chains
-  pub main : HasEntry contents has.entries wd_name chains.grown_entry
-  pub other : HasEntry contents has.entries name chains.table_entry
+  pub main : HasStreamEntry contents has.entries wd_name chains.grown_entry
+  pub other : HasStreamEntry contents has.entries name chains.table_entry
   pub main_bytes : chains.bytes ≡ main.is.stream.bytes
 
 -- the file is that of the places; it is accepted, and read as the streams of before but for the two of these names

@@ -49,7 +49,7 @@ pub record ArePartsBelow (count : ℕ) (sectors : PartSectors) : Type 0 where
   pub fresh : AreDistinctBelow count sectors.fresh
 
 -- the sector is there in the list
-pub record IsPlaced (sectors : List ℕ) (sector index : ℕ) : Type 0 where
+pub record IsSectorAt (sectors : List ℕ) (sector index : ℕ) : Type 0 where
   pub inside : index < length sectors
   pub here : slice_index sectors index ≡ sector
 
@@ -63,11 +63,11 @@ pub record IsNoPart (sectors : PartSectors) (sector : ℕ) : Type 0 where
 
 -- the sector is that one of the part
 abbrev pub IsOfPart : PartSectors → ℕ → ℕ → Part → Type 0
-IsOfPart sectors sector index Fat = IsPlaced sectors.fats sector index
-IsOfPart sectors sector index MiniFat = IsPlaced sectors.minis sector index
-IsOfPart sectors sector index Directory = IsPlaced sectors.entries sector index
-IsOfPart sectors sector index Grown = IsPlaced sectors.grown sector index
-IsOfPart sectors sector index Fresh = IsPlaced sectors.fresh sector index
+IsOfPart sectors sector index Fat = IsSectorAt sectors.fats sector index
+IsOfPart sectors sector index MiniFat = IsSectorAt sectors.minis sector index
+IsOfPart sectors sector index Directory = IsSectorAt sectors.entries sector index
+IsOfPart sectors sector index Grown = IsSectorAt sectors.grown sector index
+IsOfPart sectors sector index Fresh = IsSectorAt sectors.fresh sector index
 IsOfPart sectors sector index Other = IsNoPart sectors sector
 
 -- the role of a sector that no part has

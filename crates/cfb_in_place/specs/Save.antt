@@ -4,7 +4,7 @@ use Rattle.std.specs.List.{range_with_len}
 use Rattle.doc_bits.specs.Rules.{Hold}
 use Rattle.cfb_sectors.specs.Chain.{fat_table, HoldsChain}
 use Rattle.cfb_sectors.specs.Header.{sector_len, mini_sector_len}
-use Rattle.cfb_directory.specs.Directory.{entry_size}
+use Rattle.cfb_directory.specs.Directory.{entry_stream_size}
 use Rattle.cfb_directory.specs.Reach.{entry_place}
 use Rattle.cfb_directory.specs.StreamEntries.{IsStreamEntry, IsLargeStream, IsSmallStream, stream_head}
 use Rattle.cfb_streams.specs.StreamRules.{Parts, mini_table_of}
@@ -19,7 +19,7 @@ use Rattle.cfb_in_place.specs.Appended.{chain_after, IsSavedBehind}
 
 -- the stream that is written anew leaves nothing, its mini sectors, or its sectors
 pub data LeavesSectors (file : List ℕ) (parts : Parts) (chains : OldChains) : Type 0 where
-  nothing : entry_size file (entry_place parts.directory chains.table_entry) ≡ 0 → chains.freed ≡ [] →
+  nothing : entry_stream_size file (entry_place parts.directory chains.table_entry) ≡ 0 → chains.freed ≡ [] →
       chains.freed_mini ≡ [] → LeavesSectors file parts chains
   mini_sectors : IsSmallStream file parts.directory chains.table_entry → HoldsChain (mini_table_of file
       parts.directory parts.mini_fat) (stream_head file mini_sector_len (entry_place parts.directory

@@ -8,7 +8,7 @@ use Rattle.cfb_sectors.specs.Chain.{IsTable}
 use Rattle.cfb_directory.specs.Directory.{entry_start}
 use Rattle.cfb_directory.specs.Reach.{entry_place}
 use Rattle.cfb_streams.specs.StreamRules.{Parts}
-use Rattle.cfb_layout.specs.Sectors.{padded}
+use Rattle.cfb_layout.specs.Sectors.{padded_to_unit}
 use Rattle.cfb_in_place.specs.Change.{StreamChange, grown_bytes, OldChains, Added, fresh_from, fat_from, sectors_after}
 use Rattle.cfb_in_place.specs.Tables.{ChangesFat, AreFreed}
 use Rattle.cfb_in_place.specs.Appended.{joined}
@@ -70,19 +70,19 @@ abbrev pub old_sector : List ℕ → ℕ → List ℕ
 old_sector old sector = slice_range old ((sector + 1) * sector_len) ((sector + 1) * sector_len + sector_len)
 
 -- the bytes of a sector after, that one of a part
-abbrev pub part_bytes : List ℕ → Sources → ℕ → ℕ → Part → List ℕ
-part_bytes old sources sector index Fat = flat_map (number_bytes 4) (cut_at sources.fat 128 index)
-part_bytes old sources sector index MiniFat = flat_map (number_bytes 4) (cut_at sources.mini 128 index)
-part_bytes old sources sector index Directory =
+abbrev pub part_sector_bytes : List ℕ → Sources → ℕ → ℕ → Part → List ℕ
+part_sector_bytes old sources sector index Fat = flat_map (number_bytes 4) (cut_at sources.fat 128 index)
+part_sector_bytes old sources sector index MiniFat = flat_map (number_bytes 4) (cut_at sources.mini 128 index)
+part_sector_bytes old sources sector index Directory =
     four_entries sources.grown_head sources.table_head (4 * index) (old_sector old sector)
-part_bytes old sources sector index Grown = cut_at sources.grown sector_len index
-part_bytes old sources sector index Fresh = cut_at sources.table sector_len index
-part_bytes old sources sector index Other = old_sector old sector
+part_sector_bytes old sources sector index Grown = cut_at sources.grown sector_len index
+part_sector_bytes old sources sector index Fresh = cut_at sources.table sector_len index
+part_sector_bytes old sources sector index Other = old_sector old sector
 
 unfoldable pub sector_after : List ℕ → Sources → ℕ → List ℕ
 sector_after old sources sector =
     let role = get_or sources.roles sector other_role in
-    part_bytes old sources sector role.index role.part
+    part_sector_bytes old sources sector role.index role.part
 
 -- there is so much of what the sector is made of
 abbrev pub HasPart : List ℕ → Sources → ℕ → ℕ → Part → Type 0
@@ -124,7 +124,7 @@ pub record AreSources (old : List ℕ) (parts : Parts) (chains : OldChains) (add
   pub fat : AreFatsAfter old chains added sources.fat
   pub mini : AreMinisAfter old parts.mini_fat chains.freed_mini sources.mini
   pub grown : sources.grown ≡ grown_sectors old chains added change
-  pub table : sources.table ≡ padded sector_len 0 change.table
+  pub table : sources.table ≡ padded_to_unit sector_len 0 change.table
   pub grown_head : sources.grown_head ≡ record {
     entry = chains.grown_entry;
     start = entry_start old (entry_place parts.directory chains.grown_entry);
@@ -137,6 +137,6 @@ pub record AreSources (old : List ℕ) (parts : Parts) (chains : OldChains) (add
   }
 
 -- the file after, written in the order of its sectors
-unfoldable pub written : List ℕ → Added → Sources → List ℕ
-written old added sources =
+unfoldable pub written_sectors : List ℕ → Added → Sources → List ℕ
+written_sectors old added sources =
     header_after old added ++ flat_map (sector_after old sources) (range_with_len 0 (length sources.roles))

@@ -1,7 +1,7 @@
 // Whether a change may be put into a container.
 ghost use Rattle.std.specs.Prelude.{ℕ, ◌+◌, ◌^◌, ◌<◌, ◌≤◌, ◌↔◌, IsTrue, length};
 ghost use Rattle.cfb_in_place.specs.Change.{grown_bytes};
-ghost use Rattle.cfb_in_place.specs.Contract.{IsNamed, CanBeAppended, HasLengths, FitsChange};
+ghost use Rattle.cfb_in_place.specs.Contract.{IsNamed, CanBePutInPlace, HasLengths, FitsChange};
 
 use crate::change::Change;
 use cfb_sectors::CUTOFF;
@@ -12,7 +12,7 @@ const TOO_LONG: usize = 1 << 31;
 
 /// Whether the change may be put there: the container has the two streams, and none is too long.
 pub fn can_be_appended(container: &Container, change: &Change) -> bool
-    ensures { IsTrue result ↔ CanBeAppended container.now change.now.change change.now.name }
+    ensures { IsTrue result ↔ CanBePutInPlace container.now change.now.change change.now.name }
 {
     if !has_lengths(change) {
         return false;

@@ -2,13 +2,13 @@
 ghost use Rattle.std.specs.Prelude.{◌≡◌, ◌++◌, ◌+◌, ◌*◌, ◌<◌, ◌≤◌, OnOk, IfOk, MatchResult, length};
 ghost use Rattle.doc_bits.specs.Rules.{Hold};
 ghost use Rattle.cfb_sectors.specs.Header.{sector_len, fat_sector_count, sector_count};
-ghost use Rattle.cfb_streams.specs.Layout.{IsLayout};
+ghost use Rattle.cfb_streams.specs.Layout.{IsSoundLayout};
 ghost use Rattle.cfb_streams.specs.Container.{container_rules, HasContents};
 ghost use Rattle.cfb_in_place.specs.Change.{added_sectors};
 ghost use Rattle.cfb_in_place.specs.Appended.{IsSavedBehind};
 ghost use Rattle.cfb_in_place.specs.Save.{CanSave, FitsAfter, IsReady, IsSaveFault};
-ghost use Rattle.cfb_in_place.specs.Sources.{old_sector, part_bytes, HasPart, HasAllParts, written};
-ghost use Rattle.cfb_in_place.specs.Contract.{CanBeAppended, IsSavedInPlace, IsInPlaceFault};
+ghost use Rattle.cfb_in_place.specs.Sources.{old_sector, part_sector_bytes, HasPart, HasAllParts, written_sectors};
+ghost use Rattle.cfb_in_place.specs.Contract.{CanBePutInPlace, IsSavedInPlace, IsInPlaceFault};
 
 use crate::added::Added;
 use crate::chains::{Chains, find_in};
@@ -32,7 +32,7 @@ pub fn appended(
 ) -> Result<Bytes, LayoutFault>
     requires rules { Hold (container_rules old.now) }
     requires contents { HasContents old.now container.now }
-    requires change { CanBeAppended container.now change.now.change change.now.name }
+    requires change { CanBePutInPlace container.now change.now.change change.now.name }
     ensures { MatchResult result
         (λ new. IsSavedInPlace old.now new container.now change.now.change change.now.name)
         (IsInPlaceFault old.now container.now change.now.change change.now.name) }
@@ -53,9 +53,9 @@ fn appended_in(
 ) -> Result<Bytes, LayoutFault>
     requires rules { Hold (container_rules old.now) }
     requires contents { HasContents old.now container.now }
-    requires change { CanBeAppended container.now change.now.change change.now.name }
+    requires change { CanBePutInPlace container.now change.now.change change.now.name }
     requires places { layout.now.file ≡ old.now }
-    requires is_layout { IsLayout layout.now }
+    requires is_layout { IsSoundLayout layout.now }
     ensures { MatchResult result
         (λ new. IsSavedInPlace old.now new container.now change.now.change change.now.name)
         (IsInPlaceFault old.now container.now change.now.change change.now.name) }
@@ -120,7 +120,7 @@ fn write(alloc: Global, old: &[u8], sources: &Sources, added: &Added) -> Result<
     requires header { sector_len ≤ length old.now }
     requires few { fat_sector_count old.now + added.now.fat ≤ 109 }
     requires parts { HasAllParts old.now sources.now }
-    ensures { IfOk result (λ file. file ≡ written old.now added.now sources.now) }
+    ensures { IfOk result (λ file. file ≡ written_sectors old.now added.now sources.now) }
 {
     let mut out = Bytes::new(alloc);
     push_header(&mut out, old, added)?;
@@ -139,7 +139,7 @@ fn push_sector(
     role: Role,
 ) -> Result<(), Memory>
     requires { HasPart old.now sources.now sector role.index role.part }
-    ensures { OnOk result (out.new ≡ out.old ++ part_bytes old.now sources.now sector role.index role.part) }
+    ensures { OnOk result (out.new ≡ out.old ++ part_sector_bytes old.now sources.now sector role.index role.part) }
 {
     let index = role.index;
     match role.part {

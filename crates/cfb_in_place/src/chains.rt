@@ -2,10 +2,10 @@
 ghost use Rattle.std.specs.Prelude.{ℕ, ◌≡◌, ◌<◌, [], IfOk, List, Some, length, option_map, slice_get, slice_index};
 ghost use Rattle.std.specs.Prelude.{unwrap_or};
 ghost use Rattle.doc_bits.specs.Rules.{Hold};
-ghost use Rattle.cfb_sectors.specs.Opening.{IsWhole};
+ghost use Rattle.cfb_sectors.specs.Opening.{HasRightLength};
 ghost use Rattle.cfb_directory.specs.StreamEntries.{IsStreamEntry};
 ghost use Rattle.cfb_streams.specs.FoundParts.{mini_place};
-ghost use Rattle.cfb_streams.specs.Layout.{IsLayout};
+ghost use Rattle.cfb_streams.specs.Layout.{IsSoundLayout};
 ghost use Rattle.cfb_streams.specs.Container.{container_rules, HasContents};
 ghost use Rattle.cfb_in_place.specs.Save.{IsMiniChain};
 ghost use Rattle.cfb_in_place.specs.Contract.{IsNamed, AreTwoStreams, AreNamedChains};
@@ -56,7 +56,7 @@ pub(crate) fn find_in<'a>(
     requires contents { HasContents file.now container.now }
     requires streams { AreTwoStreams container.now name.now }
     requires places { layout.now.file ≡ file.now }
-    requires is_layout { IsLayout layout.now }
+    requires is_layout { IsSoundLayout layout.now }
     ensures { IfOk result (AreNamedChains file.now container.now name.now) }
 {
     let grown = index_of(container, word_document());
@@ -114,7 +114,7 @@ fn mini_chain(
     layout: &Layout<'_>,
     entry: u32,
 ) -> Result<Vec<u32>, Memory>
-    requires whole { IsWhole file.now }
+    requires whole { HasRightLength file.now }
     requires places { layout.now.file ≡ file.now }
     requires is_entry { IsStreamEntry file.now layout.now.parts.directory entry }
     requires there { (sectors : List ℕ) × IsMiniChain file.now layout.now.parts entry sectors }
@@ -134,7 +134,7 @@ fn mini_chain(
 
 /// The mini FAT.
 fn read_mini<'a>(alloc: Global, file: &'a [u8], layout: &Layout<'_>) -> Result<Table<'a>, Memory>
-    requires whole { IsWhole file.now }
+    requires whole { HasRightLength file.now }
     requires places { layout.now.file ≡ file.now }
     ensures { IfOk result (λ table.
         table ≡ mini_place file.now layout.now.parts.directory layout.now.parts.mini_fat) }

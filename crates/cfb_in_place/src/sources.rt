@@ -4,7 +4,7 @@ ghost use Rattle.cfb_sectors.specs.Chain.{AreSectorsOf};
 ghost use Rattle.cfb_sectors.specs.Header.{sector_len};
 ghost use Rattle.cfb_directory.specs.Directory.{entry_start};
 ghost use Rattle.cfb_directory.specs.Reach.{entry_place as place_of, entry_count};
-ghost use Rattle.cfb_layout.specs.Sectors.{units_for, padded};
+ghost use Rattle.cfb_layout.specs.Sectors.{units_for, padded_to_unit};
 ghost use Rattle.cfb_in_place.specs.Change.{grown_bytes};
 ghost use Rattle.cfb_in_place.specs.Appended.{joined};
 ghost use Rattle.cfb_in_place.specs.Save.{IsReady};
@@ -156,7 +156,7 @@ fn grown_after(
 /// The stream that is written anew, filled up with zeros to whole sectors.
 fn table_after(alloc: Global, change: &Change) -> Result<Bytes, Memory>
     requires { length change.now.change.table < 2 ^ 31 }
-    ensures { IfOk result (λ bytes. bytes ≡ padded sector_len 0 change.now.change.table) }
+    ensures { IfOk result (λ bytes. bytes ≡ padded_to_unit sector_len 0 change.now.change.table) }
 {
     let table = change.table.as_slice();
     let mut out = Bytes::new(alloc);

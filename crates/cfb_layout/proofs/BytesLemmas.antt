@@ -11,10 +11,10 @@ use Rattle.std.proofs.lemmas.List.Sums.{sum_by-cons, sum_by_more}
 use Rattle.doc_bits.specs.Number.{number_at, number_bytes}
 use Rattle.doc_bits.proofs.Public.{number_at-after, number_at-number_bytes, length-number_bytes}
 use Rattle.cfb_sectors.specs.Header.{sector_bytes}
-use Rattle.cfb_layout.specs.Sectors.{units_for, filled, padded, start_of}
+use Rattle.cfb_layout.specs.Sectors.{units_for, filled, padded_to_unit, chain_start}
 use Rattle.cfb_layout.specs.declared.fields.Field.{Field}
 use Rattle.cfb_layout.specs.declared.fields.Field.TheVariants.{Long}
-use Rattle.cfb_layout.specs.Fields.{width_of, value_of, field_bytes, fields_bytes}
+use Rattle.cfb_layout.specs.Fields.{width_of, field_value, field_bytes, fields_bytes}
 
 -- sectors in a row, joined, are the bytes from the first one on
 pub run_bytes : (base unit : ℕ) (bytes : List ℕ) (start count : ℕ) → flat_map (sector_bytes base unit bytes)
@@ -43,7 +43,7 @@ pub record HaveCounts {X : Type 0} (f : X → List ℕ) (unit : ℕ) (counts : L
 
 -- the parts before the i-th one
 pub parts_before : {X : Type 0} (f : X → List ℕ) (unit : ℕ) (counts : List ℕ) (xs : List X) (d : X) (i : ℕ) →
-    HaveCounts f unit counts xs d → i ≤ length xs → sum_by (λ x. length (f x)) (take i xs) ≡ unit * start_of counts i
+    HaveCounts f unit counts xs d → i ≤ length xs → sum_by (λ x. length (f x)) (take i xs) ≡ unit * chain_start counts i
 parts_before f unit counts xs d zero h low = let e : unit * 0 ≡ 0 = grind arith in sym e
 parts_before f unit counts xs d (suc i) h low =
     let len = h.len in
@@ -53,10 +53,11 @@ parts_before f unit counts xs d (suc i) h low =
     let a = sum_by_more (λ x. length (f x)) xs i d less in
     let b = sum_by_more (λ (x : ℕ). x) counts i 0 (omega arith) in
     let here = h.each i less in
-    let all : unit * (start_of counts i + slice_index counts i) ≡ unit * start_of counts i + unit * slice_index counts
+    let all : unit * (chain_start counts i + slice_index counts i) ≡ unit * chain_start counts i + unit * slice_index
+    counts
     i = grind arith in
-    subst (λ k. sum_by (λ x. length (f x)) (take k xs) ≡ unit * start_of counts k) one
-    (a ∙ (let sums : sum_by (λ x. length (f x)) (take i xs) + length (f (get_or xs i d)) ≡ unit * start_of counts i +
+    subst (λ k. sum_by (λ x. length (f x)) (take k xs) ≡ unit * chain_start counts k) one
+    (a ∙ (let sums : sum_by (λ x. length (f x)) (take i xs) + length (f (get_or xs i d)) ≡ unit * chain_start counts i +
     unit * slice_index counts i = omega arith in
     sums ∙ (sym all ∙ ap (λ n. unit * n) (sym b))))
 
@@ -72,7 +73,7 @@ length-parts f unit counts xs d h =
 
 -- a byte of the i-th part
 pub parts_at : {X : Type 0} (f : X → List ℕ) (unit : ℕ) (counts : List ℕ) (xs : List X) (d : X) (i x at : ℕ) →
-    HaveCounts f unit counts xs d → i < length xs → x < length (f (get_or xs i d)) → at ≡ unit * start_of counts i +
+    HaveCounts f unit counts xs d → i < length xs → x < length (f (get_or xs i d)) → at ≡ unit * chain_start counts i +
     x → slice_index (flat_map f xs) at ≡ slice_index (f (get_or xs i d)) x
 parts_at f unit counts xs d i x at h low less here =
     let before = length-flat_map f (take i xs) ∙ parts_before f unit counts xs d i h (omega arith) in
@@ -157,23 +158,23 @@ unfolding fields_bytes
 length-fields_bytes [] = refl
 length-fields_bytes (f ∷ fields) =
     let a = length-append (field_bytes f) (flat_map field_bytes fields) in
-    let b = length-number_bytes (width_of f) (value_of f) in
+    let b = length-number_bytes (width_of f) (field_value f) in
     let c = length-fields_bytes fields in
     let d = sum_by-cons width_of f fields in
     omega arith
 
 -- a field is read at the widths before it
 pub field_at : (fields : List Field) (i at : ℕ) → i < length fields → at ≡ widths (take i fields) →
-    value_of (get_or fields i no_field) < 256 ^ (width_of (get_or fields i no_field)) →
-    number_at (fields_bytes fields) at (width_of (get_or fields i no_field)) ≡ value_of (get_or fields i no_field)
+    field_value (get_or fields i no_field) < 256 ^ (width_of (get_or fields i no_field)) →
+    number_at (fields_bytes fields) at (width_of (get_or fields i no_field)) ≡ field_value (get_or fields i no_field)
 unfolding fields_bytes
 field_at [] i at h here low = absurd (omega arith)
 field_at (f ∷ fields) zero at h here low =
     ap (λ k. number_at (field_bytes f ++ flat_map field_bytes fields) k (width_of f)) here ∙ number_at-number_bytes
-    (width_of f) (value_of f) (flat_map field_bytes fields) low
+    (width_of f) (field_value f) (flat_map field_bytes fields) low
 field_at (f ∷ fields) (suc i) at h here low =
     let d = sum_by-cons width_of f (take i fields) in
-    let len = length-number_bytes (width_of f) (value_of f) in
+    let len = length-number_bytes (width_of f) (field_value f) in
     let place : at ≡ length (field_bytes f) + (at - (width_of f)) = omega arith in
     ap (λ k. number_at (field_bytes f ++ flat_map field_bytes fields) k (width_of (get_or fields i no_field))) place
     ∙ (number_at-after (field_bytes f) (flat_map field_bytes fields) (at - (width_of f)) (width_of (get_or fields i
@@ -182,16 +183,17 @@ field_at (f ∷ fields) (suc i) at h here low =
 
 -- how long a padded list is
 pub length-padded : (unit filler : ℕ) (xs : List ℕ) → length xs ≤ units_for unit (length xs) * unit →
-    length (padded unit filler xs) ≡ units_for unit (length xs) * unit
-unfolding padded
+    length (padded_to_unit unit filler xs) ≡ units_for unit (length xs) * unit
+unfolding padded_to_unit
 length-padded unit filler xs room =
     let a = length-append xs (replicate (units_for unit (length xs) * unit - length xs) filler) in
     let b = length-replicate (units_for unit (length xs) * unit - length xs) filler in
     omega arith
 
-pub padded_at : (unit filler : ℕ) (xs : List ℕ) (i : ℕ) → i < length xs → slice_index (padded unit filler xs) i ≡
+pub padded_at : (unit filler : ℕ) (xs : List ℕ) (i : ℕ) → i < length xs → slice_index (padded_to_unit unit filler xs) i
+    ≡
     slice_index xs i
-unfolding padded
+unfolding padded_to_unit
 padded_at unit filler xs i h = get_or_append_left xs (replicate (units_for unit (length xs) * unit - length xs)
     filler) 0 i h
 

@@ -7,7 +7,7 @@ use Rattle.doc_bits.specs.Number.{number_at, number_bytes}
 use Rattle.doc_bits.proofs.Public.{number_at-after, number_at-before, number_at-same}
 use Rattle.cfb_layout.specs.Sectors.{filled}
 use Rattle.cfb_layout.specs.Fields.{fields_bytes}
-use Rattle.cfb_layout.specs.Entries.{Entry, link_fields, place_fields, name_bytes, entry_bytes}
+use Rattle.cfb_layout.specs.Entries.{Entry, link_fields, place_fields, entry_name_bytes, entry_bytes}
 use Rattle.cfb_layout.proofs.BytesLemmas.{length-table, length-fields_bytes, length-filled, entry_at, field_at}
 use Rattle.cfb_layout.proofs.BytesLemmas.{range_is}
 use Rattle.cfb_layout.proofs.Image.{IsEntryAt}
@@ -29,8 +29,8 @@ pub record IsWritable (entry : Entry) : Type 0 where
   pub start : entry.fields.start < 2 ^ 32
   pub size : entry.fields.size < 2 ^ 32
 
-pub length-name_bytes : (units : List ℕ) → length units ≤ 32 → length (name_bytes units) ≡ 64
-unfolding name_bytes
+pub length-name_bytes : (units : List ℕ) → length units ≤ 32 → length (entry_name_bytes units) ≡ 64
+unfolding entry_name_bytes
 length-name_bytes units few =
     let len = length-table 2 units in
     length-filled 64 0 (flat_map (number_bytes 2) units) (omega arith)
@@ -44,7 +44,7 @@ length-entry_bytes entry whole =
     let clsid = whole.clsid in
     let places : length (fields_bytes (place_fields entry.fields)) ≡ 32 = length-fields_bytes (place_fields
     entry.fields) in
-    let a = length-append (name_bytes entry.name) (fields_bytes (link_fields entry.fields) ++ (entry.clsid ++
+    let a = length-append (entry_name_bytes entry.name) (fields_bytes (link_fields entry.fields) ++ (entry.clsid ++
     fields_bytes (place_fields entry.fields))) in
     let b = length-append (fields_bytes (link_fields entry.fields)) (entry.clsid ++ fields_bytes (place_fields
     entry.fields)) in
@@ -54,13 +54,14 @@ length-entry_bytes entry whole =
 -- a unit of the name
 unit_in : (entry : Entry) (i : ℕ) → IsWritable entry → i < length entry.name → number_at (entry_bytes entry) (2 * i) 2
     ≡ slice_index entry.name i
-unfolding entry_bytes name_bytes filled
+unfolding entry_bytes entry_name_bytes filled
 unit_in entry i w h =
     let few = w.whole.few in
     let len = length-table 2 entry.name in
     let name = length-name_bytes entry.name w.whole.few in
     let low = w.units i in
-    number_at-before (name_bytes entry.name) (fields_bytes (link_fields entry.fields) ++ (entry.clsid ++ fields_bytes
+    number_at-before (entry_name_bytes entry.name) (fields_bytes (link_fields entry.fields) ++ (entry.clsid ++
+    fields_bytes
     (place_fields entry.fields))) (2 * i) 2 (omega arith)
     ∙ (number_at-before (flat_map (number_bytes 2) entry.name) (replicate (64 - length (flat_map (number_bytes 2)
     entry.name)) 0) (2 * i) 2 (omega arith)
@@ -75,9 +76,9 @@ link_in entry at width whole room =
     let links : length (fields_bytes (link_fields entry.fields)) ≡ 16 = length-fields_bytes (link_fields entry.fields)
     in
     let rest = fields_bytes (link_fields entry.fields) ++ (entry.clsid ++ fields_bytes (place_fields entry.fields)) in
-    let place : 64 + at ≡ length (name_bytes entry.name) + at = omega arith in
-    ap (λ k. number_at (name_bytes entry.name ++ rest) k width) place
-    ∙ (number_at-after (name_bytes entry.name) rest at width
+    let place : 64 + at ≡ length (entry_name_bytes entry.name) + at = omega arith in
+    ap (λ k. number_at (entry_name_bytes entry.name ++ rest) k width) place
+    ∙ (number_at-after (entry_name_bytes entry.name) rest at width
     ∙ number_at-before (fields_bytes (link_fields entry.fields)) (entry.clsid ++ fields_bytes (place_fields
     entry.fields)) at width (omega arith))
 
@@ -90,12 +91,14 @@ place_in_entry entry at width whole =
     let links : length (fields_bytes (link_fields entry.fields)) ≡ 16 = length-fields_bytes (link_fields entry.fields)
     in
     let places = fields_bytes (place_fields entry.fields) in
-    let first : 96 + at ≡ length (name_bytes entry.name) + (32 + at) = omega arith in
+    let first : 96 + at ≡ length (entry_name_bytes entry.name) + (32 + at) = omega arith in
     let second : 32 + at ≡ length (fields_bytes (link_fields entry.fields)) + (16 + at) = omega arith in
     let third : 16 + at ≡ length entry.clsid + at = omega arith in
-    ap (λ k. number_at (name_bytes entry.name ++ (fields_bytes (link_fields entry.fields) ++ (entry.clsid ++ places)))
+    ap (λ k. number_at (entry_name_bytes entry.name ++ (fields_bytes (link_fields entry.fields) ++ (entry.clsid ++
+    places)))
     k width) first
-    ∙ (number_at-after (name_bytes entry.name) (fields_bytes (link_fields entry.fields) ++ (entry.clsid ++ places))
+    ∙ (number_at-after (entry_name_bytes entry.name) (fields_bytes (link_fields entry.fields) ++ (entry.clsid ++
+    places))
     (32 + at) width
     ∙ (ap (λ k. number_at (fields_bytes (link_fields entry.fields) ++ (entry.clsid ++ places)) k width) second
     ∙ (number_at-after (fields_bytes (link_fields entry.fields)) (entry.clsid ++ places) (16 + at) width
@@ -113,7 +116,8 @@ clsid_in entry i whole h =
     let places = fields_bytes (place_fields entry.fields) in
     let first : 80 + i - 64 ≡ 16 + i = omega arith in
     let second : 16 + i - 16 ≡ i = omega arith in
-    get_or-append_right (name_bytes entry.name) (fields_bytes (link_fields entry.fields) ++ (entry.clsid ++ places))
+    get_or-append_right (entry_name_bytes entry.name) (fields_bytes (link_fields entry.fields) ++ (entry.clsid ++
+    places))
     64 (80 + i) 0 name (omega arith)
     ∙ (ap (λ k. slice_index (fields_bytes (link_fields entry.fields) ++ (entry.clsid ++ places)) k) first
     ∙ (get_or-append_right (fields_bytes (link_fields entry.fields)) (entry.clsid ++ places) 16 (16 + i) 0 links

@@ -13,7 +13,7 @@ use Rattle.doc_bits.specs.Number.{number_at, number_bytes}
 use Rattle.doc_bits.proofs.Public.{number_at-same}
 use Rattle.cfb_streams.specs.Contents.{NamedBytes, AreStreams}
 use Rattle.cfb_sectors.specs.Opening.{signature}
-use Rattle.cfb_layout.specs.Sectors.{units_for, padded, chains_from, start_of, table_bytes, free_sector}
+use Rattle.cfb_layout.specs.Sectors.{units_for, padded_to_unit, chains_from, chain_start, table_bytes, free_sector}
 use Rattle.cfb_layout.specs.Sectors.{fat_sector_mark}
 use Rattle.cfb_layout.specs.Fields.{fields_bytes}
 use Rattle.cfb_layout.specs.Counts.{mini_counts, sector_counts, fat_count, Fits, large_len}
@@ -21,7 +21,7 @@ use Rattle.cfb_layout.specs.Entries.{entry_bytes, unused_entry, no_clsid, root_n
 use Rattle.cfb_layout.specs.Layout.{lengths_of, no_stream, large_part, mini_stream, fat, directory_entry}
 use Rattle.cfb_layout.specs.Layout.{directory_bytes, stream_entry, parts, header_fields, fat_numbers, header_bytes}
 use Rattle.cfb_layout.specs.Layout.{compound_file}
-use Rattle.cfb_layout.specs.Laws.{IsLayout}
+use Rattle.cfb_layout.specs.Laws.{AreLayoutStreams}
 use Rattle.cfb_layout.proofs.BytesLemmas.{HaveCounts, length-parts, parts_at, length-blocks, length-table}
 use Rattle.cfb_layout.proofs.BytesLemmas.{length-padded, length-filled, length-fields_bytes}
 use Rattle.cfb_layout.proofs.SectorLemmas.{length-chains_from}
@@ -62,35 +62,38 @@ entries_whole streams clsid (suc i) are len =
 -- the parts behind the streams
 abbrev pub parts_behind : List NamedBytes → List ℕ → List (List ℕ)
 parts_behind streams clsid =
-    padded 512 0 (mini_stream streams)
+    padded_to_unit 512 0 (mini_stream streams)
     ∷ (table_bytes (chains_from 0 (mini_counts (lengths_of streams))) ∷ (directory_bytes streams clsid ∷ (table_bytes
     (fat (lengths_of streams)) ∷ [])))
 
 pub part_stream : (streams : List NamedBytes) (clsid : List ℕ) (i : ℕ) → i < length streams →
-    get_or (parts streams clsid) i [] ≡ padded 512 0 (large_part (slice_index_or streams i no_stream).bytes)
+    get_or (parts streams clsid) i [] ≡ padded_to_unit 512 0 (large_part (slice_index_or streams i no_stream).bytes)
 unfolding parts
 part_stream streams clsid i h =
-    let len = length-map streams (λ stream. padded 512 0 (large_part stream.bytes)) in
-    get_or_append_left (map (λ stream. padded 512 0 (large_part stream.bytes)) streams) (parts_behind streams clsid)
+    let len = length-map streams (λ stream. padded_to_unit 512 0 (large_part stream.bytes)) in
+    get_or_append_left (map (λ stream. padded_to_unit 512 0 (large_part stream.bytes)) streams) (parts_behind streams
+    clsid)
     [] i (omega arith)
-    ∙ get_or-map (λ stream. padded 512 0 (large_part stream.bytes)) streams i no_stream [] h
+    ∙ get_or-map (λ stream. padded_to_unit 512 0 (large_part stream.bytes)) streams i no_stream [] h
 
 pub part_behind : (streams : List NamedBytes) (clsid : List ℕ) (i j : ℕ) → i ≡ length (lengths_of streams) + j →
     get_or (parts streams clsid) i [] ≡ get_or (parts_behind streams clsid) j []
 unfolding parts
 part_behind streams clsid i j e =
     let n = length-lengths_of streams in
-    let len = length-map streams (λ stream. padded 512 0 (large_part stream.bytes)) in
+    let len = length-map streams (λ stream. padded_to_unit 512 0 (large_part stream.bytes)) in
     let rest : i - length streams ≡ j = omega arith in
-    get_or-append_right (map (λ stream. padded 512 0 (large_part stream.bytes)) streams) (parts_behind streams clsid)
+    get_or-append_right (map (λ stream. padded_to_unit 512 0 (large_part stream.bytes)) streams) (parts_behind streams
+    clsid)
     (length streams) i [] len (omega arith)
     ∙ ap (λ k. get_or (parts_behind streams clsid) k []) rest
 
 pub length-all_parts : (streams : List NamedBytes) (clsid : List ℕ) → length (parts streams clsid) ≡ length streams + 4
 unfolding parts
 length-all_parts streams clsid =
-    let len = length-map streams (λ stream. padded 512 0 (large_part stream.bytes)) in
-    let all = length-append (map (λ stream. padded 512 0 (large_part stream.bytes)) streams) (parts_behind streams
+    let len = length-map streams (λ stream. padded_to_unit 512 0 (large_part stream.bytes)) in
+    let all = length-append (map (λ stream. padded_to_unit 512 0 (large_part stream.bytes)) streams) (parts_behind
+    streams
     clsid) in
     omega arith
 
@@ -105,7 +108,7 @@ length-fat lengths =
 -- a table takes whole sectors
 pub length-table_bytes : (entries : List ℕ) → length (table_bytes entries) ≡ 512 * units_for 128 (length entries)
 length-table_bytes entries =
-    let a = length-table 4 (padded 128 free_sector entries) in
+    let a = length-table 4 (padded_to_unit 128 free_sector entries) in
     let b = length-padded 128 free_sector entries (omega arith) in
     omega arith
 
@@ -199,7 +202,8 @@ file_parts streams clsid are len =
     record { len = omega arith; each = λ i h. length-part streams clsid i are len (omega arith) }
 
 -- the FAT starts behind all other parts
-pub start_all : (lengths : List ℕ) → start_of (sector_counts lengths) (length lengths + 3) ≡ sum (sector_counts lengths)
+pub start_all : (lengths : List ℕ) → chain_start (sector_counts lengths) (length lengths + 3) ≡ sum (sector_counts
+    lengths)
 start_all lengths = ap sum (take_all (length lengths + 3) (sector_counts lengths) (let len = length-sector_counts
     lengths in omega arith))
 
@@ -227,7 +231,7 @@ length-header_bytes lengths fits =
     omega arith
 
 -- all sectors
-pub length-compound_file : (streams : List NamedBytes) (clsid : List ℕ) → AreStreams streams → IsLayout streams
+pub length-compound_file : (streams : List NamedBytes) (clsid : List ℕ) → AreStreams streams → AreLayoutStreams streams
     clsid → length (compound_file streams clsid) ≡ 512 * (1 + (sum (sector_counts (lengths_of streams)) + fat_count
     (lengths_of streams)))
 unfolding compound_file
@@ -241,7 +245,8 @@ length-compound_file streams clsid are lay =
     omega arith
 
 -- a byte of the i-th part
-pub file_at : (streams : List NamedBytes) (clsid : List ℕ) (i x : ℕ) → AreStreams streams → IsLayout streams clsid →
+pub file_at : (streams : List NamedBytes) (clsid : List ℕ) (i x : ℕ) → AreStreams streams → AreLayoutStreams streams
+    clsid →
     i < length streams + 4 → x < length (get_or (parts streams clsid) i []) → slice_index (compound_file streams
     clsid) (part_place (sector_counts (lengths_of streams)) i + x) ≡ slice_index (get_or (parts streams clsid) i []) x
 unfolding compound_file
@@ -260,7 +265,8 @@ file_at streams clsid i x are lay low less =
 
 -- a number of the i-th part
 pub file_number : (streams : List NamedBytes) (clsid : List ℕ) (i offset width : ℕ) → AreStreams streams →
-    IsLayout streams clsid → i < length streams + 4 → offset + width ≤ length (get_or (parts streams clsid) i []) →
+    AreLayoutStreams streams clsid → i < length streams + 4 → offset + width ≤ length (get_or (parts streams clsid) i
+    []) →
     number_at (compound_file streams clsid) (part_place (sector_counts (lengths_of streams)) i + offset) width ≡
     number_at (get_or (parts streams clsid) i []) offset width
 file_number streams clsid i offset width are lay low room =

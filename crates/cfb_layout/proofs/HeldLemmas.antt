@@ -8,11 +8,11 @@ use Rattle.std.proofs.lemmas.List.Sums.{sum_by-append}
 use Rattle.std.proofs.lemmas.Option.{slice_get-get_or}
 use Rattle.doc_bits.specs.Rules.{Nowhere, Hold}
 use Rattle.cfb_sectors.specs.Header.{sector_bytes}
-use Rattle.cfb_sectors.specs.Opening.{IsWhole}
+use Rattle.cfb_sectors.specs.Opening.{HasRightLength}
 use Rattle.cfb_sectors.specs.HeaderRules.{BreaksFat}
-use Rattle.cfb_sectors.specs.Chain.{Table, Head, fat_table, HoldsChain}
+use Rattle.cfb_sectors.specs.Chain.{Table, ChainHead, fat_table, HoldsChain}
 use Rattle.cfb_streams.specs.Contents.{Stream, Contents}
-use Rattle.cfb_directory.specs.Directory.{EntryBefore, entry_size}
+use Rattle.cfb_directory.specs.Directory.{EntryBefore, entry_stream_size}
 use Rattle.cfb_directory.specs.Reach.{entry_place}
 use Rattle.cfb_streams.specs.StreamRules.{Parts, Owner, of_stream, Owns, HasLargeSector, HasSmallSector, BreaksSharing}
 use Rattle.cfb_streams.specs.StreamRules.{IsMiniStream, mini_table_of}
@@ -28,7 +28,7 @@ use Rattle.cfb_layout.proofs.RunLemmas.{IsRun, IsHeld, no_sectors, IsGathered, g
 
 -- what is used of a file that breaks no rule
 pub record IsAccepted (file : List ℕ) (parts : Parts) : Type 0 where
-  pub whole : IsWhole file
+  pub whole : HasRightLength file
   pub fat : Nowhere (BreaksFat file)
   pub sharing : Nowhere (BreaksSharing file parts)
 
@@ -92,7 +92,7 @@ small_apart file parts x y s ok apart a b =
     }))
 
 -- the sectors of a chain
-pub chain_run : (table : Table) (head : Head) (xs : List ℕ) → HoldsChain table head xs → IsRun table.valid xs
+pub chain_run : (table : Table) (head : ChainHead) (xs : List ℕ) → HoldsChain table head xs → IsRun table.valid xs
 chain_run table head xs h = record { within = h.chain.path.within; distinct = h.chain.path.distinct }
 
 -- no entry is in the list twice
@@ -131,7 +131,7 @@ held_large : (file : List ℕ) (contents : Contents) (has : HasContents file con
     IsHeld (fat_table file).valid (HasLargeOf file contents has i) (units_for 512 (large_len (length stream.bytes)))
 held_large file contents has i stream low is =
     let directory = has.parts.directory in
-    let size = entry_size file (entry_place directory (slice_index has.entries i)) in
+    let size = entry_stream_size file (entry_place directory (slice_index has.entries i)) in
     elim is.holds [
       | inl empty ↦
           let len = ap length empty.bytes in
@@ -181,7 +181,7 @@ held_small file contents has i stream ok low is =
     let directory = has.parts.directory in
     let table = mini_table_of file directory has.parts.mini_fat in
     let at = entry_place directory (slice_index has.entries i) in
-    let size = entry_size file at in
+    let size = entry_stream_size file at in
     elim is.holds [
       | inl empty ↦
           let len = ap length empty.bytes in

@@ -5,8 +5,8 @@ use Rattle.doc_bits.specs.Number.{u16_at, u32_at}
 use Rattle.cfb_sectors.specs.Opening.{signature}
 use Rattle.cfb_streams.specs.Contents.{NamedBytes}
 use Rattle.cfb_directory.specs.Directory.{entry_name_length, entry_unit, entry_type, entry_left, entry_right}
-use Rattle.cfb_directory.specs.Directory.{entry_child, entry_clsid, entry_start, entry_size}
-use Rattle.cfb_layout.specs.Sectors.{chains_from, start_of}
+use Rattle.cfb_directory.specs.Directory.{entry_child, entry_clsid, entry_start, entry_stream_size}
+use Rattle.cfb_layout.specs.Sectors.{chains_from, chain_start}
 use Rattle.cfb_layout.specs.Counts.{mini_counts, sector_counts, fat_count, sectors_needed, first_sector}
 use Rattle.cfb_layout.specs.Entries.{Entry}
 use Rattle.cfb_layout.specs.Layout.{lengths_of, large_part, mini_stream, directory_entry, no_stream}
@@ -21,11 +21,11 @@ pub record IsEntryAt (file : List ℕ) (entry : Entry) (at : ℕ) : Type 0 where
   pub child : entry_child file at ≡ entry.fields.child
   pub clsid : entry_clsid file at ≡ entry.clsid
   pub start : entry_start file at ≡ entry.fields.start
-  pub size : entry_size file at ≡ entry.fields.size
+  pub size : entry_stream_size file at ≡ entry.fields.size
 
 -- where the i-th part is
 abbrev pub part_place : List ℕ → ℕ → ℕ
-part_place counts i = 512 * (1 + start_of counts i)
+part_place counts i = 512 * (1 + chain_start counts i)
 
 -- the header
 pub record IsHeaderOf (file lengths : List ℕ) : Type 0 where

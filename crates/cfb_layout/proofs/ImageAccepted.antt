@@ -4,7 +4,7 @@ use Rattle.doc_bits.specs.Rules.{Hold}
 use Rattle.cfb_streams.specs.Contents.{NamedBytes, AreStreams}
 use Rattle.cfb_streams.specs.Container.{container_rules}
 use Rattle.cfb_layout.specs.Layout.{lengths_of}
-use Rattle.cfb_layout.specs.Laws.{IsLayout}
+use Rattle.cfb_layout.specs.Laws.{AreLayoutStreams}
 use Rattle.cfb_layout.proofs.Image.{IsImage}
 use Rattle.cfb_layout.proofs.ImageChains.{mini_sectors}
 use Rattle.cfb_layout.proofs.ImageTree.{directory_of, root_holds, tree_holds, storage_holds}
@@ -16,7 +16,7 @@ use Rattle.cfb_layout.proofs.ImageSharing.{sharing_holds}
 
 -- all rules
 pub image_holds : (file : List ℕ) (streams : List NamedBytes) (clsid : List ℕ) → IsImage file streams clsid →
-    AreStreams streams → IsLayout streams clsid → Hold (container_rules file)
+    AreStreams streams → AreLayoutStreams streams clsid → Hold (container_rules file)
 image_holds file streams clsid im are lay =
     let lengths = lengths_of streams in (
       (length_holds file lengths im.header lay.fits, λ p b. b.wrong im.header.signed),

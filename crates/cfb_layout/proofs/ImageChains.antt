@@ -7,10 +7,10 @@ use Rattle.std.proofs.lemmas.List.FromFn.{length-range_with_len, get_or-range_wi
 use Rattle.doc_bits.specs.Number.{u32_at}
 use Rattle.cfb_sectors.specs.SectorChain.{end_of_chain, HasSector, IsSectorChain}
 use Rattle.cfb_sectors.specs.Header.{sector_count, fat_sectors, table_place, valid_below}
-use Rattle.cfb_sectors.specs.Chain.{Table, Head, fat_table, mini_table, HoldsChain}
+use Rattle.cfb_sectors.specs.Chain.{Table, ChainHead, fat_table, mini_table, HoldsChain}
 use Rattle.cfb_directory.specs.Reach.{entry_place}
 use Rattle.cfb_sectors.proofs.Public.{fat_sectors-at}
-use Rattle.cfb_layout.specs.Sectors.{chains_from, start_of}
+use Rattle.cfb_layout.specs.Sectors.{chains_from, chain_start}
 use Rattle.cfb_layout.specs.Counts.{mini_counts, sector_counts, fat_count, sectors_needed, Fits, first_sector}
 use Rattle.cfb_layout.proofs.SectorLemmas.{start_room, chains_chain, IsIn}
 use Rattle.cfb_layout.proofs.CountLemmas.{length-sector_counts, length-mini_counts, counts_mini_stream}
@@ -19,10 +19,10 @@ use Rattle.cfb_layout.proofs.Image.{IsHeaderOf, HasTables, part_place}
 
 -- the sectors of the i-th part
 abbrev pub sectors_of : List ℕ → ℕ → List ℕ
-sectors_of counts i = range_with_len (start_of counts i) (slice_index counts i)
+sectors_of counts i = range_with_len (chain_start counts i) (slice_index counts i)
 
-pub first_some : (counts : List ℕ) (i : ℕ) → 0 < slice_index counts i → first_sector counts i ≡ start_of counts i
-first_some counts i h = cond-true (ltb 0 (slice_index counts i)) (start_of counts i) end_of_chain
+pub first_some : (counts : List ℕ) (i : ℕ) → 0 < slice_index counts i → first_sector counts i ≡ chain_start counts i
+first_some counts i h = cond-true (ltb 0 (slice_index counts i)) (chain_start counts i) end_of_chain
     (lt-ltb 0 (slice_index counts i) h)
 
 -- a sector of a row
@@ -36,7 +36,7 @@ run_sector start count s has =
 
 pub part_sector : (counts : List ℕ) (i s : ℕ) → HasSector (sectors_of counts i) s → IsIn counts i s
 part_sector counts i s has =
-    let r = run_sector (start_of counts i) (slice_index counts i) s has in
+    let r = run_sector (chain_start counts i) (slice_index counts i) s has in
     record { from = r.0; below = r.1 }
 
 -- how many sectors there are, and how many are valid
@@ -63,7 +63,7 @@ fat_entry file lengths s h t low =
     ap (λ k. u32_at file k) place ∙ t.fat s low
 
 -- the chain of a part that has a sector
-pub part_holds : (file lengths : List ℕ) (i : ℕ) (head : Head) → IsHeaderOf file lengths → HasTables file lengths →
+pub part_holds : (file lengths : List ℕ) (i : ℕ) (head : ChainHead) → IsHeaderOf file lengths → HasTables file lengths →
     Fits lengths → i < length lengths + 3 → 0 < slice_index (sector_counts lengths) i → head.start ≡ first_sector
     (sector_counts lengths) i → head.size ≤ slice_index (sector_counts lengths) i * head.unit →
     HoldsChain (fat_table file) head (sectors_of (sector_counts lengths) i)
@@ -72,9 +72,9 @@ part_holds file lengths i head h t fits low some start size =
     let valid = image_valid file lengths h in
     let all = sectors-needed lengths in
     let len = length-sector_counts lengths in
-    let run = length-range_with_len (start_of counts i) (slice_index counts i) in
-    let first : head.start ≡ start_of counts i = start ∙ first_some counts i some in
-    let chain = chains_chain (fat_table file).entry (fat_table file).valid 0 (start_of counts i) counts i
+    let run = length-range_with_len (chain_start counts i) (slice_index counts i) in
+    let first : head.start ≡ chain_start counts i = start ∙ first_some counts i some in
+    let chain = chains_chain (fat_table file).entry (fat_table file).valid 0 (chain_start counts i) counts i
     (λ s t2 less e. let same : t2 ≡ s = omega arith in ap (λ k. (fat_table file).entry k) same ∙ fat_entry file
     lengths s h t less)
     (omega arith) (omega arith) some (omega arith) in
@@ -95,7 +95,8 @@ mini_table_at file lengths = mini_table file (mini_sectors lengths) (64 * sum (m
 pub mini_valid : (file lengths : List ℕ) → (mini_table_at file lengths).valid ≡ sum (mini_counts lengths)
 mini_valid file lengths =
     let counts = sector_counts lengths in
-    let run = length-range_with_len (start_of counts (length lengths + 1)) (slice_index counts (length lengths + 1)) in
+    let run = length-range_with_len (chain_start counts (length lengths + 1)) (slice_index counts (length lengths + 1))
+    in
     let count = counts_mini_fat lengths in
     omega arith
 
@@ -104,15 +105,16 @@ pub mini_entry : (file lengths : List ℕ) (s : ℕ) → HasTables file lengths 
 mini_entry file lengths s t low =
     let counts = sector_counts lengths in
     let count = counts_mini_fat lengths in
-    let sector : slice_index (mini_sectors lengths) (s / 128) ≡ start_of counts (length lengths + 1) + s / 128 =
-    get_or-range_with_len (start_of counts (length lengths + 1)) (slice_index counts (length lengths + 1)) (s / 128) 0
+    let sector : slice_index (mini_sectors lengths) (s / 128) ≡ chain_start counts (length lengths + 1) + s / 128 =
+    get_or-range_with_len (chain_start counts (length lengths + 1)) (slice_index counts (length lengths + 1)) (s / 128)
+    0
     (omega arith) in
     let place : table_place (λ k. slice_index (mini_sectors lengths) k) s ≡ part_place counts (length lengths + 1) + 4
     * s = omega arith in
     ap (λ k. u32_at file k) place ∙ t.mini_fat s low
 
 -- the mini chain of a stream that has a mini sector
-pub mini_holds : (file lengths : List ℕ) (i : ℕ) (head : Head) → HasTables file lengths → Fits lengths →
+pub mini_holds : (file lengths : List ℕ) (i : ℕ) (head : ChainHead) → HasTables file lengths → Fits lengths →
     i < length lengths → 0 < slice_index (mini_counts lengths) i → head.start ≡ first_sector (mini_counts lengths) i →
     head.size ≤ slice_index (mini_counts lengths) i * head.unit → HoldsChain (mini_table_at file lengths) head
     (sectors_of (mini_counts lengths) i)
@@ -124,9 +126,9 @@ mini_holds file lengths i head t fits low some start size =
     let room = start_room (sector_counts lengths) (length lengths) (let n = length-sector_counts lengths in
     omega arith) in
     let stream = counts_mini_stream lengths in
-    let run = length-range_with_len (start_of counts i) (slice_index counts i) in
-    let first : head.start ≡ start_of counts i = start ∙ first_some counts i some in
-    let chain = chains_chain (mini_table_at file lengths).entry (mini_table_at file lengths).valid 0 (start_of counts
+    let run = length-range_with_len (chain_start counts i) (slice_index counts i) in
+    let first : head.start ≡ chain_start counts i = start ∙ first_some counts i some in
+    let chain = chains_chain (mini_table_at file lengths).entry (mini_table_at file lengths).valid 0 (chain_start counts
     i) counts i
     (λ s t2 less e. let same : t2 ≡ s = omega arith in ap (λ k. (mini_table_at file lengths).entry k) same ∙
     mini_entry file lengths s t less)
@@ -144,6 +146,6 @@ pub entry_here : (lengths : List ℕ) (k : ℕ) → k < 4 * slice_index (sector_
     (length lengths + 2) + 128 * k
 entry_here lengths k low =
     let counts = sector_counts lengths in
-    let at = get_or-range_with_len (start_of counts (length lengths + 2)) (slice_index counts (length lengths + 2))
+    let at = get_or-range_with_len (chain_start counts (length lengths + 2)) (slice_index counts (length lengths + 2))
     (k / 4) 0 (omega arith) in
     omega arith

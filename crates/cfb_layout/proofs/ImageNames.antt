@@ -5,7 +5,7 @@ use Rattle.std.proofs.lemmas.Bool.{cases_order}
 use Rattle.std.proofs.lemmas.Option.{slice_get-get_or}
 use Rattle.doc_bits.specs.Rules.{Nowhere}
 use Rattle.cfb_streams.specs.Contents.{NamedBytes, AreStreams}
-use Rattle.cfb_directory.specs.Directory.{IsNameOf, EntryBefore}
+use Rattle.cfb_directory.specs.Directory.{IsEntryName, EntryBefore}
 use Rattle.cfb_directory.specs.Reach.{BreaksName}
 use Rattle.cfb_directory.proofs.Public.{EntryBefore-names, before_apart, one_name-sym}
 use Rattle.cfb_layout.specs.Layout.{no_stream}
@@ -14,7 +14,7 @@ use Rattle.cfb_layout.proofs.ImageTree.{directory_of, place_in, image_stream, re
 
 -- the name of an entry
 pub image_name : (file : List ℕ) (streams : List NamedBytes) (clsid : List ℕ) (i k : ℕ) → IsImage file streams clsid →
-    i < length streams → k ≡ i + 1 → IsNameOf file (place_in streams k) (slice_index_or streams i no_stream).name
+    i < length streams → k ≡ i + 1 → IsEntryName file (place_in streams k) (slice_index_or streams i no_stream).name
 image_name file streams clsid i k im low is =
     let e = image_stream file streams clsid i k im low is in
     record { long = e.long; units = λ j h. sym (e.units j h) }

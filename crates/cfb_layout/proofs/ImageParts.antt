@@ -5,14 +5,14 @@ use Rattle.std.specs.List.{range_with_len}
 use Rattle.std.proofs.lemmas.Bool.{cases_eq, lt-ltb, le-ltb, cond-true, cond-false}
 use Rattle.cfb_sectors.specs.Chain.{fat_table, mini_table, HoldsChain}
 use Rattle.cfb_streams.specs.Contents.{NamedBytes}
-use Rattle.cfb_directory.specs.Directory.{entry_size}
+use Rattle.cfb_directory.specs.Directory.{entry_stream_size}
 use Rattle.cfb_directory.specs.Reach.{directory_head, IsDirectory}
 use Rattle.cfb_streams.specs.StreamRules.{Parts, IsMiniFat, IsMiniStream, mini_fat_head, mini_table_of}
 use Rattle.cfb_directory.specs.StreamEntries.{stream_head}
-use Rattle.cfb_layout.specs.Sectors.{units_for, start_of}
+use Rattle.cfb_layout.specs.Sectors.{units_for, chain_start}
 use Rattle.cfb_layout.specs.Counts.{mini_counts, sector_counts, first_sector}
 use Rattle.cfb_layout.specs.Layout.{lengths_of}
-use Rattle.cfb_layout.specs.Laws.{IsLayout}
+use Rattle.cfb_layout.specs.Laws.{AreLayoutStreams}
 use Rattle.cfb_layout.proofs.CountLemmas.{minis_at, counts_stream, counts_mini_stream, counts_directory}
 use Rattle.cfb_layout.proofs.CountLemmas.{length-lengths_of, lengths_at}
 use Rattle.cfb_layout.proofs.Image.{IsImage}
@@ -29,7 +29,7 @@ parts_of streams = record {
 }
 
 pub image_directory : (file : List ℕ) (streams : List NamedBytes) (clsid : List ℕ) → IsImage file streams clsid →
-    IsLayout streams clsid → IsDirectory file (directory_of streams)
+    AreLayoutStreams streams clsid → IsDirectory file (directory_of streams)
 image_directory file streams clsid im lay =
     let lengths = lengths_of streams in
     let count = counts_directory lengths in
@@ -43,13 +43,13 @@ image_directory file streams clsid im lay =
     }
 
 pub image_mini_fat : (file : List ℕ) (streams : List NamedBytes) (clsid : List ℕ) → IsImage file streams clsid →
-    IsLayout streams clsid → IsMiniFat file (mini_sectors (lengths_of streams))
+    AreLayoutStreams streams clsid → IsMiniFat file (mini_sectors (lengths_of streams))
 image_mini_fat file streams clsid im lay =
     let lengths = lengths_of streams in
     let counts = sector_counts lengths in
     let fats = im.header.mini_fats in
     elim (cases_eq (slice_index counts (length lengths + 1)) 0) [
-      | inl none ↦ inl (fats ∙ none, ap (λ m. range_with_len (start_of counts (length lengths + 1)) m) none)
+      | inl none ↦ inl (fats ∙ none, ap (λ m. range_with_len (chain_start counts (length lengths + 1)) m) none)
       | inr some ↦ inr (
         λ e. some (sym fats ∙ e),
         part_holds file lengths (length lengths + 1) (mini_fat_head file)
@@ -58,7 +58,7 @@ image_mini_fat file streams clsid im lay =
     ]
 
 pub image_mini_stream : (file : List ℕ) (streams : List NamedBytes) (clsid : List ℕ) → IsImage file streams clsid →
-    IsLayout streams clsid → IsMiniStream file (directory_of streams) (parts_of streams).mini_stream
+    AreLayoutStreams streams clsid → IsMiniStream file (directory_of streams) (parts_of streams).mini_stream
 image_mini_stream file streams clsid im lay =
     let lengths = lengths_of streams in
     let counts = sector_counts lengths in
@@ -68,7 +68,7 @@ image_mini_stream file streams clsid im lay =
     elim (cases_eq (sum (mini_counts lengths)) 0) [
       | inl none ↦
           let zero_count : slice_index counts (length lengths) ≡ 0 = omega arith in
-          inl (omega arith, ap (λ m. range_with_len (start_of counts (length lengths)) m) zero_count)
+          inl (omega arith, ap (λ m. range_with_len (chain_start counts (length lengths)) m) zero_count)
       | inr some ↦ inr (
         λ e. some (omega arith),
         part_holds file lengths (length lengths) (stream_head file 512
@@ -78,7 +78,8 @@ image_mini_stream file streams clsid im lay =
 
 -- the chain of a stream that has sectors of its own
 pub large_holds : (file : List ℕ) (streams : List NamedBytes) (clsid : List ℕ) (i k : ℕ) → IsImage file streams
-    clsid → IsLayout streams clsid → i < length streams → k ≡ i + 1 → 4096 ≤ entry_size file (place_in streams k) →
+    clsid → AreLayoutStreams streams clsid → i < length streams → k ≡ i + 1 → 4096 ≤ entry_stream_size file (place_in
+    streams k) →
     HoldsChain (fat_table file) (stream_head file 512 (place_in streams k)) (sectors_of (sector_counts
     (lengths_of streams)) i)
 large_holds file streams clsid i k im lay low is large =
@@ -96,8 +97,10 @@ large_holds file streams clsid i k im lay low is large =
 
 -- the mini chain of a shorter one
 pub small_holds : (file : List ℕ) (streams : List NamedBytes) (clsid : List ℕ) (i k : ℕ) → IsImage file streams
-    clsid → IsLayout streams clsid → i < length streams → k ≡ i + 1 → 0 < entry_size file (place_in streams k) →
-    entry_size file (place_in streams k) < 4096 → HoldsChain (mini_table_of file (directory_of streams) (mini_sectors
+    clsid → AreLayoutStreams streams clsid → i < length streams → k ≡ i + 1 → 0 < entry_stream_size file (place_in
+    streams k) →
+    entry_stream_size file (place_in streams k) < 4096 → HoldsChain (mini_table_of file (directory_of streams)
+    (mini_sectors
     (lengths_of streams))) (stream_head file 64 (place_in streams k)) (sectors_of (mini_counts (lengths_of streams)) i)
 small_holds file streams clsid i k im lay low is some small =
     let lengths = lengths_of streams in

@@ -12,7 +12,7 @@ use Rattle.cfb_directory.specs.StreamEntries.{stream_head}
 use Rattle.cfb_sectors.proofs.Public.{holds_none, full_unique, chain_full}
 use Rattle.cfb_layout.specs.Counts.{mini_counts, sector_counts, Fits}
 use Rattle.cfb_layout.specs.Layout.{lengths_of}
-use Rattle.cfb_layout.specs.Laws.{IsLayout}
+use Rattle.cfb_layout.specs.Laws.{AreLayoutStreams}
 use Rattle.cfb_layout.proofs.SectorLemmas.{start_room}
 use Rattle.cfb_layout.proofs.CountLemmas.{length-sector_counts, counts_directory, sectors-needed}
 use Rattle.cfb_layout.proofs.Image.{IsHeaderOf, IsImage}
@@ -78,7 +78,7 @@ fat_holds file lengths h fits = λ p b.
 
 -- rule 6
 pub directory_holds : (file : List ℕ) (streams : List NamedBytes) (clsid : List ℕ) → IsImage file streams clsid →
-    IsLayout streams clsid → Nowhere (BreaksDirectory file)
+    AreLayoutStreams streams clsid → Nowhere (BreaksDirectory file)
 directory_holds file streams clsid im lay = λ p b.
     let is = image_directory file streams clsid im lay in
     elim b [
@@ -95,7 +95,7 @@ directory_holds file streams clsid im lay = λ p b.
 
 -- rule 11
 pub mini_fat_holds : (file : List ℕ) (streams : List NamedBytes) (clsid : List ℕ) → IsImage file streams clsid →
-    IsLayout streams clsid → Nowhere (BreaksMiniFat file)
+    AreLayoutStreams streams clsid → Nowhere (BreaksMiniFat file)
 mini_fat_holds file streams clsid im lay = λ p b. elim (image_mini_fat file streams clsid im lay) [
   | inl none ↦ b.there none.0
   | inr some ↦ holds_none (fat_table file) (mini_fat_head file) (mini_sectors (lengths_of streams)) some.1 p b.broken
@@ -103,7 +103,7 @@ mini_fat_holds file streams clsid im lay = λ p b. elim (image_mini_fat file str
 
 -- rule 12
 pub mini_stream_holds : (file : List ℕ) (streams : List NamedBytes) (clsid : List ℕ) → IsImage file streams clsid →
-    IsLayout streams clsid → Nowhere (BreaksMiniStream file (directory_of streams))
+    AreLayoutStreams streams clsid → Nowhere (BreaksMiniStream file (directory_of streams))
 mini_stream_holds file streams clsid im lay = λ p b. elim (image_mini_stream file streams clsid im lay) [
   | inl none ↦ b.there none.0
   | inr some ↦ holds_none (fat_table file) (stream_head file 512 (place_in streams 0)) (parts_of streams).mini_stream
@@ -112,7 +112,8 @@ mini_stream_holds file streams clsid im lay = λ p b. elim (image_mini_stream fi
 
 -- rule 13
 pub streams_hold : (file : List ℕ) (streams : List NamedBytes) (clsid : List ℕ) → IsImage file streams clsid →
-    IsLayout streams clsid → Nowhere (BreaksStream file (directory_of streams) (mini_sectors (lengths_of streams)))
+    AreLayoutStreams streams clsid → Nowhere (BreaksStream file (directory_of streams) (mini_sectors (lengths_of
+    streams)))
 streams_hold file streams clsid im lay = λ p b.
     let k = b.entry in
     let w = reached_only file streams clsid k im lay.few b.reached in

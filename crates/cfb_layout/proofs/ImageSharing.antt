@@ -7,13 +7,13 @@ use Rattle.doc_bits.specs.Rules.{Nowhere}
 use Rattle.cfb_sectors.specs.SectorChain.{HasSector}
 use Rattle.cfb_sectors.specs.Chain.{fat_table}
 use Rattle.cfb_streams.specs.Contents.{NamedBytes}
-use Rattle.cfb_streams.specs.StreamRules.{BreaksSharing, IsShared, Owner, of_fat, of_directory, of_mini_fat}
+use Rattle.cfb_streams.specs.StreamRules.{BreaksSharing, IsSharedSector, Owner, of_fat, of_directory, of_mini_fat}
 use Rattle.cfb_streams.specs.StreamRules.{of_mini_stream, of_stream, Owns, HasSmallSector, mini_table_of}
 use Rattle.cfb_directory.specs.StreamEntries.{stream_head}
 use Rattle.cfb_sectors.proofs.Public.{length-fat_sectors, fat_sectors-at, holds_unique}
 use Rattle.cfb_layout.specs.Counts.{mini_counts, sector_counts, fat_count}
 use Rattle.cfb_layout.specs.Layout.{lengths_of}
-use Rattle.cfb_layout.specs.Laws.{IsLayout}
+use Rattle.cfb_layout.specs.Laws.{AreLayoutStreams}
 use Rattle.cfb_layout.proofs.SectorLemmas.{IsIn, one_chain}
 use Rattle.cfb_layout.proofs.CountLemmas.{length-sector_counts, length-mini_counts, length-lengths_of}
 use Rattle.cfb_layout.proofs.Image.{IsImage}
@@ -30,7 +30,7 @@ pub record IsOwned {A : Type 0} (counts : List ℕ) (owner_at : ℕ → A) (owne
 
 -- so no two owners share one
 none_shared : {A : Type 0} (counts : List ℕ) (owner_at : ℕ → A) (owns : A → ℕ → Type 0) (place_of : ℕ → ℕ) →
-    ((owner : A) (s : ℕ) → owns owner s → IsOwned counts owner_at owner s) → Nowhere (IsShared owns place_of)
+    ((owner : A) (s : ℕ) → owns owner s → IsOwned counts owner_at owner s) → Nowhere (IsSharedSector owns place_of)
 none_shared counts owner_at owns place_of owned = λ p b.
     let x = owned b.one b.sector b.first in
     let y = owned b.other b.sector b.second in
@@ -87,7 +87,8 @@ part_owned lengths i j s e low has =
           lengths) i s has);
     }
 
-owned : (file : List ℕ) (streams : List NamedBytes) (clsid : List ℕ) → IsImage file streams clsid → IsLayout streams
+owned : (file : List ℕ) (streams : List NamedBytes) (clsid : List ℕ) → IsImage file streams clsid → AreLayoutStreams
+    streams
     clsid → (owner : Owner) (s : ℕ) → Owns file (parts_of streams) owner s → IsOwned (all_counts (lengths_of streams))
     (part_owner (length (lengths_of streams))) owner s
 owned file streams clsid im lay of_fat s has =
@@ -136,7 +137,7 @@ owned file streams clsid im lay (of_stream e) s has =
 
 -- mini sectors likewise
 small_owned : (file : List ℕ) (streams : List NamedBytes) (clsid : List ℕ) → IsImage file streams clsid →
-    IsLayout streams clsid → (e s : ℕ) → HasSmallSector file (directory_of streams) (mini_sectors
+    AreLayoutStreams streams clsid → (e s : ℕ) → HasSmallSector file (directory_of streams) (mini_sectors
     (lengths_of streams)) e s → IsOwned (mini_counts (lengths_of streams)) (λ i. i + 1) e s
 small_owned file streams clsid im lay e s has =
     let lengths = lengths_of streams in
@@ -159,7 +160,7 @@ small_owned file streams clsid im lay e s has =
 
 -- rule 14
 pub sharing_holds : (file : List ℕ) (streams : List NamedBytes) (clsid : List ℕ) → IsImage file streams clsid →
-    IsLayout streams clsid → Nowhere (BreaksSharing file (parts_of streams))
+    AreLayoutStreams streams clsid → Nowhere (BreaksSharing file (parts_of streams))
 sharing_holds file streams clsid im lay = λ p b. elim b [
   | inl sector ↦ none_shared (all_counts (lengths_of streams)) (part_owner (length (lengths_of streams)))
       (Owns file (parts_of streams)) (fat_table file).place (owned file streams clsid im lay) p sector

@@ -9,15 +9,15 @@ use Rattle.std.proofs.lemmas.List.FromFn.{length-range_with_len, get_or-range_wi
 use Rattle.std.proofs.lemmas.List.FromFn.{get_or-map-range_with_len}
 use Rattle.cfb_sectors.specs.Header.{sector_bytes}
 use Rattle.cfb_streams.specs.Contents.{NamedBytes, AreStreams}
-use Rattle.cfb_directory.specs.Directory.{entry_size}
+use Rattle.cfb_directory.specs.Directory.{entry_stream_size}
 use Rattle.cfb_directory.specs.Order.{ListsStreams}
 use Rattle.cfb_directory.specs.StreamEntries.{IsStreamEntry}
 use Rattle.cfb_streams.specs.Container.{mini_bytes, IsStreamOf, HasContents}
-use Rattle.cfb_layout.specs.Sectors.{units_for, start_of}
+use Rattle.cfb_layout.specs.Sectors.{units_for, chain_start}
 use Rattle.cfb_layout.specs.Tree.{all_entries}
 use Rattle.cfb_layout.specs.Counts.{mini_counts, sector_counts}
 use Rattle.cfb_layout.specs.Layout.{lengths_of, no_stream, mini_stream, stream_at, contents_of}
-use Rattle.cfb_layout.specs.Laws.{IsLayout}
+use Rattle.cfb_layout.specs.Laws.{AreLayoutStreams}
 use Rattle.cfb_layout.proofs.SectorLemmas.{start_room}
 use Rattle.cfb_layout.proofs.BytesLemmas.{run_bytes, range_is}
 use Rattle.cfb_layout.proofs.CountLemmas.{length-sector_counts, length-mini_counts, minis_at, counts_stream}
@@ -42,7 +42,7 @@ long_bytes file streams clsid i im low large =
     let lengths = lengths_of streams in
     let counts = sector_counts lengths in
     let bytes = (slice_index_or streams i no_stream).bytes in
-    let start = start_of counts i in
+    let start = chain_start counts i in
     let count = slice_index counts i in
     let at = 512 + start * 512 in
     let n = length-lengths_of streams in
@@ -67,7 +67,7 @@ stored_at : (file : List ℕ) (streams : List NamedBytes) (clsid : List ℕ) (x 
 stored_at file streams clsid x im low =
     let lengths = lengths_of streams in
     let counts = sector_counts lengths in
-    let start = start_of counts (length lengths) in
+    let start = chain_start counts (length lengths) in
     let count = slice_index counts (length lengths) in
     let at = 512 + start * 512 in
     let many = counts_mini_stream lengths in
@@ -83,7 +83,7 @@ stored_room : (file : List ℕ) (streams : List NamedBytes) (clsid : List ℕ) �
 stored_room file streams clsid im =
     let lengths = lengths_of streams in
     let counts = sector_counts lengths in
-    let start = start_of counts (length lengths) in
+    let start = chain_start counts (length lengths) in
     let count = slice_index counts (length lengths) in
     let at = 512 + start * 512 in
     let many = counts_mini_stream lengths in
@@ -106,7 +106,7 @@ short_bytes file streams clsid i im low small =
     let counts = mini_counts lengths in
     let bytes = (slice_index_or streams i no_stream).bytes in
     let stored = mini_bytes file (parts_of streams) in
-    let start = start_of counts i in
+    let start = chain_start counts i in
     let count = slice_index counts i in
     let at = 0 + start * 64 in
     let n = length-lengths_of streams in
@@ -134,11 +134,12 @@ stream_reached file streams clsid k im w = record {
 }
 
 pub image_body : (file : List ℕ) (streams : List NamedBytes) (clsid : List ℕ) (i k : ℕ) → IsImage file streams clsid →
-    IsLayout streams clsid → i < length streams → k ≡ i + 1 → IsStreamOf file (parts_of streams) k (stream_at streams i)
+    AreLayoutStreams streams clsid → i < length streams → k ≡ i + 1 → IsStreamOf file (parts_of streams) k (stream_at
+    streams i)
 image_body file streams clsid i k im lay low is =
     let lengths = lengths_of streams in
     let bytes = (slice_index_or streams i no_stream).bytes in
-    let size : entry_size file (place_in streams k) ≡ length bytes = (image_stream file streams clsid i k im low
+    let size : entry_stream_size file (place_in streams k) ≡ length bytes = (image_stream file streams clsid i k im low
     is).size ∙ lengths_at streams i low in
     let here = lengths_at streams i low in
     let entry = stream_reached file streams clsid k im (record { from = omega arith; below = omega arith }) in
@@ -181,7 +182,7 @@ image_body file streams clsid i k im lay low is =
 
 -- the streams' entries, in the order of their names
 pub image_lists : (file : List ℕ) (streams : List NamedBytes) (clsid : List ℕ) → IsImage file streams clsid →
-    AreStreams streams → IsLayout streams clsid → ListsStreams file (directory_of streams) (range_with_len 1
+    AreStreams streams → AreLayoutStreams streams clsid → ListsStreams file (directory_of streams) (range_with_len 1
     (length streams))
 image_lists file streams clsid im are lay =
     let n = length streams in
@@ -204,7 +205,7 @@ image_lists file streams clsid im are lay =
 
 -- what is read of an image
 pub image_contents : (file : List ℕ) (streams : List NamedBytes) (clsid : List ℕ) → IsImage file streams clsid →
-    AreStreams streams → IsLayout streams clsid → HasContents file (contents_of streams clsid)
+    AreStreams streams → AreLayoutStreams streams clsid → HasContents file (contents_of streams clsid)
 unfolding contents_of
 image_contents file streams clsid im are lay =
     let n = length streams in

@@ -6,12 +6,13 @@ use Rattle.std.proofs.lemmas.List.FromFn.{length-range_with_len}
 use Rattle.doc_bits.specs.Number.{u32_at}
 use Rattle.doc_bits.specs.Rules.{Nowhere}
 use Rattle.cfb_streams.specs.Contents.{NamedBytes}
-use Rattle.cfb_directory.specs.Directory.{no_entry, entry_left, entry_right, entry_child, entry_type}
-use Rattle.cfb_directory.specs.Reach.{entry_place, IsEntry, IsReachedEntry, child, left, right, IsLink, BreaksRoot}
+use Rattle.cfb_directory.specs.Directory.{no_stream_entry, entry_left, entry_right, entry_child, entry_type}
+use Rattle.cfb_directory.specs.Reach.{entry_place, IsLinkedEntry, IsReachedEntry, child, left, right, IsLink}
+use Rattle.cfb_directory.specs.Reach.{BreaksRoot}
 use Rattle.cfb_directory.specs.Reach.{BreaksTree, BreaksStorage}
 use Rattle.cfb_layout.specs.declared.tree.Span.{Span}
-use Rattle.cfb_layout.specs.Sectors.{units_for, start_of}
-use Rattle.cfb_layout.specs.Tree.{middle, lower, upper, top, all_entries, part_of, left_of, right_of}
+use Rattle.cfb_layout.specs.Sectors.{units_for, chain_start}
+use Rattle.cfb_layout.specs.Tree.{middle, lower, upper, top, all_entries, span_of_entry, left_of, right_of}
 use Rattle.cfb_layout.specs.Counts.{sector_counts}
 use Rattle.cfb_layout.specs.Entries.{unused_entry}
 use Rattle.cfb_layout.specs.Layout.{lengths_of, no_stream, stream_entry, directory_entry}
@@ -33,7 +34,7 @@ length-directory_of streams =
     let counts = sector_counts (lengths_of streams) in
     let n = length-lengths_of streams in
     let count = counts_directory (lengths_of streams) in
-    let len = length-range_with_len (start_of counts (length (lengths_of streams) + 2)) (slice_index counts
+    let len = length-range_with_len (chain_start counts (length (lengths_of streams) + 2)) (slice_index counts
     (length (lengths_of streams) + 2)) in
     omega arith
 
@@ -89,7 +90,7 @@ image_child file streams clsid im = (image_entry file streams clsid 0 im (omega 
     (λ m. top (all_entries m)) (length-lengths_of streams)
 
 -- a link that names an entry names the middle of a span that is not empty
-top_cases : (span : Span) (k : ℕ) → top span ≡ k → k ≢ no_entry → (0 < span.count) × (k ≡ middle span)
+top_cases : (span : Span) (k : ℕ) → top span ≡ k → k ≢ no_stream_entry → (0 < span.count) × (k ≡ middle span)
 top_cases span k h some = elim (cases_lt 0 span.count) [
   | inl more ↦ (more, sym h ∙ top_some span more)
   | inr none ↦ absurd (some (sym h ∙ top_none span (omega arith)))
@@ -97,7 +98,8 @@ top_cases span k h some = elim (cases_lt 0 span.count) [
 
 -- the spans left and right of an entry are within all
 left_within : (count k e : ℕ) → IsWithin (all_entries count) e →
-    0 < (lower (part_of count e (all_entries count))).count → k ≡ middle (lower (part_of count e (all_entries count)))
+    0 < (lower (span_of_entry count e (all_entries count))).count → k ≡ middle (lower (span_of_entry count e
+    (all_entries count)))
     → IsWithin (all_entries count) k
 left_within count k e w some is =
     let part = part_is count e (all_entries count) (omega arith) w in
@@ -106,7 +108,8 @@ left_within count k e w some is =
     record { from = omega arith; below = omega arith }
 
 right_within : (count k e : ℕ) → IsWithin (all_entries count) e →
-    0 < (upper (part_of count e (all_entries count))).count → k ≡ middle (upper (part_of count e (all_entries count)))
+    0 < (upper (span_of_entry count e (all_entries count))).count → k ≡ middle (upper (span_of_entry count e
+    (all_entries count)))
     → IsWithin (all_entries count) k
 right_within count k e w some is =
     let part = part_is count e (all_entries count) (omega arith) w in
@@ -115,8 +118,8 @@ right_within count k e w some is =
     record { from = omega arith; below = omega arith }
 
 -- an entry that is there is none but one of the streams'
-entry_some : (streams : List NamedBytes) (k : ℕ) → length streams ≤ 1023 → IsEntry (directory_of streams) k →
-    k ≢ no_entry
+entry_some : (streams : List NamedBytes) (k : ℕ) → length streams ≤ 1023 → IsLinkedEntry (directory_of streams) k →
+    k ≢ no_stream_entry
 entry_some streams k few is = let below = is.1 in let len = length-directory_of streams in λ e. omega arith
 
 -- nothing else is reached
@@ -129,18 +132,20 @@ reached_only file streams clsid _ im few (child k link there) =
 reached_only file streams clsid _ im few (left from k reached link there) =
     let w = reached_only file streams clsid from im few reached in
     let node = image_node file streams clsid from im w in
-    let t = top_cases (lower (part_of (length streams) from (all_entries (length streams)))) k (sym node.left ∙ link)
+    let t = top_cases (lower (span_of_entry (length streams) from (all_entries (length streams)))) k (sym node.left ∙
+    link)
     (entry_some streams k few there) in
     left_within (length streams) k from w t.0 t.1
 reached_only file streams clsid _ im few (right from k reached link there) =
     let w = reached_only file streams clsid from im few reached in
     let node = image_node file streams clsid from im w in
-    let t = top_cases (upper (part_of (length streams) from (all_entries (length streams)))) k (sym node.right ∙ link)
+    let t = top_cases (upper (span_of_entry (length streams) from (all_entries (length streams)))) k (sym node.right ∙
+    link)
     (entry_some streams k few there) in
     right_within (length streams) k from w t.0 t.1
 
 pub within_entry : (streams : List NamedBytes) (k : ℕ) → IsWithin (all_entries (length streams)) k →
-    IsEntry (directory_of streams) k
+    IsLinkedEntry (directory_of streams) k
 within_entry streams k w = let a = w.from in let b = w.below in let len = length-directory_of streams in
     (omega arith, omega arith)
 
@@ -152,12 +157,15 @@ reached_each file streams clsid k im w =
     let all = all_entries n in
     all_reached (λ e. IsReachedEntry file (directory_of streams) e) all
     (record {
-      left = λ e v p some. left e (middle (lower (part_of n e all))) p ((image_node file streams clsid e im v).left ∙
-          top_some (lower (part_of n e all)) some) (within_entry streams (middle (lower (part_of n e all)))
-          (left_within n (middle (lower (part_of n e all))) e v some refl));
-      right = λ e v p some. right e (middle (upper (part_of n e all))) p ((image_node file streams clsid e im v).right
-          ∙ top_some (upper (part_of n e all)) some) (within_entry streams (middle (upper (part_of n e all)))
-          (right_within n (middle (upper (part_of n e all))) e v some refl));
+      left = λ e v p some. left e (middle (lower (span_of_entry n e all))) p ((image_node file streams clsid e im
+          v).left ∙
+          top_some (lower (span_of_entry n e all)) some) (within_entry streams (middle (lower (span_of_entry n e all)))
+          (left_within n (middle (lower (span_of_entry n e all))) e v some refl));
+      right = λ e v p some. right e (middle (upper (span_of_entry n e all))) p ((image_node file streams clsid e im
+          v).right
+          ∙ top_some (upper (span_of_entry n e all)) some) (within_entry streams (middle (upper (span_of_entry n e
+          all)))
+          (right_within n (middle (upper (span_of_entry n e all))) e v some refl));
     })
     n all (omega arith) (λ e v. v) (λ e v. refl)
     (λ some. child (middle all) (image_child file streams clsid im ∙ top_some all some) (within_entry streams
@@ -184,7 +192,7 @@ target_at streams place k e side number w is split less here =
     record { within = w; here = there ∙ ap (λ x. link_place streams x) (sym is) }
 
 pub link_target : (file : List ℕ) (streams : List NamedBytes) (clsid : List ℕ) (place : ℕ) → IsImage file streams
-    clsid → length streams ≤ 1023 → IsLink file (directory_of streams) place → u32_at file place ≢ no_entry →
+    clsid → length streams ≤ 1023 → IsLink file (directory_of streams) place → u32_at file place ≢ no_stream_entry →
     IsTarget streams place (u32_at file place)
 link_target file streams clsid place im few link some =
     let n = length streams in
@@ -201,11 +209,13 @@ link_target file streams clsid place im few link some =
           let node = image_node file streams clsid e im w in
           elim side.here [
             | inl at ↦
-                let t = top_cases (lower (part_of n e all)) k (sym node.left ∙ ap (λ p. u32_at file p) (sym at)) some in
+                let t = top_cases (lower (span_of_entry n e all)) k (sym node.left ∙ ap (λ p. u32_at file p) (sym at))
+                some in
                 target_at streams place k e 0 (3 * e) (left_within n k e w t.0 t.1) (link_left n e k all 2
                 (omega arith) w t.0 t.1) (omega arith) (omega arith) (omega arith)
             | inr at ↦
-                let t = top_cases (upper (part_of n e all)) k (sym node.right ∙ ap (λ p. u32_at file p) (sym at)) some
+                let t = top_cases (upper (span_of_entry n e all)) k (sym node.right ∙ ap (λ p. u32_at file p) (sym at))
+                some
                 in
                 target_at streams place k e 1 (3 * e + 1) (right_within n k e w t.0 t.1) (link_right n e k all 2
                 (omega arith) w t.0 t.1) (omega arith) (omega arith) (omega arith)

@@ -17,12 +17,13 @@ use Rattle.cfb_layout.specs.declared.fields.Field.{Field}
 use Rattle.cfb_layout.specs.declared.fields.Field.TheVariants.{Long, Word}
 use Rattle.cfb_layout.specs.declared.tree.Span.{Span}
 use Rattle.cfb_layout.specs.declared.entries.EntryFields.{EntryFields}
-use Rattle.cfb_layout.specs.Sectors.{units_for, filled, padded, chains_from, table_bytes, free_sector, fat_sector_mark}
+use Rattle.cfb_layout.specs.Sectors.{units_for, filled, padded_to_unit, chains_from, table_bytes, free_sector}
+use Rattle.cfb_layout.specs.Sectors.{fat_sector_mark}
 use Rattle.cfb_layout.specs.Fields.{fields_bytes}
-use Rattle.cfb_layout.specs.Tree.{middle, lower, upper, part_of}
+use Rattle.cfb_layout.specs.Tree.{middle, lower, upper, span_of_entry}
 use Rattle.cfb_layout.specs.Counts.{large_len, small_len, mini_counts, large_counts, sector_counts, fat_count}
 use Rattle.cfb_layout.specs.Counts.{first_sector}
-use Rattle.cfb_layout.specs.Entries.{link_fields, place_fields, name_bytes, entry_bytes}
+use Rattle.cfb_layout.specs.Entries.{link_fields, place_fields, entry_name_bytes, entry_bytes}
 use Rattle.cfb_layout.specs.Layout.{lengths_of, large_part, small_part, mini_stream, fat, directory_bytes, parts}
 use Rattle.cfb_layout.specs.Layout.{header_fields, fat_numbers, header_bytes, compound_file}
 use Rattle.cfb_layout.proofs.BytesLemmas.{length-table}
@@ -47,32 +48,32 @@ four_join base a b c d w x y z ha hb hc hd =
 
 -- a name, filled up
 pub name_join : (base a b name : List ℕ) → a ≡ base ++ flat_map (number_bytes 2) name → b ≡ a ++ replicate
-    (64 - 2 * length name) 0 → b ≡ base ++ name_bytes name
-unfolding name_bytes filled
+    (64 - 2 * length name) 0 → b ≡ base ++ entry_name_bytes name
+unfolding entry_name_bytes filled
 name_join base a b name h k =
     two_join base a b (flat_map (number_bytes 2) name) (replicate (64 - 2 * length name) 0) h k
     ∙ ap (λ n. base ++ (flat_map (number_bytes 2) name ++ replicate (64 - n) 0)) (sym (length-table 2 name))
 
-pub entry_join : (base a b c d name clsid : List ℕ) (fields : EntryFields) → a ≡ base ++ name_bytes name →
+pub entry_join : (base a b c d name clsid : List ℕ) (fields : EntryFields) → a ≡ base ++ entry_name_bytes name →
     b ≡ a ++ fields_bytes (link_fields fields) → c ≡ b ++ clsid → d ≡ c ++ fields_bytes (place_fields fields) →
     d ≡ base ++ entry_bytes (record { name = name; clsid = clsid; fields = fields })
 unfolding entry_bytes
 entry_join base a b c d name clsid fields ha hb hc hd =
-    four_join base a b c d (name_bytes name) (fields_bytes (link_fields fields)) clsid (fields_bytes (place_fields
+    four_join base a b c d (entry_name_bytes name) (fields_bytes (link_fields fields)) clsid (fields_bytes (place_fields
     fields)) ha hb hc hd
 
 -- bytes, filled up to whole parts
 pub padded_join : (unit rest : ℕ) (base a b bytes : List ℕ) → a ≡ base ++ bytes → b ≡ a ++ replicate rest 0 →
-    rest ≡ units_for unit (length bytes) * unit - length bytes → b ≡ base ++ padded unit 0 bytes
-unfolding padded
+    rest ≡ units_for unit (length bytes) * unit - length bytes → b ≡ base ++ padded_to_unit unit 0 bytes
+unfolding padded_to_unit
 padded_join unit rest base a b bytes h k e =
     two_join base a b bytes (replicate rest 0) h k ∙ ap (λ n. base ++ (bytes ++ replicate n 0)) e
 
 -- the mini stream, filled up to whole sectors
 pub mini_stream_join : (streams : List NamedBytes) (rest : ℕ) (base a b : List ℕ) → a ≡ base ++ flat_map
-    (λ stream. padded 64 0 (small_part stream.bytes)) streams → b ≡ a ++ replicate rest 0 → rest ≡ units_for 512
+    (λ stream. padded_to_unit 64 0 (small_part stream.bytes)) streams → b ≡ a ++ replicate rest 0 → rest ≡ units_for 512
     (64 * sum (mini_counts (lengths_of streams))) * 512 - 64 * sum (mini_counts (lengths_of streams)) →
-    b ≡ base ++ padded 512 0 (mini_stream streams)
+    b ≡ base ++ padded_to_unit 512 0 (mini_stream streams)
 unfolding mini_stream
 mini_stream_join streams rest base a b h k e =
     let len = length-mini_stream streams in
@@ -82,7 +83,7 @@ mini_stream_join streams rest base a b h k e =
 pub table_padded : (base a b entries : List ℕ) (rest : ℕ) → a ≡ base ++ flat_map (number_bytes 4) entries →
     b ≡ a ++ flat_map (number_bytes 4) (replicate rest free_sector) → rest ≡ units_for 128 (length entries) * 128 -
     length entries → b ≡ base ++ table_bytes entries
-unfolding padded
+unfolding padded_to_unit
 table_padded base a b entries rest h k e =
     table_join base a b entries (replicate rest free_sector) h k ∙ ap (λ n. base ++ flat_map (number_bytes 4)
     (entries ++ replicate n free_sector)) e
@@ -118,28 +119,31 @@ header_join lengths base a b c d rest ha hb hc hd e =
 
 -- all parts
 parts_join : (streams : List NamedBytes) (clsid : List ℕ) → flat_map (λ part. part) (parts streams clsid) ≡ flat_map
-    (λ stream. padded 512 0 (large_part stream.bytes)) streams ++ (padded 512 0 (mini_stream streams) ++ (table_bytes
+    (λ stream. padded_to_unit 512 0 (large_part stream.bytes)) streams ++ (padded_to_unit 512 0 (mini_stream streams) ++
+    (table_bytes
     (chains_from 0 (mini_counts (lengths_of streams))) ++ (directory_bytes streams clsid ++ table_bytes
     (fat (lengths_of streams)))))
 unfolding parts
 parts_join streams clsid =
-    flat_map-append (λ part. part) (map (λ stream. padded 512 0 (large_part stream.bytes)) streams) (parts_behind
+    flat_map-append (λ part. part) (map (λ stream. padded_to_unit 512 0 (large_part stream.bytes)) streams)
+    (parts_behind
     streams clsid)
     ∙ (ap (λ xs. xs ++ flat_map (λ part. part) (parts_behind streams clsid)) (flat_map-map (λ part. part)
-    (λ stream. padded 512 0 (large_part stream.bytes)) streams)
-    ∙ ap (λ xs. flat_map (λ stream. padded 512 0 (large_part stream.bytes)) streams ++ (padded 512 0 (mini_stream
+    (λ stream. padded_to_unit 512 0 (large_part stream.bytes)) streams)
+    ∙ ap (λ xs. flat_map (λ stream. padded_to_unit 512 0 (large_part stream.bytes)) streams ++ (padded_to_unit 512 0
+    (mini_stream
     streams) ++ (table_bytes (chains_from 0 (mini_counts (lengths_of streams))) ++ (directory_bytes streams clsid
     ++ xs)))) (append-nil (table_bytes (fat (lengths_of streams)))))
 
 pub file_join : (streams : List NamedBytes) (clsid a b c d e f : List ℕ) → a ≡ [] ++ header_bytes
-    (lengths_of streams) → b ≡ a ++ flat_map (λ stream. padded 512 0 (large_part stream.bytes)) streams →
-    c ≡ b ++ padded 512 0 (mini_stream streams) → d ≡ c ++ table_bytes (chains_from 0 (mini_counts
+    (lengths_of streams) → b ≡ a ++ flat_map (λ stream. padded_to_unit 512 0 (large_part stream.bytes)) streams →
+    c ≡ b ++ padded_to_unit 512 0 (mini_stream streams) → d ≡ c ++ table_bytes (chains_from 0 (mini_counts
     (lengths_of streams))) → e ≡ d ++ directory_bytes streams clsid → f ≡ e ++ table_bytes
     (fat (lengths_of streams)) → f ≡ compound_file streams clsid
 unfolding compound_file
 file_join streams clsid a b c d e f ha hb hc hd he hf =
-    let large = flat_map (λ stream. padded 512 0 (large_part stream.bytes)) streams in
-    let stored = padded 512 0 (mini_stream streams) in
+    let large = flat_map (λ stream. padded_to_unit 512 0 (large_part stream.bytes)) streams in
+    let stored = padded_to_unit 512 0 (mini_stream streams) in
     let minis = table_bytes (chains_from 0 (mini_counts (lengths_of streams))) in
     let entries = directory_bytes streams clsid in
     let table = table_bytes (fat (lengths_of streams)) in
@@ -182,7 +186,7 @@ pub record IsHalf (span next : Span) (entry : ℕ) : Type 0 where
   pub within : IsWithin next entry
   pub less : next.count < span.count
   pub room : next.low + next.count ≤ span.low + span.count
-  pub same : part_of span.count entry span ≡ part_of next.count entry next
+  pub same : span_of_entry span.count entry span ≡ span_of_entry next.count entry next
 
 half_low : (span : Span) (entry : ℕ) → IsWithin span entry → entry < middle span → IsHalf span (lower span) entry
 half_low span entry w h =
@@ -194,7 +198,8 @@ half_low span entry w h =
       within = inner;
       less = omega arith;
       room = omega arith;
-      same = ap (λ n. part_of n entry span) some ∙ (part_low (span.count - 1) entry span h ∙ part_same (span.count -
+      same = ap (λ n. span_of_entry n entry span) some ∙ (part_low (span.count - 1) entry span h ∙ part_same (span.count
+          -
           1) (lower span).count entry (lower span) (omega arith) (omega arith) inner);
     }
 
@@ -208,7 +213,8 @@ half_up span entry w h =
       within = inner;
       less = omega arith;
       room = omega arith;
-      same = ap (λ n. part_of n entry span) some ∙ (part_up (span.count - 1) entry span h ∙ part_same (span.count - 1)
+      same = ap (λ n. span_of_entry n entry span) some ∙ (part_up (span.count - 1) entry span h ∙ part_same (span.count
+          - 1)
           (upper span).count entry (upper span) (omega arith) (omega arith) inner);
     }
 

@@ -11,14 +11,14 @@ use Rattle.doc_bits.proofs.Public.{number_at-after, number_at-before}
 use Rattle.cfb_streams.specs.Contents.{NamedBytes, AreStreams}
 use Rattle.cfb_sectors.specs.Opening.{signature}
 use Rattle.cfb_streams.specs.Container.{container_rules, HasContents}
-use Rattle.cfb_layout.specs.Sectors.{units_for, padded, chains_from, table_bytes, free_sector, fat_sector_mark}
+use Rattle.cfb_layout.specs.Sectors.{units_for, padded_to_unit, chains_from, table_bytes, free_sector, fat_sector_mark}
 use Rattle.cfb_layout.specs.Fields.{fields_bytes}
 use Rattle.cfb_layout.specs.Counts.{mini_counts, sector_counts, fat_count, first_sector}
 use Rattle.cfb_layout.specs.Entries.{entry_bytes}
 use Rattle.cfb_layout.specs.Layout.{lengths_of, no_stream, large_part, mini_stream, fat, directory_entry}
 use Rattle.cfb_layout.specs.Layout.{directory_bytes, parts, header_fields, fat_numbers, header_bytes, compound_file}
 use Rattle.cfb_layout.specs.Layout.{contents_of}
-use Rattle.cfb_layout.specs.Laws.{IsLayout}
+use Rattle.cfb_layout.specs.Laws.{AreLayoutStreams}
 use Rattle.cfb_layout.proofs.BytesLemmas.{blocks_at, entry_at, field_at, padded_at, filled_at, length-padded}
 use Rattle.cfb_layout.proofs.SectorLemmas.{length-chains_from, chains_below}
 use Rattle.cfb_layout.proofs.CountLemmas.{length-sector_counts, counts_mini_fat, counts_directory, sectors-needed}
@@ -36,7 +36,8 @@ use Rattle.cfb_layout.proofs.ImageAccepted.{image_holds}
 use Rattle.cfb_layout.proofs.WritableLemmas.{first_below, bounded, entry_writable}
 
 -- the entries of the directory
-made_entry : (streams : List NamedBytes) (clsid : List ℕ) (k : ℕ) → AreStreams streams → IsLayout streams clsid →
+made_entry : (streams : List NamedBytes) (clsid : List ℕ) (k : ℕ) → AreStreams streams → AreLayoutStreams streams clsid
+    →
     k < 4 * slice_index (sector_counts (lengths_of streams)) (length (lengths_of streams) + 2) →
     IsEntryAt (compound_file streams clsid) (directory_entry streams clsid k) (part_place (sector_counts
     (lengths_of streams)) (length (lengths_of streams) + 2) + 128 * k)
@@ -78,7 +79,7 @@ table_number : (entries : List ℕ) (s : ℕ) → s < length entries → slice_i
 table_number entries s h low =
     let len = length-padded 128 free_sector entries (omega arith) in
     let here = padded_at 128 free_sector entries s h in
-    entry_at 4 (padded 128 free_sector entries) s (4 * s) (omega arith) (omega arith) refl ∙ here
+    entry_at 4 (padded_to_unit 128 free_sector entries) s (4 * s) (omega arith) (omega arith) refl ∙ here
 
 -- the FAT and the mini FAT
 fat_front : (lengths : List ℕ) (s : ℕ) → s < sum (sector_counts lengths) → slice_index (fat lengths) s ≡ slice_index
@@ -89,7 +90,7 @@ fat_front lengths s h =
     get_or_append_left (chains_from 0 (sector_counts lengths)) (replicate (fat_count lengths) fat_sector_mark) 0 s
     (omega arith)
 
-made_tables : (streams : List NamedBytes) (clsid : List ℕ) → AreStreams streams → IsLayout streams clsid →
+made_tables : (streams : List NamedBytes) (clsid : List ℕ) → AreStreams streams → AreLayoutStreams streams clsid →
     HasTables (compound_file streams clsid) (lengths_of streams)
 made_tables streams clsid are lay =
     let lengths = lengths_of streams in
@@ -125,7 +126,7 @@ made_tables streams clsid are lay =
     }
 
 -- a number of the header
-header_number : (streams : List NamedBytes) (clsid : List ℕ) (at width : ℕ) → IsLayout streams clsid →
+header_number : (streams : List NamedBytes) (clsid : List ℕ) (at width : ℕ) → AreLayoutStreams streams clsid →
     at + width ≤ 504 → number_at (compound_file streams clsid) (8 + at) width ≡ number_at (fields_bytes (header_fields
     (lengths_of streams)) ++ flat_map (number_bytes 4) (fat_numbers 109 (lengths_of streams))) at width
 unfolding compound_file header_bytes
@@ -136,7 +137,7 @@ header_number streams clsid at width lay room =
     ∙ number_at-after signature (fields_bytes (header_fields lengths) ++ flat_map (number_bytes 4) (fat_numbers 109
     lengths)) at width
 
-field_number : (streams : List NamedBytes) (clsid : List ℕ) (at width : ℕ) → IsLayout streams clsid →
+field_number : (streams : List NamedBytes) (clsid : List ℕ) (at width : ℕ) → AreLayoutStreams streams clsid →
     at + width ≤ 68 → number_at (compound_file streams clsid) (8 + at) width ≡ number_at (fields_bytes (header_fields
     (lengths_of streams))) at width
 field_number streams clsid at width lay room =
@@ -146,7 +147,7 @@ field_number streams clsid at width lay room =
     ∙ number_at-before (fields_bytes (header_fields lengths)) (flat_map (number_bytes 4) (fat_numbers 109 lengths)) at
     width (omega arith)
 
-list_number : (streams : List NamedBytes) (clsid : List ℕ) (k : ℕ) → IsLayout streams clsid →
+list_number : (streams : List NamedBytes) (clsid : List ℕ) (k : ℕ) → AreLayoutStreams streams clsid →
     k < fat_count (lengths_of streams) → u32_at (compound_file streams clsid) (76 + 4 * k) ≡ sum (sector_counts
     (lengths_of streams)) + k
 unfolding fat_numbers
@@ -173,7 +174,7 @@ signed : (streams : List NamedBytes) (clsid : List ℕ) → take 8 (compound_fil
 unfolding compound_file header_bytes
 signed streams clsid = refl
 
-made_header : (streams : List NamedBytes) (clsid : List ℕ) → AreStreams streams → IsLayout streams clsid →
+made_header : (streams : List NamedBytes) (clsid : List ℕ) → AreStreams streams → AreLayoutStreams streams clsid →
     IsHeaderOf (compound_file streams clsid) (lengths_of streams)
 made_header streams clsid are lay =
     let lengths = lengths_of streams in
@@ -210,7 +211,8 @@ made_header streams clsid are lay =
     }
 
 -- the streams' bytes and the mini stream's
-made_large : (streams : List NamedBytes) (clsid : List ℕ) (i x : ℕ) → AreStreams streams → IsLayout streams clsid →
+made_large : (streams : List NamedBytes) (clsid : List ℕ) (i x : ℕ) → AreStreams streams → AreLayoutStreams streams
+    clsid →
     i < length streams → x < length (large_part (slice_index_or streams i no_stream).bytes) →
     slice_index (compound_file streams clsid) (part_place (sector_counts (lengths_of streams)) i + x) ≡ slice_index
     (slice_index_or streams i no_stream).bytes x
@@ -226,7 +228,8 @@ made_large streams clsid i x are lay low less =
       | inr large ↦ ap (λ xs. slice_index xs x) (large_whole bytes large)
     ]))
 
-made_small : (streams : List NamedBytes) (clsid : List ℕ) (x : ℕ) → AreStreams streams → IsLayout streams clsid →
+made_small : (streams : List NamedBytes) (clsid : List ℕ) (x : ℕ) → AreStreams streams → AreLayoutStreams streams clsid
+    →
     x < length (mini_stream streams) → slice_index (compound_file streams clsid) (part_place (sector_counts
     (lengths_of streams)) (length (lengths_of streams)) + x) ≡ slice_index (mini_stream streams) x
 made_small streams clsid x are lay less =
@@ -237,7 +240,7 @@ made_small streams clsid x are lay less =
     file_at streams clsid (length lengths) x are lay (omega arith) (omega arith)
     ∙ (ap (λ xs. slice_index xs x) part ∙ padded_at 512 0 (mini_stream streams) x less)
 
-pub made_image : (streams : List NamedBytes) (clsid : List ℕ) → AreStreams streams → IsLayout streams clsid →
+pub made_image : (streams : List NamedBytes) (clsid : List ℕ) → AreStreams streams → AreLayoutStreams streams clsid →
     IsImage (compound_file streams clsid) streams clsid
 made_image streams clsid are lay = record {
   header = made_header streams clsid are lay;
@@ -248,12 +251,12 @@ made_image streams clsid are lay = record {
 }
 
 -- so it is accepted, and read as it was laid out
-pub file_holds : (streams : List NamedBytes) (clsid : List ℕ) → AreStreams streams → IsLayout streams clsid →
+pub file_holds : (streams : List NamedBytes) (clsid : List ℕ) → AreStreams streams → AreLayoutStreams streams clsid →
     Hold (container_rules (compound_file streams clsid))
 file_holds streams clsid are lay = image_holds (compound_file streams clsid) streams clsid (made_image streams clsid
     are lay) are lay
 
-pub file_contents : (streams : List NamedBytes) (clsid : List ℕ) → AreStreams streams → IsLayout streams clsid →
+pub file_contents : (streams : List NamedBytes) (clsid : List ℕ) → AreStreams streams → AreLayoutStreams streams clsid →
     HasContents (compound_file streams clsid) (contents_of streams clsid)
 file_contents streams clsid are lay = image_contents (compound_file streams clsid) streams clsid (made_image streams
     clsid are lay) are lay

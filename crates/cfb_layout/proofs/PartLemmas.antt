@@ -3,7 +3,7 @@ use Rattle.std.proofs.Common.{◌≡◌, inl, inr, ℕ, ◌+◌, ◌*◌, ◌<�
 use Rattle.std.proofs.Common.{slice_index_or, sum, sym, ap, ◌∙◌, arith}
 use Rattle.std.proofs.lemmas.Bool.{cases_lt, lt-ltb, le-ltb, cond-true, cond-false}
 use Rattle.cfb_streams.specs.Contents.{NamedBytes}
-use Rattle.cfb_layout.specs.Sectors.{units_for, padded, start_of}
+use Rattle.cfb_layout.specs.Sectors.{units_for, padded_to_unit, chain_start}
 use Rattle.cfb_layout.specs.Counts.{large_len, small_len, mini_counts}
 use Rattle.cfb_layout.specs.Layout.{lengths_of, no_stream, large_part, small_part, mini_stream}
 use Rattle.cfb_layout.proofs.BytesLemmas.{HaveCounts, parts_at, length-parts, length-padded, padded_at}
@@ -47,7 +47,7 @@ length-small_part bytes = elim (cases_lt (length bytes) 4096) [
 ]
 
 -- the mini stream has the small parts at their mini sectors
-pub mini_parts : (streams : List NamedBytes) → HaveCounts (λ stream. padded 64 0 (small_part stream.bytes)) 64
+pub mini_parts : (streams : List NamedBytes) → HaveCounts (λ stream. padded_to_unit 64 0 (small_part stream.bytes)) 64
     (mini_counts (lengths_of streams)) streams no_stream
 mini_parts streams =
     let n = length-lengths_of streams in
@@ -67,17 +67,18 @@ mini_parts streams =
 pub length-mini_stream : (streams : List NamedBytes) → length (mini_stream streams) ≡ 64 * sum (mini_counts
     (lengths_of streams))
 unfolding mini_stream
-length-mini_stream streams = length-parts (λ stream. padded 64 0 (small_part stream.bytes)) 64 (mini_counts
+length-mini_stream streams = length-parts (λ stream. padded_to_unit 64 0 (small_part stream.bytes)) 64 (mini_counts
     (lengths_of streams)) streams no_stream (mini_parts streams)
 
 pub mini_stream_at : (streams : List NamedBytes) (i x at : ℕ) → i < length streams →
-    x < length (small_part (slice_index_or streams i no_stream).bytes) → at ≡ 64 * start_of (mini_counts
+    x < length (small_part (slice_index_or streams i no_stream).bytes) → at ≡ 64 * chain_start (mini_counts
     (lengths_of streams)) i + x → slice_index (mini_stream streams) at ≡ slice_index (small_part (slice_index_or
     streams i no_stream).bytes) x
 unfolding mini_stream
 mini_stream_at streams i x at low less here =
     let bytes = (slice_index_or streams i no_stream).bytes in
     let len = length-padded 64 0 (small_part bytes) (omega arith) in
-    parts_at (λ stream. padded 64 0 (small_part stream.bytes)) 64 (mini_counts (lengths_of streams)) streams no_stream
+    parts_at (λ stream. padded_to_unit 64 0 (small_part stream.bytes)) 64 (mini_counts (lengths_of streams)) streams
+    no_stream
     i x at (mini_parts streams) low (omega arith) here
     ∙ padded_at 64 0 (small_part bytes) x less

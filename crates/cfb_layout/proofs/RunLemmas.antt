@@ -5,7 +5,7 @@ use Rattle.std.proofs.lemmas.Bool.{cases_lt}
 use Rattle.std.proofs.lemmas.List.{get_or_append_left, get_or-append_right}
 use Rattle.cfb_sectors.specs.SectorChain.{HasSector}
 use Rattle.doc_bits.proofs.Public.{length_below}
-use Rattle.cfb_layout.specs.Sectors.{start_of}
+use Rattle.cfb_layout.specs.Sectors.{chain_start}
 use Rattle.cfb_layout.proofs.SectorLemmas.{start_next}
 
 -- distinct sectors below a number
@@ -100,7 +100,7 @@ no_sectors valid P count none = record {
 pub record IsGathered (valid : ℕ) (P : ℕ → ℕ → Type 0) (counts : List ℕ) (m : ℕ) : Type 0 where
   pub sectors : List ℕ
   pub run : IsRun valid sectors
-  pub enough : start_of counts m ≤ length sectors
+  pub enough : chain_start counts m ≤ length sectors
   pub owned : (s : ℕ) → HasSector sectors s → (i : ℕ) × ((i < m) × P i s)
 
 pub gather : (valid : ℕ) (P : ℕ → ℕ → Type 0) (counts : List ℕ) → ((i j s : ℕ) → P i s → P j s → i ≡ j) →
@@ -118,7 +118,7 @@ gather valid P counts one held (suc m) low =
     let all = length-append g.sectors h.sectors in
     let next = start_next counts m (omega arith) in
     let same : m + 1 ≡ suc m = omega arith in
-    let start = ap (λ k. start_of counts k) same in
+    let start = ap (λ k. chain_start counts k) same in
     let first = g.enough in
     let more = h.enough in
     record {

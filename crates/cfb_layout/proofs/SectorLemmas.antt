@@ -8,7 +8,7 @@ use Rattle.std.proofs.lemmas.List.{take-take, get_or-take}
 use Rattle.std.proofs.lemmas.List.FromFn.{length-range_with_len, get_or-range_with_len}
 use Rattle.std.proofs.lemmas.List.Sums.{sum_by-cons, sum_by_more, sum_by_more_le, sum_by-take-le}
 use Rattle.cfb_sectors.specs.SectorChain.{IsSectorChain, end_of_chain, last_of}
-use Rattle.cfb_layout.specs.Sectors.{chain_entries, chains_from, start_of}
+use Rattle.cfb_layout.specs.Sectors.{chain_entries, chains_from, chain_start}
 
 pub length-chain_entries : (start count : ℕ) → length (chain_entries start count) ≡ count
 length-chain_entries start zero = refl
@@ -43,7 +43,7 @@ length-chains_from start (count ∷ counts) =
 
 -- the entry of the j-th sector of the i-th chain
 pub chains_at : (start : ℕ) (counts : List ℕ) (i j at from : ℕ) → i < length counts → j < slice_index counts i →
-    at ≡ start_of counts i + j → from ≡ start + start_of counts i → slice_index (chains_from start counts) at ≡
+    at ≡ chain_start counts i + j → from ≡ start + chain_start counts i → slice_index (chains_from start counts) at ≡
     slice_index (chain_entries from (slice_index counts i)) j
 unfolding chains_from
 chains_at start [] i j at from h k e f = absurd (omega arith)
@@ -61,19 +61,21 @@ chains_at start (count ∷ counts) (suc i) j at from h k e f =
     ∙ chains_at (start + count) counts i j (at - count) from (omega arith) k (omega arith) (omega arith)
 
 -- a chain's sectors are within all sectors
-pub start_room : (counts : List ℕ) (i : ℕ) → i < length counts → start_of counts i + slice_index counts i ≤ sum counts
+pub start_room : (counts : List ℕ) (i : ℕ) → i < length counts → chain_start counts i + slice_index counts i ≤ sum
+    counts
 start_room counts i h = sum_by_more_le (λ (x : ℕ). x) counts i 0 h
 
-pub start_next : (counts : List ℕ) (i : ℕ) → i < length counts → start_of counts (i + 1) ≡ start_of counts i +
+pub start_next : (counts : List ℕ) (i : ℕ) → i < length counts → chain_start counts (i + 1) ≡ chain_start counts i +
     slice_index counts i
 start_next counts i h = sum_by_more (λ (x : ℕ). x) counts i 0 h
 
-pub start_below : (counts : List ℕ) (i : ℕ) → start_of counts i ≤ sum counts
+pub start_below : (counts : List ℕ) (i : ℕ) → chain_start counts i ≤ sum counts
 start_below counts i = sum_by-take-le (λ (x : ℕ). x) counts i
 
 -- a later chain starts behind an earlier one
-pub start_order : (counts : List ℕ) (i j : ℕ) → i < j → j ≤ length counts → start_of counts i + slice_index counts i ≤
-    start_of counts j
+pub start_order : (counts : List ℕ) (i j : ℕ) → i < j → j ≤ length counts → chain_start counts i + slice_index counts i
+    ≤
+    chain_start counts j
 start_order counts i j h k =
     let len = length-take j counts in
     let room = sum_by_more_le (λ (x : ℕ). x) (take j counts) i 0 (omega arith) in
@@ -83,8 +85,8 @@ start_order counts i j h k =
 
 -- the sector is one of the i-th chain's
 pub record IsIn (counts : List ℕ) (i s : ℕ) : Type 0 where
-  pub from : start_of counts i ≤ s
-  pub below : s < start_of counts i + slice_index counts i
+  pub from : chain_start counts i ≤ s
+  pub below : s < chain_start counts i + slice_index counts i
 
 -- no sector is in two chains
 pub one_chain : (counts : List ℕ) (i j s : ℕ) → i < length counts → j < length counts → IsIn counts i s →
@@ -158,17 +160,17 @@ run_chain entry valid start count some room next last =
 -- each of the chains that are one after another is a chain of the table
 pub chains_chain : (entry : ℕ → ℕ) (valid base start : ℕ) (counts : List ℕ) (i : ℕ) → ((s t : ℕ) → s < sum counts →
     t ≡ base + s → entry t ≡ slice_index (chains_from base counts) s) → base + sum counts ≤ valid →
-    i < length counts → 0 < slice_index counts i → start ≡ base + start_of counts i → IsSectorChain entry valid start
+    i < length counts → 0 < slice_index counts i → start ≡ base + chain_start counts i → IsSectorChain entry valid start
     (range_with_len start (slice_index counts i))
 chains_chain entry valid base start counts i all room h some from =
     let inside = start_room counts i h in
     let count = slice_index counts i in
     run_chain entry valid start count some (omega arith)
     (λ j s less here.
-    all (start_of counts i + j) s (omega arith) (omega arith)
-    ∙ (chains_at base counts i j (start_of counts i + j) start h (omega arith) refl from ∙ chain_next start count j
+    all (chain_start counts i + j) s (omega arith) (omega arith)
+    ∙ (chains_at base counts i j (chain_start counts i + j) start h (omega arith) refl from ∙ chain_next start count j
     less))
     (λ s here.
-    all (start_of counts i + (count - 1)) s (omega arith) (omega arith)
-    ∙ (chains_at base counts i (count - 1) (start_of counts i + (count - 1)) start h (omega arith) refl from ∙
+    all (chain_start counts i + (count - 1)) s (omega arith) (omega arith)
+    ∙ (chains_at base counts i (count - 1) (chain_start counts i + (count - 1)) start h (omega arith) refl from ∙
     chain_last start count (count - 1) (omega arith)))

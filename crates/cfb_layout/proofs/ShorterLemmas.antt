@@ -5,7 +5,7 @@ use Rattle.std.proofs.lemmas.List.{length-map, take_all}
 use Rattle.cfb_sectors.specs.Header.{sector_count, fat_sector_count, fat_sectors, valid_below}
 use Rattle.cfb_sectors.specs.Chain.{fat_table}
 use Rattle.cfb_streams.specs.Contents.{Contents}
-use Rattle.cfb_directory.specs.Reach.{entry_place, directory_head, IsEntry}
+use Rattle.cfb_directory.specs.Reach.{entry_place, directory_head, IsLinkedEntry}
 use Rattle.cfb_streams.specs.StreamRules.{of_fat, of_directory, of_mini_fat, of_mini_stream, of_stream, IsMiniFat}
 use Rattle.cfb_streams.specs.StreamRules.{IsMiniStream, mini_table_of, mini_fat_head}
 use Rattle.cfb_directory.specs.StreamEntries.{stream_head}
@@ -49,7 +49,8 @@ directory_room : (file : List ℕ) (contents : Contents) (has : HasContents file
 directory_room file contents has =
     let n = has.streams.len in
     let some = has.directory.holds.chain.path.some in
-    let there : (i : ℕ) → i < length has.entries → IsEntry has.parts.directory (slice_index has.entries i) = λ i h.
+    let there : (i : ℕ) → i < length has.entries → IsLinkedEntry has.parts.directory (slice_index has.entries i) = λ i
+    h.
     reached_there file has.parts.directory (has.lists.sound i h).reached in
     let run = run_zero (4 * length has.parts.directory) has.entries
     (record { within = λ i h. (there i h).1; distinct = λ i j less h. entries_apart file contents has i j less h })

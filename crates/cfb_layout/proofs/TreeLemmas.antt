@@ -2,9 +2,9 @@
 use Rattle.std.proofs.Common.{◌≡◌, inl, inr, ℕ, zero, suc, ◌+◌, ◌*◌, ◌<◌, ◌≤◌, ltb, cond, nat_eq, nat_lt}
 use Rattle.std.proofs.Common.{if◌then◌else◌, refl, sym, ap, ◌∙◌, subst, arith}
 use Rattle.std.proofs.lemmas.Bool.{cases_order, lt-ltb, le-ltb, eq-eqb, ne_eqb, cond-true, cond-false}
-use Rattle.cfb_directory.specs.Directory.{no_entry}
+use Rattle.cfb_directory.specs.Directory.{no_stream_entry}
 use Rattle.cfb_layout.specs.declared.tree.Span.{Span}
-use Rattle.cfb_layout.specs.Tree.{middle, lower, upper, top, part_of}
+use Rattle.cfb_layout.specs.Tree.{middle, lower, upper, top, span_of_entry}
 
 pub record IsWithin (span : Span) (entry : ℕ) : Type 0 where
   pub from : span.low ≤ entry
@@ -18,25 +18,27 @@ pub record IsPart (whole part : Span) (entry : ℕ) : Type 0 where
   pub here : entry ≡ middle part
 
 -- the part is the same below, above and at the middle
-pub part_low : (steps entry : ℕ) (span : Span) → entry < middle span → part_of (suc steps) entry span ≡ part_of steps
+pub part_low : (steps entry : ℕ) (span : Span) → entry < middle span → span_of_entry (suc steps) entry span ≡
+    span_of_entry steps
     entry (lower span)
 part_low steps entry span h =
-    cond-true (ltb entry (middle span)) (part_of steps entry (lower span)) (cond (ltb (middle span) entry)
-    (part_of steps entry (upper span)) span) (lt-ltb entry (middle span) h)
+    cond-true (ltb entry (middle span)) (span_of_entry steps entry (lower span)) (cond (ltb (middle span) entry)
+    (span_of_entry steps entry (upper span)) span) (lt-ltb entry (middle span) h)
 
-pub part_up : (steps entry : ℕ) (span : Span) → middle span < entry → part_of (suc steps) entry span ≡ part_of steps
+pub part_up : (steps entry : ℕ) (span : Span) → middle span < entry → span_of_entry (suc steps) entry span ≡
+    span_of_entry steps
     entry (upper span)
 part_up steps entry span h =
-    cond-false (ltb entry (middle span)) (part_of steps entry (lower span)) (cond (ltb (middle span) entry)
-    (part_of steps entry (upper span)) span) (le-ltb entry (middle span) (omega arith))
-    ∙ cond-true (ltb (middle span) entry) (part_of steps entry (upper span)) span (lt-ltb (middle span) entry h)
+    cond-false (ltb entry (middle span)) (span_of_entry steps entry (lower span)) (cond (ltb (middle span) entry)
+    (span_of_entry steps entry (upper span)) span) (le-ltb entry (middle span) (omega arith))
+    ∙ cond-true (ltb (middle span) entry) (span_of_entry steps entry (upper span)) span (lt-ltb (middle span) entry h)
 
-pub part_mid : (steps entry : ℕ) (span : Span) → entry ≡ middle span → part_of steps entry span ≡ span
+pub part_mid : (steps entry : ℕ) (span : Span) → entry ≡ middle span → span_of_entry steps entry span ≡ span
 part_mid zero entry span h = refl
 part_mid (suc steps) entry span h =
-    cond-false (ltb entry (middle span)) (part_of steps entry (lower span)) (cond (ltb (middle span) entry)
-    (part_of steps entry (upper span)) span) (le-ltb entry (middle span) (omega arith))
-    ∙ cond-false (ltb (middle span) entry) (part_of steps entry (upper span)) span (le-ltb (middle span) entry
+    cond-false (ltb entry (middle span)) (span_of_entry steps entry (lower span)) (cond (ltb (middle span) entry)
+    (span_of_entry steps entry (upper span)) span) (le-ltb entry (middle span) (omega arith))
+    ∙ cond-false (ltb (middle span) entry) (span_of_entry steps entry (upper span)) span (le-ltb (middle span) entry
     (omega arith))
 
 pub within_low : (span : Span) (entry : ℕ) → IsWithin span entry → entry < middle span → IsWithin (lower span) entry
@@ -50,7 +52,7 @@ middle_within span h = record { from = omega arith; below = omega arith }
 
 -- any number of steps that is enough finds the part
 pub part_is : (steps entry : ℕ) (span : Span) → span.count ≤ steps → IsWithin span entry →
-    IsPart span (part_of steps entry span) entry
+    IsPart span (span_of_entry steps entry span) entry
 part_is zero entry span room w = let a = w.from in let b = w.below in absurd (omega arith)
 part_is (suc steps) entry span room w = let a = w.from in let b = w.below in elim (cases_order entry (middle span)) [
   | inl same ↦ subst (λ p. IsPart span p entry) (sym (part_mid (suc steps) entry span same))
@@ -80,7 +82,7 @@ part_is (suc steps) entry span room w = let a = w.from in let b = w.below in eli
 ]
 
 pub part_same : (steps other entry : ℕ) (span : Span) → span.count ≤ steps → span.count ≤ other →
-    IsWithin span entry → part_of steps entry span ≡ part_of other entry span
+    IsWithin span entry → span_of_entry steps entry span ≡ span_of_entry other entry span
 part_same zero other entry span room more w = let a = w.from in let b = w.below in absurd (omega arith)
 part_same (suc steps) zero entry span room more w = let a = w.from in let b = w.below in absurd (omega arith)
 part_same (suc steps) (suc other) entry span room more w = let a = w.from in let b = w.below in
@@ -99,22 +101,24 @@ part_same (suc steps) (suc other) entry span room more w = let a = w.from in let
     ]
 
 -- the link to a span
-pub top_none : (span : Span) → span.count ≡ 0 → top span ≡ no_entry
-top_none span h = cond-true (nat_eq span.count 0) no_entry (middle span) (eq-eqb span.count 0 h)
+pub top_none : (span : Span) → span.count ≡ 0 → top span ≡ no_stream_entry
+top_none span h = cond-true (nat_eq span.count 0) no_stream_entry (middle span) (eq-eqb span.count 0 h)
 
 pub top_some : (span : Span) → 0 < span.count → top span ≡ middle span
-top_some span h = cond-false (nat_eq span.count 0) no_entry (middle span) (ne_eqb span.count 0 (λ e. omega arith))
+top_some span h = cond-false (nat_eq span.count 0) no_stream_entry (middle span) (ne_eqb span.count 0 (λ e. omega
+    arith))
 
 -- what holds of the top, and goes on by left and right, holds of all entries of a span
 pub record GoesOn (P : ℕ → Type 0) (whole : Span) : Type 0 where
-  pub left : (entry : ℕ) → IsWithin whole entry → P entry → 0 < (lower (part_of whole.count entry whole)).count →
-      P (middle (lower (part_of whole.count entry whole)))
-  pub right : (entry : ℕ) → IsWithin whole entry → P entry → 0 < (upper (part_of whole.count entry whole)).count →
-      P (middle (upper (part_of whole.count entry whole)))
+  pub left : (entry : ℕ) → IsWithin whole entry → P entry → 0 < (lower (span_of_entry whole.count entry whole)).count →
+      P (middle (lower (span_of_entry whole.count entry whole)))
+  pub right : (entry : ℕ) → IsWithin whole entry → P entry → 0 < (upper (span_of_entry whole.count entry whole)).count →
+      P (middle (upper (span_of_entry whole.count entry whole)))
 
 pub all_reached : (P : ℕ → Type 0) (whole : Span) → GoesOn P whole → (steps : ℕ) (span : Span) → span.count ≤ steps →
     ((entry : ℕ) → IsWithin span entry → IsWithin whole entry) → ((entry : ℕ) → IsWithin span entry →
-    part_of whole.count entry whole ≡ part_of steps entry span) → (0 < span.count → P (middle span)) → (entry : ℕ) →
+    span_of_entry whole.count entry whole ≡ span_of_entry steps entry span) → (0 < span.count → P (middle span)) →
+    (entry : ℕ) →
     IsWithin span entry → P entry
 all_reached P whole goes zero span room inside same here entry w = let a = w.from in let b = w.below in
     absurd (omega arith)
@@ -123,7 +127,7 @@ all_reached P whole goes (suc steps) span room inside same here entry w =
     let b = w.below in
     let some : 0 < span.count = omega arith in
     let mid = middle_within span some in
-    let part : part_of whole.count (middle span) whole ≡ span = same (middle span) mid ∙ part_mid (suc steps)
+    let part : span_of_entry whole.count (middle span) whole ≡ span = same (middle span) mid ∙ part_mid (suc steps)
     (middle span) span refl in
     elim (cases_order entry (middle span)) [
       | inl e ↦ subst P (sym e) (here some)
@@ -176,7 +180,8 @@ link_mid (suc steps) entry span here h =
 
 -- the entry that is left or right of another is named by that link
 pub link_left : (steps entry k : ℕ) (span : Span) (here : ℕ) → span.count ≤ steps → IsWithin span entry →
-    0 < (lower (part_of steps entry span)).count → k ≡ middle (lower (part_of steps entry span)) → link_of steps k
+    0 < (lower (span_of_entry steps entry span)).count → k ≡ middle (lower (span_of_entry steps entry span)) → link_of
+    steps k
     span here ≡ 3 * entry
 link_left zero entry k span here room w some is = let a = w.from in let b = w.below in absurd (omega arith)
 link_left (suc steps) entry k span here room w some is = let a = w.from in let b = w.below in
@@ -191,8 +196,10 @@ link_left (suc steps) entry k span here room w some is = let a = w.from in let b
         | inl low ↦
             let e = part_low steps entry span low in
             let w2 = within_low span entry w low in
-            let there : k ≡ middle (lower (part_of steps entry (lower span))) = is ∙ ap (λ p. middle (lower p)) e in
-            let more : 0 < (lower (part_of steps entry (lower span))).count = subst (λ p. 0 < (lower p).count) e some in
+            let there : k ≡ middle (lower (span_of_entry steps entry (lower span))) = is ∙ ap (λ p. middle (lower p)) e
+            in
+            let more : 0 < (lower (span_of_entry steps entry (lower span))).count = subst (λ p. 0 < (lower p).count) e
+            some in
             let part = part_is steps entry (lower span) (omega arith) w2 in
             let x = part.end in
             link_low steps k span here (omega arith) ∙ link_left steps entry k (lower span) (3 * middle span)
@@ -200,8 +207,10 @@ link_left (suc steps) entry k span here room w some is = let a = w.from in let b
         | inr high ↦
             let e = part_up steps entry span high in
             let w2 = within_up span entry w high in
-            let there : k ≡ middle (lower (part_of steps entry (upper span))) = is ∙ ap (λ p. middle (lower p)) e in
-            let more : 0 < (lower (part_of steps entry (upper span))).count = subst (λ p. 0 < (lower p).count) e some in
+            let there : k ≡ middle (lower (span_of_entry steps entry (upper span))) = is ∙ ap (λ p. middle (lower p)) e
+            in
+            let more : 0 < (lower (span_of_entry steps entry (upper span))).count = subst (λ p. 0 < (lower p).count) e
+            some in
             let part = part_is steps entry (upper span) (omega arith) w2 in
             let x = part.from in
             link_up steps k span here (omega arith) ∙ link_left steps entry k (upper span) (3 * middle span + 1)
@@ -210,7 +219,8 @@ link_left (suc steps) entry k span here room w some is = let a = w.from in let b
     ]
 
 pub link_right : (steps entry k : ℕ) (span : Span) (here : ℕ) → span.count ≤ steps → IsWithin span entry →
-    0 < (upper (part_of steps entry span)).count → k ≡ middle (upper (part_of steps entry span)) → link_of steps k
+    0 < (upper (span_of_entry steps entry span)).count → k ≡ middle (upper (span_of_entry steps entry span)) → link_of
+    steps k
     span here ≡ 3 * entry + 1
 link_right zero entry k span here room w some is = let a = w.from in let b = w.below in absurd (omega arith)
 link_right (suc steps) entry k span here room w some is = let a = w.from in let b = w.below in
@@ -225,8 +235,10 @@ link_right (suc steps) entry k span here room w some is = let a = w.from in let 
         | inl low ↦
             let e = part_low steps entry span low in
             let w2 = within_low span entry w low in
-            let there : k ≡ middle (upper (part_of steps entry (lower span))) = is ∙ ap (λ p. middle (upper p)) e in
-            let more : 0 < (upper (part_of steps entry (lower span))).count = subst (λ p. 0 < (upper p).count) e some in
+            let there : k ≡ middle (upper (span_of_entry steps entry (lower span))) = is ∙ ap (λ p. middle (upper p)) e
+            in
+            let more : 0 < (upper (span_of_entry steps entry (lower span))).count = subst (λ p. 0 < (upper p).count) e
+            some in
             let part = part_is steps entry (lower span) (omega arith) w2 in
             let x = part.end in
             link_low steps k span here (omega arith) ∙ link_right steps entry k (lower span) (3 * middle span)
@@ -234,8 +246,10 @@ link_right (suc steps) entry k span here room w some is = let a = w.from in let 
         | inr high ↦
             let e = part_up steps entry span high in
             let w2 = within_up span entry w high in
-            let there : k ≡ middle (upper (part_of steps entry (upper span))) = is ∙ ap (λ p. middle (upper p)) e in
-            let more : 0 < (upper (part_of steps entry (upper span))).count = subst (λ p. 0 < (upper p).count) e some in
+            let there : k ≡ middle (upper (span_of_entry steps entry (upper span))) = is ∙ ap (λ p. middle (upper p)) e
+            in
+            let more : 0 < (upper (span_of_entry steps entry (upper span))).count = subst (λ p. 0 < (upper p).count) e
+            some in
             let part = part_is steps entry (upper span) (omega arith) w2 in
             let x = part.from in
             link_up steps k span here (omega arith) ∙ link_right steps entry k (upper span) (3 * middle span + 1)

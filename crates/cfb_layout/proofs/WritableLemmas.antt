@@ -10,12 +10,12 @@ use Rattle.std.proofs.lemmas.Option.{slice_get-get_or}
 use Rattle.cfb_streams.specs.Contents.{NamedBytes, AreStreams}
 use Rattle.cfb_sectors.specs.SectorChain.{end_of_chain}
 use Rattle.cfb_layout.specs.declared.tree.Span.{Span}
-use Rattle.cfb_layout.specs.Sectors.{units_for, start_of}
-use Rattle.cfb_layout.specs.Tree.{lower, upper, top, all_entries, part_of}
+use Rattle.cfb_layout.specs.Sectors.{units_for, chain_start}
+use Rattle.cfb_layout.specs.Tree.{lower, upper, top, all_entries, span_of_entry}
 use Rattle.cfb_layout.specs.Counts.{mini_counts, sector_counts, Fits, first_sector}
 use Rattle.cfb_layout.specs.Entries.{unused_entry, root_name}
 use Rattle.cfb_layout.specs.Layout.{lengths_of, no_stream, root_entry, stream_entry, directory_entry}
-use Rattle.cfb_layout.specs.Laws.{IsLayout}
+use Rattle.cfb_layout.specs.Laws.{AreLayoutStreams}
 use Rattle.cfb_layout.proofs.SectorLemmas.{start_below}
 use Rattle.cfb_layout.proofs.CountLemmas.{length-sector_counts, counts_stream, counts_mini_stream, sectors-needed}
 use Rattle.cfb_layout.proofs.CountLemmas.{length-lengths_of, lengths_at}
@@ -27,7 +27,7 @@ use Rattle.cfb_layout.proofs.PartLemmas.{large_is}
 
 -- starts and links are 32-bit numbers
 pub first_below : (counts : List ℕ) (i : ℕ) → sum counts < 2 ^ 32 → first_sector counts i < 2 ^ 32
-first_below counts i h = cond_both (ltb 0 (slice_index counts i)) (start_of counts i) end_of_chain (λ n. n < 2 ^ 32)
+first_below counts i h = cond_both (ltb 0 (slice_index counts i)) (chain_start counts i) end_of_chain (λ n. n < 2 ^ 32)
     (λ is. let low = start_below counts i in omega arith) (λ is. omega arith)
 
 top_below : (span : Span) → span.low + span.count < 2 ^ 32 → top span < 2 ^ 32
@@ -75,7 +75,7 @@ root_unit i = elim (cases_lt i (length root_name)) [
 ]
 
 -- the numbers of each entry fit their fields
-root_writable : (streams : List NamedBytes) (clsid : List ℕ) → AreStreams streams → IsLayout streams clsid →
+root_writable : (streams : List NamedBytes) (clsid : List ℕ) → AreStreams streams → AreLayoutStreams streams clsid →
     IsWritable (root_entry (lengths_of streams) clsid)
 root_writable streams clsid are lay =
     let lengths = lengths_of streams in
@@ -96,7 +96,8 @@ root_writable streams clsid are lay =
       size = omega arith;
     }
 
-stream_writable : (streams : List NamedBytes) (clsid : List ℕ) (i : ℕ) → AreStreams streams → IsLayout streams clsid →
+stream_writable : (streams : List NamedBytes) (clsid : List ℕ) (i : ℕ) → AreStreams streams → AreLayoutStreams streams
+    clsid →
     i < length streams → IsWritable (stream_entry (lengths_of streams) i (slice_index_or streams i no_stream))
 stream_writable streams clsid i are lay low =
     let lengths = lengths_of streams in
@@ -120,8 +121,8 @@ stream_writable streams clsid i are lay low =
       units = λ k. lay.names i stream there k;
       long = omega arith;
       kind = omega arith;
-      left = top_below (lower (part_of (length lengths) (i + 1) all)) (omega arith);
-      right = top_below (upper (part_of (length lengths) (i + 1) all)) (omega arith);
+      left = top_below (lower (span_of_entry (length lengths) (i + 1) all)) (omega arith);
+      right = top_below (upper (span_of_entry (length lengths) (i + 1) all)) (omega arith);
       child = omega arith;
       start = cond_both (ltb (slice_index lengths i) 4096) (first_sector (mini_counts lengths) i) (first_sector
           (sector_counts lengths) i) (λ n. n < 2 ^ 32)
@@ -143,7 +144,8 @@ unused_writable = record {
   size = omega arith;
 }
 
-pub entry_writable : (streams : List NamedBytes) (clsid : List ℕ) (k : ℕ) → AreStreams streams → IsLayout streams
+pub entry_writable : (streams : List NamedBytes) (clsid : List ℕ) (k : ℕ) → AreStreams streams → AreLayoutStreams
+    streams
     clsid → IsWritable (directory_entry streams clsid k)
 entry_writable streams clsid zero are lay = root_writable streams clsid are lay
 entry_writable streams clsid (suc i) are lay =

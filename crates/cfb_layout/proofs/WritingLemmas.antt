@@ -13,7 +13,7 @@ use Rattle.cfb_streams.specs.Contents.{NamedBytes}
 use Rattle.cfb_layout.specs.Entries.{unused_entry}
 use Rattle.cfb_layout.specs.Layout.{lengths_of, no_stream, stream_entry, directory_entry}
 use Rattle.cfb_sectors.specs.SectorChain.{end_of_chain}
-use Rattle.cfb_layout.specs.Sectors.{chain_entries, chains_from, start_of}
+use Rattle.cfb_layout.specs.Sectors.{chain_entries, chains_from, chain_start}
 
 -- one element more of a list that is joined
 pub flat_step : {X : Type 0} (f : X → List ℕ) (base out new : List ℕ) (xs : List X) (i : ℕ) (x d : X) →
@@ -73,7 +73,7 @@ chains_one start count = append-nil (chain_entries start count)
 
 pub chains_step : (base out new counts : List ℕ) (i start count : ℕ) → out ≡ base ++ flat_map (number_bytes 4)
     (chains_from 0 (take i counts)) → new ≡ out ++ flat_map (number_bytes 4) (chain_entries start count) →
-    i < length counts → get_or counts i 0 ≡ count → start ≡ start_of counts i → new ≡ base ++ flat_map (number_bytes
+    i < length counts → get_or counts i 0 ≡ count → start ≡ chain_start counts i → new ≡ base ++ flat_map (number_bytes
     4) (chains_from 0 (take (i + 1) counts))
 chains_step base out new counts i start count a b h e s =
     let from : 0 + sum (take i counts) ≡ start = omega arith in

@@ -4,7 +4,7 @@ use Rattle.std.specs.Prelude.{◌≤◌, ℕ, ◌+◌, ◌*◌, List, [], ◌∷
 use Rattle.std.specs.Prelude.{slice_index}
 use Rattle.cfb_sectors.specs.SectorChain.{end_of_chain}
 use Rattle.cfb_sectors.specs.Header.{sector_len, mini_sector_len}
-use Rattle.cfb_layout.specs.Sectors.{units_for, start_of}
+use Rattle.cfb_layout.specs.Sectors.{units_for, chain_start}
 
 abbrev pub large_len : ℕ → ℕ
 large_len len = if nat_lt len 4096 then 0 else len
@@ -44,7 +44,7 @@ Fits lengths = sectors_needed lengths ≤ most_sectors
 
 -- the start of the i-th part, where it has a sector
 abbrev pub first_sector : List ℕ → ℕ → ℕ
-first_sector counts i = if nat_lt 0 (slice_index counts i) then start_of counts i else end_of_chain
+first_sector counts i = if nat_lt 0 (slice_index counts i) then chain_start counts i else end_of_chain
 
 -- the start of a stream, by the FAT or by the mini FAT
 abbrev pub stream_start : List ℕ → ℕ → ℕ

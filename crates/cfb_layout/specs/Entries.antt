@@ -2,7 +2,7 @@
 use Rattle.std.specs.Prelude.{ℕ, ◌+◌, ◌*◌, List, [], ◌∷◌, ◌++◌, replicate}
 use Rattle.std.specs.List.{flat_map}
 use Rattle.doc_bits.specs.Number.{number_bytes}
-use Rattle.cfb_directory.specs.Directory.{no_entry}
+use Rattle.cfb_directory.specs.Directory.{no_stream_entry}
 use Rattle.cfb_layout.specs.declared.entries.EntryFields.{EntryFields}
 use Rattle.cfb_layout.specs.declared.fields.Field.{Field}
 use Rattle.cfb_layout.specs.declared.fields.Field.TheVariants.{Long, Word, Byte}
@@ -27,12 +27,13 @@ place_fields fields =
     Long 0 ∷ (Long 0 ∷ (Long 0 ∷ (Long 0 ∷ (Long 0 ∷ (Long fields.start ∷ (Long fields.size ∷ (Long 0 ∷ [])))))))
 
 -- the units of a name in its 64 bytes, with a zero unit at least behind them
-unfoldable pub name_bytes : List ℕ → List ℕ
-name_bytes name = filled 64 0 (flat_map (number_bytes 2) name)
+unfoldable pub entry_name_bytes : List ℕ → List ℕ
+entry_name_bytes name = filled 64 0 (flat_map (number_bytes 2) name)
 
 unfoldable pub entry_bytes : Entry → List ℕ
 entry_bytes entry =
-    name_bytes entry.name ++ (fields_bytes (link_fields entry.fields) ++ (entry.clsid ++ fields_bytes (place_fields
+    entry_name_bytes entry.name ++ (fields_bytes (link_fields entry.fields) ++ (entry.clsid ++ fields_bytes
+    (place_fields
     entry.fields)))
 
 -- the length of a name in bytes, with its zero unit
@@ -64,9 +65,9 @@ unused_fields = record {
   name_length = 0;
   kind = 0;
   colour = 0;
-  left = no_entry;
-  right = no_entry;
-  child = no_entry;
+  left = no_stream_entry;
+  right = no_stream_entry;
+  child = no_stream_entry;
   start = 0;
   size = 0;
 }

@@ -11,13 +11,13 @@ width_of (Long value) = 4
 width_of (Word value) = 2
 width_of (Byte value) = 1
 
-abbrev pub value_of : Field → ℕ
-value_of (Long value) = value
-value_of (Word value) = value
-value_of (Byte value) = value
+abbrev pub field_value : Field → ℕ
+field_value (Long value) = value
+field_value (Word value) = value
+field_value (Byte value) = value
 
 abbrev pub field_bytes : Field → List ℕ
-field_bytes field = number_bytes (width_of field) (value_of field)
+field_bytes field = number_bytes (width_of field) (field_value field)
 
 -- the bytes of fields, one after another
 unfoldable pub fields_bytes : List Field → List ℕ

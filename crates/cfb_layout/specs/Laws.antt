@@ -9,7 +9,7 @@ use Rattle.cfb_layout.specs.Counts.{Fits, sectors_needed}
 use Rattle.cfb_layout.specs.Layout.{lengths_of, compound_file, contents_of}
 
 -- streams that are laid out: few and short enough, with names of 16-bit units, and a CLSID
-pub record IsLayout (streams : List NamedBytes) (clsid : List ℕ) : Type 0 where
+pub record AreLayoutStreams (streams : List NamedBytes) (clsid : List ℕ) : Type 0 where
   pub few : length streams ≤ 1023
   pub fits : Fits (lengths_of streams)
   pub clsid_len : length clsid ≡ 16
@@ -19,13 +19,13 @@ pub record IsLayout (streams : List NamedBytes) (clsid : List ℕ) : Type 0 wher
 -- it is accepted
 abbrev pub BreaksNoRule : Type 0
 BreaksNoRule =
-    (streams : List NamedBytes) (clsid : List ℕ) → AreStreams streams → IsLayout streams clsid →
+    (streams : List NamedBytes) (clsid : List ℕ) → AreStreams streams → AreLayoutStreams streams clsid →
     Hold (container_rules (compound_file streams clsid))
 
 -- it is read as these streams, those of 4,096 bytes or more in sectors that are in a row, and this CLSID
 abbrev pub HoldsItsStreams : Type 0
 HoldsItsStreams =
-    (streams : List NamedBytes) (clsid : List ℕ) → AreStreams streams → IsLayout streams clsid →
+    (streams : List NamedBytes) (clsid : List ℕ) → AreStreams streams → AreLayoutStreams streams clsid →
     HasContents (compound_file streams clsid) (contents_of streams clsid)
 
 -- with so many FAT sectors each sector, theirs too, has an entry; and with no fewer

@@ -7,11 +7,12 @@ use Rattle.std.specs.Prelude.{sum, nat_lt, if◌then◌else◌, slice_index, sli
 use Rattle.std.specs.List.{flat_map, range_with_len}
 use Rattle.doc_bits.specs.Number.{number_bytes}
 use Rattle.cfb_streams.specs.Contents.{NamedBytes, Stream, Contents}
-use Rattle.cfb_directory.specs.Directory.{no_entry}
+use Rattle.cfb_directory.specs.Directory.{no_stream_entry}
 use Rattle.cfb_sectors.specs.SectorChain.{end_of_chain}
 use Rattle.cfb_sectors.specs.Opening.{signature}
 use Rattle.cfb_sectors.specs.Header.{sector_len, mini_sector_len}
-use Rattle.cfb_layout.specs.Sectors.{units_for, filled, padded, chains_from, start_of, table_bytes, free_sector}
+use Rattle.cfb_layout.specs.Sectors.{units_for, filled, padded_to_unit, chains_from, chain_start, table_bytes}
+use Rattle.cfb_layout.specs.Sectors.{free_sector}
 use Rattle.cfb_layout.specs.Sectors.{fat_sector_mark}
 use Rattle.cfb_layout.specs.declared.entries.EntryFields.{EntryFields}
 use Rattle.cfb_layout.specs.declared.fields.Field.{Field}
@@ -34,7 +35,7 @@ lengths_of streams = map (λ stream. length stream.bytes) streams
 
 -- the small parts, each in whole mini sectors
 unfoldable pub mini_stream : List NamedBytes → List ℕ
-mini_stream streams = flat_map (λ stream. padded mini_sector_len 0 (small_part stream.bytes)) streams
+mini_stream streams = flat_map (λ stream. padded_to_unit mini_sector_len 0 (small_part stream.bytes)) streams
 
 -- the FAT's entries, those of its own sectors last
 unfoldable pub fat : List ℕ → List ℕ
@@ -46,8 +47,8 @@ root_fields lengths = record {
   name_length = name_length 10;
   kind = root_kind;
   colour = black;
-  left = no_entry;
-  right = no_entry;
+  left = no_stream_entry;
+  right = no_stream_entry;
   child = top (all_entries (length lengths));
   start = first_sector (sector_counts lengths) (length lengths);
   size = mini_sector_len * sum (mini_counts lengths);
@@ -64,7 +65,7 @@ stream_fields lengths i units = record {
   colour = black;
   left = left_of (length lengths) (i + 1);
   right = right_of (length lengths) (i + 1);
-  child = no_entry;
+  child = no_stream_entry;
   start = stream_start lengths i;
   size = slice_index lengths i;
 }
@@ -95,8 +96,8 @@ directory_bytes streams clsid =
 -- the parts in the order of their sectors: the streams, the mini stream, the mini FAT, the directory and the FAT
 unfoldable pub parts : List NamedBytes → List ℕ → List (List ℕ)
 parts streams clsid =
-    map (λ stream. padded sector_len 0 (large_part stream.bytes)) streams
-    ++ (padded sector_len 0 (mini_stream streams)
+    map (λ stream. padded_to_unit sector_len 0 (large_part stream.bytes)) streams
+    ++ (padded_to_unit sector_len 0 (mini_stream streams)
     ∷ (table_bytes (chains_from 0 (mini_counts (lengths_of streams)))
     ∷ (directory_bytes streams clsid
     ∷ (table_bytes (fat (lengths_of streams)) ∷ []))))
@@ -129,7 +130,7 @@ compound_file streams clsid = header_bytes (lengths_of streams) ++ flat_map (λ 
 abbrev pub chain_of : List ℕ → ℕ → Option (List ℕ)
 chain_of lengths i =
     if nat_lt (slice_index lengths i) 4096 then None
-    else Some (range_with_len (start_of (sector_counts lengths) i) (slice_index (sector_counts lengths) i))
+    else Some (range_with_len (chain_start (sector_counts lengths) i) (slice_index (sector_counts lengths) i))
 
 abbrev pub stream_at : List NamedBytes → ℕ → Stream
 stream_at streams i = record {

@@ -21,8 +21,8 @@ unfoldable pub filled : ℕ → ℕ → List ℕ → List ℕ
 filled len filler xs = xs ++ replicate (len - length xs) filler
 
 -- a list that is filled up to whole parts of `unit`
-unfoldable pub padded : ℕ → ℕ → List ℕ → List ℕ
-padded unit filler xs = xs ++ replicate (units_for unit (length xs) * unit - length xs) filler
+unfoldable pub padded_to_unit : ℕ → ℕ → List ℕ → List ℕ
+padded_to_unit unit filler xs = xs ++ replicate (units_for unit (length xs) * unit - length xs) filler
 
 -- the entries of a chain of sectors that are in a row from `start` on: each names the next, and the last ends the
 -- chain
@@ -36,9 +36,9 @@ chains_from start [] = []
 chains_from start (count ∷ counts) = chain_entries start count ++ chains_from (start + count) counts
 
 -- where the i-th of such chains starts
-abbrev pub start_of : List ℕ → ℕ → ℕ
-start_of counts i = sum (take i counts)
+abbrev pub chain_start : List ℕ → ℕ → ℕ
+chain_start counts i = sum (take i counts)
 
 -- the bytes of a FAT or a mini FAT: 128 entries in each sector
 abbrev pub table_bytes : List ℕ → List ℕ
-table_bytes entries = flat_map (number_bytes 4) (padded 128 free_sector entries)
+table_bytes entries = flat_map (number_bytes 4) (padded_to_unit 128 free_sector entries)

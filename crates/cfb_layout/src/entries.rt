@@ -1,6 +1,6 @@
 // Entries of the directory.
 ghost use Rattle.std.specs.Prelude.{◌≡◌, ◌++◌, ◌≤◌, OnOk, length};
-ghost use Rattle.cfb_layout.specs.Entries.{entry_bytes, name_bytes};
+ghost use Rattle.cfb_layout.specs.Entries.{entry_bytes, entry_name_bytes};
 
 use crate::fields::{Field, push_fields};
 use crate::sectors::push_zeros;
@@ -26,7 +26,7 @@ pub struct EntryFields {
 /// Appends a name, filled up with zeros.
 fn push_name(out: &mut Bytes, name: &[u16]) -> Result<(), Memory>
     requires { length name.now ≤ 32 }
-    ensures { OnOk result (out.new ≡ out.old ++ name_bytes name.now) }
+    ensures { OnOk result (out.new ≡ out.old ++ entry_name_bytes name.now) }
 {
     for unit in name {
         out.push16(*unit)?;

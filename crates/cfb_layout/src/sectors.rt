@@ -3,7 +3,7 @@ ghost use Rattle.std.specs.Prelude.{◌≡◌, ◌++◌, ◌+◌, ◌-◌, ◌*�
 ghost use Rattle.std.specs.Prelude.{◌<◌, ◌≤◌, OnOk, length, replicate, sum};
 ghost use Rattle.std.specs.List.{flat_map, range_with_len};
 ghost use Rattle.doc_bits.specs.Number.{number_bytes};
-ghost use Rattle.cfb_layout.specs.Sectors.{units_for, padded, chain_entries, chains_from};
+ghost use Rattle.cfb_layout.specs.Sectors.{units_for, padded_to_unit, chain_entries, chains_from};
 ghost use Rattle.cfb_sectors.specs.Header.{sector_len};
 
 use cfb_sectors::{ENDOFCHAIN, SECTOR_LEN};
@@ -52,7 +52,7 @@ pub(crate) fn push_zeros(out: &mut Bytes, count: usize) -> Result<(), Memory>
 pub(crate) fn push_padded(out: &mut Bytes, bytes: &[u8], unit: usize) -> Result<(), Memory>
     requires some { 0 < unit }
     requires small { unit ≤ sector_len }
-    ensures { OnOk result (out.new ≡ out.old ++ padded unit 0 bytes.now) }
+    ensures { OnOk result (out.new ≡ out.old ++ padded_to_unit unit 0 bytes.now) }
 {
     out.push_all(bytes)?;
     push_zeros(out, rest_of(unit, bytes.len()))?;

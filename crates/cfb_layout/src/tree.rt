@@ -1,7 +1,7 @@
 // The tree of the root's entries.
 ghost use Rattle.std.specs.Prelude.{◌≡◌, ◌+◌, ◌^◌, ◌<◌};
 ghost use Rattle.std.specs.Prelude.{◌≤◌, nat_lt, if◌then◌else◌};
-ghost use Rattle.cfb_layout.specs.Tree.{middle, lower, upper, top, all_entries, part_of};
+ghost use Rattle.cfb_layout.specs.Tree.{middle, lower, upper, top, all_entries, span_of_entry};
 
 /// NOSTREAM: no entry is named.
 pub const NO_ENTRY: u32 = 0xFFFF_FFFF;
@@ -82,7 +82,7 @@ pub(crate) fn part_of(count: u32, entry: u32) -> Span
     requires few { count < 2 ^ 31 }
     requires first { 1 ≤ entry }
     requires last { entry ≤ count }
-    ensures is { result ≡ part_of count entry (all_entries count) }
+    ensures is { result ≡ span_of_entry count entry (all_entries count) }
     ensures some { 0 < result.count }
     ensures room { result.low + result.count ≤ count + 1 }
 {

@@ -2,7 +2,7 @@
 ghost use Rattle.std.specs.Prelude.{◌≡◌, ◌++◌, ◌+◌, ◌*◌, ◌<◌, ◌^◌};
 ghost use Rattle.std.specs.Prelude.{◌≤◌, OnOk, IfOk, MatchResult, length, sum};
 ghost use Rattle.std.specs.List.{flat_map};
-ghost use Rattle.cfb_layout.specs.Sectors.{padded, table_bytes, chains_from};
+ghost use Rattle.cfb_layout.specs.Sectors.{padded_to_unit, table_bytes, chains_from};
 ghost use Rattle.cfb_layout.specs.Counts.{Fits, mini_counts};
 ghost use Rattle.cfb_layout.specs.Entries.{entry_bytes, unused_fields};
 ghost use Rattle.cfb_layout.specs.Layout.{lengths_of, large_part, small_part, mini_stream, fat};
@@ -147,7 +147,7 @@ fn small_part(bytes: &[u8]) -> &[u8]
 /// Appends the streams that have sectors of their own.
 fn push_large(out: &mut Bytes, streams: &Streams) -> Result<(), Memory>
     ensures { OnOk result (out.new ≡ out.old
-        ++ flat_map (λ stream. padded sector_len 0 (large_part stream.bytes)) streams.now) }
+        ++ flat_map (λ stream. padded_to_unit sector_len 0 (large_part stream.bytes)) streams.now) }
 {
     for i in 0..streams.count() {
         let part = large_part(streams.bytes(i));
@@ -159,7 +159,7 @@ fn push_large(out: &mut Bytes, streams: &Streams) -> Result<(), Memory>
 /// Appends the mini stream.
 fn push_mini_stream(out: &mut Bytes, streams: &Streams, plan: &Plan) -> Result<(), Memory>
     requires { plan.now ≡ lengths_of streams.now }
-    ensures { OnOk result (out.new ≡ out.old ++ padded sector_len 0 (mini_stream streams.now)) }
+    ensures { OnOk result (out.new ≡ out.old ++ padded_to_unit sector_len 0 (mini_stream streams.now)) }
 {
     for i in 0..streams.count() {
         let part = small_part(streams.bytes(i));

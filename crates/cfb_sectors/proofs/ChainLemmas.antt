@@ -8,7 +8,7 @@ use Rattle.std.proofs.lemmas.List.{get_or_append_left, get_or-set_same, get_or-s
 use Rattle.std.proofs.Math.Seq.{get_or-append_seam}
 pub use Rattle.doc_bits.proofs.Public.{length_below}
 use Rattle.cfb_sectors.specs.Marks.{IsMarked}
-pub use Rattle.cfb_sectors.specs.Walk.{IsWalk}
+pub use Rattle.cfb_sectors.specs.Walk.{IsChainWalk}
 use Rattle.cfb_sectors.specs.SectorChain.{HasSector, IsSectorPath, IsSectorChain, IsFullPath, last_of, end_of_chain}
 
 -- a number put last, and the numbers before it
@@ -27,9 +27,9 @@ pub record IsMet (marks : List Bool) (sectors : List ℕ) : Type 0 where
   pub found : (s : ℕ) → IsMarked marks s → HasSector sectors s
 
 -- the path goes on by one valid sector that it does not have
-pub walk_step : (entry : ℕ → ℕ) (valid start at : ℕ) (sectors : List ℕ) → IsWalk entry valid start at sectors →
+pub walk_step : (entry : ℕ → ℕ) (valid start at : ℕ) (sectors : List ℕ) → IsChainWalk entry valid start at sectors →
     at < valid → ((i : ℕ) → i < length sectors → slice_index sectors i ≢ at) →
-    IsWalk entry valid start (entry at) (sectors ++ at ∷ [])
+    IsChainWalk entry valid start (entry at) (sectors ++ at ∷ [])
 walk_step entry valid start at sectors w low apart =
     let n = length_pushed sectors at in
     record {
@@ -59,7 +59,7 @@ walk_step entry valid start at sectors w low apart =
     }
 
 -- so many valid sectors there are at most
-pub walk_room : (entry : ℕ → ℕ) (valid start at : ℕ) (sectors : List ℕ) → IsWalk entry valid start at sectors →
+pub walk_room : (entry : ℕ → ℕ) (valid start at : ℕ) (sectors : List ℕ) → IsChainWalk entry valid start at sectors →
     at < valid → ((i : ℕ) → i < length sectors → slice_index sectors i ≢ at) → length sectors < valid
 walk_room entry valid start at sectors w low apart =
     let next = walk_step entry valid start at sectors w low apart in

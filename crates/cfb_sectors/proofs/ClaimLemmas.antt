@@ -9,10 +9,11 @@ use Rattle.doc_bits.specs.Rules.{Nowhere, LeastOrNone, Among}
 use Rattle.doc_bits.proofs.Public.{least_same}
 use Rattle.cfb_sectors.specs.declared.chain.Walked.{Walked}
 use Rattle.cfb_sectors.specs.Marks.{IsMarked, IsVisitedSince}
-use Rattle.cfb_sectors.specs.Chain.{Table, Head, HoldsChain, BreaksChain}
+use Rattle.cfb_sectors.specs.Chain.{Table, ChainHead, HoldsChain, BreaksChain}
 use Rattle.cfb_sectors.specs.SectorChain.{HasSector, IsSectorChain, IsFullPath, last_of, end_of_chain}
-use Rattle.cfb_sectors.specs.Walk.{IsWalk}
-use Rattle.cfb_sectors.specs.Claims.{HasFront, Claimed, Takes, AreClosed, IsClosed, TakesWalked, IsSharedPlace}
+use Rattle.cfb_sectors.specs.Walk.{IsChainWalk}
+use Rattle.cfb_sectors.specs.Claims.{HasFront, Claimed, TakesSectors, AreClosedMarks, IsClosedClaim, TakesWalked}
+use Rattle.cfb_sectors.specs.Claims.{IsSharedPlace}
 use Rattle.cfb_sectors.proofs.ChainLemmas.{walk_step, pushed_before, pushed_last, length_pushed, length_below}
 use Rattle.cfb_sectors.proofs.JudgeLemmas.{full_whole, whole_start}
 
@@ -62,7 +63,8 @@ since_step old new path at m fresh low =
     }
 
 -- a walk that cannot go on is a full path
-pub walk_full : (entry : ℕ → ℕ) (valid start at : ℕ) (xs : List ℕ) → IsWalk entry valid start at xs → 0 < length xs →
+pub walk_full : (entry : ℕ → ℕ) (valid start at : ℕ) (xs : List ℕ) → IsChainWalk entry valid start at xs → 0 < length xs
+    →
     (valid ≤ at) ⊎ HasSector xs at → IsFullPath entry valid start xs
 walk_full entry valid start at xs w some stops =
     let next : entry (last_of xs) ≡ at = w.next some in
@@ -74,7 +76,7 @@ walk_full entry valid start at xs w some stops =
 
 -- a walk over all sectors is a full path
 pub fresh_full : (entry : ℕ → ℕ) (valid start next : ℕ) (path : List ℕ) (old new : List Bool) → start < valid →
-    ((s : ℕ) → ¬ IsMarked old s) → IsWalk entry valid start next path → IsVisitedSince old new path →
+    ((s : ℕ) → ¬ IsMarked old s) → IsChainWalk entry valid start next path → IsVisitedSince old new path →
     (valid ≤ next) ⊎ IsMarked new next → IsFullPath entry valid start path
 fresh_full entry valid start next path old new low none w m stops =
     let has : (valid ≤ next) ⊎ HasSector path next = elim stops [
@@ -92,7 +94,8 @@ fresh_full entry valid start next path old new low none w m stops =
 
 -- tables with the same entries have the same walks
 pub walk_same : (entry other : ℕ → ℕ) (valid start at : ℕ) (xs : List ℕ) →
-    ((s : ℕ) → s < valid → entry s ≡ other s) → IsWalk entry valid start at xs → IsWalk other valid start at xs
+    ((s : ℕ) → s < valid → entry s ≡ other s) → IsChainWalk entry valid start at xs → IsChainWalk other valid start at
+    xs
 walk_same entry other valid start at xs same w = record {
   begins = w.begins;
   first = w.first;
@@ -121,7 +124,7 @@ has_or_not (x ∷ xs) s = elim (cases_eq x s) [
 
 -- from each valid sector there is a full path
 full_from : (entry : ℕ → ℕ) (valid start : ℕ) (n at : ℕ) (xs : List ℕ) → start < valid →
-    IsWalk entry valid start at xs → valid < length xs + n → (ys : List ℕ) × IsFullPath entry valid start ys
+    IsChainWalk entry valid start at xs → valid < length xs + n → (ys : List ℕ) × IsFullPath entry valid start ys
 full_from entry valid start zero at xs low w more =
     absurd (let most = length_below xs valid w.within w.distinct in omega arith)
 full_from entry valid start (suc n) at xs low w more = elim (cases_lt at valid) [
@@ -157,7 +160,7 @@ full_exists entry valid start low = full_from entry valid start (valid + 1) star
     (omega arith)
 
 -- where no chain is broken there is the chain
-pub whole_chain : (table : Table) (head : Head) → table.valid ≤ end_of_chain → Nowhere (BreaksChain table head) →
+pub whole_chain : (table : Table) (head : ChainHead) → table.valid ≤ end_of_chain → Nowhere (BreaksChain table head) →
     (xs : List ℕ) × HoldsChain table head xs
 whole_chain table head range none =
     let full = full_exists table.entry table.valid head.start (whole_start table head none) in
@@ -182,7 +185,7 @@ next_at entry valid first xs i j range chain low is = record {
 
 -- the sectors of a walk that begins at a chain's sector are those that follow there
 along : (entry : ℕ → ℕ) (valid first start next : ℕ) (xs path : List ℕ) (from : ℕ) → valid ≤ end_of_chain →
-    IsSectorChain entry valid first xs → IsAt xs valid from start → IsWalk entry valid start next path →
+    IsSectorChain entry valid first xs → IsAt xs valid from start → IsChainWalk entry valid start next path →
     (i j : ℕ) → j ≡ from + i → i < length path → (j < length xs) × (slice_index xs j ≡ slice_index path i)
 along entry valid first start next xs path from range chain at w zero j is h =
     let here : j ≡ from = omega arith in
@@ -207,7 +210,7 @@ along entry valid first start next xs path from range chain at w (suc i) j is h 
 
 -- and where it stops it is at the sector that follows them
 along_end : (entry : ℕ → ℕ) (valid first start next : ℕ) (xs path : List ℕ) (from j : ℕ) → valid ≤ end_of_chain →
-    IsSectorChain entry valid first xs → IsAt xs valid from start → IsWalk entry valid start next path →
+    IsSectorChain entry valid first xs → IsAt xs valid from start → IsChainWalk entry valid start next path →
     j ≡ from + length path → IsAt xs valid j next
 along_end entry valid first start next xs path from j range chain at w is = elim (cases_eq (length path) 0) [
   | inl empty ↦
@@ -223,8 +226,8 @@ along_end entry valid first start next xs path from j range chain at w is = elim
 -- the sectors behind those of the walk were marked before it
 behind : (entry : ℕ → ℕ) (valid first start next : ℕ) (xs path : List ℕ) (from : ℕ) (old new : List Bool) →
     valid ≤ end_of_chain → IsSectorChain entry valid first xs → IsAt xs valid from start →
-    IsWalk entry valid start next path → IsVisitedSince old new path → (valid ≤ next) ⊎ IsMarked new next →
-    AreClosed entry valid old → (d j : ℕ) → j ≡ from + length path + d → j < length xs →
+    IsChainWalk entry valid start next path → IsVisitedSince old new path → (valid ≤ next) ⊎ IsMarked new next →
+    AreClosedMarks entry valid old → (d j : ℕ) → j ≡ from + length path + d → j < length xs →
     IsMarked old (slice_index xs j)
 behind entry valid first start next xs path from old new range chain at w m stops closed zero j is h =
     let end = along_end entry valid first start next xs path from j range chain at w (omega arith) in
@@ -254,10 +257,11 @@ behind entry valid first start next xs path from old new range chain at w m stop
 
 -- a walk over what is free, and one from there over what is not shared, take the chain
 pub walks_take : (entry : ℕ → ℕ) (valid start : ℕ) (xs : List ℕ) (old new : Claimed) (free shared : Walked) →
-    valid ≤ end_of_chain → AreClosed entry valid old.taken → AreClosed entry valid old.shared →
-    IsWalk entry valid start free.next free.path.items → IsVisitedSince old.taken new.taken free.path.items →
+    valid ≤ end_of_chain → AreClosedMarks entry valid old.taken → AreClosedMarks entry valid old.shared →
+    IsChainWalk entry valid start free.next free.path.items → IsVisitedSince old.taken new.taken free.path.items →
     (valid ≤ free.next) ⊎ IsMarked new.taken free.next →
-    IsWalk entry valid free.next shared.next shared.path.items → IsVisitedSince old.shared new.shared shared.path.items
+    IsChainWalk entry valid free.next shared.next shared.path.items → IsVisitedSince old.shared new.shared
+    shared.path.items
     →
     (valid ≤ shared.next) ⊎ IsMarked new.shared shared.next → IsSectorChain entry valid start xs →
     TakesWalked xs valid old new free
@@ -359,8 +363,9 @@ chain_closed entry valid start xs range chain s has low =
 
 -- where whole chains were taken, and one more is
 pub takes_closed : (table : Table) (owns : ℕ → Type 0) (old new : Claimed) →
-    ((s : ℕ) → owns s → table.entry s < table.valid → owns (table.entry s)) → Takes owns old new → IsClosed table old →
-    IsClosed table new
+    ((s : ℕ) → owns s → table.entry s < table.valid → owns (table.entry s)) → TakesSectors owns old new → IsClosedClaim
+    table old →
+    IsClosedClaim table new
 takes_closed table owns old new follows t c = record {
   taken = λ s h low. elim (t.only s h) [
     | inl was ↦ t.kept (table.entry s) (c.taken s was low)
@@ -374,7 +379,7 @@ takes_closed table owns old new follows t c = record {
 
 -- at first nothing is taken
 pub closed_none : (table : Table) (claimed : Claimed) → ((s : ℕ) → ¬ IsMarked claimed.taken s) →
-    ((s : ℕ) → ¬ IsMarked claimed.shared s) → IsClosed table claimed
+    ((s : ℕ) → ¬ IsMarked claimed.shared s) → IsClosedClaim table claimed
 closed_none table claimed none none_shared = record {
   taken = λ s h low. absurd (none s h);
   shared = λ s h low. absurd (none_shared s h);
@@ -390,7 +395,7 @@ set_kept marks sector s low h = elim (cases_eq s sector) [
 
 -- one sector is taken, which was taken already, or was not
 pub take_again : (old : Claimed) (sector : ℕ) → IsMarked old.taken sector → sector < length old.shared →
-    Takes (λ s. s ≡ sector) old (record { taken = old.taken; shared = set old.shared sector true })
+    TakesSectors (λ s. s ≡ sector) old (record { taken = old.taken; shared = set old.shared sector true })
 take_again old sector was low = record {
   kept = λ s h. h;
   added = λ s e. subst (IsMarked old.taken) (sym e) was;
@@ -406,7 +411,7 @@ take_again old sector was low = record {
 
 pub take_free : (old : Claimed) (sector : ℕ) → slice_index_or old.taken sector false ≡ false →
     sector < length old.taken →
-    Takes (λ s. s ≡ sector) old (record { taken = set old.taken sector true; shared = old.shared })
+    TakesSectors (λ s. s ≡ sector) old (record { taken = set old.taken sector true; shared = old.shared })
 take_free old sector free low = record {
   kept = λ s h. set_kept old.taken sector s low h;
   added = λ s e. subst (IsMarked (set old.taken sector true)) (sym e) (get_or-set_same old.taken sector true false low);
@@ -420,7 +425,7 @@ take_free old sector free low = record {
 }
 
 -- at first none of the sectors is taken
-pub takes_front : (sectors : List ℕ) (claimed : Claimed) → Takes (HasFront sectors 0) claimed claimed
+pub takes_front : (sectors : List ℕ) (claimed : Claimed) → TakesSectors (HasFront sectors 0) claimed claimed
 takes_front sectors claimed = record {
   kept = λ s h. h;
   added = λ s own. absurd (let low = own.below in omega arith);
@@ -433,8 +438,8 @@ takes_front sectors claimed = record {
 -- one sector more
 pub takes_step : (sectors : List ℕ) (count : ℕ) (old mid new : Claimed) →
     ((i j : ℕ) → i < j → j < length sectors → slice_index sectors i ≢ slice_index sectors j) → count < length sectors →
-    Takes (HasFront sectors count) old mid → Takes (λ s. s ≡ slice_index sectors count) mid new →
-    Takes (HasFront sectors (count + 1)) old new
+    TakesSectors (HasFront sectors count) old mid → TakesSectors (λ s. s ≡ slice_index sectors count) mid new →
+    TakesSectors (HasFront sectors (count + 1)) old new
 takes_step sectors count old mid new distinct low t u =
     let more : (s : ℕ) → HasFront sectors count s → HasFront sectors (count + 1) s = λ s own. record
     { index = own.index; below = (let b = own.below in omega arith); here = own.here } in
@@ -471,7 +476,7 @@ takes_step sectors count old mid new distinct low t u =
 
 -- what one says of its sectors another word can say too
 pub takes_same : (A B : ℕ → Type 0) (old new : Claimed) → ((s : ℕ) → A s → B s) → ((s : ℕ) → B s → A s) →
-    Takes A old new → Takes B old new
+    TakesSectors A old new → TakesSectors B old new
 takes_same A B old new to from t = record {
   kept = t.kept;
   added = λ s h. t.added s (from s h);

@@ -8,7 +8,8 @@ use Rattle.std.proofs.lemmas.List.{get_or-set_same, get_or-set_other}
 use Rattle.cfb_sectors.specs.declared.ends.End.{End}
 use Rattle.cfb_sectors.specs.SectorChain.{HasSector, IsSectorPath, IsFullPath, last_of}
 use Rattle.cfb_sectors.proofs.ChainLemmas.{path_short}
-use Rattle.cfb_sectors.specs.Ends.{IsEnd, KnownEnds, IsKnown, end_at, with_end, Remembers, GoesOn, before}
+use Rattle.cfb_sectors.specs.Ends.{IsEnd, KnownEnds, IsKnownEndAt, end_at, with_known_end, Remembers, GoesOnAtKnown}
+use Rattle.cfb_sectors.specs.Ends.{before}
 
 -- a sector before a list
 cons_within : (s : ℕ) (ys : List ℕ) (valid : ℕ) → s < valid → ((i : ℕ) → i < length ys → slice_index ys i < valid) →
@@ -74,21 +75,24 @@ full_one entry valid s low over = record {
 
 -- all sectors of the path from a known one are known
 pub known_all : (entry : ℕ → ℕ) (valid : ℕ) (known : KnownEnds) (s : ℕ) (xs : List ℕ) → Remembers entry valid known →
-    IsKnown known s → IsSectorPath entry valid s xs → (i : ℕ) → i < length xs → IsKnown known (slice_index xs i)
-known_all entry valid known s xs r is p zero h = subst (IsKnown known) (sym p.first) is
+    IsKnownEndAt known s → IsSectorPath entry valid s xs → (i : ℕ) → i < length xs → IsKnownEndAt known (slice_index xs
+    i)
+known_all entry valid known s xs r is p zero h = subst (IsKnownEndAt known) (sym p.first) is
 known_all entry valid known s xs r is p (suc i) h =
     let e : i + 1 ≡ suc i = omega arith in
     let link = p.links i (omega arith) in
     let low = p.within (i + 1) (omega arith) in
-    subst (λ k. IsKnown known (slice_index xs k)) e
-    (subst (IsKnown known) link
+    subst (λ k. IsKnownEndAt known (slice_index xs k)) e
+    (subst (IsKnownEndAt known) link
     (r.closed (slice_index xs i) (known_all entry valid known s xs r is p i (omega arith))
     (subst (λ t. t < valid) (sym link) low)))
 
 -- the end of the path from a sector that is not known
 pub end_step : (entry : ℕ → ℕ) (valid : ℕ) (known : KnownEnds) (s : ℕ) (rest : Option End) →
-    Remembers entry valid known → s < valid → ¬ IsKnown known s → (entry s < valid → IsKnown known (entry s)) →
-    MatchOption rest (¬ IsKnown known (entry s)) (λ end. IsKnown known (entry s) × (end ≡ end_at known (entry s))) →
+    Remembers entry valid known → s < valid → ¬ IsKnownEndAt known s → (entry s < valid → IsKnownEndAt known (entry s))
+    →
+    MatchOption rest (¬ IsKnownEndAt known (entry s)) (λ end. IsKnownEndAt known (entry s) × (end ≡ end_at known (entry
+    s))) →
     IsEnd entry valid s (before s rest)
 end_step entry valid known s None r low new goes none = record {
   sectors = s ∷ [];
@@ -106,15 +110,16 @@ end_step entry valid known s (Some end) r low new goes found =
     record {
       sectors = s ∷ is.sectors;
       full = full_cons entry valid s is.sectors low is.full
-          (λ h. new (subst (IsKnown known) h.here
+          (λ h. new (subst (IsKnownEndAt known) h.here
           (known_all entry valid known (entry s) is.sectors r found.0 is.full.path h.index h.inside)));
       count = omega arith;
       last = ap (λ x. x.last) e ∙ (is.last ∙ sym (last_cons s is.sectors is.full.path.some));
     }
 
 -- what is known stays known
-pub kept_known : (known : KnownEnds) (s t : ℕ) (end : End) → s < length known.counts → 0 < end.count → IsKnown known t →
-    IsKnown (with_end known s end) t
+pub kept_known : (known : KnownEnds) (s t : ℕ) (end : End) → s < length known.counts → 0 < end.count → IsKnownEndAt
+    known t →
+    IsKnownEndAt (with_known_end known s end) t
 kept_known known s t end low some is = elim (cases_eq t s) [
   | inl same ↦ subst (λ n. 0 < n) (sym (ap (λ k. slice_index (set known.counts s end.count) k) same
       ∙ get_or-set_same known.counts s end.count 0 low)) some
@@ -123,28 +128,29 @@ kept_known known s t end low some is = elim (cases_eq t s) [
 
 -- the sector itself is known then
 pub put_known : (known : KnownEnds) (s : ℕ) (end : End) → s < length known.counts → 0 < end.count →
-    IsKnown (with_end known s end) s
+    IsKnownEndAt (with_known_end known s end) s
 put_known known s end low some = subst (λ n. 0 < n) (sym (get_or-set_same known.counts s end.count 0 low)) some
 
 -- no other sector becomes known
-pub only_known : (known : KnownEnds) (s t : ℕ) (end : End) → t ≢ s → IsKnown (with_end known s end) t → IsKnown known t
+pub only_known : (known : KnownEnds) (s t : ℕ) (end : End) → t ≢ s → IsKnownEndAt (with_known_end known s end) t →
+    IsKnownEndAt known t
 only_known known s t end other is = subst (λ n. 0 < n) (get_or-set_other known.counts s t end.count 0 other) is
 
 -- one end more is right
 pub put_ends : (entry : ℕ → ℕ) (valid : ℕ) (known : KnownEnds) (s : ℕ) (end : End) → s < length known.counts →
-    s < length known.lasts → ((t : ℕ) → IsKnown known t → IsEnd entry valid t (end_at known t)) →
-    IsEnd entry valid s end → (t : ℕ) → IsKnown (with_end known s end) t →
-    IsEnd entry valid t (end_at (with_end known s end) t)
+    s < length known.lasts → ((t : ℕ) → IsKnownEndAt known t → IsEnd entry valid t (end_at known t)) →
+    IsEnd entry valid s end → (t : ℕ) → IsKnownEndAt (with_known_end known s end) t →
+    IsEnd entry valid t (end_at (with_known_end known s end) t)
 put_ends entry valid known s end inside inside_lasts ends is t h = elim (cases_eq t s) [
   | inl same ↦
-      let e : end_at (with_end known s end) s ≡ end =
+      let e : end_at (with_known_end known s end) s ≡ end =
       ap (λ c. record { count = c; last = slice_index (set known.lasts s end.last) s })
       (get_or-set_same known.counts s end.count 0 inside)
       ∙ ap (λ l. record { count = end.count; last = l }) (get_or-set_same known.lasts s end.last 0 inside_lasts) in
-      subst (λ k. IsEnd entry valid k (end_at (with_end known s end) k)) (sym same)
+      subst (λ k. IsEnd entry valid k (end_at (with_known_end known s end) k)) (sym same)
       (subst (IsEnd entry valid s) (sym e) is)
   | inr other ↦
-      let e : end_at (with_end known s end) t ≡ end_at known t =
+      let e : end_at (with_known_end known s end) t ≡ end_at known t =
       ap (λ c. record { count = c; last = slice_index (set known.lasts s end.last) t })
       (get_or-set_other known.counts s t end.count 0 other)
       ∙ ap (λ l. record { count = slice_index known.counts t; last = l })
@@ -154,8 +160,8 @@ put_ends entry valid known s end inside inside_lasts ends is t h = elim (cases_e
 
 -- one end more is remembered
 pub put_step : (entry : ℕ → ℕ) (valid : ℕ) (known : KnownEnds) (s : ℕ) (end : End) → Remembers entry valid known →
-    s < valid → (entry s < valid → IsKnown known (entry s)) → 0 < end.count → IsEnd entry valid s end →
-    Remembers entry valid (with_end known s end)
+    s < valid → (entry s < valid → IsKnownEndAt known (entry s)) → 0 < end.count → IsEnd entry valid s end →
+    Remembers entry valid (with_known_end known s end)
 put_step entry valid known s end r low goes some is =
     let counts = r.counts_len in
     let lasts = r.lasts_len in
@@ -169,7 +175,7 @@ put_step entry valid known s end r low goes some is =
       ends = put_ends entry valid known s end inside inside_lasts r.ends is;
       closed = λ t h less. elim (cases_eq t s) [
         | inl same ↦
-            subst (λ k. IsKnown (with_end known s end) (entry k)) (sym same)
+            subst (λ k. IsKnownEndAt (with_known_end known s end) (entry k)) (sym same)
             (kept_known known s (entry s) end inside some (goes (subst (λ k. entry k < valid) same less)))
         | inr other ↦ kept_known known s (entry t) end inside some (r.closed t (only_known known s t end other h) less)
       ];
@@ -182,8 +188,8 @@ before_some s (Some end) = omega arith
 -- the sectors behind are remembered, besides those that were
 pub record IsRemembered (entry : ℕ → ℕ) (valid : ℕ) (old known : KnownEnds) (path : List ℕ) (count : ℕ) : Type 0 where
   pub remembers : Remembers entry valid known
-  pub kept : (s : ℕ) → IsKnown old s → IsKnown known s
-  pub behind : (k : ℕ) → length path ≤ k + count → k < length path → IsKnown known (slice_index path k)
+  pub kept : (s : ℕ) → IsKnownEndAt old s → IsKnownEndAt known s
+  pub behind : (k : ℕ) → length path ≤ k + count → k < length path → IsKnownEndAt known (slice_index path k)
 
 pub remembered_none : (entry : ℕ → ℕ) (valid : ℕ) (old : KnownEnds) (path : List ℕ) → Remembers entry valid old →
     IsRemembered entry valid old old path 0
@@ -196,30 +202,30 @@ remembered_none entry valid old path r = record {
 -- what follows the sector before them is known
 pub remembered_next : (entry : ℕ → ℕ) (valid : ℕ) (old known : KnownEnds) (path : List ℕ) (i s : ℕ) →
     ((k : ℕ) → k + 1 < length path → entry (slice_index path k) ≡ slice_index path (k + 1)) →
-    GoesOn entry valid old path → i < length path → s ≡ slice_index path (length path - 1 - i) →
-    IsRemembered entry valid old known path i → entry s < valid → IsKnown known (entry s)
+    GoesOnAtKnown entry valid old path → i < length path → s ≡ slice_index path (length path - 1 - i) →
+    IsRemembered entry valid old known path i → entry s < valid → IsKnownEndAt known (entry s)
 remembered_next entry valid old known path i s links goes_on low is r less = elim (cases_eq i 0) [
   | inl none ↦
       let e : length path - 1 - i ≡ length path - 1 = omega arith in
       let last : s ≡ last_of path = is ∙ ap (λ j. slice_index path j) e in
-      subst (λ t. IsKnown known (entry t)) (sym last)
+      subst (λ t. IsKnownEndAt known (entry t)) (sym last)
       (r.kept (entry (last_of path)) (goes_on (subst (λ t. entry t < valid) last less)))
   | inr some ↦
       let link = links (length path - 1 - i) (omega arith) in
-      subst (IsKnown known) (sym (ap entry is ∙ link))
+      subst (IsKnownEndAt known) (sym (ap entry is ∙ link))
       (r.behind (length path - 1 - i + 1) (omega arith) (omega arith))
 ]
 
 -- one sector more
 pub remember_step : (entry : ℕ → ℕ) (valid : ℕ) (old known new : KnownEnds) (path : List ℕ) (i s : ℕ) →
     i < length path → s ≡ slice_index path (length path - 1 - i) → IsRemembered entry valid old known path i →
-    Remembers entry valid new → ((t : ℕ) → IsKnown known t → IsKnown new t) → IsKnown new s →
+    Remembers entry valid new → ((t : ℕ) → IsKnownEndAt known t → IsKnownEndAt new t) → IsKnownEndAt new s →
     IsRemembered entry valid old new path (i + 1)
 remember_step entry valid old known new path i s low is r remembers kept here = record {
   remembers = remembers;
   kept = λ t h. kept t (r.kept t h);
   behind = λ j h less. elim (cases_eq j (length path - 1 - i)) [
-    | inl same ↦ subst (IsKnown new) (is ∙ ap (λ m. slice_index path m) (sym same)) here
+    | inl same ↦ subst (IsKnownEndAt new) (is ∙ ap (λ m. slice_index path m) (sym same)) here
     | inr other ↦ kept (slice_index path j) (r.behind j (omega arith) less)
   ];
 }
@@ -227,7 +233,7 @@ remember_step entry valid old known new path i s low is r remembers kept here = 
 -- the ends are small numbers
 pub end_few : (entry : ℕ → ℕ) (valid : ℕ) (known : KnownEnds) (s : ℕ) (rest : Option End) →
     Remembers entry valid known →
-    valid < 2 ^ 31 → MatchOption rest (¬ IsKnown known s) (λ end. IsKnown known s × (end ≡ end_at known s)) →
+    valid < 2 ^ 31 → MatchOption rest (¬ IsKnownEndAt known s) (λ end. IsKnownEndAt known s × (end ≡ end_at known s)) →
     IfSome rest (λ end. end.count < 2 ^ 32 - 1)
 end_few entry valid known s None r few found = tt
 end_few entry valid known s (Some end) r few found =
@@ -238,14 +244,16 @@ end_few entry valid known s (Some end) r few found =
 
 -- a sector whose end is not found is not known
 pub not_known : (known : KnownEnds) (s : ℕ) (rest : Option End) →
-    MatchOption rest (¬ IsKnown known s) (λ end. IsKnown known s × (end ≡ end_at known s)) → is_some rest ≡ false →
-    ¬ IsKnown known s
+    MatchOption rest (¬ IsKnownEndAt known s) (λ end. IsKnownEndAt known s × (end ≡ end_at known s)) → is_some rest ≡
+    false →
+    ¬ IsKnownEndAt known s
 not_known known s None found none = found
 not_known known s (Some end) found none = absurd (cc none)
 
 -- and one whose end is found is
 pub is_known : (known : KnownEnds) (s : ℕ) (rest : Option End) →
-    MatchOption rest (¬ IsKnown known s) (λ end. IsKnown known s × (end ≡ end_at known s)) → is_some rest ≡ true →
-    IsKnown known s
+    MatchOption rest (¬ IsKnownEndAt known s) (λ end. IsKnownEndAt known s × (end ≡ end_at known s)) → is_some rest ≡
+    true →
+    IsKnownEndAt known s
 is_known known s None found some = absurd (cc some)
 is_known known s (Some end) found some = found.0

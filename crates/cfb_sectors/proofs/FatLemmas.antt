@@ -4,7 +4,7 @@ use Rattle.std.proofs.lemmas.Bool.{cases_lt}
 use Rattle.std.proofs.lemmas.List.FromFn.{length-map-range_with_len, get_or-map-range_with_len}
 use Rattle.doc_bits.specs.Rules.{Nowhere}
 use Rattle.cfb_sectors.specs.Header.{fat_sector, fat_sector_count, fat_sectors, valid_below}
-use Rattle.cfb_sectors.specs.Opening.{IsWhole}
+use Rattle.cfb_sectors.specs.Opening.{HasRightLength}
 use Rattle.cfb_sectors.specs.HeaderRules.{BreaksFat}
 use Rattle.cfb_sectors.specs.Chain.{AreSectorsOf}
 use Rattle.cfb_sectors.specs.Claims.{AreDistinctBelow}
@@ -56,7 +56,7 @@ fat_apart file holds =
     }
 
 -- they are in the file
-pub fat_inside : (file : List ℕ) → IsWhole file → Nowhere (BreaksFat file) → AreSectorsOf file (fat_sectors file)
+pub fat_inside : (file : List ℕ) → HasRightLength file → Nowhere (BreaksFat file) → AreSectorsOf file (fat_sectors file)
 fat_inside file whole holds =
     let len = length-fat_sectors file in
     let few = fat_few file holds in

@@ -4,7 +4,7 @@ use Rattle.std.proofs.Common.{arith}
 use Rattle.std.proofs.lemmas.Bool.{cases_lt, cases_eq}
 use Rattle.doc_bits.specs.Rules.{Nowhere, IsLeast}
 use Rattle.cfb_sectors.specs.SectorChain.{IsFullPath, last_of, end_of_chain}
-use Rattle.cfb_sectors.specs.Chain.{Table, Head, HoldsChain, BreaksChain, BreaksOnTheWay}
+use Rattle.cfb_sectors.specs.Chain.{Table, ChainHead, HoldsChain, BreaksChain, BreaksOnTheWay}
 use Rattle.cfb_sectors.proofs.ChainLemmas.{path_same, last_within, full_unique, chain_full, chain_unique}
 
 -- tables with the same entries have the same full paths
@@ -21,7 +21,7 @@ full_same entry other valid start xs same f =
     }
 
 -- a chain that breaks on the way breaks nowhere else
-pub way_least : (table : Table) (head : Head) (place : ℕ) → BreaksOnTheWay table head place →
+pub way_least : (table : Table) (head : ChainHead) (place : ℕ) → BreaksOnTheWay table head place →
     IsLeast (λ a b. a ≤ b) (BreaksChain table head) place
 way_least table head place way = record {
   broken = inr way;
@@ -38,14 +38,14 @@ way_least table head place way = record {
 }
 
 -- a full path that ends with ENDOFCHAIN and has enough sectors is the chain
-pub full_holds : (table : Table) (head : Head) (xs : List ℕ) → table.valid ≤ end_of_chain →
+pub full_holds : (table : Table) (head : ChainHead) (xs : List ℕ) → table.valid ≤ end_of_chain →
     IsFullPath table.entry table.valid head.start xs → table.entry (last_of xs) ≡ end_of_chain →
     head.size ≤ length xs * head.unit → HoldsChain table head xs
 full_holds table head xs range full ends enough = record
     { range = range; chain = record { path = full.path; ends = ends }; enough = enough }
 
 -- where no chain is broken a full path is the chain
-pub full_whole : (table : Table) (head : Head) (xs : List ℕ) → table.valid ≤ end_of_chain →
+pub full_whole : (table : Table) (head : ChainHead) (xs : List ℕ) → table.valid ≤ end_of_chain →
     IsFullPath table.entry table.valid head.start xs → Nowhere (BreaksChain table head) → HoldsChain table head xs
 full_whole table head xs range full none =
     let broken = λ (wrong : (table.entry (last_of xs) ≢ end_of_chain) ⊎ (length xs * head.unit < head.size)).
@@ -55,14 +55,14 @@ full_whole table head xs range full none =
     (elim (cases_lt (length xs * head.unit) head.size) [ inl lo ↦ absurd (broken (inr lo)) | inr hi ↦ hi ])
 
 -- and its start is valid
-pub whole_start : (table : Table) (head : Head) → Nowhere (BreaksChain table head) → head.start < table.valid
+pub whole_start : (table : Table) (head : ChainHead) → Nowhere (BreaksChain table head) → head.start < table.valid
 whole_start table head none = elim (cases_lt head.start table.valid) [
   | inl lo ↦ lo
   | inr hi ↦ absurd (none head.field (inl (record { here = refl; wrong = hi })))
 ]
 
 -- a whole chain breaks nowhere
-pub holds_none : (table : Table) (head : Head) (xs : List ℕ) → HoldsChain table head xs →
+pub holds_none : (table : Table) (head : ChainHead) (xs : List ℕ) → HoldsChain table head xs →
     Nowhere (BreaksChain table head)
 holds_none table head xs h = λ p b. elim b [
   | inl start ↦
@@ -82,6 +82,6 @@ holds_none table head xs h = λ p b. elim b [
 ]
 
 -- there is one chain
-pub holds_unique : (table : Table) (head : Head) (xs ys : List ℕ) → HoldsChain table head xs →
+pub holds_unique : (table : Table) (head : ChainHead) (xs ys : List ℕ) → HoldsChain table head xs →
     HoldsChain table head ys → xs ≡ ys
 holds_unique table head xs ys h k = chain_unique table.entry table.valid head.start xs ys h.range h.chain k.chain

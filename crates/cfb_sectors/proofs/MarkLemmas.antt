@@ -5,26 +5,27 @@ use Rattle.std.proofs.Common.{refl}
 use Rattle.std.proofs.Common.{sym, ap, ◌∙◌, arith, eqb-true, eq-eqb}
 use Rattle.std.proofs.lemmas.Bool.{cases_lt, false≢true}
 use Rattle.std.proofs.lemmas.List.{get_or-map, get_or-replicate, get_or_past, map-set, length-map, length-replicate}
-use Rattle.cfb_sectors.specs.Marks.{IsMarked, marks_of}
+use Rattle.cfb_sectors.specs.Marks.{IsMarked, stamped_marks}
 
-pub IsMarked-stamp : (stamps : List ℕ) (stamp s : ℕ) → IsMarked (marks_of stamps stamp) s → slice_index stamps s ≡ stamp
+pub IsMarked-stamp : (stamps : List ℕ) (stamp s : ℕ) → IsMarked (stamped_marks stamps stamp) s → slice_index stamps s ≡
+    stamp
 IsMarked-stamp stamps stamp s h = elim (cases_lt s (length stamps)) [
   | inl lo ↦ eqb-true (slice_index stamps s) stamp (sym (get_or-map (λ x. x == stamp) stamps s 0 false lo) ∙ h)
   | inr hi ↦
-      let len : length (marks_of stamps stamp) ≡ length stamps = length-map stamps (λ x. x == stamp) in
-      absurd (false≢true (sym (get_or_past (marks_of stamps stamp) s false (omega arith)) ∙ h))
+      let len : length (stamped_marks stamps stamp) ≡ length stamps = length-map stamps (λ x. x == stamp) in
+      absurd (false≢true (sym (get_or_past (stamped_marks stamps stamp) s false (omega arith)) ∙ h))
 ]
 
 -- where all stamps are older no sector is marked
 pub no_mark : (stamps : List ℕ) (stamp : ℕ) → ((s : ℕ) → slice_index stamps s < stamp) → (s : ℕ) →
-    ¬ IsMarked (marks_of stamps stamp) s
+    ¬ IsMarked (stamped_marks stamps stamp) s
 no_mark stamps stamp older s h = let e = IsMarked-stamp stamps stamp s h in let low = older s in omega arith
 
 -- a stamp that is set is a mark that is set
 pub marks_of-set : (stamps : List ℕ) (stamp s : ℕ) →
-    marks_of (set stamps s stamp) stamp ≡ set (marks_of stamps stamp) s true
+    stamped_marks (set stamps s stamp) stamp ≡ set (stamped_marks stamps stamp) s true
 marks_of-set stamps stamp s =
-    map-set (λ x. x == stamp) stamps s stamp ∙ ap (λ b. set (marks_of stamps stamp) s b) (eq-eqb stamp stamp refl)
+    map-set (λ x. x == stamp) stamps s stamp ∙ ap (λ b. set (stamped_marks stamps stamp) s b) (eq-eqb stamp stamp refl)
 
 -- a marked sector has a mark
 pub marked_below : (marks : List Bool) (s : ℕ) → IsMarked marks s → s < length marks

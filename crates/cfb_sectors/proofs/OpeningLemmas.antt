@@ -2,12 +2,12 @@
 use Rattle.std.proofs.Common.{inl, inr, ℕ, ◌%◌, min, List, length, refl}
 use Rattle.std.proofs.lemmas.Bool.{cases_lt, cases_eq}
 use Rattle.doc_bits.specs.Rules.{Nowhere}
-use Rattle.cfb_sectors.specs.Opening.{BreaksLength, IsWrongLength, IsWhole}
+use Rattle.cfb_sectors.specs.Opening.{BreaksLength, IsWrongFileLength, HasRightLength}
 
 -- where rule 1 holds the length is right
-pub whole_length : (file : List ℕ) → Nowhere (BreaksLength file) → IsWhole file
+pub whole_length : (file : List ℕ) → Nowhere (BreaksLength file) → HasRightLength file
 whole_length file holds =
-    let right : ¬ IsWrongLength (length file) = λ w. holds (min (length file) 7143937)
+    let right : ¬ IsWrongFileLength (length file) = λ w. holds (min (length file) 7143937)
     (record { here = refl; wrong = w }) in
     record {
       sectors = elim (cases_eq (length file % 512) 0) [ inl e ↦ e | inr ne ↦ absurd (right (inl ne)) ];

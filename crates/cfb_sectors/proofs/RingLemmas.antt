@@ -5,7 +5,7 @@ use Rattle.std.proofs.lemmas.Bool.{cases_lt, cases_eq}
 use Rattle.std.proofs.lemmas.List.{get_or-drop, length-drop}
 use Rattle.cfb_sectors.specs.declared.ends.End.{End}
 use Rattle.cfb_sectors.specs.SectorChain.{HasSector, IsSectorPath, last_of}
-use Rattle.cfb_sectors.specs.Ends.{IsEnd, KnownEnds, IsKnown, end_at, with_end, Remembers, IsFreshPath}
+use Rattle.cfb_sectors.specs.Ends.{IsEnd, KnownEnds, IsKnownEndAt, end_at, with_known_end, Remembers, IsFreshPath}
 use Rattle.cfb_sectors.specs.Ends.{IsRing, IsRingEnd}
 use Rattle.cfb_sectors.proofs.ChainLemmas.{pushed_before, pushed_last, length_pushed}
 use Rattle.cfb_sectors.proofs.EndLemmas.{kept_known, put_known, only_known, put_ends}
@@ -85,10 +85,10 @@ pub record IsRingFront (entry : ℕ → ℕ) (valid : ℕ) (old known : KnownEnd
   pub len : end.count ≡ length sectors
   pub counts_len : length known.counts ≡ valid
   pub lasts_len : length known.lasts ≡ valid
-  pub ends : (s : ℕ) → IsKnown known s → IsEnd entry valid s (end_at known s)
-  pub kept : (s : ℕ) → IsKnown old s → IsKnown known s
-  pub front : (k : ℕ) → k < count → k < length sectors → IsKnown known (slice_index sectors k)
-  pub only : (s : ℕ) → IsKnown known s → IsKnown old s ⊎ HasSector sectors s
+  pub ends : (s : ℕ) → IsKnownEndAt known s → IsEnd entry valid s (end_at known s)
+  pub kept : (s : ℕ) → IsKnownEndAt old s → IsKnownEndAt known s
+  pub front : (k : ℕ) → k < count → k < length sectors → IsKnownEndAt known (slice_index sectors k)
+  pub only : (s : ℕ) → IsKnownEndAt known s → IsKnownEndAt old s ⊎ HasSector sectors s
   pub here : count < length sectors → at ≡ slice_index sectors count
   pub turned : IsRingEnd entry valid at (record { count = end.count; last = last })
 
@@ -117,7 +117,8 @@ ring_inside entry valid old known start end count at last f =
 -- one sector more
 pub ring_step : (entry : ℕ → ℕ) (valid : ℕ) (old known : KnownEnds) (start : ℕ) (end : End) (count at last : ℕ) →
     count < end.count → IsRingFront entry valid old known start end count at last →
-    IsRingFront entry valid old (with_end known at (record { count = end.count; last = last })) start end (count + 1)
+    IsRingFront entry valid old (with_known_end known at (record { count = end.count; last = last })) start end (count +
+    1)
     (entry at) at
 ring_step entry valid old known start end count at last low f =
     let inside = ring_inside entry valid old known start end count at last f in
@@ -139,7 +140,7 @@ ring_step entry valid old known start end count at last low f =
           (ring_end entry valid at (record { count = end.count; last = last }) f.turned);
       kept = λ s h. kept_known known at s (record { count = end.count; last = last }) within (omega arith) (f.kept s h);
       front = λ k h less. elim (cases_eq k count) [
-        | inl same ↦ subst (IsKnown (with_end known at (record { count = end.count; last = last })))
+        | inl same ↦ subst (IsKnownEndAt (with_known_end known at (record { count = end.count; last = last })))
             (f.here more ∙ ap (λ i. slice_index f.sectors i) (sym same))
             (put_known known at (record { count = end.count; last = last }) within (omega arith))
         | inr other ↦ kept_known known at (slice_index f.sectors k) (record { count = end.count; last = last }) within
@@ -168,33 +169,33 @@ ring_done entry valid old known start end count at last all r f =
         | inr has ↦
             let inside = has.inside in
             elim (cases_lt (has.index + 1) (length f.sectors)) [
-              | inl lo ↦ subst (IsKnown known) (sym (f.ring.path.links has.index lo) ∙ ap entry has.here)
+              | inl lo ↦ subst (IsKnownEndAt known) (sym (f.ring.path.links has.index lo) ∙ ap entry has.here)
                   (f.front (has.index + 1) (omega arith) lo)
               | inr hi ↦
                   let e : length f.sectors - 1 ≡ has.index = omega arith in
                   let last : last_of f.sectors ≡ s = ap (λ k. slice_index f.sectors k) e ∙ has.here in
-                  subst (IsKnown known) (f.ring.path.first ∙ (sym f.ring.back ∙ ap entry last))
+                  subst (IsKnownEndAt known) (f.ring.path.first ∙ (sym f.ring.back ∙ ap entry last))
                   (f.front 0 (omega arith) f.ring.path.some)
             ]
       ];
     }
 
 pub ring_known : (entry : ℕ → ℕ) (valid : ℕ) (old known : KnownEnds) (start : ℕ) (end : End) (count at last : ℕ) →
-    end.count ≤ count → IsRingFront entry valid old known start end count at last → IsKnown known start
+    end.count ≤ count → IsRingFront entry valid old known start end count at last → IsKnownEndAt known start
 ring_known entry valid old known start end count at last all f =
     let len = f.len in
     let some = f.ring.path.some in
-    subst (IsKnown known) f.ring.path.first (f.front 0 (omega arith) f.ring.path.some)
+    subst (IsKnownEndAt known) f.ring.path.first (f.front 0 (omega arith) f.ring.path.some)
 
 -- a path that goes on at a valid sector that is not known comes back to itself
 pub fresh_turns : (entry : ℕ → ℕ) (valid : ℕ) (known : KnownEnds) (start next : ℕ) (path : List ℕ) →
-    IsFreshPath entry valid known start path → next ≡ entry (last_of path) → next < valid → ¬ IsKnown known next →
+    IsFreshPath entry valid known start path → next ≡ entry (last_of path) → next < valid → ¬ IsKnownEndAt known next →
     HasSector path next
 fresh_turns entry valid known start next path fresh is low new = elim fresh.stops [
   | inl out ↦ absurd (omega arith)
   | inr more ↦ elim more [
     | inl has ↦ subst (HasSector path) (sym is) has
-    | inr old ↦ absurd (new (subst (IsKnown known) (sym is) old))
+    | inr old ↦ absurd (new (subst (IsKnownEndAt known) (sym is) old))
   ]
 ]
 

@@ -8,15 +8,16 @@ use Rattle.cfb_sectors.specs.declared.ends.End.{End}
 use Rattle.cfb_sectors.specs.Ends.{IsEnd}
 use Rattle.cfb_sectors.specs.SectorChain.{IsFullPath}
 use Rattle.cfb_sectors.specs.Chain.{table_of}
-use Rattle.cfb_sectors.specs.Judged.{IsFoundBy, IsRefused, broken_place}
-use Rattle.cfb_sectors.specs.Tables.{IsKept}
+use Rattle.cfb_sectors.specs.Judged.{IsFoundBy, IsRuleFault, broken_place}
+use Rattle.cfb_sectors.specs.Tables.{IsKeptTable}
 use Rattle.cfb_sectors.specs.Judged.{IsCfbFault}
 use Rattle.cfb_sectors.proofs.JudgeLemmas.{full_same}
-use Rattle.cfb_sectors.specs.Walk.{IsWalk}
+use Rattle.cfb_sectors.specs.Walk.{IsChainWalk}
 use Rattle.cfb_sectors.proofs.ClaimLemmas.{walk_same}
 
 -- a full path by the entries that are kept is one by the table
-pub kept_path : (file sectors entries : List ℕ) (valid start : ℕ) (xs : List ℕ) → IsKept file sectors entries valid →
+pub kept_path : (file sectors entries : List ℕ) (valid start : ℕ) (xs : List ℕ) → IsKeptTable file sectors entries valid
+    →
     IsFullPath (λ s. slice_index entries s) valid start xs →
     IsFullPath (table_of file sectors valid).entry valid start xs
 kept_path file sectors entries valid start xs is full =
@@ -25,15 +26,15 @@ kept_path file sectors entries valid start xs is full =
 
 -- and so is a walk
 pub kept_walk : (file sectors entries : List ℕ) (valid start at : ℕ) (xs : List ℕ) →
-    IsKept file sectors entries valid → IsWalk (λ s. slice_index entries s) valid start at xs →
-    IsWalk (table_of file sectors valid).entry valid start at xs
+    IsKeptTable file sectors entries valid → IsChainWalk (λ s. slice_index entries s) valid start at xs →
+    IsChainWalk (table_of file sectors valid).entry valid start at xs
 kept_walk file sectors entries valid start at xs is walk =
     walk_same (λ s. slice_index entries s) (table_of file sectors valid).entry valid start at xs
     (λ s h. let room = is.room in is.is_table.each s (omega arith)) walk
 
 -- a rule that is refused is broken there first
 pub refused_first : (number : ℕ) (breaks : ℕ → Type 0) (wrong : Option ℕ) (fault : CfbFault) →
-    LeastOrNone breaks wrong → IsRefused number wrong fault → IsCfbFault (rule number breaks) fault
+    LeastOrNone breaks wrong → IsRuleFault number wrong fault → IsCfbFault (rule number breaks) fault
 refused_first number breaks wrong fault least refused =
     let broken = rw refused.1.0 at least in rw refused.1.1 (refl, broken)
 
@@ -42,14 +43,14 @@ pub none_nowhere : (breaks : ℕ → Type 0) (wrong : Option ℕ) → LeastOrNon
 none_nowhere breaks wrong least none = rw none at least
 
 pub refused_chain : (number : ℕ) (holds : List ℕ → Type 0) (breaks : ℕ → Type 0) (chain : Chain) (fault : CfbFault) →
-    IsFoundBy holds breaks chain → IsRefused number (broken_place chain) fault → IsCfbFault (rule number breaks) fault
+    IsFoundBy holds breaks chain → IsRuleFault number (broken_place chain) fault → IsCfbFault (rule number breaks) fault
 refused_chain number holds breaks (Found sectors) fault found refused = let e : None ≡ Some refused.0 =
     refused.1.0 in absurd (cc e)
 refused_chain number holds breaks (Breaks place) fault found refused = refused_first number breaks (Some place) fault
     found refused
 
 -- an end by the entries that are kept is one by the table
-pub kept_end : (file sectors entries : List ℕ) (valid start : ℕ) (end : End) → IsKept file sectors entries valid →
+pub kept_end : (file sectors entries : List ℕ) (valid start : ℕ) (end : End) → IsKeptTable file sectors entries valid →
     IsEnd (λ s. slice_index entries s) valid start end → IsEnd (table_of file sectors valid).entry valid start end
 kept_end file sectors entries valid start end is e = record {
   sectors = e.sectors;

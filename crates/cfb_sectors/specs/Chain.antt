@@ -11,7 +11,7 @@ pub record Table : Type 0 where
   pub valid : ℕ
 
 -- where the field with the start is, the start, the bytes of a sector, and the bytes that the chain must hold
-pub record Head : Type 0 where
+pub record ChainHead : Type 0 where
   pub field : ℕ
   pub start : ℕ
   pub unit : ℕ
@@ -45,23 +45,23 @@ pub record IsTable (file sectors entries : List ℕ) : Type 0 where
       slice_index entries s ≡ u32_at file (table_place (λ k. slice_index sectors k) s)
 
 -- a whole chain of enough sectors; ENDOFCHAIN is no valid sector number
-pub record HoldsChain (table : Table) (head : Head) (sectors : List ℕ) : Type 0 where
+pub record HoldsChain (table : Table) (head : ChainHead) (sectors : List ℕ) : Type 0 where
   pub range : table.valid ≤ end_of_chain
   pub chain : IsSectorChain table.entry table.valid head.start sectors
   pub enough : head.size ≤ length sectors * head.unit
 
 -- the start is not valid
-pub record BreaksAtStart (table : Table) (head : Head) (place : ℕ) : Type 0 where
+pub record BreaksAtStart (table : Table) (head : ChainHead) (place : ℕ) : Type 0 where
   pub here : place ≡ head.field
   pub wrong : table.valid ≤ head.start
 
 -- the entry of the last sector that is reached is neither valid nor ENDOFCHAIN, names a sector that the chain has, or
 -- ends it too early
-pub record BreaksOnTheWay (table : Table) (head : Head) (place : ℕ) : Type 0 where
+pub record BreaksOnTheWay (table : Table) (head : ChainHead) (place : ℕ) : Type 0 where
   pub sectors : List ℕ
   pub full : IsFullPath table.entry table.valid head.start sectors
   pub wrong : (table.entry (last_of sectors) ≢ end_of_chain) ⊎ (length sectors * head.unit < head.size)
   pub here : place ≡ table.place (last_of sectors)
 
-abbrev pub BreaksChain : Table → Head → ℕ → Type 0
+abbrev pub BreaksChain : Table → ChainHead → ℕ → Type 0
 BreaksChain table head place = BreaksAtStart table head place ⊎ BreaksOnTheWay table head place

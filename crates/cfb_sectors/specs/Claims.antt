@@ -26,7 +26,7 @@ abbrev pub IsUnshared : Claimed → Type 0
 IsUnshared claimed = (s : ℕ) → ¬ IsMarked claimed.shared s
 
 -- an owner took its sectors: those that were taken already are shared
-pub record Takes (owns : ℕ → Type 0) (old new : Claimed) : Type 0 where
+pub record TakesSectors (owns : ℕ → Type 0) (old new : Claimed) : Type 0 where
   pub kept : (s : ℕ) → IsMarked old.taken s → IsMarked new.taken s
   pub added : (s : ℕ) → owns s → IsMarked new.taken s
   pub only : (s : ℕ) → IsMarked new.taken s → IsMarked old.taken s ⊎ owns s
@@ -35,17 +35,17 @@ pub record Takes (owns : ℕ → Type 0) (old new : Claimed) : Type 0 where
   pub only_shared : (s : ℕ) → IsMarked new.shared s → IsMarked old.shared s ⊎ (IsMarked old.taken s × owns s)
 
 -- the sector that follows a marked one is marked
-abbrev pub AreClosed : (ℕ → ℕ) → ℕ → List Bool → Type 0
-AreClosed entry valid marks = (s : ℕ) → IsMarked marks s → entry s < valid → IsMarked marks (entry s)
+abbrev pub AreClosedMarks : (ℕ → ℕ) → ℕ → List Bool → Type 0
+AreClosedMarks entry valid marks = (s : ℕ) → IsMarked marks s → entry s < valid → IsMarked marks (entry s)
 
 -- whole chains were taken
-pub record IsClosed (table : Table) (claimed : Claimed) : Type 0 where
-  pub taken : AreClosed table.entry table.valid claimed.taken
-  pub shared : AreClosed table.entry table.valid claimed.shared
+pub record IsClosedClaim (table : Table) (claimed : Claimed) : Type 0 where
+  pub taken : AreClosedMarks table.entry table.valid claimed.taken
+  pub shared : AreClosedMarks table.entry table.valid claimed.shared
 
 -- the sectors of a chain were taken; the walk stopped where it ends, or at a sector that is shared now
 pub record TakesWalked (chain : List ℕ) (valid : ℕ) (old new : Claimed) (walked : Walked) : Type 0 where
-  pub takes : Takes (HasSector chain) old new
+  pub takes : TakesSectors (HasSector chain) old new
   pub free : valid ≤ walked.next → walked.path.items ≡ chain
   pub met : walked.next < valid → IsMarked new.shared walked.next
 

@@ -15,28 +15,32 @@ pub record KnownEnds : Type 0 where
   pub counts : List ℕ
   pub lasts : List ℕ
 
-abbrev pub IsKnown : KnownEnds → ℕ → Type 0
-IsKnown known s = 0 < slice_index known.counts s
+abbrev pub IsKnownEndAt : KnownEnds → ℕ → Type 0
+IsKnownEndAt known s = 0 < slice_index known.counts s
 
 abbrev pub end_at : KnownEnds → ℕ → End
 end_at known s = record { count = slice_index known.counts s; last = slice_index known.lasts s }
 
-abbrev pub with_end : KnownEnds → ℕ → End → KnownEnds
-with_end known s end = record { counts = slice_set known.counts s end.count; lasts = slice_set known.lasts s end.last }
+abbrev pub with_known_end : KnownEnds → ℕ → End → KnownEnds
+with_known_end known s end = record {
+  counts = slice_set known.counts s end.count;
+  lasts = slice_set known.lasts s
+      end.last;
+}
 
 -- what is known is right, and the sector after a known one is known
 pub record Remembers (entry : ℕ → ℕ) (valid : ℕ) (known : KnownEnds) : Type 0 where
   pub counts_len : length known.counts ≡ valid
   pub lasts_len : length known.lasts ≡ valid
-  pub ends : (s : ℕ) → IsKnown known s → IsEnd entry valid s (end_at known s)
-  pub closed : (s : ℕ) → IsKnown known s → entry s < valid → IsKnown known (entry s)
+  pub ends : (s : ℕ) → IsKnownEndAt known s → IsEnd entry valid s (end_at known s)
+  pub closed : (s : ℕ) → IsKnownEndAt known s → entry s < valid → IsKnownEndAt known (entry s)
 
 -- a path of sectors that are not known, as far as it goes
 pub record IsFreshPath (entry : ℕ → ℕ) (valid : ℕ) (known : KnownEnds) (start : ℕ) (sectors : List ℕ) : Type 0 where
   pub path : IsSectorPath entry valid start sectors
-  pub fresh : (i : ℕ) → i < length sectors → ¬ IsKnown known (slice_index sectors i)
+  pub fresh : (i : ℕ) → i < length sectors → ¬ IsKnownEndAt known (slice_index sectors i)
   pub stops : (valid ≤ entry (last_of sectors))
-      ⊎ (HasSector sectors (entry (last_of sectors)) ⊎ IsKnown known (entry (last_of sectors)))
+      ⊎ (HasSector sectors (entry (last_of sectors)) ⊎ IsKnownEndAt known (entry (last_of sectors)))
 
 -- sectors in a ring: the entry of the last names the first
 pub record IsRing (entry : ℕ → ℕ) (valid start : ℕ) (sectors : List ℕ) : Type 0 where
@@ -51,8 +55,8 @@ pub record IsRingEnd (entry : ℕ → ℕ) (valid start : ℕ) (end : End) : Typ
   pub last : end.last ≡ last_of sectors
 
 -- where it ends it is known how it goes on
-abbrev pub GoesOn : (ℕ → ℕ) → ℕ → KnownEnds → List ℕ → Type 0
-GoesOn entry valid known sectors = entry (last_of sectors) < valid → IsKnown known (entry (last_of sectors))
+abbrev pub GoesOnAtKnown : (ℕ → ℕ) → ℕ → KnownEnds → List ℕ → Type 0
+GoesOnAtKnown entry valid known sectors = entry (last_of sectors) < valid → IsKnownEndAt known (entry (last_of sectors))
 
 -- the end of the path from a sector that goes on at a known one, or is the last
 abbrev pub before : ℕ → Option End → End

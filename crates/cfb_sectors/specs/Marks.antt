@@ -8,8 +8,8 @@ abbrev pub IsMarked : List Bool → ℕ → Type 0
 IsMarked marks s = slice_index_or marks s false ≡ true
 
 -- the marks of the sectors with this stamp
-abbrev pub marks_of : List ℕ → ℕ → List Bool
-marks_of stamps stamp = map (λ s. s == stamp) stamps
+abbrev pub stamped_marks : List ℕ → ℕ → List Bool
+stamped_marks stamps stamp = map (λ s. s == stamp) stamps
 
 -- no stamp is above this one
 abbrev pub AreStamps : List ℕ → ℕ → Type 0

@@ -19,7 +19,7 @@ abbrev pub fat_place : List ℕ → TablePlace
 fat_place file = record { file = file; sectors = fat_sectors file; valid = valid_below file }
 
 -- the entries that are kept of a table
-pub record IsKept (file sectors entries : List ℕ) (valid : ℕ) : Type 0 where
+pub record IsKeptTable (file sectors entries : List ℕ) (valid : ℕ) : Type 0 where
   pub inside : AreSectorsOf file sectors
   pub is_table : IsTable file sectors entries
   pub room : valid ≤ length entries
@@ -27,5 +27,5 @@ pub record IsKept (file sectors entries : List ℕ) (valid : ℕ) : Type 0 where
 
 -- the ends of paths that are remembered with them
 pub record RemembersTable (file sectors entries : List ℕ) (valid : ℕ) (known : KnownEnds) : Type 0 where
-  pub kept : IsKept file sectors entries valid
+  pub kept : IsKeptTable file sectors entries valid
   pub remembers : Remembers (λ s. slice_index entries s) valid known

@@ -2,7 +2,7 @@
 use Rattle.std.specs.Prelude.{◌≡◌, ◌≢◌, ℕ, ◌+◌, ◌-◌, ◌<◌, List, length, slice_index}
 
 -- a path so far, and the sector at which it goes on
-pub record IsWalk (entry : ℕ → ℕ) (valid start at : ℕ) (sectors : List ℕ) : Type 0 where
+pub record IsChainWalk (entry : ℕ → ℕ) (valid start at : ℕ) (sectors : List ℕ) : Type 0 where
   pub begins : length sectors ≡ 0 → at ≡ start
   pub first : 0 < length sectors → slice_index sectors 0 ≡ start
   pub within : (i : ℕ) → i < length sectors → slice_index sectors i < valid

@@ -2,7 +2,7 @@
 ghost use Rattle.std.specs.Prelude.{◌≡◌, ◌⊎◌, ◌<◌, ◌≤◌, length, slice_index, IfOk};
 ghost use Rattle.cfb_sectors.specs.SectorChain.{IsFullPath, last_of};
 ghost use Rattle.cfb_sectors.specs.Marks.{IsMarked, IsVisitedSince};
-ghost use Rattle.cfb_sectors.specs.Walk.{IsWalk};
+ghost use Rattle.cfb_sectors.specs.Walk.{IsChainWalk};
 
 use crate::marks::Marks;
 use doc_bits::Memory;
@@ -23,9 +23,9 @@ pub struct Claim {
 }
 
 impl Model for Claim {
-    ghost use Rattle.cfb_sectors.specs.Chain.{Head};
+    ghost use Rattle.cfb_sectors.specs.Chain.{ChainHead};
 
-    ghost Value = { Head };
+    ghost Value = { ChainHead };
 
     ghost view = { λ c. record { field = c.field; start = c.start; unit = c.unit; size = c.size } };
 }
@@ -54,7 +54,7 @@ pub(crate) fn walk_on(
 ) -> Result<Walked, Memory>
     requires room { length marks.old ≤ length entries.now }
     ensures walk { IfOk result (λ walked.
-        IsWalk (λ s. slice_index entries.now s) (length marks.old) start walked.next walked.path.items) }
+        IsChainWalk (λ s. slice_index entries.now s) (length marks.old) start walked.next walked.path.items) }
     ensures met { IfOk result (λ walked. IsVisitedSince marks.old marks.new walked.path.items) }
     ensures stops { IfOk result (λ walked. (length marks.old ≤ walked.next) ⊎ IsMarked marks.new walked.next) }
     ensures kept { length marks.new ≡ length marks.old }

@@ -4,7 +4,8 @@ ghost use Rattle.doc_bits.specs.Rules.{LeastOrNone};
 ghost use Rattle.cfb_sectors.specs.SectorChain.{HasSector, IsSectorChain};
 ghost use Rattle.cfb_sectors.specs.Marks.{IsMarked};
 ghost use Rattle.cfb_sectors.specs.Tables.{table_at};
-ghost use Rattle.cfb_sectors.specs.Claims.{AreDistinctBelow, IsClosed, IsUnshared, IsSharedPlace, Takes, TakesWalked};
+ghost use Rattle.cfb_sectors.specs.Claims.{AreDistinctBelow, IsClosedClaim, IsUnshared, IsSharedPlace, TakesSectors};
+ghost use Rattle.cfb_sectors.specs.Claims.{TakesWalked};
 
 use crate::chain::Walked;
 use crate::marks::Marks;
@@ -46,7 +47,7 @@ impl Claims {
     /// Takes a sector.
     fn take(&mut self, sector: usize)
         requires { sector < length self.old.taken }
-        ensures takes { Takes (λ s. s ≡ sector) self.old self.new }
+        ensures takes { TakesSectors (λ s. s ≡ sector) self.old self.new }
         ensures len { length self.new.taken ≡ length self.old.taken }
     {
         if self.taken.has(sector) {
@@ -59,7 +60,7 @@ impl Claims {
     /// Takes the sectors of an owner.
     pub fn claim(&mut self, sectors: &[u32])
         requires { AreDistinctBelow (length self.old.taken) sectors.now }
-        ensures takes { Takes (HasSector sectors.now) self.old self.new }
+        ensures takes { TakesSectors (HasSector sectors.now) self.old self.new }
         ensures len { length self.new.taken ≡ length self.old.taken }
     {
         for sector in sectors {
@@ -76,7 +77,7 @@ impl Claims {
         start: u32,
     ) -> Result<Walked, Memory>
         requires count { length self.old.taken ≡ table.now.valid }
-        requires closed { IsClosed (table_at table.now) self.old }
+        requires closed { IsClosedClaim (table_at table.now) self.old }
         ensures takes { IfOk result (λ walked. (chain : List ℕ)
             → IsSectorChain (table_at table.now).entry table.now.valid start chain
             → TakesWalked chain table.now.valid self.old self.new walked) }

@@ -2,7 +2,8 @@
 ghost use Rattle.std.specs.Prelude.{◌≡◌, ℕ, ◌+◌, ◌-◌, ◌^◌, ◌<◌, ◌≤◌, IfOk, IfSome, MatchOption, length};
 ghost use Rattle.std.specs.Prelude.{slice_index};
 ghost use Rattle.cfb_sectors.specs.SectorChain.{HasSector};
-ghost use Rattle.cfb_sectors.specs.Ends.{IsEnd, IsKnown, end_at, with_end, Remembers, IsFreshPath, GoesOn, before};
+ghost use Rattle.cfb_sectors.specs.Ends.{IsEnd, IsKnownEndAt, end_at, with_known_end, Remembers, IsFreshPath};
+ghost use Rattle.cfb_sectors.specs.Ends.{GoesOnAtKnown, before};
 ghost use Rattle.cfb_sectors.specs.Ends.{IsRingEnd};
 
 use crate::chain::last_sector;
@@ -41,7 +42,7 @@ impl Ends {
     pub(crate) fn new(alloc: Global, count: usize) -> Result<Ends, Memory>
         ensures counts { IfOk result (λ ends. length ends.counts ≡ count) }
         ensures lasts { IfOk result (λ ends. length ends.lasts ≡ count) }
-        ensures none { IfOk result (λ ends. (s : ℕ) → ¬ IsKnown ends s) }
+        ensures none { IfOk result (λ ends. (s : ℕ) → ¬ IsKnownEndAt ends s) }
     {
         let counts = no_stamps(alloc, count)?;
         let lasts = no_stamps(alloc, count)?;
@@ -57,7 +58,7 @@ impl Ends {
 
     /// The end of the path from a sector that is known.
     fn at(&self, sector: usize) -> End
-        requires { IsKnown self.now sector }
+        requires { IsKnownEndAt self.now sector }
         ensures { result ≡ end_at self.now sector }
     {
         End {
@@ -69,8 +70,8 @@ impl Ends {
     /// The end of the path from a sector, where it is known.
     pub(crate) fn get(&self, sector: usize) -> Option<End>
         ensures { MatchOption result
-            (¬ IsKnown self.now sector)
-            (λ end. IsKnown self.now sector × (end ≡ end_at self.now sector)) }
+            (¬ IsKnownEndAt self.now sector)
+            (λ end. IsKnownEndAt self.now sector × (end ≡ end_at self.now sector)) }
     {
         if sector >= self.counts.len() || self.counts[sector] == 0 {
             return None;
@@ -81,7 +82,7 @@ impl Ends {
     /// Remembers the end of the path from a sector.
     fn put(&mut self, sector: usize, end: End)
         requires { sector < length self.old.counts }
-        ensures { self.new ≡ with_end self.old sector end }
+        ensures { self.new ≡ with_known_end self.old sector end }
     {
         self.counts[sector] = end.count;
         self.lasts[sector] = end.last;
@@ -98,7 +99,7 @@ pub(crate) fn walk_fresh(
 ) -> Result<Vec<u32>, Memory>
     requires room { length marks.old ≤ length entries.now }
     requires starts { start < length marks.old }
-    requires fresh { ¬ IsKnown ends.now start }
+    requires fresh { ¬ IsKnownEndAt ends.now start }
     ensures path { IfOk result (λ path.
         IsFreshPath (λ s. slice_index entries.now s) (length marks.old) ends.now start path.items) }
     ensures kept { length marks.new ≡ length marks.old }
@@ -138,10 +139,10 @@ fn note(entries: &[u32], ends: &mut Ends, sector: u32)
     requires remembers { Remembers (λ s. slice_index entries.now s) (length ends.old.counts) ends.old }
     requires inside { sector < length ends.old.counts }
     requires goes_on { slice_index entries.now sector < length ends.old.counts
-        → IsKnown ends.old (slice_index entries.now sector) }
+        → IsKnownEndAt ends.old (slice_index entries.now sector) }
     ensures remembers { Remembers (λ s. slice_index entries.now s) (length ends.old.counts) ends.new }
-    ensures kept { (s : ℕ) → IsKnown ends.old s → IsKnown ends.new s }
-    ensures known { IsKnown ends.new sector }
+    ensures kept { (s : ℕ) → IsKnownEndAt ends.old s → IsKnownEndAt ends.new s }
+    ensures known { IsKnownEndAt ends.new sector }
 {
     if ends.get(sector as usize).is_some() {
         return;
@@ -158,9 +159,9 @@ pub(crate) fn remember(entries: &[u32], ends: &mut Ends, path: &[u32])
     requires within { (i : ℕ) → i < length path.now → slice_index path.now i < length ends.old.counts }
     requires links { (i : ℕ) → i + 1 < length path.now
         → slice_index entries.now (slice_index path.now i) ≡ slice_index path.now (i + 1) }
-    requires goes_on { GoesOn (λ s. slice_index entries.now s) (length ends.old.counts) ends.old path.now }
+    requires goes_on { GoesOnAtKnown (λ s. slice_index entries.now s) (length ends.old.counts) ends.old path.now }
     ensures remembers { Remembers (λ s. slice_index entries.now s) (length ends.old.counts) ends.new }
-    ensures known { (i : ℕ) → i < length path.now → IsKnown ends.new (slice_index path.now i) }
+    ensures known { (i : ℕ) → i < length path.now → IsKnownEndAt ends.new (slice_index path.now i) }
 {
     for i in 0..path.len() {
         note(entries, ends, path[path.len() - 1 - i]);
@@ -187,7 +188,7 @@ fn remember_ring(entries: &[u32], ends: &mut Ends, start: u32, end: End)
     requires remembers { Remembers (λ s. slice_index entries.now s) (length ends.old.counts) ends.old }
     requires ring { IsRingEnd (λ s. slice_index entries.now s) (length ends.old.counts) start end }
     ensures remembers { Remembers (λ s. slice_index entries.now s) (length ends.old.counts) ends.new }
-    ensures known { IsKnown ends.new start }
+    ensures known { IsKnownEndAt ends.new start }
 {
     let mut at = start;
     let mut last = end.last;
@@ -208,7 +209,7 @@ fn settle_ring(entries: &[u32], ends: &mut Ends, path: &[u32])
     requires fresh { IsFreshPath (λ s. slice_index entries.now s) (length ends.old.counts) ends.old
         (slice_index path.now 0) path.now }
     ensures remembers { Remembers (λ s. slice_index entries.now s) (length ends.old.counts) ends.new }
-    ensures goes_on { GoesOn (λ s. slice_index entries.now s) (length ends.old.counts) ends.new path.now }
+    ensures goes_on { GoesOnAtKnown (λ s. slice_index entries.now s) (length ends.old.counts) ends.new path.now }
 {
     let last = last_sector(path);
     let next = entries[last as usize];

@@ -1,6 +1,6 @@
 // Why a file is refused, and how a check's answer becomes that.
 ghost use Rattle.std.specs.Prelude.{◌≡◌, None, MatchResult};
-ghost use Rattle.cfb_sectors.specs.Judged.{IsRefused, broken_place};
+ghost use Rattle.cfb_sectors.specs.Judged.{IsRuleFault, broken_place};
 ghost use Rattle.cfb_sectors.specs.declared.chain.Chain.TheVariants.{Found};
 
 use crate::chain::Chain;
@@ -51,7 +51,7 @@ impl From<BrokenRule> for CfbFault {
 
 /// Refuses the file where a rule is broken at a place.
 pub fn refuse(rule: u8, wrong: Option<u32>) -> Result<(), CfbFault>
-    ensures { MatchResult result (λ _. wrong ≡ None) (IsRefused rule wrong) }
+    ensures { MatchResult result (λ _. wrong ≡ None) (IsRuleFault rule wrong) }
 {
     match wrong {
         None => Ok(()),
@@ -61,7 +61,7 @@ pub fn refuse(rule: u8, wrong: Option<u32>) -> Result<(), CfbFault>
 
 /// The sectors of a chain. Refuses the file where it is broken.
 pub fn whole(rule: u8, chain: Chain) -> Result<Vec<u32>, CfbFault>
-    ensures { MatchResult result (λ sectors. chain ≡ Found sectors) (IsRefused rule (broken_place chain)) }
+    ensures { MatchResult result (λ sectors. chain ≡ Found sectors) (IsRuleFault rule (broken_place chain)) }
 {
     match chain {
         Chain::Found(sectors) => Ok(sectors),

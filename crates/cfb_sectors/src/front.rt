@@ -2,7 +2,7 @@
 ghost use Rattle.std.specs.Prelude.{◌≡◌, ◌≤◌, IfOk, length};
 ghost use Rattle.doc_bits.specs.Rules.{Nowhere};
 ghost use Rattle.cfb_sectors.specs.Header.{sector_len};
-ghost use Rattle.cfb_sectors.specs.Opening.{IsWhole};
+ghost use Rattle.cfb_sectors.specs.Opening.{HasRightLength};
 ghost use Rattle.cfb_sectors.specs.HeaderRules.{header_rules, BreaksFat};
 ghost use Rattle.cfb_sectors.specs.Judged.{FirstOrNone};
 ghost use Rattle.cfb_sectors.specs.Tables.{fat_place};
@@ -48,7 +48,7 @@ pub fn check_header(file: &[u8]) -> Option<BrokenRule>
 
 /// The FAT.
 pub fn read_fat<'a>(alloc: Global, file: &'a [u8]) -> Result<Table<'a>, Memory>
-    requires is_whole { IsWhole file.now }
+    requires is_whole { HasRightLength file.now }
     requires is_fat { Nowhere (BreaksFat file.now) }
     ensures { IfOk result (λ fat. fat ≡ fat_place file.now) }
 {

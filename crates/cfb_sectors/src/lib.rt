@@ -20,6 +20,6 @@ pub use fat::{FAT_COUNT, FAT_SECTORS, TABLE_LEN, read_table, table_place};
 pub use faults::{BrokenRule, CfbFault, refuse, whole};
 pub use front::{check_header, read_fat};
 pub use header::{CUTOFF, DIRECTORY_START, MINI_FAT_COUNT, MINI_FAT_START};
-pub use opening::{MINI_SECTOR_LEN, SECTOR_LEN, SIGNATURE, check_opening};
+pub use opening::{MAX_LEN, MINI_SECTOR_LEN, SECTOR_LEN, SIGNATURE, check_opening};
 pub use stream::{join, read_sectors};
 pub use table::Table;

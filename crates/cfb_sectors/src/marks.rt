@@ -15,11 +15,11 @@ pub struct Marks {
 
 impl Model for Marks {
     ghost use Rattle.std.specs.Prelude.{List, Bool};
-    ghost use Rattle.cfb_sectors.specs.Marks.{marks_of, AreStamps};
+    ghost use Rattle.cfb_sectors.specs.Marks.{stamped_marks, AreStamps};
 
     ghost Value = { List Bool };
 
-    ghost view = { λ m. marks_of m.stamps.items m.stamp };
+    ghost view = { λ m. stamped_marks m.stamps.items m.stamp };
 
     ghost invariant = { λ m. AreStamps m.stamps.items m.stamp };
 }

@@ -17,7 +17,7 @@ pub const MINI_SECTOR_LEN: usize = 64;
 const MIN_LEN: usize = 1_536;
 
 /// The greatest length of a file: the header and 13,952 sectors.
-const MAX_LEN: usize = 7_143_936;
+pub const MAX_LEN: usize = 7_143_936;
 
 const RULE_LENGTH: u8 = 1;
 

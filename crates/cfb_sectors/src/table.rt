@@ -6,8 +6,8 @@ ghost use Rattle.cfb_sectors.specs.Chain.{AreSectorsOf, BreaksChain};
 ghost use Rattle.cfb_sectors.specs.Tables.{TablePlace, table_at};
 ghost use Rattle.cfb_sectors.specs.Ends.{IsEnd};
 ghost use Rattle.cfb_sectors.specs.Marks.{IsMarked, IsVisitedSince};
-ghost use Rattle.cfb_sectors.specs.Walk.{IsWalk};
-ghost use Rattle.cfb_sectors.specs.Judged.{IsFound};
+ghost use Rattle.cfb_sectors.specs.Walk.{IsChainWalk};
+ghost use Rattle.cfb_sectors.specs.Judged.{IsFoundChain};
 
 use crate::chain::{Chain, Claim, ENDOFCHAIN, Walked, last_sector, walk, walk_on};
 use crate::ends::{End, Ends, settle, walk_fresh};
@@ -101,7 +101,7 @@ impl<'a> Table<'a> {
     ) -> Result<Walked, Memory>
         requires { length marks.old ≡ self.now.valid }
         ensures walk { IfOk result (λ walked.
-            IsWalk (table_at self.now).entry self.now.valid start walked.next walked.path.items) }
+            IsChainWalk (table_at self.now).entry self.now.valid start walked.next walked.path.items) }
         ensures met { IfOk result (λ walked. IsVisitedSince marks.old marks.new walked.path.items) }
         ensures stops { IfOk result (λ walked. (self.now.valid ≤ walked.next) ⊎ IsMarked marks.new walked.next) }
         ensures range { self.now.valid < 2 ^ 31 }
@@ -125,7 +125,7 @@ impl<'a> Table<'a> {
 
     /// The chain of a claim, or the place at which it is broken.
     pub fn find(&mut self, alloc: Global, claim: &Claim) -> Result<Chain, Memory>
-        ensures found { IfOk result (IsFound (table_at self.old) claim.now) }
+        ensures found { IfOk result (IsFoundChain (table_at self.old) claim.now) }
         ensures kept { self.new ≡ self.old }
     {
         if claim.start as usize >= self.valid() {

@@ -7,11 +7,11 @@ use Rattle.std.proofs.lemmas.Bool.{cases_lt, cases_order}
 use Rattle.std.proofs.lemmas.List.Sums.{sum_by_push}
 use Rattle.std.proofs.lemmas.Option.{slice_get_within, same_Some}
 use Rattle.doc_bits.proofs.Public.{there_is, slice_get_push, slice_get_before}
-use Rattle.cfb_directory.specs.Directory.{upper_case, ComesBefore}
-use Rattle.cfb_streams.specs.Contents.{NamedBytes, AreStreams, IsStored, AreStored, EndsBefore}
+use Rattle.cfb_directory.specs.Directory.{upper_case, IsNameBefore}
+use Rattle.cfb_streams.specs.Contents.{NamedBytes, AreStreams, IsStored, AreStored, IsAfterLastName}
 
 -- a name that comes before a second comes before a third that the second comes before
-pub comes_before-trans : (a b c : List ℕ) → ComesBefore a b → ComesBefore b c → ComesBefore a c
+pub comes_before-trans : (a b c : List ℕ) → IsNameBefore a b → IsNameBefore b c → IsNameBefore a c
 comes_before-trans a b c h k = elim h [
   | inl shorter ↦ elim k [
     | inl less ↦ inl (omega arith)
@@ -77,7 +77,7 @@ pushed_stream streams last stream i there = elim (cases_lt i (length streams)) [
 
 -- each name comes before one that comes after the last
 all_before : (streams : List NamedBytes) (name : List ℕ) (i : ℕ) (stream : NamedBytes) → AreStreams streams →
-    EndsBefore streams name → slice_get streams i ≡ Some stream → ComesBefore stream.name name
+    IsAfterLastName streams name → slice_get streams i ≡ Some stream → IsNameBefore stream.name name
 all_before streams name i stream are ends there =
     let within = slice_get_within streams i stream there in
     let last = there_is streams (length streams - 1) (omega arith) in
@@ -91,7 +91,7 @@ all_before streams name i stream are ends there =
 
 -- one stream more
 pub push-AreStreams : (streams : List NamedBytes) (last : NamedBytes) → AreStreams streams → 1 ≤ length last.name →
-    length last.name ≤ 31 → EndsBefore streams last.name →
+    length last.name ≤ 31 → IsAfterLastName streams last.name →
     sum_by (λ stream. length stream.bytes) streams + length last.bytes < 2 ^ 48 → AreStreams (streams ++ last ∷ [])
 push-AreStreams streams last are some short ends room = record {
   some = λ i stream there. elim (pushed_stream streams last stream i there) [
@@ -109,7 +109,8 @@ push-AreStreams streams last are some short ends room = record {
         absurd (omega (arith, length-append streams (last ∷ [])))
     | inl old ↦ elim (pushed_stream streams last later j second) [
       | inl both ↦ are.order i j stream later less old both
-      | inr new ↦ subst (λ s. ComesBefore stream.name s.name) new.1 (all_before streams last.name i stream are ends old)
+      | inr new ↦ subst (λ s. IsNameBefore stream.name s.name) new.1 (all_before streams last.name i stream are ends
+          old)
     ]
   ];
   total = rw (sum_by_push (λ (stream : NamedBytes). length stream.bytes) streams last) room;

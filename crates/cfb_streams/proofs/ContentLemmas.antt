@@ -7,9 +7,9 @@ use Rattle.std.proofs.lemmas.List.{get_or_append_left}
 use Rattle.std.proofs.Math.Seq.{get_or-append_seam}
 use Rattle.std.proofs.lemmas.Option.{slice_get_within, slice_get-get_or, get_or_from_slice_get}
 use Rattle.cfb_sectors.specs.Header.{sector_bytes, valid_below}
-use Rattle.cfb_sectors.specs.Opening.{IsWhole}
-use Rattle.cfb_sectors.specs.Chain.{Head, fat_table, HoldsChain, AreSectorsOf}
-use Rattle.cfb_directory.specs.Directory.{entry_size, IsNameOf}
+use Rattle.cfb_sectors.specs.Opening.{HasRightLength}
+use Rattle.cfb_sectors.specs.Chain.{ChainHead, fat_table, HoldsChain, AreSectorsOf}
+use Rattle.cfb_directory.specs.Directory.{entry_stream_size, IsEntryName}
 use Rattle.cfb_directory.specs.Reach.{entry_place}
 use Rattle.cfb_streams.specs.StreamRules.{Parts, IsMiniFat, IsMiniStream, mini_table_of}
 use Rattle.cfb_sectors.specs.Tables.{TablePlace}
@@ -54,14 +54,14 @@ streams_push file parts entries count streams stream are is =
 -- one name more
 pub names_push : (file directory entries : List ℕ) (count : ℕ) (names : List (List ℕ)) (name : List ℕ) →
     AreNamesOf file directory entries count names →
-    IsNameOf file (entry_place directory (slice_index entries count)) name →
+    IsEntryName file (entry_place directory (slice_index entries count)) name →
     AreNamesOf file directory entries (count + 1) (names ++ name ∷ [])
 names_push file directory entries count names name are is =
     let len = length-append names (name ∷ []) in
     let n = are.len in
     record {
       len = omega arith;
-      each = each_push (λ i x. IsNameOf file (entry_place directory (slice_index entries i)) x) names name count n
+      each = each_push (λ i x. IsEntryName file (entry_place directory (slice_index entries i)) x) names name count n
           are.each is;
     }
 
@@ -80,14 +80,15 @@ stored_length file sectors stored inside e =
     (λ k h. let low = inside.inside k h in length-sector 512 512 file (slice_index sectors k) (omega arith))
 
 pub stored_room : (file directory sectors : List ℕ) → IsMiniStream file directory sectors →
-    entry_size file (entry_place directory 0) ≤ length sectors * 512
+    entry_stream_size file (entry_place directory 0) ≤ length sectors * 512
 stored_room file directory sectors is = elim is [
   | inl none ↦ let e = none.0 in omega arith
   | inr some ↦ some.1.enough
 ]
 
 -- the sectors of a chain by the FAT are in the file
-pub chain_inside : (file : List ℕ) (head : Head) (xs : List ℕ) → IsWhole file → HoldsChain (fat_table file) head xs →
+pub chain_inside : (file : List ℕ) (head : ChainHead) (xs : List ℕ) → HasRightLength file → HoldsChain (fat_table file)
+    head xs →
     AreSectorsOf file xs
 chain_inside file head xs whole h =
     let most = whole.most in
@@ -100,17 +101,17 @@ chain_inside file head xs whole h =
       inside = λ i low. let valid = h.chain.path.within i low in omega arith;
     }
 
-none_inside : (file : List ℕ) → IsWhole file → AreSectorsOf file []
+none_inside : (file : List ℕ) → HasRightLength file → AreSectorsOf file []
 none_inside file whole = let most = whole.most in record
     { short = omega arith; few = omega arith; inside = λ i h. absurd (omega arith) }
 
-pub mini_fat_inside : (file xs : List ℕ) → IsWhole file → IsMiniFat file xs → AreSectorsOf file xs
+pub mini_fat_inside : (file xs : List ℕ) → HasRightLength file → IsMiniFat file xs → AreSectorsOf file xs
 mini_fat_inside file xs whole is = elim is [
   | inl none ↦ subst (AreSectorsOf file) (sym none.1) (none_inside file whole)
   | inr some ↦ chain_inside file _ xs whole some.1
 ]
 
-pub mini_stream_inside : (file directory xs : List ℕ) → IsWhole file → IsMiniStream file directory xs →
+pub mini_stream_inside : (file directory xs : List ℕ) → HasRightLength file → IsMiniStream file directory xs →
     AreSectorsOf file xs
 mini_stream_inside file directory xs whole is = elim is [
   | inl none ↦ subst (AreSectorsOf file) (sym none.1) (none_inside file whole)

@@ -9,8 +9,8 @@ use Rattle.cfb_sectors.specs.declared.chain.Chain.TheVariants.{Found, Breaks}
 use Rattle.cfb_sectors.specs.Chain.{fat_table, BreaksChain}
 use Rattle.cfb_sectors.specs.SectorChain.{IsFullPath}
 use Rattle.cfb_sectors.specs.Tables.{TablePlace, table_at, fat_place}
-use Rattle.cfb_sectors.specs.Judged.{IsFound}
-use Rattle.cfb_directory.specs.Directory.{entry_size}
+use Rattle.cfb_sectors.specs.Judged.{IsFoundChain}
+use Rattle.cfb_directory.specs.Directory.{entry_stream_size}
 use Rattle.cfb_streams.specs.StreamRules.{mini_fat_head, mini_table_of}
 use Rattle.cfb_directory.specs.StreamEntries.{stream_head, IsLargeStream, IsSmallStream}
 use Rattle.cfb_streams.specs.StreamRules.{IsWrongStream}
@@ -44,7 +44,7 @@ no_directory file fat start is begins past = λ l.
 
 -- without such a path the chain's own place, or the chain, is that of the directory
 pub found_directory : (file : List ℕ) (c : Chain) → ¬ IsLongDirectory file 48 →
-    IsFound (fat_table file) (directory_head file) c → IsFoundDirectory file c
+    IsFoundChain (fat_table file) (directory_head file) c → IsFoundDirectory file c
 found_directory file (Found sectors) short h = record {
   holds = h;
   short = elim (cases_lt 256 (length sectors.items)) [
@@ -69,7 +69,7 @@ found_directory file (Breaks place) short h = record {
 
 -- the mini FAT's chain, where it has one
 pub found_mini_fat : (file : List ℕ) (c : Chain) → u32_at file 64 ≢ 0 →
-    IsFound (fat_table file) (mini_fat_head file) c → IsFoundMiniFat file c
+    IsFoundChain (fat_table file) (mini_fat_head file) c → IsFoundMiniFat file c
 found_mini_fat file (Found sectors) there h = inr (there, h)
 found_mini_fat file (Breaks place) there h = record {
   broken = record { there = there; broken = h.broken };
@@ -77,8 +77,9 @@ found_mini_fat file (Breaks place) there h = record {
 }
 
 -- the mini stream's chain, where it is not empty
-pub found_mini_stream : (file directory : List ℕ) (c : Chain) → entry_size file (entry_place directory 0) ≢ 0 →
-    IsFound (fat_table file) (stream_head file 512 (entry_place directory 0)) c → IsFoundMiniStream file directory c
+pub found_mini_stream : (file directory : List ℕ) (c : Chain) → entry_stream_size file (entry_place directory 0) ≢ 0 →
+    IsFoundChain (fat_table file) (stream_head file 512 (entry_place directory 0)) c → IsFoundMiniStream file directory
+    c
 found_mini_stream file directory (Found sectors) there h = inr (there, h)
 found_mini_stream file directory (Breaks place) there h = record {
   broken = record { there = there; broken = h.broken };

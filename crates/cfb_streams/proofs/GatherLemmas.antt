@@ -6,16 +6,16 @@ use Rattle.doc_bits.specs.Rules.{Nowhere, LeastOrNone, lesser_of, Among}
 use Rattle.doc_bits.proofs.Public.{least_either, least_same}
 use Rattle.cfb_streams.specs.declared.gather.Taken.{Taken}
 use Rattle.cfb_sectors.specs.Header.{fat_sectors, sector_bytes}
-use Rattle.cfb_sectors.specs.Opening.{IsWhole}
+use Rattle.cfb_sectors.specs.Opening.{HasRightLength}
 use Rattle.cfb_sectors.specs.Marks.{IsMarked}
 use Rattle.cfb_sectors.specs.Tables.{TablePlace, table_at, fat_place}
 use Rattle.cfb_streams.specs.FoundParts.{mini_place}
-use Rattle.cfb_sectors.specs.Chain.{Table, Head, fat_table, HoldsChain, BreaksChain}
+use Rattle.cfb_sectors.specs.Chain.{Table, ChainHead, fat_table, HoldsChain, BreaksChain}
 use Rattle.cfb_sectors.specs.SectorChain.{HasSector, IsSectorChain}
 use Rattle.cfb_sectors.specs.declared.chain.Walked.{Walked}
-use Rattle.cfb_directory.specs.Directory.{entry_size, entry_clsid, IsNameOf}
+use Rattle.cfb_directory.specs.Directory.{entry_stream_size, entry_clsid, IsEntryName}
 use Rattle.cfb_directory.specs.Reach.{entry_place}
-use Rattle.cfb_streams.specs.StreamRules.{Owns, IsShared, HasLargeSector, HasSmallSector}
+use Rattle.cfb_streams.specs.StreamRules.{Owns, IsSharedSector, HasLargeSector, HasSmallSector}
 use Rattle.cfb_directory.specs.StreamEntries.{IsLargeStream, IsSmallStream}
 use Rattle.cfb_streams.specs.StreamRules.{IsWrongStream, BreaksStream, BreaksSharing, IsMiniStream}
 use Rattle.cfb_directory.specs.StreamEntries.{IsStreamEntry}
@@ -23,10 +23,10 @@ use Rattle.cfb_streams.specs.StreamRules.{mini_table_of}
 use Rattle.cfb_directory.specs.StreamEntries.{stream_head}
 use Rattle.cfb_streams.specs.StreamRules.{of_fat, of_directory, of_mini_fat, of_mini_stream, of_stream}
 use Rattle.cfb_directory.specs.Order.{ListsStreams}
-use Rattle.cfb_sectors.specs.Claims.{HasFront, Claimed, IsUnshared, Takes, IsClosed, IsSharedPlace}
-use Rattle.cfb_streams.specs.Sharing.{IsDone}
+use Rattle.cfb_sectors.specs.Claims.{HasFront, Claimed, IsUnshared, TakesSectors, IsClosedClaim, IsSharedPlace}
+use Rattle.cfb_streams.specs.Sharing.{IsOwnerDone}
 use Rattle.cfb_sectors.specs.Claims.{TakesWalked}
-use Rattle.cfb_streams.specs.Layout.{Places, IsLayout}
+use Rattle.cfb_streams.specs.Layout.{LayoutPlaces, IsSoundLayout}
 use Rattle.cfb_streams.specs.Contents.{Stream}
 use Rattle.cfb_streams.specs.Container.{mini_bytes, IsStreamOf, AreStreamsOf, HasContents}
 use Rattle.cfb_streams.specs.Gathered.{IsRead, TakesChain, TakesStream, HasMarks, AreUnshared, with_some, IsTakenFront}
@@ -38,7 +38,7 @@ use Rattle.cfb_streams.proofs.SharingLemmas.{mini_fat_closed, mini_stream_closed
 use Rattle.cfb_streams.proofs.ContentLemmas.{streams_push, stored_length, stored_room, mini_stream_inside}
 
 -- one stream more
-pub taken_step : (places : Places) (count : ℕ) (old new : Taken) →
+pub taken_step : (places : LayoutPlaces) (count : ℕ) (old new : Taken) →
     ListsStreams places.file places.parts.directory places.streams → count < length places.streams →
     IsTakenFront places count old → TakesStream places (slice_index places.streams count) old new →
     HasMarks places new → IsTakenFront places (count + 1) new
@@ -49,10 +49,10 @@ taken_step places count old new lists low front takes marks =
     let fresh = front_fresh places.file places.parts.directory places.streams count lists low in
     record {
       marks = marks;
-      of_sectors = share_same owns (λ y. IsDone places.streams count y ⊎ (y ≡ of_stream entry))
-          (IsDone places.streams (count + 1)) new.sectors (done_more places.streams count)
+      of_sectors = share_same owns (λ y. IsOwnerDone places.streams count y ⊎ (y ≡ of_stream entry))
+          (IsOwnerDone places.streams (count + 1)) new.sectors (done_more places.streams count)
           (done_split places.streams count)
-          (share_step owns (IsDone places.streams count) (of_stream entry) old.sectors new.sectors fresh
+          (share_step owns (IsOwnerDone places.streams count) (of_stream entry) old.sectors new.sectors fresh
           front.of_sectors takes.sectors_taken);
       of_minis = share_same small (λ y. HasFront places.streams count y ⊎ (y ≡ entry))
           (HasFront places.streams (count + 1)) new.minis (front_more places.streams count)
@@ -62,11 +62,11 @@ taken_step places count old new lists low front takes marks =
     }
 
 -- all streams, and the FAT: the least place of a sector that two have
-pub taken_all : (places : Places) (fat mini : TablePlace) (xs : List ℕ) (taken : Taken) (sectors : Claimed)
+pub taken_all : (places : LayoutPlaces) (fat mini : TablePlace) (xs : List ℕ) (taken : Taken) (sectors : Claimed)
     (a b : Option ℕ) → ListsStreams places.file places.parts.directory places.streams →
     IsTakenFront places (length places.streams) taken → fat ≡ fat_place places.file →
     mini ≡ mini_place places.file places.parts.directory places.parts.mini_fat → xs ≡ fat.sectors →
-    Takes (HasSector xs) taken.sectors sectors → LeastOrNone (IsSharedPlace sectors (table_at fat).place) a →
+    TakesSectors (HasSector xs) taken.sectors sectors → LeastOrNone (IsSharedPlace sectors (table_at fat).place) a →
     LeastOrNone (IsSharedPlace taken.minis (table_at mini).place) b →
     LeastOrNone (BreaksSharing places.file places.parts) (lesser_of a b)
 taken_all places fat mini xs taken sectors a b lists front is_fat is_mini same takes first second =
@@ -74,13 +74,13 @@ taken_all places fat mini xs taken sectors a b lists front is_fat is_mini same t
     let small = HasSmallSector places.file places.parts.directory places.parts.mini_fat in
     let place : ℕ → ℕ = (fat_table places.file).place in
     let mini_place_of : ℕ → ℕ = (mini_table_of places.file places.parts.directory places.parts.mini_fat).place in
-    let fat_takes : Takes (HasSector (fat_sectors places.file)) taken.sectors sectors =
-    subst (λ ys. Takes (HasSector ys) taken.sectors sectors) (same ∙ ap (λ t. t.sectors) is_fat) takes in
-    let all = share_step owns (IsDone places.streams (length places.streams)) of_fat taken.sectors sectors
+    let fat_takes : TakesSectors (HasSector (fat_sectors places.file)) taken.sectors sectors =
+    subst (λ ys. TakesSectors (HasSector ys) taken.sectors sectors) (same ∙ ap (λ t. t.sectors) is_fat) takes in
+    let all = share_step owns (IsOwnerDone places.streams (length places.streams)) of_fat taken.sectors sectors
     (λ never. never)
     front.of_sectors fat_takes in
-    least_either (IsShared owns place) (IsShared small mini_place_of) a b
-    (share_all owns (λ x. IsDone places.streams (length places.streams) x ⊎ (x ≡ of_fat)) place sectors a
+    least_either (IsSharedSector owns place) (IsSharedSector small mini_place_of) a b
+    (share_all owns (λ x. IsOwnerDone places.streams (length places.streams) x ⊎ (x ≡ of_fat)) place sectors a
     (all_done places.file places.parts places.streams lists) all
     (subst (λ t. LeastOrNone (IsSharedPlace sectors (table_at t).place) a) is_fat first))
     (share_all small (HasFront places.streams (length places.streams)) mini_place_of taken.minis b
@@ -91,7 +91,7 @@ taken_all places fat mini xs taken sectors a b lists front is_fat is_mini same t
 pub long_takes : (file directory : List ℕ) (entry : ℕ) (xs : List ℕ) (old new : Claimed) →
     IsLargeStream file directory entry →
     HoldsChain (fat_table file) (stream_head file 512 (entry_place directory entry)) xs →
-    Takes (HasSector xs) old new → Takes (HasLargeSector file directory entry) old new
+    TakesSectors (HasSector xs) old new → TakesSectors (HasLargeSector file directory entry) old new
 long_takes file directory entry xs old new is holds =
     takes_same (HasSector xs) (HasLargeSector file directory entry) old new
     (λ s h. record { is_large = is; sectors = xs; holds = holds; has = h })
@@ -102,7 +102,7 @@ long_takes file directory entry xs old new is holds =
 pub short_takes : (file directory mini_fat : List ℕ) (entry : ℕ) (xs : List ℕ) (old new : Claimed) →
     IsSmallStream file directory entry →
     HoldsChain (mini_table_of file directory mini_fat) (stream_head file 64 (entry_place directory entry)) xs →
-    Takes (HasSector xs) old new → Takes (HasSmallSector file directory mini_fat entry) old new
+    TakesSectors (HasSector xs) old new → TakesSectors (HasSmallSector file directory mini_fat entry) old new
 short_takes file directory mini_fat entry xs old new is holds =
     takes_same (HasSector xs) (HasSmallSector file directory mini_fat entry) old new
     (λ s h. record { is_small = is; sectors = xs; holds = holds; has = h })
@@ -122,8 +122,8 @@ pub short_right : (file directory mini_fat : List ℕ) (entry : ℕ) →
 short_right file directory mini_fat entry none is = λ p w. none p (inr (record { is_small = is; broken = w }))
 
 -- what the passes over the streams keep of one of them
-pub takes_nothing : (places : Places) (entry : ℕ) (old : Taken) →
-    entry_size places.file (entry_place places.parts.directory entry) ≡ 0 → TakesStream places entry old old
+pub takes_nothing : (places : LayoutPlaces) (entry : ℕ) (old : Taken) →
+    entry_stream_size places.file (entry_place places.parts.directory entry) ≡ 0 → TakesStream places entry old old
 takes_nothing places entry old empty = record {
   sectors_taken = takes_none (HasLargeSector places.file places.parts.directory entry) old.sectors
       (λ s h. let large = h.is_large.large in omega arith);
@@ -131,7 +131,8 @@ takes_nothing places entry old empty = record {
       (λ s h. let some = h.is_small.some in omega arith);
 }
 
-pub takes_short : (places : Places) (mini : TablePlace) (claim : Head) (entry : ℕ) (old : Taken) (minis : Claimed) →
+pub takes_short : (places : LayoutPlaces) (mini : TablePlace) (claim : ChainHead) (entry : ℕ) (old : Taken) (minis :
+    Claimed) →
     mini ≡ mini_place places.file places.parts.directory places.parts.mini_fat →
     IsSmallStream places.file places.parts.directory entry →
     claim ≡ stream_head places.file 64 (entry_place places.parts.directory entry) →
@@ -146,7 +147,8 @@ takes_short places mini claim entry old minis is_mini is e t = record {
       t.takes;
 }
 
-pub takes_long : (places : Places) (fat : TablePlace) (claim : Head) (entry : ℕ) (old : Taken) (sectors : Claimed) →
+pub takes_long : (places : LayoutPlaces) (fat : TablePlace) (claim : ChainHead) (entry : ℕ) (old : Taken) (sectors :
+    Claimed) →
     fat ≡ fat_place places.file → IsLargeStream places.file places.parts.directory entry →
     claim ≡ stream_head places.file 512 (entry_place places.parts.directory entry) →
     TakesChain (table_at fat) claim old.sectors sectors →
@@ -161,13 +163,14 @@ takes_long places fat claim entry old sectors is_fat is e t = record {
 }
 
 -- a chain that is taken leaves what is taken closed
-chain_leaves : (table : Table) (head : Head) (old new : Claimed) → TakesChain table head old new → IsClosed table old →
-    IsClosed table new
+chain_leaves : (table : Table) (head : ChainHead) (old new : Claimed) → TakesChain table head old new → IsClosedClaim
+    table old →
+    IsClosedClaim table new
 chain_leaves table head old new t =
     takes_closed table (HasSector t.sectors) old new (holds_closed table head t.sectors t.holds) t.takes
 
 -- the marks after the chain of a stream
-pub short_marks : (places : Places) (mini : TablePlace) (claim : Head) (old : Taken) (minis : Claimed) →
+pub short_marks : (places : LayoutPlaces) (mini : TablePlace) (claim : ChainHead) (old : Taken) (minis : Claimed) →
     mini ≡ mini_place places.file places.parts.directory places.parts.mini_fat →
     TakesChain (table_at mini) claim old.minis minis → length minis.taken ≡ length old.minis.taken →
     HasMarks places old → HasMarks places (record { sectors = old.sectors; minis = minis })
@@ -179,7 +182,7 @@ short_marks places mini claim old minis is_mini t len marks = record {
       minis (subst (λ k. TakesChain (table_at k) claim old.minis minis) is_mini t) marks.minis_closed;
 }
 
-pub long_marks : (places : Places) (fat : TablePlace) (claim : Head) (old : Taken) (sectors : Claimed) →
+pub long_marks : (places : LayoutPlaces) (fat : TablePlace) (claim : ChainHead) (old : Taken) (sectors : Claimed) →
     fat ≡ fat_place places.file → TakesChain (table_at fat) claim old.sectors sectors →
     length sectors.taken ≡ length old.sectors.taken → HasMarks places old →
     HasMarks places (record { sectors = sectors; minis = old.minis })
@@ -192,7 +195,7 @@ long_marks places fat claim old sectors is_fat t len marks = record {
 }
 
 -- the valid mini sectors are in the mini stream
-pub mini_inside : (file directory mini_fat mini_stream stored : List ℕ) (s : ℕ) → IsWhole file →
+pub mini_inside : (file directory mini_fat mini_stream stored : List ℕ) (s : ℕ) → HasRightLength file →
     IsMiniStream file directory mini_stream → stored ≡ flat_map (sector_bytes 512 512 file) mini_stream →
     s < (mini_place file directory mini_fat).valid → s * 64 + 64 ≤ length stored
 mini_inside file directory mini_fat mini_stream stored s whole is joined low =
@@ -205,19 +208,19 @@ pub whole_size : (count size room : ℕ) → count ≡ min size room → size �
 whole_size count size room is enough = omega arith
 
 -- the sectors of the directory, of the mini FAT and of the mini stream are taken
-pub parts_taken : (places : Places) (b c d : List ℕ) (s0 s1 s2 s3 minis : Claimed) → IsLayout places →
+pub parts_taken : (places : LayoutPlaces) (b c d : List ℕ) (s0 s1 s2 s3 minis : Claimed) → IsSoundLayout places →
     b ≡ places.parts.directory → c ≡ places.parts.mini_fat → d ≡ places.parts.mini_stream →
     ((s : ℕ) → ¬ IsMarked s0.taken s) → IsUnshared s0 → ((s : ℕ) → ¬ IsMarked minis.taken s) → IsUnshared minis →
     length s3.taken ≡ (fat_table places.file).valid →
     length minis.taken ≡ (mini_table_of places.file places.parts.directory places.parts.mini_fat).valid →
-    Takes (HasSector b) s0 s1 → Takes (HasSector c) s1 s2 → Takes (HasSector d) s2 s3 →
+    TakesSectors (HasSector b) s0 s1 → TakesSectors (HasSector c) s1 s2 → TakesSectors (HasSector d) s2 s3 →
     IsTakenFront places 0 (record { sectors = s3; minis = minis })
 parts_taken places b c d s0 s1 s2 s3 minis is eb ec ed none unshared no_minis minis_unshared len minis_len tb tc td =
     let owns = Owns places.file places.parts in
     let small = HasSmallSector places.file places.parts.directory places.parts.mini_fat in
-    let t1 = subst (λ xs. Takes (HasSector xs) s0 s1) eb tb in
-    let t2 = subst (λ xs. Takes (HasSector xs) s1 s2) ec tc in
-    let t3 = subst (λ xs. Takes (HasSector xs) s2 s3) ed td in
+    let t1 = subst (λ xs. TakesSectors (HasSector xs) s0 s1) eb tb in
+    let t2 = subst (λ xs. TakesSectors (HasSector xs) s1 s2) ec tc in
+    let t3 = subst (λ xs. TakesSectors (HasSector xs) s2 s3) ed td in
     let f1 = share_step owns (λ x. ⊥) of_directory s0 s1 (λ never. never) (share_none owns s0 none unshared) t1 in
     let f2 = share_step owns (λ x. ⊥ ⊎ (x ≡ of_directory)) of_mini_fat s1 s2
     (λ h. elim h [ inl never ↦ never | inr e ↦ cc e ]) f1 t2 in
@@ -239,14 +242,14 @@ parts_taken places b c d s0 s1 s2 s3 minis is eb ec ed none unshared no_minis mi
         minis_closed = closed_none (mini_table_of places.file places.parts.directory places.parts.mini_fat) minis
             no_minis minis_unshared;
       };
-      of_sectors = share_same owns AreParts (IsDone places.streams 0) s3 (parts_done places.streams)
+      of_sectors = share_same owns AreParts (IsOwnerDone places.streams 0) s3 (parts_done places.streams)
           (done_parts places.streams) f3;
       of_minis = share_same small (λ x. ⊥) (HasFront places.streams 0) minis (λ x never. absurd never)
           (λ x h. let low = h.below in omega arith) (share_none small minis no_minis minis_unshared);
     }
 
 -- the stream of an entry of a file whose streams are right
-pub stream_right : (places : Places) (i : ℕ) → ListsStreams places.file places.parts.directory places.streams →
+pub stream_right : (places : LayoutPlaces) (i : ℕ) → ListsStreams places.file places.parts.directory places.streams →
     i < length places.streams → Nowhere (BreaksStream places.file places.parts.directory places.parts.mini_fat) →
     Nowhere (IsWrongStream places.file places.parts.directory places.parts.mini_fat (slice_index places.streams i))
 stream_right places i lists low none = λ p w. none p
@@ -259,7 +262,7 @@ wrong_entry file directory mini_fat entry place w = elim w
     [ inl large ↦ large.is_large.is_entry | inr small ↦ small.is_small.is_entry ]
 
 -- the least wrong place of the listed streams is that of all
-pub streams_least : (places : Places) (count : ℕ) (o : Option ℕ) →
+pub streams_least : (places : LayoutPlaces) (count : ℕ) (o : Option ℕ) →
     ListsStreams places.file places.parts.directory places.streams → count ≡ length places.streams →
     LeastOrNone
     (Among count (λ k. IsWrongStream places.file places.parts.directory places.parts.mini_fat
@@ -283,7 +286,7 @@ streams_least places count o lists e =
     record { entry = has.index; below = omega arith; broken = subst (λ k. wrong k p) (sym has.here) w.broken })
 
 -- what the passes read is what the file holds
-pub has_contents : (places : Places) (streams : List Stream) (clsid : List ℕ) → IsLayout places →
+pub has_contents : (places : LayoutPlaces) (streams : List Stream) (clsid : List ℕ) → IsSoundLayout places →
     AreStreamsOf places.file places.parts places.streams (length places.streams) streams →
     clsid ≡ entry_clsid places.file (entry_place places.parts.directory 0) →
     HasContents places.file (record { streams = streams; clsid = clsid })
@@ -299,10 +302,12 @@ has_contents places streams clsid is are e = record {
 }
 
 -- what was not shared after a stream was not shared before it
-pub takes_unshared : (owns : ℕ → Type 0) (old new : Claimed) → Takes owns old new → IsUnshared new → IsUnshared old
+pub takes_unshared : (owns : ℕ → Type 0) (old new : Claimed) → TakesSectors owns old new → IsUnshared new → IsUnshared
+    old
 takes_unshared owns old new t un = λ s h. un s (t.kept_shared s h)
 
-before_unshared : (places : Places) (entry : ℕ) (old new : Taken) → TakesStream places entry old new → AreUnshared new →
+before_unshared : (places : LayoutPlaces) (entry : ℕ) (old new : Taken) → TakesStream places entry old new → AreUnshared
+    new →
     AreUnshared old
 before_unshared places entry old new takes un = (
   takes_unshared (HasLargeSector places.file places.parts.directory entry) old.sectors new.sectors takes.sectors_taken
@@ -312,7 +317,7 @@ before_unshared places entry old new takes un = (
 )
 
 -- the chain of a claim, and what taking it does
-pub read_holds : (table : Table) (head : Head) (start : ℕ) (old new : Claimed) (walked : Walked) →
+pub read_holds : (table : Table) (head : ChainHead) (start : ℕ) (old new : Claimed) (walked : Walked) →
     table.valid < 2 ^ 31 → Nowhere (BreaksChain table head) → start ≡ head.start →
     ((chain : List ℕ) → IsSectorChain table.entry table.valid start chain →
     TakesWalked chain table.valid old new walked) →
@@ -327,7 +332,7 @@ read_holds table head start old new walked range none same takes =
     )
 
 -- the path that is walked to its end is the chain
-pub walked_holds : (table : Table) (head : Head) (start : ℕ) (old new : Claimed) (walked : Walked) →
+pub walked_holds : (table : Table) (head : ChainHead) (start : ℕ) (old new : Claimed) (walked : Walked) →
     table.valid < 2 ^ 31 → Nowhere (BreaksChain table head) → start ≡ head.start →
     ((chain : List ℕ) → IsSectorChain table.entry table.valid start chain →
     TakesWalked chain table.valid old new walked) → table.valid ≤ walked.next →
@@ -337,7 +342,7 @@ walked_holds table head start old new walked range none same takes out =
     subst (HoldsChain table head) (sym (holds.1.1.free out)) holds.1.0
 
 -- one stream more is read, where no sector is shared
-pub read_step : (places : Places) (count : ℕ) (old new : Taken) (streams : List Stream) (stream : Option Stream) →
+pub read_step : (places : LayoutPlaces) (count : ℕ) (old new : Taken) (streams : List Stream) (stream : Option Stream) →
     (AreUnshared old → AreStreamsOf places.file places.parts places.streams count streams) →
     TakesStream places (slice_index places.streams count) old new →
     MatchOption stream (¬ AreUnshared new) (IsStreamOf places.file places.parts (slice_index places.streams count)) →
@@ -348,11 +353,11 @@ read_step places count old new streams (Some stream) read takes is un =
     (read (before_unshared places (slice_index places.streams count) old new takes un)) is
 
 -- the stream that is read of an entry, from mini sectors or from sectors
-pub short_stream : (places : Places) (mini : TablePlace) (claim : Head) (entry : ℕ)
+pub short_stream : (places : LayoutPlaces) (mini : TablePlace) (claim : ChainHead) (entry : ℕ)
     (stored name bytes sectors : List ℕ) → mini ≡ mini_place places.file places.parts.directory places.parts.mini_fat →
     claim ≡ stream_head places.file 64 (entry_place places.parts.directory entry) →
     stored ≡ mini_bytes places.file places.parts → IsStreamEntry places.file places.parts.directory entry →
-    IsNameOf places.file (entry_place places.parts.directory entry) name →
+    IsEntryName places.file (entry_place places.parts.directory entry) name →
     IsSmallStream places.file places.parts.directory entry → IsRead (table_at mini) claim 0 stored bytes sectors →
     IsStreamOf places.file places.parts entry (record { name = name; bytes = bytes; chain = None })
 short_stream places mini claim entry stored name bytes sectors is_mini is_claim is_stored is_entry named small read =
@@ -373,10 +378,11 @@ short_stream places mini claim entry stored name bytes sectors is_mini is_claim 
           }));
     }
 
-pub long_stream : (places : Places) (fat : TablePlace) (claim : Head) (entry : ℕ) (stored name bytes sectors : List ℕ) →
+pub long_stream : (places : LayoutPlaces) (fat : TablePlace) (claim : ChainHead) (entry : ℕ) (stored name bytes sectors
+    : List ℕ) →
     fat ≡ fat_place places.file → claim ≡ stream_head places.file 512 (entry_place places.parts.directory entry) →
     stored ≡ places.file → IsStreamEntry places.file places.parts.directory entry →
-    IsNameOf places.file (entry_place places.parts.directory entry) name →
+    IsEntryName places.file (entry_place places.parts.directory entry) name →
     IsLargeStream places.file places.parts.directory entry → IsRead (table_at fat) claim 512 stored bytes sectors →
     IsStreamOf places.file places.parts entry (record { name = name; bytes = bytes; chain = Some sectors })
 long_stream places fat claim entry stored name bytes sectors is_fat is_claim is_stored is_entry named large read =

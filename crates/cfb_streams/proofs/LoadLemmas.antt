@@ -1,12 +1,12 @@
 -- A fault of the rules that are checked later is one of all rules.
 use Rattle.std.proofs.Common.{◌≡◌, inl, inr, ℕ, List, length, sym, ap, subst, arith}
-use Rattle.doc_bits.specs.Rules.{Rules, rule, ◌then◌, given, Nowhere, Hold, IsFirst}
+use Rattle.doc_bits.specs.Rules.{Rules, rule, ◌then◌, given, Nowhere, Hold, IsFirstOffset}
 use Rattle.cfb_sectors.specs.declared.faults.CfbFault.{CfbFault}
 use Rattle.cfb_sectors.specs.declared.faults.CfbFault.TheVariants.{Rule, Memory}
 use Rattle.cfb_sectors.specs.Opening.{opening_rules}
 use Rattle.cfb_sectors.specs.Chain.{fat_table}
-use Rattle.cfb_directory.specs.Entries.{EntryLists, AreEntries, tree_rules}
-use Rattle.cfb_streams.specs.Layout.{Places, places_of, entries_of, IsLayout}
+use Rattle.cfb_directory.specs.Entries.{EntryLists, AreSoundEntries, tree_rules}
+use Rattle.cfb_streams.specs.Layout.{LayoutPlaces, layout_places_of, entry_lists_at, IsSoundLayout}
 use Rattle.cfb_sectors.proofs.Public.{holds_none, full_unique, chain_full}
 use Rattle.cfb_sectors.specs.HeaderRules.{header_rules}
 use Rattle.cfb_directory.specs.Reach.{directory_head, entry_place, IsDirectory}
@@ -63,8 +63,8 @@ front_fault file rest Memory first = tt
 
 -- a fault of the rules 6 to 9 is the first of the file
 pub found_fault : (file : List ℕ) (rest : List ℕ → Rules ℕ) (e : CfbFault) →
-    ((directory : List ℕ) (number place : ℕ) → IsFirst (tree_rules file directory) number place →
-    IsFirst (rest directory) number place) → Hold (opening_rules file) → Hold (header_rules file) →
+    ((directory : List ℕ) (number place : ℕ) → IsFirstOffset (tree_rules file directory) number place →
+    IsFirstOffset (rest directory) number place) → Hold (opening_rules file) → Hold (header_rules file) →
     IsCfbFault (found_rules file) e → IsCfbFault (file_rules file rest) e
 found_fault file rest (Rule number place) more opening header first = elim first [
   | inl chain ↦ inr (opening, inr (header, inl chain))
@@ -79,8 +79,8 @@ found_fault file rest (Rule number place) more opening header first = elim first
 found_fault file rest Memory more opening header first = tt
 
 -- the first of the rules 7 to 9 is the first of the entries, with rule 10 and without it
-pub tree_first : (file directory : List ℕ) (number place : ℕ) → IsFirst (tree_rules file directory) number place →
-    IsFirst (entry_rules file directory) number place
+pub tree_first : (file directory : List ℕ) (number place : ℕ) → IsFirstOffset (tree_rules file directory) number place →
+    IsFirstOffset (entry_rules file directory) number place
 tree_first file directory number place first = elim first [
   | inl root ↦ inl root
   | inr behind_root ↦ inr (
@@ -90,7 +90,8 @@ tree_first file directory number place first = elim first [
 ]
 
 pub outer_tree_first : (file directory : List ℕ) (number place : ℕ) →
-    IsFirst (tree_rules file directory) number place → IsFirst (outer_entry_rules file directory) number place
+    IsFirstOffset (tree_rules file directory) number place → IsFirstOffset (outer_entry_rules file directory) number
+    place
 outer_tree_first file directory number place first = elim first [
   | inl root ↦ inl root
   | inr behind_root ↦ inr (
@@ -116,7 +117,7 @@ entries_fault file directory rest Memory opening header is first = tt
 
 -- the same, where the file is that of the entries
 pub same_fault : (file : List ℕ) (entries : EntryLists) (rest : List ℕ → List ℕ → Rules ℕ) (e : CfbFault) →
-    entries.file ≡ file → Hold (opening_rules file) → Hold (header_rules file) → AreEntries entries →
+    entries.file ≡ file → Hold (opening_rules file) → Hold (header_rules file) → AreSoundEntries entries →
     IsCfbFault (rest entries.file entries.directory) e → IsCfbFault (file_rules file (rest file)) e
 same_fault file entries rest e same opening header are first =
     subst (λ f. IsCfbFault (file_rules f (rest f)) e) same
@@ -125,14 +126,14 @@ same_fault file entries rest e same opening header are first =
     are.is_directory first)
 
 -- a fault of rule 10 is the first of the entries
-pub storages_fault : (entries : EntryLists) (e : CfbFault) → AreEntries entries →
+pub storages_fault : (entries : EntryLists) (e : CfbFault) → AreSoundEntries entries →
     IsCfbFault (rule 10 (BreaksStorage entries.file entries.directory)) e →
     IsCfbFault (entry_rules entries.file entries.directory) e
 storages_fault entries (Rule number place) are first = inr (are.root, inr (are.tree, inr (are.names, inl first)))
 storages_fault entries Memory are first = tt
 
 -- a fault of the chains is the first of the entries, with rule 10 and without it
-pub behind_fault : (entries : EntryLists) (e : CfbFault) → AreEntries entries →
+pub behind_fault : (entries : EntryLists) (e : CfbFault) → AreSoundEntries entries →
     Nowhere (BreaksStorage entries.file entries.directory) →
     IsCfbFault (chain_rules entries.file entries.directory) e →
     IsCfbFault (entry_rules entries.file entries.directory) e
@@ -140,7 +141,7 @@ behind_fault entries (Rule number place) are storages first = inr
     (are.root, inr (are.tree, inr (are.names, inr (storages, first))))
 behind_fault entries Memory are storages first = tt
 
-pub outer_behind_fault : (entries : EntryLists) (e : CfbFault) → AreEntries entries →
+pub outer_behind_fault : (entries : EntryLists) (e : CfbFault) → AreSoundEntries entries →
     IsCfbFault (chain_rules entries.file entries.directory) e →
     IsCfbFault (outer_entry_rules entries.file entries.directory) e
 outer_behind_fault entries (Rule number place) are first = inr (are.root, inr (are.tree, inr (are.names, first)))
@@ -158,7 +159,7 @@ mini_stream_fault file directory mini_fat (Rule number place) is first = inr
     (mini_fat_holds file mini_fat is, (mini_fat, (is, inl first)))
 mini_stream_fault file directory mini_fat Memory is first = tt
 
-pub places_fault : (places : Places) (e : CfbFault) → IsLayout places → IsCfbFault (places_rules places) e →
+pub places_fault : (places : LayoutPlaces) (e : CfbFault) → IsSoundLayout places → IsCfbFault (places_rules places) e →
     IsCfbFault (chain_rules places.file places.parts.directory) e
 places_fault places (Rule number place) is first =
     let file = places.file in
@@ -179,7 +180,7 @@ places_fault places (Rule number place) is first =
 places_fault places Memory is first = tt
 
 -- a layout whose streams hold the rules 13 and 14 is that of a file whose chains hold all
-places_hold : (places : Places) → IsLayout places → Hold (places_rules places) →
+places_hold : (places : LayoutPlaces) → IsSoundLayout places → Hold (places_rules places) →
     Hold (chain_rules places.file places.parts.directory)
 places_hold places is hold =
     let file = places.file in
@@ -198,23 +199,25 @@ places_hold places is hold =
     )
 
 -- a fault of the rules 13 and 14 is the first of the file
-pub layout_fault : (places : Places) (e : CfbFault) → IsLayout places →
+pub layout_fault : (places : LayoutPlaces) (e : CfbFault) → IsSoundLayout places →
     Nowhere (BreaksStorage places.file places.parts.directory) → IsCfbFault (places_rules places) e →
     IsCfbFault (container_rules places.file) e
 layout_fault places e is storages first =
     entries_fault places.file places.parts.directory (entry_rules places.file) e is.opening is.header
     is.are_entries.is_directory
-    (behind_fault (entries_of places) e is.are_entries storages (places_fault places e is first))
+    (behind_fault (entry_lists_at places) e is.are_entries storages (places_fault places e is first))
 
-pub outer_layout_fault : (places : Places) (e : CfbFault) → IsLayout places → IsCfbFault (places_rules places) e →
+pub outer_layout_fault : (places : LayoutPlaces) (e : CfbFault) → IsSoundLayout places → IsCfbFault (places_rules
+    places) e →
     IsCfbFault (outer_rules places.file) e
 outer_layout_fault places e is first =
     entries_fault places.file places.parts.directory (outer_entry_rules places.file) e is.opening is.header
     is.are_entries.is_directory
-    (outer_behind_fault (entries_of places) e is.are_entries (places_fault places e is first))
+    (outer_behind_fault (entry_lists_at places) e is.are_entries (places_fault places e is first))
 
 -- a layout whose streams hold the rules 13 and 14 is that of a file that holds all
-pub layout_holds : (places : Places) → IsLayout places → Nowhere (BreaksStorage places.file places.parts.directory) →
+pub layout_holds : (places : LayoutPlaces) → IsSoundLayout places → Nowhere (BreaksStorage places.file
+    places.parts.directory) →
     Hold (places_rules places) → Hold (container_rules places.file)
 layout_holds places is storages hold =
     let are = is.are_entries in (
@@ -234,7 +237,7 @@ layout_holds places is storages hold =
       ),
     )
 
-pub outer_layout_holds : (places : Places) → IsLayout places → Hold (places_rules places) →
+pub outer_layout_holds : (places : LayoutPlaces) → IsSoundLayout places → Hold (places_rules places) →
     Hold (outer_rules places.file)
 outer_layout_holds places is hold =
     let are = is.are_entries in (
@@ -266,8 +269,8 @@ sharing_fault file parts Memory holds first = tt
 
 -- the layout of a file
 pub layout_is : (file : List ℕ) (entries : EntryLists) (mini_fat mini_stream : List ℕ) → entries.file ≡ file →
-    Hold (opening_rules file) → Hold (header_rules file) → AreEntries entries → IsMiniFat file mini_fat →
-    IsMiniStream file entries.directory mini_stream → IsLayout (places_of entries mini_fat mini_stream)
+    Hold (opening_rules file) → Hold (header_rules file) → AreSoundEntries entries → IsMiniFat file mini_fat →
+    IsMiniStream file entries.directory mini_stream → IsSoundLayout (layout_places_of entries mini_fat mini_stream)
 layout_is file entries mini_fat mini_stream same opening header are is stored = record {
   opening = subst (λ f. Hold (opening_rules f)) (sym same) opening;
   header = subst (λ f. Hold (header_rules f)) (sym same) header;

@@ -1,7 +1,7 @@
 -- A file that breaks none of the rules 1 to 14 breaks none without rule 10, and no storage of it has something.
 use Rattle.std.proofs.Common.{◌≡◌, ◌≤◌, inl, inr, ℕ, ◌+◌, List, [], length, slice_index, arith, refl, subst}
 use Rattle.std.proofs.lemmas.Bool.{cases_lt}
-use Rattle.doc_bits.specs.Rules.{Hold, IsFirst}
+use Rattle.doc_bits.specs.Rules.{Hold, IsFirstOffset}
 use Rattle.doc_bits.proofs.Public.{hold_or_first, nil_from_length}
 use Rattle.cfb_directory.specs.Reach.{entry_place}
 use Rattle.cfb_directory.specs.Storages.{IsFilledStorage}

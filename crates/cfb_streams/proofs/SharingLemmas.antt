@@ -5,19 +5,19 @@ use Rattle.std.proofs.lemmas.Bool.{cases_lt}
 use Rattle.doc_bits.specs.Rules.{LeastOrNone}
 use Rattle.doc_bits.proofs.Public.{least_same}
 use Rattle.cfb_streams.specs.StreamRules.{Owner, of_fat, of_directory, of_mini_fat, of_mini_stream, of_stream, Owns}
-use Rattle.cfb_streams.specs.StreamRules.{Parts, IsShared, HasSmallSector, IsMiniFat, IsMiniStream}
+use Rattle.cfb_streams.specs.StreamRules.{Parts, IsSharedSector, HasSmallSector, IsMiniFat, IsMiniStream}
 use Rattle.cfb_sectors.specs.Header.{valid_below}
-use Rattle.cfb_sectors.specs.Chain.{Table, Head, fat_table, HoldsChain}
+use Rattle.cfb_sectors.specs.Chain.{Table, ChainHead, fat_table, HoldsChain}
 use Rattle.cfb_sectors.specs.SectorChain.{HasSector}
 use Rattle.cfb_directory.specs.Order.{ListsStreams}
 use Rattle.cfb_sectors.specs.Marks.{IsMarked}
-use Rattle.cfb_sectors.specs.Claims.{AreDistinctBelow, HasFront, Claimed, IsUnshared, Takes, IsSharedPlace}
-use Rattle.cfb_streams.specs.Sharing.{IsShareFront, IsDone}
+use Rattle.cfb_sectors.specs.Claims.{AreDistinctBelow, HasFront, Claimed, IsUnshared, TakesSectors, IsSharedPlace}
+use Rattle.cfb_streams.specs.Sharing.{IsShareFront, IsOwnerDone}
 use Rattle.cfb_sectors.proofs.Public.{chain_closed}
 use Rattle.cfb_directory.proofs.Public.{streams_apart}
 
 -- an owner without sectors takes none
-pub takes_none : (owns : ℕ → Type 0) (claimed : Claimed) → ((s : ℕ) → ¬ owns s) → Takes owns claimed claimed
+pub takes_none : (owns : ℕ → Type 0) (claimed : Claimed) → ((s : ℕ) → ¬ owns s) → TakesSectors owns claimed claimed
 takes_none owns claimed none = record {
   kept = λ s h. h;
   added = λ s h. absurd (none s h);
@@ -39,7 +39,7 @@ share_none owns claimed none unshared = record {
 
 -- one owner more
 pub share_step : {A : Type 0} (owns : A → ℕ → Type 0) (done : A → Type 0) (x : A) (old new : Claimed) → ¬ done x →
-    IsShareFront owns done old → Takes (owns x) old new → IsShareFront owns (λ y. done y ⊎ (y ≡ x)) new
+    IsShareFront owns done old → TakesSectors (owns x) old new → IsShareFront owns (λ y. done y ⊎ (y ≡ x)) new
 share_step owns done x old new fresh f t = record {
   owner = λ s h. elim (t.only s h) [
     | inl was ↦ let o = f.owner s was in record { owner = o.owner; is_done = inl o.is_done; owned = o.owned }
@@ -110,9 +110,9 @@ share_same owns done other claimed to from f = record {
 -- where all owners took their sectors the least shared place is that of two of them
 pub share_all : {A : Type 0} (owns : A → ℕ → Type 0) (done : A → Type 0) (place_of : ℕ → ℕ) (claimed : Claimed)
     (o : Option ℕ) → ((x : A) (s : ℕ) → owns x s → done x) → IsShareFront owns done claimed →
-    LeastOrNone (IsSharedPlace claimed place_of) o → LeastOrNone (IsShared owns place_of) o
+    LeastOrNone (IsSharedPlace claimed place_of) o → LeastOrNone (IsSharedSector owns place_of) o
 share_all owns done place_of claimed o all f =
-    least_same (IsSharedPlace claimed place_of) (IsShared owns place_of) o
+    least_same (IsSharedPlace claimed place_of) (IsSharedSector owns place_of) o
     (λ p w.
     let two = f.owners w.sector w.shared in
     record {
@@ -167,7 +167,7 @@ same_stream a b e = cc e
 
 -- the owners, and one stream more
 pub done_more : (order : List ℕ) (count : ℕ) (x : Owner) →
-    IsDone order count x ⊎ (x ≡ of_stream (slice_index order count)) → IsDone order (count + 1) x
+    IsOwnerDone order count x ⊎ (x ≡ of_stream (slice_index order count)) → IsOwnerDone order (count + 1) x
 done_more order count of_fat h = elim h [ inl never ↦ absurd never | inr e ↦ absurd (cc e) ]
 done_more order count of_directory h = tt
 done_more order count of_mini_fat h = tt
@@ -175,8 +175,8 @@ done_more order count of_mini_stream h = tt
 done_more order count (of_stream entry) h = front_more order count entry
     (elim h [ inl before ↦ inl before | inr e ↦ inr (same_stream entry (slice_index order count) e) ])
 
-pub done_split : (order : List ℕ) (count : ℕ) (x : Owner) → IsDone order (count + 1) x →
-    IsDone order count x ⊎ (x ≡ of_stream (slice_index order count))
+pub done_split : (order : List ℕ) (count : ℕ) (x : Owner) → IsOwnerDone order (count + 1) x →
+    IsOwnerDone order count x ⊎ (x ≡ of_stream (slice_index order count))
 done_split order count of_fat h = absurd h
 done_split order count of_directory h = inl tt
 done_split order count of_mini_fat h = inl tt
@@ -188,7 +188,7 @@ done_split order count (of_stream entry) h = elim (front_split order count entry
 abbrev pub AreParts : Owner → Type 0
 AreParts x = ((⊥ ⊎ (x ≡ of_directory)) ⊎ (x ≡ of_mini_fat)) ⊎ (x ≡ of_mini_stream)
 
-pub parts_done : (order : List ℕ) (x : Owner) → AreParts x → IsDone order 0 x
+pub parts_done : (order : List ℕ) (x : Owner) → AreParts x → IsOwnerDone order 0 x
 parts_done order of_fat h = elim h [
   | inl rest ↦ elim rest [
     | inl first ↦ elim first [ inl never ↦ absurd never | inr e ↦ absurd (cc e) ]
@@ -207,7 +207,7 @@ parts_done order (of_stream entry) h = elim h [
   | inr e ↦ absurd (cc e)
 ]
 
-pub done_parts : (order : List ℕ) (x : Owner) → IsDone order 0 x → AreParts x
+pub done_parts : (order : List ℕ) (x : Owner) → IsOwnerDone order 0 x → AreParts x
 done_parts order of_fat h = absurd h
 done_parts order of_directory h = inl (inl (inr refl))
 done_parts order of_mini_fat h = inl (inr refl)
@@ -216,7 +216,7 @@ done_parts order (of_stream entry) h = absurd (let low = h.below in omega arith)
 
 -- with the FAT all owners are done
 pub all_done : (file : List ℕ) (parts : Parts) (order : List ℕ) → ListsStreams file parts.directory order →
-    (x : Owner) (s : ℕ) → Owns file parts x s → IsDone order (length order) x ⊎ (x ≡ of_fat)
+    (x : Owner) (s : ℕ) → Owns file parts x s → IsOwnerDone order (length order) x ⊎ (x ≡ of_fat)
 all_done file parts order lists of_fat s h = inr refl
 all_done file parts order lists of_directory s h = inl tt
 all_done file parts order lists of_mini_fat s h = inl tt
@@ -233,7 +233,8 @@ minis_done file directory mini_fat order lists entry s h =
     record { index = has.index; below = has.inside; here = has.here }
 
 -- what follows a sector of a chain is one of it
-pub holds_closed : (table : Table) (head : Head) (xs : List ℕ) → HoldsChain table head xs → (s : ℕ) → HasSector xs s →
+pub holds_closed : (table : Table) (head : ChainHead) (xs : List ℕ) → HoldsChain table head xs → (s : ℕ) → HasSector xs
+    s →
     table.entry s < table.valid → HasSector xs (table.entry s)
 holds_closed table head xs h = chain_closed table.entry table.valid head.start xs h.range h.chain
 
@@ -259,7 +260,7 @@ mini_stream_closed file directory xs is = elim is [
 ]
 
 -- the sectors of a chain are valid, and none is there twice
-pub chain_apart : (table : Table) (head : Head) (xs : List ℕ) → HoldsChain table head xs →
+pub chain_apart : (table : Table) (head : ChainHead) (xs : List ℕ) → HoldsChain table head xs →
     AreDistinctBelow table.valid xs
 chain_apart table head xs h = record { inside = h.chain.path.within; distinct = h.chain.path.distinct }
 

@@ -7,7 +7,7 @@ use Rattle.std.proofs.lemmas.List.{get_or_past}
 use Rattle.doc_bits.specs.Number.{AreBytes}
 use Rattle.doc_bits.proofs.Public.{number_at-bound, AreBytes-take, AreBytes-range, AreBytes-flat_map, no_bytes}
 use Rattle.cfb_sectors.specs.Header.{sector_bytes}
-use Rattle.cfb_directory.specs.Directory.{entry_size, IsNameOf}
+use Rattle.cfb_directory.specs.Directory.{entry_stream_size, IsEntryName}
 use Rattle.cfb_directory.specs.Reach.{entry_place}
 use Rattle.cfb_streams.specs.StreamRules.{Parts}
 use Rattle.cfb_streams.specs.Contents.{Stream, Contents, IsStored}
@@ -20,7 +20,7 @@ sectors_bytes base unit bytes sectors are =
     AreBytes-flat_map (sector_bytes base unit bytes) sectors
     (λ sector. AreBytes-range bytes (base + sector * unit) (base + sector * unit + unit) are)
 
-name_units : (file : List ℕ) (at : ℕ) (name : List ℕ) → AreBytes file → IsNameOf file at name → (i : ℕ) →
+name_units : (file : List ℕ) (at : ℕ) (name : List ℕ) → AreBytes file → IsEntryName file at name → (i : ℕ) →
     slice_index name i < 2 ^ 16
 name_units file at name are is i = elim (cases_lt i (length name)) [
   | inl low ↦ rw (is.units i low) (number_at-bound file (at + 2 * i) 2 are)
@@ -33,7 +33,7 @@ pub stream_stored : (file : List ℕ) (parts : Parts) (entry : ℕ) (stream : St
 stream_stored file parts entry stream are is = record {
   units = name_units file (entry_place parts.directory entry) stream.name are is.name;
   small =
-      let size = entry_size file (entry_place parts.directory entry) in
+      let size = entry_stream_size file (entry_place parts.directory entry) in
       elim is.holds [
         | inl empty ↦ subst AreBytes (sym empty.bytes) no_bytes
         | inr more ↦ elim more [

@@ -6,7 +6,7 @@ use Rattle.std.proofs.lemmas.Bool.{cases_lt, cases_eq}
 use Rattle.std.proofs.lemmas.List.{ext_get_or}
 use Rattle.cfb_sectors.specs.Header.{sector_bytes}
 use Rattle.cfb_sectors.specs.Chain.{fat_table}
-use Rattle.cfb_directory.specs.Directory.{entry_size, entry_clsid, EntryBefore, IsNameOf}
+use Rattle.cfb_directory.specs.Directory.{entry_stream_size, entry_clsid, EntryBefore, IsEntryName}
 use Rattle.cfb_directory.specs.Reach.{entry_place}
 use Rattle.cfb_streams.specs.StreamRules.{Parts, IsMiniStream, mini_table_of}
 use Rattle.cfb_directory.specs.StreamEntries.{IsStreamEntry, stream_head}
@@ -96,7 +96,7 @@ pub lists_unique : (file directory xs ys : List ℕ) → ListsStreams file direc
 lists_unique file directory = kind_unique file directory (IsStreamEntry file directory)
 
 -- an entry has one name
-name_unique : (file : List ℕ) (at : ℕ) (xs ys : List ℕ) → IsNameOf file at xs → IsNameOf file at ys → xs ≡ ys
+name_unique : (file : List ℕ) (at : ℕ) (xs ys : List ℕ) → IsEntryName file at xs → IsEntryName file at ys → xs ≡ ys
 name_unique file at xs ys a b =
     let x = a.long in let y = b.long in
     let len : length xs ≡ length ys = omega arith in
@@ -136,7 +136,7 @@ stream_unique file parts entry s t a b =
                 (stream_head file 64 (entry_place parts.directory entry)) short.body.sectors other.body.sectors
                 short.body.holds other.body.holds in
                 stream_eq s t name
-                (short.body.joined ∙ (ap (λ xs. take (entry_size file (entry_place parts.directory entry))
+                (short.body.joined ∙ (ap (λ xs. take (entry_stream_size file (entry_place parts.directory entry))
                 (flat_map (sector_bytes 0 64 (mini_bytes file parts)) xs)) e ∙ sym other.body.joined))
                 (short.chain ∙ sym other.chain)
             | inr long ↦ let small = short.body.is_small.small in let large = long.body.is_large.large in absurd
@@ -152,7 +152,7 @@ stream_unique file parts entry s t a b =
                 let e = holds_unique (fat_table file) (stream_head file 512 (entry_place parts.directory entry))
                 long.sectors other.sectors long.body.holds other.body.holds in
                 stream_eq s t name
-                (long.body.joined ∙ (ap (λ xs. take (entry_size file (entry_place parts.directory entry))
+                (long.body.joined ∙ (ap (λ xs. take (entry_stream_size file (entry_place parts.directory entry))
                 (flat_map (sector_bytes 512 512 file) xs)) e ∙ sym other.body.joined))
                 (long.chain ∙ (ap Some e ∙ sym other.chain))
           ]

@@ -8,7 +8,7 @@ use Rattle.cfb_sectors.specs.Opening.{opening_rules}
 use Rattle.cfb_sectors.specs.Header.{sector_len, mini_sector_len, sector_bytes}
 use Rattle.cfb_sectors.specs.HeaderRules.{header_rules}
 use Rattle.cfb_sectors.specs.Chain.{fat_table, HoldsChain}
-use Rattle.cfb_directory.specs.Directory.{entry_size, entry_clsid, IsNameOf}
+use Rattle.cfb_directory.specs.Directory.{entry_stream_size, entry_clsid, IsEntryName}
 use Rattle.cfb_directory.specs.Reach.{BreaksDirectory, IsDirectory, BreaksRoot, BreaksTree, BreaksName, BreaksStorage}
 use Rattle.cfb_directory.specs.Reach.{entry_place}
 use Rattle.cfb_streams.specs.StreamRules.{BreaksMiniFat, IsMiniFat, BreaksMiniStream, IsMiniStream, BreaksStream}
@@ -67,7 +67,7 @@ mini_bytes file parts = flat_map (sector_bytes sector_len sector_len file) parts
 pub record IsLongBody (file directory : List ℕ) (entry : ℕ) (bytes sectors : List ℕ) : Type 0 where
   pub is_large : IsLargeStream file directory entry
   pub holds : HoldsChain (fat_table file) (stream_head file sector_len (entry_place directory entry)) sectors
-  pub joined : bytes ≡ take (entry_size file (entry_place directory entry))
+  pub joined : bytes ≡ take (entry_stream_size file (entry_place directory entry))
       (flat_map (sector_bytes sector_len sector_len file) sectors)
 
 -- the bytes of a stream that is in the mini stream, whose bytes are `stored`
@@ -76,12 +76,12 @@ pub record IsShortBody (file directory mini_fat stored : List ℕ) (entry : ℕ)
   pub sectors : List ℕ
   pub holds : HoldsChain (mini_table_of file directory mini_fat) (stream_head file mini_sector_len
       (entry_place directory entry)) sectors
-  pub joined : bytes ≡ take (entry_size file (entry_place directory entry))
+  pub joined : bytes ≡ take (entry_stream_size file (entry_place directory entry))
       (flat_map (sector_bytes 0 mini_sector_len stored) sectors)
 
 -- the bytes and the chain of the stream of an entry
 pub record IsEmptyStream (file : List ℕ) (parts : Parts) (entry : ℕ) (stream : Stream) : Type 0 where
-  pub empty : entry_size file (entry_place parts.directory entry) ≡ 0
+  pub empty : entry_stream_size file (entry_place parts.directory entry) ≡ 0
   pub bytes : stream.bytes ≡ []
   pub chain : stream.chain ≡ None
 
@@ -97,7 +97,7 @@ pub record IsLongStream (file : List ℕ) (parts : Parts) (entry : ℕ) (stream 
 -- the stream of an entry
 pub record IsStreamOf (file : List ℕ) (parts : Parts) (entry : ℕ) (stream : Stream) : Type 0 where
   pub is_entry : IsStreamEntry file parts.directory entry
-  pub name : IsNameOf file (entry_place parts.directory entry) stream.name
+  pub name : IsEntryName file (entry_place parts.directory entry) stream.name
   pub holds : IsEmptyStream file parts entry
       stream ⊎ (IsShortStream file parts entry stream ⊎ IsLongStream file parts entry stream)
 
@@ -123,7 +123,7 @@ pub record HasContents (file : List ℕ) (contents : Contents) : Type 0 where
 pub record AreNamesOf (file directory entries : List ℕ) (count : ℕ) (names : List (List ℕ)) : Type 0 where
   pub len : length names ≡ count
   pub each : (i : ℕ) (name : List ℕ) → slice_get names i ≡ Some name →
-      IsNameOf file (entry_place directory (slice_index entries i)) name
+      IsEntryName file (entry_place directory (slice_index entries i)) name
 
 -- exactly the names of the root's storages that have something, in their order
 pub record ListsStorages (file : List ℕ) (names : List (List ℕ)) : Type 0 where

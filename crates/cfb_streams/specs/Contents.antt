@@ -3,7 +3,7 @@ use Rattle.std.specs.Prelude.{◌≡◌, ℕ, ◌-◌, ◌^◌, ◌<◌, ◌≤�
 use Rattle.std.specs.Prelude.{slice_index}
 use Rattle.std.specs.List.{sum_by}
 use Rattle.doc_bits.specs.Number.{AreBytes}
-use Rattle.cfb_directory.specs.Directory.{AreSameNames, ComesBefore}
+use Rattle.cfb_directory.specs.Directory.{AreSameNames, IsNameBefore}
 
 -- a stream: its name, its bytes, and its sectors where it has sectors of its own
 pub record Stream : Type 0 where
@@ -48,7 +48,7 @@ pub record AreStreams (streams : List NamedBytes) : Type 0 where
   pub some : (i : ℕ) (stream : NamedBytes) → slice_get streams i ≡ Some stream → 1 ≤ length stream.name
   pub short : (i : ℕ) (stream : NamedBytes) → slice_get streams i ≡ Some stream → length stream.name ≤ 31
   pub order : (i j : ℕ) (stream later : NamedBytes) → i < j → slice_get streams i ≡ Some stream →
-      slice_get streams j ≡ Some later → ComesBefore stream.name later.name
+      slice_get streams j ≡ Some later → IsNameBefore stream.name later.name
   pub total : sum_by (λ stream. length stream.bytes) streams < 2 ^ 48
 
 -- a name and bytes that a file can hold: the units have 16 bits, and the bytes are below 256
@@ -61,6 +61,7 @@ AreStored streams = (i : ℕ) (stream : NamedBytes) → slice_get streams i ≡ 
     stream.bytes
 
 -- the name comes after that of the last stream
-abbrev pub EndsBefore : List NamedBytes → List ℕ → Type 0
-EndsBefore streams name = (stream : NamedBytes) → slice_get streams (length streams - 1) ≡ Some stream → ComesBefore
+abbrev pub IsAfterLastName : List NamedBytes → List ℕ → Type 0
+IsAfterLastName streams name = (stream : NamedBytes) → slice_get streams (length streams - 1) ≡ Some stream →
+    IsNameBefore
     stream.name name

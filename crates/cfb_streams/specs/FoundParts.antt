@@ -3,7 +3,7 @@ use Rattle.std.specs.Prelude.{ℕ, ◌*◌, min, List, length}
 use Rattle.doc_bits.specs.Rules.{Rules, rule, ◌then◌, given}
 use Rattle.cfb_sectors.specs.declared.chain.Chain.{Chain}
 use Rattle.cfb_sectors.specs.Judged.{IsFoundBy}
-use Rattle.cfb_directory.specs.Directory.{entry_size}
+use Rattle.cfb_directory.specs.Directory.{entry_stream_size}
 use Rattle.cfb_directory.specs.Reach.{entry_place, IsDirectory, BreaksDirectory}
 use Rattle.cfb_directory.specs.Entries.{tree_rules}
 use Rattle.cfb_streams.specs.StreamRules.{IsMiniFat, BreaksMiniFat, IsMiniStream, BreaksMiniStream}
@@ -15,7 +15,7 @@ abbrev pub mini_place : List ℕ → List ℕ → List ℕ → TablePlace
 mini_place file directory mini_fat = record {
   file = file;
   sectors = mini_fat;
-  valid = min (128 * length mini_fat) (mini_sectors_in (entry_size file (entry_place directory 0)));
+  valid = min (128 * length mini_fat) (mini_sectors_in (entry_stream_size file (entry_place directory 0)));
 }
 
 -- the directory's sectors, or where rule 6 is broken

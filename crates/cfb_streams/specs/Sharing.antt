@@ -29,9 +29,9 @@ pub record IsShareFront {A : Type 0} (owns : A → ℕ → Type 0) (done : A →
 
 -- the directory, the mini FAT, the mini stream, and the first `count` streams; the FAT comes last, since its sectors
 -- are no chain
-abbrev pub IsDone : List ℕ → ℕ → Owner → Type 0
-IsDone order count of_fat = ⊥
-IsDone order count of_directory = ⊤
-IsDone order count of_mini_fat = ⊤
-IsDone order count of_mini_stream = ⊤
-IsDone order count (of_stream entry) = HasFront order count entry
+abbrev pub IsOwnerDone : List ℕ → ℕ → Owner → Type 0
+IsOwnerDone order count of_fat = ⊥
+IsOwnerDone order count of_directory = ⊤
+IsOwnerDone order count of_mini_fat = ⊤
+IsOwnerDone order count of_mini_stream = ⊤
+IsOwnerDone order count (of_stream entry) = HasFront order count entry

@@ -3,12 +3,12 @@ use Rattle.std.specs.Prelude.{◌≡◌, ◌≢◌, ◌⊎◌, ℕ, List, []}
 use Rattle.doc_bits.specs.Number.{u32_at}
 use Rattle.cfb_sectors.specs.Header.{sector_len, mini_sector_len, fat_sectors}
 use Rattle.cfb_sectors.specs.SectorChain.{HasSector}
-use Rattle.cfb_sectors.specs.Chain.{Table, Head, fat_table, mini_table, HoldsChain, BreaksChain}
-use Rattle.cfb_directory.specs.Directory.{entry_size}
+use Rattle.cfb_sectors.specs.Chain.{Table, ChainHead, fat_table, mini_table, HoldsChain, BreaksChain}
+use Rattle.cfb_directory.specs.Directory.{entry_stream_size}
 use Rattle.cfb_directory.specs.Reach.{entry_place, AmongReached}
 use Rattle.cfb_directory.specs.StreamEntries.{IsLargeStream, IsSmallStream, stream_head}
 
-abbrev pub mini_fat_head : List ℕ → Head
+abbrev pub mini_fat_head : List ℕ → ChainHead
 mini_fat_head file = record { field = 60; start = u32_at file 60; unit = sector_len; size = 0 }
 
 -- rule 11; there is no mini FAT where the number of its sectors is 0
@@ -24,19 +24,19 @@ IsMiniFat file sectors =
 
 -- rule 12; Profile: the chain of an empty mini stream is not looked at
 pub record BreaksMiniStream (file directory : List ℕ) (place : ℕ) : Type 0 where
-  pub there : entry_size file (entry_place directory 0) ≢ 0
+  pub there : entry_stream_size file (entry_place directory 0) ≢ 0
   pub broken : BreaksChain (fat_table file) (stream_head file sector_len (entry_place directory 0)) place
 
 -- the sectors of the mini stream, which is the root's chain
 abbrev pub IsMiniStream : List ℕ → List ℕ → List ℕ → Type 0
 IsMiniStream file directory sectors =
-    ((entry_size file (entry_place directory 0) ≡ 0) × (sectors ≡ []))
-    ⊎ ((entry_size file (entry_place directory 0) ≢ 0) × HoldsChain (fat_table file)
+    ((entry_stream_size file (entry_place directory 0) ≡ 0) × (sectors ≡ []))
+    ⊎ ((entry_stream_size file (entry_place directory 0) ≢ 0) × HoldsChain (fat_table file)
     (stream_head file sector_len (entry_place directory 0)) sectors)
 
 -- the mini FAT by which the file's short streams go
 abbrev pub mini_table_of : List ℕ → List ℕ → List ℕ → Table
-mini_table_of file directory mini_fat = mini_table file mini_fat (entry_size file (entry_place directory 0))
+mini_table_of file directory mini_fat = mini_table file mini_fat (entry_stream_size file (entry_place directory 0))
 
 -- the chain of a stream's entry is broken
 pub record IsWrongLarge (file directory : List ℕ) (entry place : ℕ) : Type 0 where
@@ -92,7 +92,7 @@ Owns file parts of_mini_stream sector = HasSector parts.mini_stream sector
 Owns file parts (of_stream entry) sector = HasLargeSector file parts.directory entry sector
 
 -- a sector that two have, at its place in the table
-pub record IsShared {A : Type 0} (owns : A → ℕ → Type 0) (place_of : ℕ → ℕ) (place : ℕ) : Type 0 where
+pub record IsSharedSector {A : Type 0} (owns : A → ℕ → Type 0) (place_of : ℕ → ℕ) (place : ℕ) : Type 0 where
   pub one : A
   pub other : A
   pub apart : one ≢ other
@@ -104,6 +104,6 @@ pub record IsShared {A : Type 0} (owns : A → ℕ → Type 0) (place_of : ℕ �
 -- rule 14: sectors of the file, and mini sectors
 abbrev pub BreaksSharing : List ℕ → Parts → ℕ → Type 0
 BreaksSharing file parts place =
-    IsShared (Owns file parts) (fat_table file).place place
-    ⊎ IsShared (HasSmallSector file parts.directory parts.mini_fat)
+    IsSharedSector (Owns file parts) (fat_table file).place place
+    ⊎ IsSharedSector (HasSmallSector file parts.directory parts.mini_fat)
     (mini_table_of file parts.directory parts.mini_fat).place place

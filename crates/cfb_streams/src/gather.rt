@@ -3,13 +3,13 @@ ghost use Rattle.std.specs.Prelude.{◌≡◌, ℕ, ◌+◌, ◌*◌, ◌<◌, �
 ghost use Rattle.std.specs.Prelude.{IfOk, OnOk, MatchOption, MatchResult};
 ghost use Rattle.doc_bits.specs.Rules.{Hold, Nowhere, LeastOrNone, rule};
 ghost use Rattle.cfb_sectors.specs.Chain.{BreaksChain};
-ghost use Rattle.cfb_directory.specs.Directory.{IsNameOf};
+ghost use Rattle.cfb_directory.specs.Directory.{IsEntryName};
 ghost use Rattle.cfb_directory.specs.Reach.{entry_place as place_of};
 ghost use Rattle.cfb_directory.specs.StreamEntries.{IsStreamEntry, IsSmallStream, IsLargeStream, stream_head};
 ghost use Rattle.cfb_streams.specs.StreamRules.{IsWrongStream, BreaksStream, BreaksSharing};
-ghost use Rattle.cfb_sectors.specs.Claims.{IsUnshared, IsClosed};
+ghost use Rattle.cfb_sectors.specs.Claims.{IsUnshared, IsClosedClaim};
 ghost use Rattle.cfb_sectors.specs.Tables.{table_at};
-ghost use Rattle.cfb_streams.specs.Layout.{IsLayout};
+ghost use Rattle.cfb_streams.specs.Layout.{IsSoundLayout};
 ghost use Rattle.cfb_streams.specs.Gathered.{places_rules};
 ghost use Rattle.cfb_streams.specs.Gathered.{IsRead, TakesChain, TakesStream, HasMarks};
 ghost use Rattle.cfb_streams.specs.Gathered.{AreUnshared, with_some, IsTakenFront};
@@ -159,7 +159,7 @@ impl<'a> Layout<'a> {
         requires is_small { IsSmallStream self.now.file self.now.parts.directory entry }
         requires is_claim { claim.now
             ≡ stream_head self.now.file mini_sector_len (place_of self.now.parts.directory entry) }
-        requires is_name { IsNameOf self.now.file (place_of self.now.parts.directory entry) name.items }
+        requires is_name { IsEntryName self.now.file (place_of self.now.parts.directory entry) name.items }
         requires is_whole { Nowhere
             (IsWrongStream self.now.file self.now.parts.directory self.now.parts.mini_fat entry) }
         requires marks { HasMarks self.now taken.old }
@@ -193,7 +193,7 @@ impl<'a> Layout<'a> {
         requires is_large { IsLargeStream self.now.file self.now.parts.directory entry }
         requires is_claim { claim.now
             ≡ stream_head self.now.file sector_len (place_of self.now.parts.directory entry) }
-        requires is_name { IsNameOf self.now.file (place_of self.now.parts.directory entry) name.items }
+        requires is_name { IsEntryName self.now.file (place_of self.now.parts.directory entry) name.items }
         requires is_whole { Nowhere
             (IsWrongStream self.now.file self.now.parts.directory self.now.parts.mini_fat entry) }
         requires marks { HasMarks self.now taken.old }
@@ -223,7 +223,7 @@ impl<'a> Layout<'a> {
         ensures streams { IfOk result (λ streams. AreUnshared taken.new
             → AreStreamsOf self.now.file self.now.parts self.now.streams (length self.now.streams) streams.items) }
         ensures all { IfOk result (λ _. IsTakenFront self.now (length self.now.streams) taken.new) }
-        ensures is_layout { IsLayout self.now }
+        ensures is_layout { IsSoundLayout self.now }
     {
         let mut streams = Vec::new(alloc);
         for i in 0..self.stream_count() {
@@ -290,7 +290,7 @@ fn read_chain(
 ) -> Result<Option<ReadChain>, Memory>
     requires is_whole { Nowhere (BreaksChain (table_at table.now) claim.now) }
     requires marks { length claims.old.taken ≡ table.now.valid }
-    requires closed { IsClosed (table_at table.now) claims.old }
+    requires closed { IsClosedClaim (table_at table.now) claims.old }
     requires inside { (s : ℕ) → s < table.now.valid
         → base + s * claim.now.unit + claim.now.unit ≤ length stored.now }
     ensures read { IfOk result (λ read. MatchOption read

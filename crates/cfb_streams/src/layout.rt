@@ -4,10 +4,10 @@ ghost use Rattle.doc_bits.specs.Rules.{Hold, Nowhere, ◌then◌};
 ghost use Rattle.cfb_sectors.specs.Opening.{opening_rules};
 ghost use Rattle.cfb_sectors.specs.HeaderRules.{header_rules};
 ghost use Rattle.cfb_sectors.specs.Tables.{fat_place};
-ghost use Rattle.cfb_directory.specs.Entries.{AreEntries};
+ghost use Rattle.cfb_directory.specs.Entries.{AreSoundEntries};
 ghost use Rattle.cfb_directory.specs.Reach.{BreaksStorage};
 ghost use Rattle.cfb_streams.specs.FoundParts.{found_rules};
-ghost use Rattle.cfb_streams.specs.Layout.{IsLayout, IsLayoutOf, places_of};
+ghost use Rattle.cfb_streams.specs.Layout.{IsSoundLayout, IsLayoutOf, layout_places_of};
 ghost use Rattle.cfb_streams.specs.Container.{container_rules, outer_rules, chain_rules};
 ghost use Rattle.cfb_streams.specs.Container.{AreNamesOf, ListsStorages};
 ghost use Rattle.cfb_directory.specs.Order.{ListsFilled};
@@ -51,7 +51,7 @@ fn check_entries<'a>(
     requires opening { Hold (opening_rules file.now) }
     requires is_fat { fat.old ≡ fat_place file.now }
     ensures judged { MatchResult result
-        (λ entries. (entries.file ≡ file.now) × AreEntries entries)
+        (λ entries. (entries.file ≡ file.now) × AreSoundEntries entries)
         (IsCfbFault (found_rules file.now)) }
     ensures kept { fat.new ≡ fat.old }
 {
@@ -86,11 +86,11 @@ pub struct Layout<'a> {
 }
 
 impl<'a> Model for Layout<'a> {
-    ghost use Rattle.cfb_streams.specs.Layout.{Places, places_of, KeepsLayout};
+    ghost use Rattle.cfb_streams.specs.Layout.{LayoutPlaces, layout_places_of, KeepsLayout};
 
-    ghost Value = { Places };
+    ghost Value = { LayoutPlaces };
 
-    ghost view = { λ l. places_of l.entries l.mini.sectors l.mini_stream.items };
+    ghost view = { λ l. layout_places_of l.entries l.mini.sectors l.mini_stream.items };
 
     ghost invariant = { λ l. KeepsLayout l.entries l.fat l.mini l.mini_stream.items l.stored.items };
 }
@@ -99,7 +99,7 @@ impl<'a> Layout<'a> {
     /// Checks the rules 1 to 12.
     pub(crate) fn check(alloc: Global, file: &'a [u8]) -> Result<Layout<'a>, CfbFault>
         ensures { MatchResult result
-            (λ l. (l.file ≡ file.now) × (IsLayout l × Nowhere (BreaksStorage l.file l.parts.directory)))
+            (λ l. (l.file ≡ file.now) × (IsSoundLayout l × Nowhere (BreaksStorage l.file l.parts.directory)))
             (IsCfbFault (container_rules file.now)) }
     {
         check_front(file)?;
@@ -113,7 +113,7 @@ impl<'a> Layout<'a> {
     /// Checks the rules 1 to 9, 11 and 12: storages may have something.
     pub(crate) fn check_outer(alloc: Global, file: &'a [u8]) -> Result<Layout<'a>, CfbFault>
         ensures { MatchResult result
-            (λ layout. (layout.file ≡ file.now) × IsLayout layout)
+            (λ layout. (layout.file ≡ file.now) × IsSoundLayout layout)
             (IsCfbFault (outer_rules file.now)) }
     {
         check_front(file)?;
@@ -127,7 +127,7 @@ impl<'a> Layout<'a> {
     fn of(alloc: Global, entries: Entries<'a>, mut fat: Table<'a>) -> Result<Layout<'a>, CfbFault>
         requires opening { Hold (opening_rules entries.file) }
         requires header { Hold (header_rules entries.file) }
-        requires are_entries { AreEntries entries }
+        requires are_entries { AreSoundEntries entries }
         requires is_fat { fat ≡ fat_place entries.file }
         ensures { MatchResult result
             (IsLayoutOf entries.entry)
@@ -149,9 +149,9 @@ impl<'a> Layout<'a> {
         mini_fat: Vec<u32>,
         mini_stream: Vec<u32>,
     ) -> Result<Layout<'a>, Memory>
-        requires is_layout { IsLayout (places_of entries mini_fat.items mini_stream.items) }
+        requires is_layout { IsSoundLayout (layout_places_of entries mini_fat.items mini_stream.items) }
         requires is_fat { fat ≡ fat_place entries.file }
-        ensures { IfOk result (λ layout. layout ≡ places_of entries.entry mini_fat.items mini_stream.items) }
+        ensures { IfOk result (λ layout. layout ≡ layout_places_of entries.entry mini_fat.items mini_stream.items) }
     {
         let file = entries.file();
         let valid = mini_sectors(file, entries.directory(), &mini_fat);
@@ -171,7 +171,7 @@ impl<'a> Layout<'a> {
     /// The directory's sectors.
     pub fn directory(&self) -> &[u32]
         ensures sectors { result.now ≡ self.now.parts.directory }
-        ensures is_layout { IsLayout self.now }
+        ensures is_layout { IsSoundLayout self.now }
     {
         self.entries.directory()
     }
@@ -216,7 +216,7 @@ impl<'a> Layout<'a> {
     /// The number of the root's streams.
     pub(crate) fn stream_count(&self) -> usize
         ensures len { result ≡ length self.now.streams }
-        ensures is_layout { IsLayout self.now }
+        ensures is_layout { IsSoundLayout self.now }
     {
         self.entries.streams().len()
     }
@@ -233,7 +233,7 @@ impl<'a> Layout<'a> {
 /// The layout of a file that breaks none of the rules 1 to 14.
 pub fn layout_of<'a>(alloc: Global, file: &'a [u8]) -> Result<Layout<'a>, Memory>
     requires { Hold (container_rules file.now) }
-    ensures { IfOk result (λ layout. (layout.file ≡ file.now) × IsLayout layout) }
+    ensures { IfOk result (λ layout. (layout.file ≡ file.now) × IsSoundLayout layout) }
 {
     match Layout::check(alloc, file) {
         Ok(layout) => Ok(layout),

@@ -2,8 +2,8 @@
 ghost use Rattle.std.specs.Prelude.{◌≡◌, [], ◌∷◌, ◌++◌, ◌<◌, OnOk, OnErr, option_map, length, slice_get};
 ghost use Rattle.std.specs.Prelude.{◌↔◌, IsTrue, ◌-◌};
 ghost use Rattle.std.specs.List.{sum_by};
-ghost use Rattle.cfb_directory.specs.Directory.{ComesBefore};
-ghost use Rattle.cfb_streams.specs.Contents.{AreStreams, AreStored, EndsBefore};
+ghost use Rattle.cfb_directory.specs.Directory.{IsNameBefore};
+ghost use Rattle.cfb_streams.specs.Contents.{AreStreams, AreStored, IsAfterLastName};
 
 use cfb_directory::upper;
 use doc_bits::Memory;
@@ -51,7 +51,7 @@ const MAX_TOTAL: usize = 1 << 48;
 
 /// Whether a name comes before another one: it is shorter, or as long and the lesser in upper case.
 pub fn name_before(name: &[u16], other: &[u16]) -> bool
-    ensures { IsTrue result ↔ ComesBefore name.now other.now }
+    ensures { IsTrue result ↔ IsNameBefore name.now other.now }
 {
     if name.len() != other.len() {
         return name.len() < other.len();
@@ -137,7 +137,7 @@ impl Streams {
 
     /// Whether a name comes after that of the last stream.
     fn ends_before(&self, name: &[u16]) -> bool
-        ensures { IsTrue result ↔ EndsBefore self.now name.now }
+        ensures { IsTrue result ↔ IsAfterLastName self.now name.now }
     {
         if self.items.is_empty() {
             return true;

@@ -13,7 +13,7 @@ use Rattle.std.specs.FinMap.{get, empty, get-empty}
 use Rattle.std.proofs.Common.{Bor, replicate}
 use Rattle.prop_map.specs.Settings.{Properties}
 use Rattle.style_sheet.specs.Sheet.{Sheet, style_at}
-use Rattle.style_sheet.specs.Chain.{kind_in, kind_at, IsBaseChain}
+use Rattle.style_sheet.specs.Chain.{style_kind_in, style_kind_at, IsBaseChain}
 use Rattle.style_sheet.proofs.Public.{base_chains_agree, chain_front}
 use Rattle.effective_props.specs.Layers.{character_properties, properties_of_styles}
 use Rattle.effective_props.specs.ValueSteps.{layer_over}
@@ -171,11 +171,12 @@ slots-more sheet changes slot change count right own istd found there =
           subst (λ k. IsSlotChange sheet k found) (sym count ∙ at) (subst (IsSlotChange sheet slot) same own)
     ]
 
-no_kind_behind : (sheet : Sheet) (istd : ℕ) → length sheet.styles ≤ istd → kind_at sheet istd ≡ 0
-no_kind_behind sheet istd behind = ap kind_in (get_or-eq_default sheet.styles None behind)
+no_kind_behind : (sheet : Sheet) (istd : ℕ) → length sheet.styles ≤ istd → style_kind_at sheet istd ≡ 0
+no_kind_behind sheet istd behind = ap style_kind_in (get_or-eq_default sheet.styles None behind)
 
 from_slot : (sheet : Sheet) (changes : List (Option Change)) (istd : ℕ) (found : Option Change) → slice_get changes istd
-    ≡ Some found → IsSlotChange sheet istd found → 0 < kind_at sheet istd → (change : Change) × ((slice_get changes istd
+    ≡ Some found → IsSlotChange sheet istd found → 0 < style_kind_at sheet istd → (change : Change) × ((slice_get
+    changes istd
     ≡ Some (Some change)) × IsStyleChange sheet istd change)
 from_slot sheet changes istd None there own some = absurd (omega arith)
 from_slot sheet changes istd (Some change) there own some = (change, (there, own))

@@ -8,7 +8,7 @@ use Rattle.char_formats.specs.declared.change.Change.{Change}
 use Rattle.char_formats.specs.declared.flag.Flag.{Flag}
 use Rattle.char_formats.specs.declared.format.Position.{Position}
 use Rattle.char_formats.specs.declared.format.Symbol.{Symbol}
-use Rattle.char_formats.specs.Formats.{font_of, is_set, position_of, symbol_of, format_in}
+use Rattle.char_formats.specs.Formats.{font_of, is_nonzero_value, position_of, symbol_of, format_in}
 use Rattle.char_formats.specs.Flags.{code_at, flag_at, does, flag_then, flag_by, flag_after}
 use Rattle.char_formats.specs.Changes.{Act, with_value, instead, IsChangeOf}
 use Rattle.char_formats.proofs.FlagLemmas.{does-then, set-layer_over, plain_code}
@@ -18,7 +18,7 @@ pub same_act : (one other : Act) (change : Change) → ((code : ℕ) (before : O
     code before) → IsChangeOf one change → IsChangeOf other change
 same_act one other change agree h = record {
   count = h.count;
-  flags = λ i low before. ap is_set (sym (agree (code_at i) before)) ∙ h.flags i low before;
+  flags = λ i low before. ap is_nonzero_value (sym (agree (code_at i) before)) ∙ h.flags i low before;
   position = λ before. ap position_of (sym (agree 0x2A48 before)) ∙ h.position before;
   symbol = λ before. ap symbol_of (sym (agree 0x6A09 before)) ∙ h.symbol before;
   font = λ before. ap font_of (sym (agree 0x4A51 before)) ∙ h.font before;
@@ -42,8 +42,8 @@ change-then first next made one other count flags position symbol font h k = rec
   count = count;
   flags = λ i low before.
       k.flags i low (one (code_at i) before) ∙ (ap (does (flag_at next.flags i)) (h.flags i low before)
-      ∙ (sym (does-then (flag_at first.flags i) (flag_at next.flags i) (is_set before))
-      ∙ ap (λ f. does f (is_set before)) (sym (flags i low))));
+      ∙ (sym (does-then (flag_at first.flags i) (flag_at next.flags i) (is_nonzero_value before))
+      ∙ ap (λ f. does f (is_nonzero_value before)) (sym (flags i low))));
   position = λ before.
       k.position (one 0x2A48 before) ∙ (ap (instead next.position) (h.position before)
       ∙ (sym (instead-or next.position first.position (position_of before))
@@ -67,17 +67,21 @@ test_turned a b =
       ] refl
     ] refl
 
-flag_laid : (act : Act) (old : Flag) (i code : ℕ) (value : List ℕ) (before : Option (List ℕ)) → i < 12 → is_set (act
-    (code_at i) before) ≡ does old (is_set before) → is_set (with_value code value act (code_at i) before) ≡ does
-    (flag_after old (code_at i) code value) (is_set before)
+flag_laid : (act : Act) (old : Flag) (i code : ℕ) (value : List ℕ) (before : Option (List ℕ)) → i < 12 →
+    is_nonzero_value (act
+    (code_at i) before) ≡ does old (is_nonzero_value before) → is_nonzero_value (with_value code value act (code_at i)
+    before) ≡ does
+    (flag_after old (code_at i) code value) (is_nonzero_value before)
 flag_laid act old i code value before low h =
-    elim (code_at i == code) as (λ b. (code_at i == code) ≡ b → is_set (cond b (layer_over (code_at i) (act (code_at i)
-    before) (Some value)) (act (code_at i) before)) ≡ does (cond b (flag_then old (flag_by code value)) old) (is_set
+    elim (code_at i == code) as (λ b. (code_at i == code) ≡ b → is_nonzero_value (cond b (layer_over (code_at i) (act
+    (code_at i)
+    before) (Some value)) (act (code_at i) before)) ≡ does (cond b (flag_then old (flag_by code value)) old)
+    (is_nonzero_value
     before)) [
       | true ↦ λ e.
           set-layer_over (code_at i) (plain_code i low) (act (code_at i) before) value
-          ∙ (ap (λ c. does (flag_by c value) (is_set (act (code_at i) before))) (eqb-true (code_at i) code e)
-          ∙ (ap (does (flag_by code value)) h ∙ sym (does-then old (flag_by code value) (is_set before))))
+          ∙ (ap (λ c. does (flag_by c value) (is_nonzero_value (act (code_at i) before))) (eqb-true (code_at i) code e)
+          ∙ (ap (does (flag_by code value)) h ∙ sym (does-then old (flag_by code value) (is_nonzero_value before))))
       | false ↦ λ _. h
     ] refl
 
@@ -124,7 +128,7 @@ change-laid old new code value act count flags position symbol font h = record {
   count = count;
   flags = λ i low before.
       flag_laid act (flag_at old.flags i) i code value before low (h.flags i low before)
-      ∙ ap (λ f. does f (is_set before)) (sym (flags i low));
+      ∙ ap (λ f. does f (is_nonzero_value before)) (sym (flags i low));
   position = λ before.
       position_laid act old.position code value before (h.position before)
       ∙ ap (λ o. instead o (position_of before)) (sym position);
@@ -137,7 +141,7 @@ change-laid old new code value act count flags position symbol font h = record {
 
 -- a property that was off before a change
 pub on-after : (act : Act) (change : Change) → IsChangeOf act change → (i : ℕ) → i < 12 → does (flag_at change.flags i)
-    false ≡ is_set (act (code_at i) None)
+    false ≡ is_nonzero_value (act (code_at i) None)
 on-after act change h i low = sym (h.flags i low None)
 
 -- functions that agree have the same format

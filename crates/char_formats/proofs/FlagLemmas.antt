@@ -10,7 +10,7 @@ use Rattle.effective_props.specs.Values.{tabs_code, is_toggle}
 use Rattle.effective_props.specs.ValueSteps.{layer_over}
 use Rattle.char_formats.specs.declared.flag.Flag.{Flag}
 use Rattle.char_formats.specs.declared.flag.Flag.TheVariants.{Keep, Turn, Set}
-use Rattle.char_formats.specs.Formats.{is_set}
+use Rattle.char_formats.specs.Formats.{is_nonzero_value}
 use Rattle.std.proofs.Common.{◌≢◌, ◌+◌, inl, inr, set, subst, get_or-set_same, get_or-set_other}
 use Rattle.std.proofs.lemmas.Bool.{cases_lt}
 use Rattle.char_formats.specs.Flags.{flag_at, flag_codes, code_at, does, flag_then, toggle_flag, flag_by, flag_after}
@@ -24,7 +24,7 @@ does-then Turn Turn false = refl
 does-then (Set on) Turn before = refl
 does-then first (Set on) before = refl
 
-set-opposite : (before : Option (List ℕ)) → is_set (Some (opposite before)) ≡ not (is_set before)
+set-opposite : (before : Option (List ℕ)) → is_nonzero_value (Some (opposite before)) ≡ not (is_nonzero_value before)
 set-opposite None = refl
 set-opposite (Some value) =
     elim (is_byte value 0) as (λ b. not (is_byte (cond b (1 ∷ []) (0 ∷ [])) 0) ≡ not (not b)) [
@@ -33,27 +33,32 @@ set-opposite (Some value) =
     ]
 
 -- what a value of a toggle does
-set-toggled : (before : Option (List ℕ)) (value : List ℕ) → is_set (toggled before value) ≡ does (toggle_flag value)
-    (is_set before)
+set-toggled : (before : Option (List ℕ)) (value : List ℕ) → is_nonzero_value (toggled before value) ≡ does (toggle_flag
+    value)
+    (is_nonzero_value before)
 set-toggled before value =
-    elim (is_keep value) as (λ k. is_set (cond k before (cond (is_turn value) (Some (opposite before)) (Some value)))
-    ≡ does (cond k Keep (cond (is_turn value) Turn (Set (is_set (Some value))))) (is_set before)) [
+    elim (is_keep value) as (λ k. is_nonzero_value (cond k before (cond (is_turn value) (Some (opposite before)) (Some
+    value)))
+    ≡ does (cond k Keep (cond (is_turn value) Turn (Set (is_nonzero_value (Some value))))) (is_nonzero_value before)) [
       | true ↦ refl
       | false ↦
-          elim (is_turn value) as (λ t. is_set (cond t (Some (opposite before)) (Some value))
-          ≡ does (cond t Turn (Set (is_set (Some value)))) (is_set before)) [
+          elim (is_turn value) as (λ t. is_nonzero_value (cond t (Some (opposite before)) (Some value))
+          ≡ does (cond t Turn (Set (is_nonzero_value (Some value)))) (is_nonzero_value before)) [
             | true ↦ set-opposite before
             | false ↦ refl
           ]
     ]
 
 -- what a value at a code does, which is not that of tab stops
-pub set-layer_over : (code : ℕ) → (code == tabs_code) ≡ false → (before : Option (List ℕ)) (value : List ℕ) → is_set
-    (layer_over code before (Some value)) ≡ does (flag_by code value) (is_set before)
+pub set-layer_over : (code : ℕ) → (code == tabs_code) ≡ false → (before : Option (List ℕ)) (value : List ℕ) →
+    is_nonzero_value
+    (layer_over code before (Some value)) ≡ does (flag_by code value) (is_nonzero_value before)
 set-layer_over code plain before value =
-    ap (λ b. is_set (cond b before (cond (is_toggle (class_of code)) (toggled before value) (Some value)))) plain
-    ∙ elim (is_toggle (class_of code)) as (λ t. is_set (cond t (toggled before value) (Some value)) ≡ does (cond t
-    (toggle_flag value) (Set (is_set (Some value)))) (is_set before)) [
+    ap (λ b. is_nonzero_value (cond b before (cond (is_toggle (class_of code)) (toggled before value) (Some value))))
+    plain
+    ∙ elim (is_toggle (class_of code)) as (λ t. is_nonzero_value (cond t (toggled before value) (Some value)) ≡ does
+    (cond t
+    (toggle_flag value) (Set (is_nonzero_value (Some value)))) (is_nonzero_value before)) [
       | true ↦ set-toggled before value
       | false ↦ refl
     ]

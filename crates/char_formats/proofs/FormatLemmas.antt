@@ -5,7 +5,7 @@ use Rattle.std.proofs.lemmas.Bool.{eqb-true, eq-eqb}
 use Rattle.std.specs.FinMap.{get}
 use Rattle.prop_map.specs.Settings.{Properties}
 use Rattle.style_sheet.specs.Sheet.{Sheet}
-use Rattle.style_sheet.specs.Chain.{kind_at, HasSoundBases}
+use Rattle.style_sheet.specs.Chain.{style_kind_at, HasSoundBases}
 use Rattle.style_sheet.proofs.Public.{base_chains_agree}
 use Rattle.effective_props.specs.Values.{effective_value}
 use Rattle.effective_props.specs.ValueSteps.{layer_over}
@@ -23,7 +23,7 @@ use Rattle.char_formats.proofs.EffectLemmas.{over_all-append, over_all-effective
 use Rattle.effective_props.proofs.Public.{named_layers_one}
 
 -- it is one
-pub named-style : (sheet : Sheet) (istd : ℕ) (change : Change) → kind_at sheet istd ≡ 2 →
+pub named-style : (sheet : Sheet) (istd : ℕ) (change : Change) → style_kind_at sheet istd ≡ 2 →
     IsStyleChange sheet istd change → IsNamedChange sheet (Some istd) change
 named-style sheet istd change is own =
     record { layers = own.layers; are = ((λ _. own.are), (λ other. absurd (other is))); said = own.said }
@@ -106,11 +106,12 @@ named_there : (sheet : Sheet) (named : Option ℕ) → HasSoundBases sheet → (
     named layers
 named_there sheet None sound = ([], refl)
 named_there sheet (Some istd) sound =
-    elim (kind_at sheet istd == 2) as (λ t. (kind_at sheet istd == 2) ≡ t → (layers : List Properties) × AreNamedLayers
+    elim (style_kind_at sheet istd == 2) as (λ t. (style_kind_at sheet istd == 2) ≡ t → (layers : List Properties) ×
+    AreNamedLayers
     sheet (Some istd) layers) [
       | true ↦ λ e.
-          let is : kind_at sheet istd ≡ 2 = eqb-true (kind_at sheet istd) 2 e in
-          let some : 0 < kind_at sheet istd = omega arith in
+          let is : style_kind_at sheet istd ≡ 2 = eqb-true (style_kind_at sheet istd) 2 e in
+          let some : 0 < style_kind_at sheet istd = omega arith in
           let chain = sound.chains istd some in (
             properties_of_styles character_properties sheet chain.0,
             (
@@ -123,12 +124,12 @@ named_there sheet (Some istd) sound =
               (λ other. absurd (other is)),
             ),
           )
-      | false ↦ λ e. ([], ((λ is. absurd (is_of_kind (kind_at sheet istd) e is)), (λ _. refl)))
+      | false ↦ λ e. ([], ((λ is. absurd (is_of_kind (style_kind_at sheet istd) e is)), (λ _. refl)))
     ] refl
 
 pub format_there : CharFormatIsThere
 format_there sheet istd direct sound kind =
-    let some : 0 < kind_at sheet istd = omega arith in
+    let some : 0 < style_kind_at sheet istd = omega arith in
     let chain = sound.chains istd some in
     let style : List Properties = properties_of_styles character_properties sheet chain.0 in
     let named = named_there sheet (named_style direct) sound in (

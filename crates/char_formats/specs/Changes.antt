@@ -4,7 +4,7 @@ use Rattle.std.specs.FinMap.{get}
 use Rattle.prop_map.specs.Settings.{Properties}
 use Rattle.effective_props.specs.ValueSteps.{layer_over}
 use Rattle.char_formats.specs.declared.change.Change.{Change}
-use Rattle.char_formats.specs.Formats.{font_of, is_set, position_of, symbol_of}
+use Rattle.char_formats.specs.Formats.{font_of, is_nonzero_value, position_of, symbol_of}
 use Rattle.char_formats.specs.Flags.{code_at, flag_at, does}
 
 -- what is made of the value so far, at each code
@@ -39,7 +39,7 @@ pub record IsChangeOf (act : Act) (change : Change) : Type 0 where
   pub count : length change.flags ≡ 12
   pub flags :
       (i : ℕ) → i < 12 → (before : Option (List ℕ)) →
-      is_set (act (code_at i) before) ≡ does (flag_at change.flags i) (is_set before)
+      is_nonzero_value (act (code_at i) before) ≡ does (flag_at change.flags i) (is_nonzero_value before)
   pub position : (before : Option (List ℕ)) → position_of (act 0x2A48 before) ≡ instead change.position (position_of
       before)
   pub symbol : (before : Option (List ℕ)) → symbol_of (act 0x6A09 before) ≡ instead change.symbol (symbol_of before)

@@ -5,7 +5,7 @@ use Rattle.effective_props.specs.Toggles.{is_keep, is_turn}
 use Rattle.effective_props.specs.Values.{is_toggle}
 use Rattle.char_formats.specs.declared.flag.Flag.{Flag}
 use Rattle.char_formats.specs.declared.flag.Flag.TheVariants.{Keep, Turn, Set}
-use Rattle.char_formats.specs.Formats.{is_set}
+use Rattle.char_formats.specs.Formats.{is_nonzero_value}
 
 -- the codes of such properties, ascending
 abbrev pub flag_codes : List ℕ
@@ -35,11 +35,11 @@ flag_then first (Set on) = Set on
 
 -- the change by a value of a toggle
 abbrev pub toggle_flag : List ℕ → Flag
-toggle_flag value = if is_keep value then Keep else if is_turn value then Turn else Set (is_set (Some value))
+toggle_flag value = if is_keep value then Keep else if is_turn value then Turn else Set (is_nonzero_value (Some value))
 
 -- the change by a value at a code
 abbrev pub flag_by : ℕ → List ℕ → Flag
-flag_by code value = if is_toggle (class_of code) then toggle_flag value else Set (is_set (Some value))
+flag_by code value = if is_toggle (class_of code) then toggle_flag value else Set (is_nonzero_value (Some value))
 
 -- the change at one code after a value at some code
 abbrev pub flag_after : Flag → ℕ → ℕ → List ℕ → Flag

@@ -13,9 +13,9 @@ use Rattle.char_formats.specs.declared.format.Symbol.{Symbol}
 use Rattle.char_formats.specs.declared.format.Position.TheVariants.{Normal, Raised, Lowered}
 
 -- a value is there, and it is not the one byte 00
-abbrev pub is_set : Option (List ℕ) → Bool
-is_set None = false
-is_set (Some value) = not (is_byte value 0)
+abbrev pub is_nonzero_value : Option (List ℕ) → Bool
+is_nonzero_value None = false
+is_nonzero_value (Some value) = not (is_byte value 0)
 
 -- [MS-DOC] Iss: 01 is superscript, 02 subscript
 abbrev pub position_of : Option (List ℕ) → Position
@@ -40,17 +40,17 @@ font_of (Some value) = if length value == 2 then Some (u16_at value 0) else None
 -- picture or none
 unfoldable pub format_in : Option ℕ → (ℕ → Option (List ℕ)) → CharFormat
 format_in picture values = record {
-  bold = is_set (values 0x0835);
-  italic = is_set (values 0x0836);
-  underline = is_set (values 0x2A3E);
-  strike = is_set (values 0x0837) || is_set (values 0x2A53);
-  small_caps = is_set (values 0x083A);
-  caps = is_set (values 0x083B);
+  bold = is_nonzero_value (values 0x0835);
+  italic = is_nonzero_value (values 0x0836);
+  underline = is_nonzero_value (values 0x2A3E);
+  strike = is_nonzero_value (values 0x0837) || is_nonzero_value (values 0x2A53);
+  small_caps = is_nonzero_value (values 0x083A);
+  caps = is_nonzero_value (values 0x083B);
   position = position_of (values 0x2A48);
-  hidden = is_set (values 0x083C);
-  special = is_set (values 0x0855);
-  of_field = is_set (values 0x0806);
-  object = is_set (values 0x080A) || is_set (values 0x0856);
+  hidden = is_nonzero_value (values 0x083C);
+  special = is_nonzero_value (values 0x0855);
+  of_field = is_nonzero_value (values 0x0806);
+  object = is_nonzero_value (values 0x080A) || is_nonzero_value (values 0x0856);
   symbol = symbol_of (values 0x6A09);
   font = font_of (values 0x4A51);
   picture = picture;

@@ -2,7 +2,7 @@
 use Rattle.std.specs.Prelude.{◌≡◌, ℕ}
 use Rattle.prop_map.specs.Settings.{Properties}
 use Rattle.style_sheet.specs.Sheet.{Sheet}
-use Rattle.style_sheet.specs.Chain.{kind_at, HasSoundBases}
+use Rattle.style_sheet.specs.Chain.{style_kind_at, HasSoundBases}
 use Rattle.char_formats.specs.declared.format.CharFormat.{CharFormat}
 use Rattle.char_formats.specs.Formats.{IsCharFormat}
 
@@ -15,5 +15,5 @@ CharFormatIsOne =
 -- and it has one
 abbrev pub CharFormatIsThere : Type 0
 CharFormatIsThere =
-    (sheet : Sheet) (istd : ℕ) (direct : Properties) → HasSoundBases sheet → kind_at sheet istd ≡ 1 →
+    (sheet : Sheet) (istd : ℕ) (direct : Properties) → HasSoundBases sheet → style_kind_at sheet istd ≡ 1 →
     (format : CharFormat) × IsCharFormat sheet istd direct format

@@ -2,7 +2,7 @@
 use Rattle.std.specs.Prelude.{◌≡◌, ℕ, ◌<◌, List, [], ◌∷◌, ◌++◌, Option, Some, None, slice_get}
 use Rattle.prop_map.specs.Settings.{Properties}
 use Rattle.style_sheet.specs.Sheet.{Sheet, style_at}
-use Rattle.style_sheet.specs.Chain.{kind_at}
+use Rattle.style_sheet.specs.Chain.{style_kind_at}
 use Rattle.effective_props.specs.Layers.{character_properties, AreChainLayers, AreNamedLayers}
 use Rattle.char_formats.specs.declared.change.Change.{Change}
 use Rattle.char_formats.specs.Changes.{IsChangeOf, over_all}
@@ -40,11 +40,11 @@ AreKnownChanges sheet known =
 
 -- the change of a slot, where its style has properties
 abbrev pub IsSlotChange : Sheet → ℕ → Option Change → Type 0
-IsSlotChange sheet istd None = kind_at sheet istd ≡ 0
+IsSlotChange sheet istd None = style_kind_at sheet istd ≡ 0
 IsSlotChange sheet istd (Some change) = IsStyleChange sheet istd change
 
 -- each style of paragraphs or of characters has its change
 abbrev pub AreStyleChanges : Sheet → List (Option Change) → Type 0
 AreStyleChanges sheet changes =
-    (istd : ℕ) → 0 < kind_at sheet istd →
+    (istd : ℕ) → 0 < style_kind_at sheet istd →
     (change : Change) × ((slice_get changes istd ≡ Some (Some change)) × IsStyleChange sheet istd change)

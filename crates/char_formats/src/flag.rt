@@ -3,7 +3,7 @@ ghost use Rattle.std.specs.Prelude.{◌≡◌, Some, false};
 ghost use Rattle.sprm_table.specs.Codes.{class_of};
 ghost use Rattle.effective_props.specs.Toggles.{is_byte};
 ghost use Rattle.effective_props.specs.Values.{is_toggle};
-ghost use Rattle.char_formats.specs.Formats.{is_set};
+ghost use Rattle.char_formats.specs.Formats.{is_nonzero_value};
 ghost use Rattle.char_formats.specs.Flags.{does, flag_then, toggle_flag, flag_by};
 
 use effective_props::{TOGGLE_AS_STYLE, TOGGLE_OPPOSITE, is_byte};
@@ -70,7 +70,7 @@ fn toggle(value: &[u8]) -> Flag
 
 /// Whether the value sets what it is a value of.
 fn is_set(value: &[u8]) -> bool
-    ensures { result ≡ is_set (Some value.now) }
+    ensures { result ≡ is_nonzero_value (Some value.now) }
 {
     !is_byte(value, 0)
 }

@@ -1,7 +1,7 @@
 // What styles make of a format. Each style of a chain is asked once.
 ghost use Rattle.std.specs.Prelude.{◌≡◌, ◌-◌, ◌<◌, OnOk, IfOk, length, slice_index, None, Some, option_map};
 ghost use Rattle.std.specs.Prelude.{replicate};
-ghost use Rattle.style_sheet.specs.Chain.{kind_at, HasSoundBases, IsBaseChain};
+ghost use Rattle.style_sheet.specs.Chain.{style_kind_at, HasSoundBases, IsBaseChain};
 ghost use Rattle.effective_props.specs.Layers.{character_properties};
 ghost use Rattle.char_formats.specs.Changes.{Act, with_layer, IsChangeOf};
 ghost use Rattle.char_formats.specs.Styles.{IsStyleChange, IsSlotChange, IsBelowStyle};
@@ -68,7 +68,7 @@ fn change_of_style(
     istd: u16,
 ) -> Result<Change, Memory>
     requires bases { HasSoundBases sheet.now }
-    requires style { 0 < kind_at sheet.now istd }
+    requires style { 0 < style_kind_at sheet.now istd }
     requires known { AreKnownChanges sheet.now known.old.items }
     ensures change { IfOk result (IsStyleChange sheet.now istd) }
     ensures known { OnOk result (AreKnownChanges sheet.now known.new.items) }

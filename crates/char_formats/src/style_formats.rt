@@ -1,7 +1,7 @@
 // The formats of characters, over the styles of a sheet.
 ghost use Rattle.std.specs.Prelude.{◌≡◌, ◌↔◌, ◌<◌, [], IfOk, IsTrue, MatchOption, slice_index};
 ghost use Rattle.doc_bits.specs.Number.{u16_at};
-ghost use Rattle.style_sheet.specs.Chain.{kind_at, HasSoundBases};
+ghost use Rattle.style_sheet.specs.Chain.{style_kind_at, HasSoundBases};
 ghost use Rattle.effective_props.specs.Layers.{AreNamedLayers, named_style};
 ghost use Rattle.char_formats.specs.Formats.{IsCharFormat};
 ghost use Rattle.char_formats.specs.Styles.{IsStyleChange, IsNamedChange, IsUnderChange};
@@ -50,7 +50,7 @@ impl StyleFormats {
 
     /// The format of a character in a paragraph of the style `istd`. It takes no memory.
     pub fn format(&self, istd: u16, direct: &PropMap) -> CharFormat
-        requires { kind_at self.now istd ≡ 1 }
+        requires { style_kind_at self.now istd ≡ 1 }
         ensures { IsCharFormat self.now istd direct.now result }
     {
         let mut change = self.under_direct(istd, direct);
@@ -60,7 +60,7 @@ impl StyleFormats {
 
     /// The change of the style, and behind it that of the style that the direct properties name.
     fn under_direct(&self, istd: u16, direct: &PropMap) -> Change
-        requires { kind_at self.now istd ≡ 1 }
+        requires { style_kind_at self.now istd ≡ 1 }
         ensures { IsUnderChange self.now istd (named_style direct.now) result }
     {
         let style = self.style_change(istd);
@@ -87,14 +87,14 @@ impl StyleFormats {
 
     /// Whether the style is one of characters.
     fn is_of_characters(&self, istd: u16) -> bool
-        ensures { IsTrue result ↔ kind_at self.now istd ≡ 2 }
+        ensures { IsTrue result ↔ style_kind_at self.now istd ≡ 2 }
     {
         self.sheet.has_properties(istd) && !self.sheet.is_para(istd)
     }
 
     /// The change of a style of paragraphs or of characters.
     fn style_change(&self, istd: u16) -> Change
-        requires { 0 < kind_at self.now istd }
+        requires { 0 < style_kind_at self.now istd }
         ensures { IsStyleChange self.now istd result }
     {
         match self.changes.get(istd as usize) {

@@ -8,7 +8,7 @@ use Rattle.std.proofs.lemmas.Bool.{cases_lt}
 use Rattle.std.proofs.lemmas.List.{get_or_append_left, get_or_push, take_more_set, drop-set-lt, drop-drop, get_or-drop}
 use Rattle.std.proofs.lemmas.List.{take-append-drop}
 use Rattle.std.proofs.lemmas.List.Sums.{sum-map}
-use Rattle.chunked_list.specs.Blocks.{joined, units_of, block_at, map_range, AreSized}
+use Rattle.chunked_list.specs.Blocks.{joined, total_units, block_at, map_range, AreSized}
 use Rattle.chunked_list.proofs.UnitLemmas.{units-append}
 use Rattle.chunked_list.proofs.JoinLemmas.{joined-append, joined-one, joined_at, joined_more}
 use Rattle.chunked_list.proofs.RangeLemmas.{map_range-append, range-append}
@@ -91,23 +91,23 @@ items_more {T = T} items n =
     ∙ ap (λ (m : ℕ). take m items) all
 
 -- the items of a range have no more units than all
-pub units-range-le : {T : Type 0} (units : T → ℕ) (xs : List T) (a b : ℕ) → units_of units (slice_range xs a b)
-    ≤ units_of units xs
+pub units-range-le : {T : Type 0} (units : T → ℕ) (xs : List T) (a b : ℕ) → total_units units (slice_range xs a b)
+    ≤ total_units units xs
 units-range-le units xs a b =
     omega (
       arith,
       units-append units (take a xs) (drop a xs),
-      ap (units_of units) (take-append-drop a xs),
+      ap (total_units units) (take-append-drop a xs),
       units-append units (take (b - a) (drop a xs)) (drop (b - a) (drop a xs)),
-      ap (units_of units) (take-append-drop (b - a) (drop a xs)),
+      ap (total_units units) (take-append-drop (b - a) (drop a xs)),
     )
 
 -- ---- blocks that get other items
 
 -- items of the same lengths
-pub units_same : {T : Type 0} (units : T → ℕ) (xs ys : List T) → map units xs ≡ map units ys → units_of units xs
-    ≡ units_of units ys
-unfolding units_of
+pub units_same : {T : Type 0} (units : T → ℕ) (xs ys : List T) → map units xs ≡ map units ys → total_units units xs
+    ≡ total_units units ys
+unfolding total_units
 units_same units xs ys same = sym (sum-map units xs) ∙ ap sum same ∙ sum-map units ys
 
 -- the block at a place from which on two lists are the same
@@ -173,19 +173,19 @@ copied_more {T = T} blocks copy new b first last before lo hi there order counte
 
 -- a block of as many units
 pub units_like : {T : Type 0} (units : T → ℕ) (blocks new : List (List T)) (b : ℕ) (x : List T) → b < length blocks →
-    new ≡ set blocks b x → units_of units x ≡ units_of units (block_at blocks b)
-    → units_of units (joined new) ≡ units_of units (joined blocks)
+    new ≡ set blocks b x → total_units units x ≡ total_units units (block_at blocks b)
+    → total_units units (joined new) ≡ total_units units (joined blocks)
 units_like units blocks new b x there put same =
     let front = joined (take b blocks) in
     let back = joined (drop (b + 1) blocks) in
     let block = block_at blocks b in
     omega (
       arith,
-      ap (λ t. units_of units (joined t)) put,
-      ap (units_of units) (joined_set blocks b x there),
+      ap (λ t. total_units units (joined t)) put,
+      ap (total_units units) (joined_set blocks b x there),
       units-append units front (x ++ back),
       units-append units x back,
-      ap (units_of units) (joined_at blocks b there),
+      ap (total_units units) (joined_at blocks b there),
       units-append units front (block ++ back),
       units-append units block back,
       same,

@@ -11,7 +11,7 @@ use Rattle.std.proofs.lemmas.List.Concat.{flat_map-cons}
 use Rattle.std.proofs.lemmas.Grind.{flat_map-append}
 use Rattle.std.proofs.lemmas.Option.{slice_get_within, get_or_from_slice_get}
 use Rattle.doc_bits.proofs.Public.{slice_get_before, same_front, from_map, from_behind}
-use Rattle.chunked_list.specs.Blocks.{joined, units_of, block_at, IsSpotOf, IsFoundOf}
+use Rattle.chunked_list.specs.Blocks.{joined, total_units, block_at, IsSpotOf, IsFoundOf}
 use Rattle.chunked_list.proofs.UnitLemmas.{units-append}
 
 pub joined-nil : {T : Type 0} → joined {T = T} [] ≡ []
@@ -91,29 +91,30 @@ joined-take-le blocks b =
 
 -- the units of a block more
 pub units_more_blocks : {T : Type 0} (units : T → ℕ) (blocks : List (List T)) (b : ℕ) → b < length blocks →
-    units_of units (joined (take (b + 1) blocks))
-    ≡ units_of units (joined (take b blocks)) + units_of units (block_at blocks b)
+    total_units units (joined (take (b + 1) blocks))
+    ≡ total_units units (joined (take b blocks)) + total_units units (block_at blocks b)
 units_more_blocks units blocks b within =
-    ap (units_of units) (joined_more blocks b within) ∙ units-append units (joined (take b blocks)) (block_at blocks b)
+    ap (total_units units) (joined_more blocks b within) ∙ units-append units (joined (take b blocks)) (block_at blocks
+    b)
 
 -- the units of a block whose items went to two
 pub units_parts : {T : Type 0} (units : T → ℕ) (block old fresh first second : List T) →
     first ++ second ≡ old ++ fresh → fresh ≡ [] → old ≡ block
-    → units_of units first + units_of units second ≡ units_of units block
+    → total_units units first + total_units units second ≡ total_units units block
 units_parts {T = T} units block old fresh first second parts none is =
     omega (
       arith,
-      ap (units_of units) (parts ∙ ap (λ (t : List T). old ++ t) none ∙ append-nil old ∙ is),
+      ap (total_units units) (parts ∙ ap (λ (t : List T). old ++ t) none ∙ append-nil old ∙ is),
       units-append units first second,
     )
 
 -- a block is no longer than the list
 pub units_of_block : {T : Type 0} (units : T → ℕ) (blocks : List (List T)) (b : ℕ) → b < length blocks →
-    units_of units (block_at blocks b) ≤ units_of units (joined blocks)
+    total_units units (block_at blocks b) ≤ total_units units (joined blocks)
 units_of_block units blocks b within =
     let back = joined (drop (b + 1) blocks) in
     let block = block_at blocks b in
-    let e = ap (units_of units) (joined_at blocks b within) in
+    let e = ap (total_units units) (joined_at blocks b within) in
     omega (arith, e, units-append units (joined (take b blocks)) (block ++ back), units-append units block back)
 
 -- ---- a place in the middle
@@ -187,7 +188,7 @@ item_of_block {T = T} blocks b k there within =
 -- the item of the unit is in this block
 pub found_here : {T : Type 0} (units : T → ℕ) (blocks : List (List T)) (b cp left item within before : ℕ) →
     b < length blocks →
-    before ≡ length (joined (take b blocks)) → units_of units (joined (take b blocks)) + left ≡ cp
+    before ≡ length (joined (take b blocks)) → total_units units (joined (take b blocks)) + left ≡ cp
     → IsSpotOf units (block_at blocks b) left (record { item = item; within = within })
     → IsFoundOf units blocks cp (record { block = b; item = before + item; within = within })
 found_here {T = T} units blocks b cp left item within before there counted here spot =
@@ -208,7 +209,7 @@ found_here {T = T} units blocks b cp left item within before there counted here 
         item = spot.item;
         there = same;
         inside = spot.inside;
-        here = let e = ap (units_of units) taken ∙ units-append units front (take item block) in
+        here = let e = ap (total_units units) taken ∙ units-append units front (take item block) in
             omega (arith, e, spot.here);
       };
       there = there;
@@ -219,12 +220,12 @@ found_here {T = T} units blocks b cp left item within before there counted here 
 
 -- a sum that is known is that of its block
 pub sum_told : {T : Type 0} (units : T → ℕ) (blocks : List (List T)) (sums : List ℕ) (b u : ℕ) → sums
-    ≡ map (units_of units) blocks →
-    slice_get sums b ≡ Some u → u ≡ units_of units (block_at blocks b)
+    ≡ map (total_units units) blocks →
+    slice_get sums b ≡ Some u → u ≡ total_units units (block_at blocks b)
 sum_told {T = T} units blocks sums b u is found =
-    let block : (x : List T) × ((slice_get blocks b ≡ Some x) × (units_of units x ≡ u)) =
-    from_map (units_of units) blocks b u (sym (ap (λ (l : List ℕ). slice_get l b) is) ∙ found) in
-    sym block.1.1 ∙ sym (ap (units_of units) (get_or_from_slice_get blocks b block.0 [] block.1.0))
+    let block : (x : List T) × ((slice_get blocks b ≡ Some x) × (total_units units x ≡ u)) =
+    from_map (total_units units) blocks b u (sym (ap (λ (l : List ℕ). slice_get l b) is) ∙ found) in
+    sym block.1.1 ∙ sym (ap (total_units units) (get_or_from_slice_get blocks b block.0 [] block.1.0))
 
 -- where there are items there are blocks
 pub some_blocks : {T : Type 0} (blocks : List (List T)) → 0 < length (joined blocks) → 0 < length blocks

@@ -6,7 +6,7 @@ use Rattle.std.specs.List.{All, splice}
 use Rattle.std.proofs.lemmas.List.Elements.{All-nil, All-take}
 use Rattle.std.proofs.lemmas.List.{take_at, take-append-drop, get_or_push}
 use Rattle.chunked_list.specs.declared.places.Place.{Place}
-use Rattle.chunked_list.specs.Blocks.{joined, units_of, block_at, number_of, AreSized, IsMadeRoom, IsPut}
+use Rattle.chunked_list.specs.Blocks.{joined, total_units, block_at, number_of, AreSized, IsMadeRoom, IsInserted}
 use Rattle.chunked_list.specs.Blocks.{BlockRow, AreInBlocks}
 use Rattle.chunked_list.proofs.UnitLemmas.{length_put, units-nil, units-append, units-cons}
 use Rattle.chunked_list.proofs.JoinLemmas.{joined-nil, put_joined, divided_joined, joined_more_length}
@@ -126,7 +126,7 @@ made_second {T = T} old new place halves beyond within =
 pub put_in : {T : Type 0} (old mid new : List (List T)) (place seat : Place) (x : T) → IsMadeRoom old mid place seat →
     new ≡ splice mid seat.block (seat.block + 1)
     ((take seat.within (block_at mid seat.block) ++ (x ∷ drop seat.within (block_at mid seat.block))) ∷ [])
-    → IsPut old new place x
+    → IsInserted old new place x
 put_in {T = T} old mid new place seat x made is =
     let block = block_at mid seat.block in
     let grown = take seat.within block ++ (x ∷ drop seat.within block) in
@@ -161,7 +161,7 @@ no_blocks {T = T} units row ready none empty =
     let count = ap length none in
     let nothing : joined row.blocks ≡ [] = ap joined none ∙ joined-nil in
     let items = ap length nothing in
-    let total = ap (units_of units) nothing in
+    let total = ap (total_units units) nothing in
     record {
       sized = record {
         most = λ k low. absurd (omega (arith, count, low));
@@ -193,10 +193,10 @@ pub in_blocks : {T : Type 0} (units : T → ℕ) (row : BlockRow T) (ready : Lis
     count full : ℕ) →
     AreSized row.blocks full → joined row.blocks ≡ take i old ++ (x ∷ drop i old) → i ≤ length old
     → count ≡ length old + 1 → length ready ≤ row.spare → All (λ (block : List T). block ≡ []) ready
-    → length old + 1 < 2 ^ 32 → units_of units old + units x < 2 ^ 32 → AreInBlocks units row ready count full
+    → length old + 1 < 2 ^ 32 → total_units units old + units x < 2 ^ 32 → AreInBlocks units row ready count full
 in_blocks {T = T} units row ready old x i count full sized items within counted room empty few total =
     let long = length_put old (joined row.blocks) x i within items in
-    let e = ap (units_of units) items in
+    let e = ap (total_units units) items in
     record {
       sized = sized;
       counted = omega (arith, long);
@@ -209,7 +209,7 @@ in_blocks {T = T} units row ready old x i count full sized items within counted 
         units-append units (take i old) (x ∷ drop i old),
         units-cons units x (drop i old),
         units-append units (take i old) (drop i old),
-        ap (units_of units) (take-append-drop i old),
+        ap (total_units units) (take-append-drop i old),
       );
     }
 

@@ -8,7 +8,7 @@ use Rattle.std.proofs.lemmas.Bool.{cases_lt}
 use Rattle.std.proofs.lemmas.List.{take_at, drop_at, take-append-drop, drop-append-le, drop_more}
 use Rattle.std.proofs.lemmas.List.{drop_all, drop-set-lt, take_more_set, take-take}
 use Rattle.std.proofs.lemmas.List.{get_or-set_same}
-use Rattle.chunked_list.specs.Blocks.{joined, units_of, block_at, BlockRow, AreSized, AreInBlocks}
+use Rattle.chunked_list.specs.Blocks.{joined, total_units, block_at, BlockRow, AreSized, AreInBlocks}
 use Rattle.chunked_list.proofs.UnitLemmas.{units-append, units-take-le, set_spliced}
 use Rattle.chunked_list.proofs.JoinLemmas.{joined-nil, joined-cons, joined-append, joined-one, joined-splice, joined_at}
 use Rattle.chunked_list.proofs.JoinLemmas.{take_mid}
@@ -18,14 +18,14 @@ use Rattle.chunked_list.proofs.RangeLemmas.{drop_past}
 -- ---- units of what is left
 
 pub units-cut-le : {T : Type 0} (units : T → ℕ) (xs : List T) (a b : ℕ) → a ≤ b →
-    units_of units (splice xs a b []) ≤ units_of units xs
+    total_units units (splice xs a b []) ≤ total_units units xs
 units-cut-le units xs a b order =
     omega (
       arith,
       units-append units (take a xs) (drop b xs),
       units-append units (take b xs) (drop b xs),
-      ap (units_of units) (take-append-drop b xs),
-      ap (units_of units) (take-take a b xs order),
+      ap (total_units units) (take-append-drop b xs),
+      ap (total_units units) (take-take a b xs order),
       units-take-le units (take b xs) a,
     )
 
@@ -65,41 +65,42 @@ empty_out {T = T} blocks b there none =
 
 -- a block less has fewer units
 pub units_out : {T : Type 0} (units : T → ℕ) (blocks : List (List T)) (b : ℕ) → b < length blocks →
-    units_of units (joined (splice blocks b (b + 1) [])) ≤ units_of units (joined blocks)
+    total_units units (joined (splice blocks b (b + 1) [])) ≤ total_units units (joined blocks)
 units_out units blocks b there =
     let front = joined (take b blocks) in
     let back = joined (drop (b + 1) blocks) in
     let block = block_at blocks b in
     omega (
       arith,
-      ap (units_of units) (joined_out blocks b),
+      ap (total_units units) (joined_out blocks b),
       units-append units front back,
-      ap (units_of units) (joined_at blocks b there),
+      ap (total_units units) (joined_at blocks b there),
       units-append units front (block ++ back),
       units-append units block back,
     )
 
 -- a shorter block has fewer units
 pub units_shorter : {T : Type 0} (units : T → ℕ) (blocks : List (List T)) (b : ℕ) (x : List T) → b < length blocks →
-    units_of units x ≤ units_of units (block_at blocks b)
-    → units_of units (joined (set blocks b x)) ≤ units_of units (joined blocks)
+    total_units units x ≤ total_units units (block_at blocks b)
+    → total_units units (joined (set blocks b x)) ≤ total_units units (joined blocks)
 units_shorter units blocks b x there le =
     let front = joined (take b blocks) in
     let back = joined (drop (b + 1) blocks) in
     let block = block_at blocks b in
     omega (
       arith,
-      ap (units_of units) (joined_set blocks b x there),
+      ap (total_units units) (joined_set blocks b x there),
       units-append units front (x ++ back),
       units-append units x back,
-      ap (units_of units) (joined_at blocks b there),
+      ap (total_units units) (joined_at blocks b there),
       units-append units front (block ++ back),
       units-append units block back,
     )
 
 -- two blocks have no more units than the list
 pub units_of_two : {T : Type 0} (units : T → ℕ) (blocks : List (List T)) (b : ℕ) → b + 1 < length blocks →
-    units_of units (block_at blocks b) + units_of units (block_at blocks (b + 1)) ≤ units_of units (joined blocks)
+    total_units units (block_at blocks b) + total_units units (block_at blocks (b + 1)) ≤ total_units units (joined
+    blocks)
 units_of_two units blocks b there =
     let front = joined (take b blocks) in
     let back = joined (drop (b + 1) blocks) in
@@ -109,10 +110,10 @@ units_of_two units blocks b there =
     let low : b < length blocks = omega arith in
     omega (
       arith,
-      ap (units_of units) (joined_at blocks b low),
+      ap (total_units units) (joined_at blocks b low),
       units-append units front (block ++ back),
       units-append units block back,
-      ap (units_of units) (joined_drop blocks (b + 1) there),
+      ap (total_units units) (joined_drop blocks (b + 1) there),
       units-append units next rest,
     )
 
@@ -295,14 +296,14 @@ cut_in_blocks {T = T} units row new ready count full fewer first last is sized i
       room = let r = is.room in omega arith;
       empty = is.empty;
       few = omega arith;
-      total = omega (arith, ap (units_of units) items, units-cut-le units old first last order, total);
+      total = omega (arith, ap (total_units units) items, units-cut-le units old first last order, total);
     }
 
 -- as many items, and as many units
 pub like_in_blocks : {T : Type 0} (units : T → ℕ) (row new : BlockRow T) (ready : List (List T)) (count full : ℕ) →
     AreInBlocks units row ready count full → AreSized new.blocks full
     → length (joined new.blocks) ≡ length (joined row.blocks)
-    → units_of units (joined new.blocks) ≡ units_of units (joined row.blocks) → new.spare ≡ row.spare
+    → total_units units (joined new.blocks) ≡ total_units units (joined row.blocks) → new.spare ≡ row.spare
     → AreInBlocks units new ready count full
 like_in_blocks units row new ready count full is sized long total spare = record {
   sized = sized;

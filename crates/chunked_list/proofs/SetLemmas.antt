@@ -5,7 +5,7 @@ use Rattle.std.proofs.Common.{set, arith, length-set, inl, inr}
 use Rattle.std.proofs.lemmas.Bool.{cases_eq}
 use Rattle.std.proofs.lemmas.List.{get_or-set_same, get_or-set_other, set-append_left, set-append_right, take-set}
 use Rattle.std.proofs.lemmas.List.{drop-set-lt}
-use Rattle.chunked_list.specs.Blocks.{joined, units_of, block_at, BlockRow, AreSized, AreInBlocks}
+use Rattle.chunked_list.specs.Blocks.{joined, total_units, block_at, BlockRow, AreSized, AreInBlocks}
 use Rattle.chunked_list.proofs.JoinLemmas.{joined_at, units_of_block}
 
 -- blocks of the same sizes
@@ -60,7 +60,7 @@ pub set_in_blocks : {T : Type 0} (units : T → ℕ) (row new : BlockRow T) (rea
     ℕ) (x : T) →
     AreInBlocks units row ready count full → b < length row.blocks → k < length (block_at row.blocks b)
     → length (joined (take b row.blocks)) + k ≡ i → new.blocks ≡ set row.blocks b (set (block_at row.blocks b) k x)
-    → new.spare ≡ row.spare → units_of units (set (joined row.blocks) i x) < 2 ^ 32
+    → new.spare ≡ row.spare → total_units units (set (joined row.blocks) i x) < 2 ^ 32
     → AreInBlocks units new ready count full
 set_in_blocks {T = T} units row new ready count full b k i x is there within here put spare total =
     let items : joined new.blocks ≡ set (joined row.blocks) i x =
@@ -75,13 +75,13 @@ set_in_blocks {T = T} units row new ready count full b k i x is there within her
       room = let room = is.room in omega arith;
       empty = is.empty;
       few = let few = is.few in omega (arith, long);
-      total = let e = ap (units_of units) items in omega (arith, e, total);
+      total = let e = ap (total_units units) items in omega (arith, e, total);
     }
 
 -- a block with another item is no longer than the list with it
 pub set_units : {T : Type 0} (units : T → ℕ) (blocks : List (List T)) (b k i : ℕ) (x : T) → b < length blocks →
     k < length (block_at blocks b) → length (joined (take b blocks)) + k ≡ i
-    → units_of units (set (block_at blocks b) k x) ≤ units_of units (set (joined blocks) i x)
+    → total_units units (set (block_at blocks b) k x) ≤ total_units units (set (joined blocks) i x)
 set_units {T = T} units blocks b k i x there within here =
     let changed = set (block_at blocks b) k x in
     let new = set blocks b changed in
@@ -90,7 +90,7 @@ set_units {T = T} units blocks b k i x there within here =
     set_joined blocks b k x there within ∙ ap (λ (n : ℕ). set (joined blocks) n x) here in
     omega (
       arith,
-      ap (units_of units) (get_or-set_same blocks b changed [] there),
-      ap (units_of units) items,
+      ap (total_units units) (get_or-set_same blocks b changed [] there),
+      ap (total_units units) items,
       units_of_block units new b less,
     )

@@ -9,48 +9,49 @@ use Rattle.std.proofs.lemmas.List.{set_split, get_or-drop, take-append-drop}
 use Rattle.std.proofs.lemmas.List.Sums.{sum_by-append, sum_by_more, sum_by-take-le, sum_by-cons}
 use Rattle.std.proofs.lemmas.Option.{slice_get_within, get_or_from_slice_get}
 use Rattle.doc_bits.proofs.Public.{from_map}
-use Rattle.chunked_list.specs.Blocks.{units_of, IsSpotOf}
+use Rattle.chunked_list.specs.Blocks.{total_units, IsSpotOf}
 
 -- ---- sums
 
-pub units-nil : {T : Type 0} (units : T → ℕ) → units_of units [] ≡ 0
-unfolding units_of
+pub units-nil : {T : Type 0} (units : T → ℕ) → total_units units [] ≡ 0
+unfolding total_units
 units-nil units = refl
 
-pub units-one : {T : Type 0} (units : T → ℕ) (x : T) → units_of units (x ∷ []) ≡ units x
-unfolding units_of
+pub units-one : {T : Type 0} (units : T → ℕ) (x : T) → total_units units (x ∷ []) ≡ units x
+unfolding total_units
 units-one units x = omega (arith, sum_by-cons units x [])
 
-pub units-append : {T : Type 0} (units : T → ℕ) (xs ys : List T) → units_of units (xs ++ ys)
-    ≡ units_of units xs + units_of units ys
-unfolding units_of
+pub units-append : {T : Type 0} (units : T → ℕ) (xs ys : List T) → total_units units (xs ++ ys)
+    ≡ total_units units xs + total_units units ys
+unfolding total_units
 units-append units xs ys = sum_by-append units xs ys
 
-pub units-cons : {T : Type 0} (units : T → ℕ) (x : T) (xs : List T) → units_of units (x ∷ xs)
-    ≡ units x + units_of units xs
-unfolding units_of
+pub units-cons : {T : Type 0} (units : T → ℕ) (x : T) (xs : List T) → total_units units (x ∷ xs)
+    ≡ units x + total_units units xs
+unfolding total_units
 units-cons units x xs = sum_by-cons units x xs
 
-pub units-take-le : {T : Type 0} (units : T → ℕ) (xs : List T) (i : ℕ) → units_of units (take i xs) ≤ units_of units xs
-unfolding units_of
+pub units-take-le : {T : Type 0} (units : T → ℕ) (xs : List T) (i : ℕ) → total_units units (take i xs) ≤ total_units
+    units xs
+unfolding total_units
 units-take-le units xs i = sum_by-take-le units xs i
 
 -- an item more of a front
 pub units_more : {T : Type 0} (units : T → ℕ) (xs : List T) (i : ℕ) (d : T) → i < length xs →
-    units_of units (take (i + 1) xs) ≡ units_of units (take i xs) + units (get_or xs i d)
-unfolding units_of
+    total_units units (take (i + 1) xs) ≡ total_units units (take i xs) + units (get_or xs i d)
+unfolding total_units
 units_more units xs i d within = sum_by_more units xs i d within
 
 pub units_at : {T : Type 0} (units : T → ℕ) (xs : List T) (i : ℕ) (x : T) → slice_get xs i ≡ Some x →
-    units_of units (take (i + 1) xs) ≡ units_of units (take i xs) + units x
+    total_units units (take (i + 1) xs) ≡ total_units units (take i xs) + units x
 units_at units xs i x is =
     units_more units xs i x (slice_get_within xs i x is)
-    ∙ ap (λ y. units_of units (take i xs) + units y) (get_or_from_slice_get xs i x x is)
+    ∙ ap (λ y. total_units units (take i xs) + units y) (get_or_from_slice_get xs i x x is)
 
 -- all items
-pub units_all : {T : Type 0} (units : T → ℕ) (xs : List T) (i : ℕ) → length xs ≤ i → units_of units (take i xs)
-    ≡ units_of units xs
-units_all units xs i all = ap (units_of units) (take_all i xs all)
+pub units_all : {T : Type 0} (units : T → ℕ) (xs : List T) (i : ℕ) → length xs ≤ i → total_units units (take i xs)
+    ≡ total_units units xs
+units_all units xs i all = ap (total_units units) (take_all i xs all)
 
 -- ---- a walk over lengths
 
@@ -64,7 +65,7 @@ slice_get_front (suc k) (x ∷ xs) (suc i) low = slice_get_front k xs i (omega a
 -- the item of the unit is this one
 pub spot_here : {T : Type 0} (units : T → ℕ) (xs : List T) (lens : List ℕ) (i u cp within : ℕ) →
     take (length xs) lens ≡ map units xs →
-    i < length xs → slice_get lens i ≡ Some u → within < u → units_of units (take i xs) + within ≡ cp
+    i < length xs → slice_get lens i ≡ Some u → within < u → total_units units (take i xs) + within ≡ cp
     → IsSpotOf units xs cp (record { item = i; within = within })
 spot_here {T = T} units xs lens i u cp within is low found inside here =
     let item : (x : T) × ((slice_get xs i ≡ Some x) × (units x ≡ u)) =
@@ -75,8 +76,8 @@ spot_here {T = T} units xs lens i u cp within is low found inside here =
 -- it is behind this one
 pub spot_behind : {T : Type 0} (units : T → ℕ) (xs : List T) (lens : List ℕ) (i u cp within : ℕ) →
     take (length xs) lens ≡ map units xs →
-    i < length xs → slice_get lens i ≡ Some u → u ≤ within → units_of units (take i xs) + within ≡ cp
-    → units_of units (take (i + 1) xs) + (within - u) ≡ cp
+    i < length xs → slice_get lens i ≡ Some u → u ≤ within → total_units units (take i xs) + within ≡ cp
+    → total_units units (take (i + 1) xs) + (within - u) ≡ cp
 spot_behind {T = T} units xs lens i u cp within is low found beyond here =
     let item : (x : T) × ((slice_get xs i ≡ Some x) × (units x ≡ u)) =
     from_map units xs i u (sym (ap (λ (l : List ℕ). slice_get l i) is) ∙ slice_get_front (length xs) lens i low ∙
@@ -182,13 +183,13 @@ range_push {A = A} xs from i x le is =
 
 -- the units with an item more
 pub units_put : {T : Type 0} (units : T → ℕ) (xs new : List T) (x : T) (i : ℕ) → new ≡ take i xs ++ (x ∷ drop i xs) →
-    units_of units new ≡ units_of units xs + units x
+    total_units units new ≡ total_units units xs + units x
 units_put units xs new x i put =
     omega (
       arith,
-      ap (units_of units) put,
+      ap (total_units units) put,
       units-append units (take i xs) (x ∷ drop i xs),
       units-cons units x (drop i xs),
       units-append units (take i xs) (drop i xs),
-      ap (units_of units) (take-append-drop i xs),
+      ap (total_units units) (take-append-drop i xs),
     )

@@ -15,8 +15,8 @@ unfoldable pub joined : {T : Type 0} → List (List T) → List T
 joined blocks = flat_map (λ block. block) blocks
 
 -- how long the items are together
-unfoldable pub units_of : {T : Type 0} → (T → ℕ) → List T → ℕ
-units_of units items = sum_by units items
+unfoldable pub total_units : {T : Type 0} → (T → ℕ) → List T → ℕ
+total_units units items = sum_by units items
 
 -- a list with the elements from `first` to before `last` exchanged for what they become
 abbrev pub map_range : {T : Type 0} → (T → T) → List T → ℕ → ℕ → List T
@@ -31,7 +31,7 @@ pub record IsSpotOf {T : Type 0} (units : T → ℕ) (items : List T) (cp : ℕ)
   pub item : T
   pub there : slice_get items spot.item ≡ Some item
   pub inside : spot.within < units item
-  pub here : units_of units (take spot.item items) + spot.within ≡ cp
+  pub here : total_units units (take spot.item items) + spot.within ≡ cp
 
 -- ---- what lists are seen as
 
@@ -73,16 +73,17 @@ block_row_code {T = T} t =
 -- ---- invariants
 
 -- the first ones of 128 lengths are those of the items, and there is room for 128
-pub record IsBlock {T : Type 0} (units : T → ℕ) (items : List T) (lens : SumList) (capacity : ℕ) : Type 0 where
+pub record IsMeasuredBlock {T : Type 0} (units : T → ℕ) (items : List T) (lens : SumList) (capacity : ℕ) : Type 0 where
   pub lengths : take (length items) lens.sums ≡ map units items
   pub long : length lens.sums ≡ 128
   pub most : length items ≤ 128
   pub room : 128 ≤ capacity
 
 -- the sums are those of the blocks, and there is room for so many more
-pub record IsRow {T : Type 0} (units : T → ℕ) (blocks : List (List T)) (sums : SumList) (spare capacity : ℕ) : Type 0
+pub record IsBlockRow {T : Type 0} (units : T → ℕ) (blocks : List (List T)) (sums : SumList) (spare capacity : ℕ) : Type
+    0
   where
-    pub each : sums.sums ≡ map (units_of units) blocks
+    pub each : sums.sums ≡ map (total_units units) blocks
     pub room : length blocks + spare ≤ capacity
     pub further : spare ≤ sums.spare
 
@@ -113,7 +114,7 @@ pub record AreInBlocks {T : Type 0} (units : T → ℕ) (row : BlockRow T) (read
     pub room : length ready ≤ row.spare
     pub empty : All (λ block. block ≡ []) ready
     pub few : length (joined row.blocks) < 2 ^ 32
-    pub total : units_of units (joined row.blocks) < 2 ^ 32
+    pub total : total_units units (joined row.blocks) < 2 ^ 32
 
 -- ---- places
 
@@ -154,6 +155,6 @@ pub record IsMadeRoom {T : Type 0} (old new : List (List T)) (place seat : Place
   pub sized : (full : ℕ) → full ≤ place.block → AreSized old full → AreSized new full
 
 -- an item more in the place
-pub record IsPut {T : Type 0} (old new : List (List T)) (place : Place) (item : T) : Type 0 where
+pub record IsInserted {T : Type 0} (old new : List (List T)) (place : Place) (item : T) : Type 0 where
   pub items : joined new ≡ take (number_of old place) (joined old) ++ (item ∷ drop (number_of old place) (joined old))
   pub sized : (full : ℕ) → full ≤ place.block → AreSized old full → AreSized new full

@@ -3,7 +3,7 @@ ghost use Rattle.std.specs.Prelude.{◌≡◌, ◌+◌, ◌^◌, ◌<◌, ◌≤
 ghost use Rattle.std.specs.Prelude.{length, take, drop, map, slice_get, slice_set, slice_range, Some, IfOk, OnOk};
 ghost use Rattle.std.specs.Prelude.{vec_capacity};
 ghost use Rattle.std.specs.List.{splice};
-ghost use Rattle.chunked_list.specs.Blocks.{units_of, map_range, IsSpotOf};
+ghost use Rattle.chunked_list.specs.Blocks.{total_units, map_range, IsSpotOf};
 
 use crate::{Mapping, Measured, Spot};
 use doc_bits::{Ledger, Memory, Steps, Sums};
@@ -23,7 +23,7 @@ pub(crate) struct Block<T: Measured> {
 impl<T: Measured> Model for Block<T> {
     ghost use Rattle.std.specs.Prelude.{List, vec_capacity};
     ghost use Rattle.std.specs.Coded.{coded_list};
-    ghost use Rattle.chunked_list.specs.Blocks.{IsBlock};
+    ghost use Rattle.chunked_list.specs.Blocks.{IsMeasuredBlock};
 
     ghost Value = { List T };
 
@@ -31,7 +31,7 @@ impl<T: Measured> Model for Block<T> {
 
     ghost view = { λ b. b.items.items };
 
-    ghost invariant = { λ b. IsBlock T.units b.items.items b.lens (vec_capacity b.items) };
+    ghost invariant = { λ b. IsMeasuredBlock T.units b.items.items b.lens (vec_capacity b.items) };
 }
 
 impl<T: Measured> Block<T> {
@@ -66,8 +66,8 @@ impl<T: Measured> Block<T> {
 
     /// The units of all items.
     pub(crate) fn units(&self) -> u32
-        requires { units_of T.units self.now < 2 ^ 32 }
-        ensures { result ≡ units_of T.units self.now }
+        requires { total_units T.units self.now < 2 ^ 32 }
+        ensures { result ≡ total_units T.units self.now }
     {
         let mut total = 0;
         for i in 0..self.items.len() {
@@ -78,7 +78,7 @@ impl<T: Measured> Block<T> {
 
     /// The item of a unit. Each length that is read is a step.
     pub(crate) fn find<L: Ledger>(&self, place: u32, steps: &mut Steps<L>) -> Spot
-        requires { place < units_of T.units self.now }
+        requires { place < total_units T.units self.now }
         ensures spot { IsSpotOf T.units self.now place result }
         ensures steps { steps.new ≤ steps.old + 128 }
     {
@@ -158,7 +158,7 @@ impl<T: Measured> Block<T> {
     pub(crate) fn change<C: Mapping<T>>(&mut self, first: usize, last: usize, by: &C)
         requires { first ≤ last }
         ensures items { self.new ≡ map_range (C.image by.now) self.old first last }
-        ensures units { units_of T.units self.new ≡ units_of T.units self.old }
+        ensures units { total_units T.units self.new ≡ total_units T.units self.old }
     {
         let len = self.items.len();
         change_all(&mut self.items, first.min(len), last.min(len), by);

@@ -1,6 +1,6 @@
 // Lists in blocks of items that are there already.
 ghost use Rattle.std.specs.Prelude.{◌≡◌, ◌+◌, ◌*◌, ◌^◌, ◌<◌, ◌≤◌, [], ◌∷◌, ◌++◌, length, IfOk, OnOk};
-ghost use Rattle.chunked_list.specs.Blocks.{joined, units_of, AreSized};
+ghost use Rattle.chunked_list.specs.Blocks.{joined, total_units, AreSized};
 
 use crate::block::{Block, MAX_ITEMS};
 use crate::row::Row;
@@ -12,7 +12,7 @@ impl<T: Measured> BlockList<T> {
     /// The items, in full blocks and a last one. No block is ready.
     pub fn of(alloc: Global, items: &[T]) -> Result<BlockList<T>, Memory>
         requires few { length items.now < 2 ^ 32 }
-        requires units { units_of T.units items.now < 2 ^ 32 }
+        requires units { total_units T.units items.now < 2 ^ 32 }
         ensures items { IfOk result (λ list. list.items ≡ items.now) }
         ensures spare { IfOk result (λ list. list.spare ≡ 0) }
     {
@@ -35,7 +35,7 @@ impl<T: Measured> BlockList<T> {
 fn push<T: Measured>(row: &mut Row<T>, alloc: Global, items: &[T]) -> Result<(), Memory>
     requires most { length items.now ≤ 128 }
     requires room { 1 ≤ row.old.spare }
-    requires units { units_of T.units items.now < 2 ^ 32 }
+    requires units { total_units T.units items.now < 2 ^ 32 }
     ensures blocks { OnOk result (row.new.blocks ≡ row.old.blocks ++ (items.now ∷ [])) }
     ensures spare { OnOk result (row.new.spare + 1 ≡ row.old.spare) }
 {
@@ -50,7 +50,7 @@ fn push<T: Measured>(row: &mut Row<T>, alloc: Global, items: &[T]) -> Result<(),
 fn push_rest<T: Measured>(row: &mut Row<T>, alloc: Global, items: &[T]) -> Result<(), Memory>
     requires most { length items.now ≤ 128 }
     requires room { 1 ≤ row.old.spare }
-    requires units { units_of T.units items.now < 2 ^ 32 }
+    requires units { total_units T.units items.now < 2 ^ 32 }
     ensures items { OnOk result (joined row.new.blocks ≡ joined row.old.blocks ++ items.now) }
     ensures sized { OnOk result (AreSized row.old.blocks (length row.old.blocks)
         → AreSized row.new.blocks (length row.old.blocks)) }

@@ -1,6 +1,6 @@
 // Items that become others.
 ghost use Rattle.std.specs.Prelude.{◌≡◌, ◌^◌, ◌<◌, ◌≤◌, ℕ, length, slice_set};
-ghost use Rattle.chunked_list.specs.Blocks.{joined, units_of, map_range, AreSized, IsNoLarger};
+ghost use Rattle.chunked_list.specs.Blocks.{joined, total_units, map_range, AreSized, IsNoLarger};
 
 use crate::row::Row;
 use crate::{BlockList, Mapping, Measured};
@@ -9,7 +9,7 @@ impl<T: Measured> BlockList<T> {
     /// Puts an item in the place of another. No memory is taken.
     pub fn set(&mut self, i: usize, item: T)
         requires within { i < length self.old.items }
-        requires units { units_of T.units (slice_set self.old.items i item) < 2 ^ 32 }
+        requires units { total_units T.units (slice_set self.old.items i item) < 2 ^ 32 }
         ensures items { self.new.items ≡ slice_set self.old.items i item }
         ensures spare { self.new.spare ≡ self.old.spare }
         ensures memory { IsNoLarger self.old self.new }
@@ -39,7 +39,7 @@ fn change_range<T: Measured, C: Mapping<T>>(row: &mut Row<T>, first: usize, last
     requires order { first ≤ last }
     requires few { length (joined row.old.blocks) < 2 ^ 32 }
     ensures items { joined row.new.blocks ≡ map_range (C.image by.now) (joined row.old.blocks) first last }
-    ensures units { units_of T.units (joined row.new.blocks) ≡ units_of T.units (joined row.old.blocks) }
+    ensures units { total_units T.units (joined row.new.blocks) ≡ total_units T.units (joined row.old.blocks) }
     ensures sized { (full : ℕ) → AreSized row.old.blocks full → AreSized row.new.blocks full }
     ensures spare { row.new.spare ≡ row.old.spare }
     ensures count { length row.new.blocks ≡ length row.old.blocks }

@@ -1,7 +1,7 @@
 // A list in blocks.
 ghost use Rattle.std.specs.Prelude.{◌≡◌, ◌+◌, ◌-◌, ◌/◌, ◌^◌, ◌<◌, ◌≤◌, [], ◌∷◌, ◌++◌};
 ghost use Rattle.std.specs.Prelude.{length, take, drop, slice_get, All, Some, OnOk};
-ghost use Rattle.chunked_list.specs.Blocks.{joined, units_of, AreSized, IsSpotOf, IsNoLarger};
+ghost use Rattle.chunked_list.specs.Blocks.{joined, total_units, AreSized, IsSpotOf, IsNoLarger};
 
 use crate::block::{Block, MAX_ITEMS};
 use crate::put::{put, put_first};
@@ -60,7 +60,7 @@ impl<T: Measured> BlockList<T> {
         requires sized { AreSized row.blocks full }
         requires counted { count ≡ length (joined row.blocks) }
         requires few { length (joined row.blocks) < 2 ^ 32 }
-        requires units { units_of T.units (joined row.blocks) < 2 ^ 32 }
+        requires units { total_units T.units (joined row.blocks) < 2 ^ 32 }
         ensures items { result.items ≡ joined row.blocks }
         ensures spare { result.spare ≡ 0 }
     {
@@ -77,7 +77,7 @@ impl<T: Measured> BlockList<T> {
     pub fn len(&self) -> usize
         ensures value { result ≡ length self.now.items }
         ensures few { result < 2 ^ 32 }
-        ensures units { units_of T.units self.now.items < 2 ^ 32 }
+        ensures units { total_units T.units self.now.items < 2 ^ 32 }
     {
         self.count
     }
@@ -116,7 +116,7 @@ impl<T: Measured> BlockList<T> {
 
     /// The item of a unit. A step is a sum or a length that is read.
     pub fn locate<L: Ledger>(&self, cp: u32, steps: &mut Steps<L>) -> Spot
-        requires { cp < units_of T.units self.now.items }
+        requires { cp < total_units T.units self.now.items }
         ensures spot { IsSpotOf T.units self.now.items cp result }
         ensures steps { steps.new ≤ steps.old + (length self.now.items / 32 + 130) }
     {
@@ -129,7 +129,7 @@ impl<T: Measured> BlockList<T> {
 
     /// The item of a unit. Nobody counts the steps.
     pub fn spot(&self, cp: u32) -> Spot
-        requires { cp < units_of T.units self.now.items }
+        requires { cp < total_units T.units self.now.items }
         ensures { IsSpotOf T.units self.now.items cp result }
     {
         self.spot_with::<Brand>(cp, Blank::new(1))
@@ -137,7 +137,7 @@ impl<T: Measured> BlockList<T> {
 
     /// The item of a unit, where the blank represents the account of the steps.
     fn spot_with<A: Account>(&self, cp: u32, blank: Blank) -> Spot
-        requires cp { cp < units_of T.units self.now.items }
+        requires cp { cp < total_units T.units self.now.items }
         requires name { blank.name ≡ A.name }
         requires parts { blank.parts ≡ A.parts }
         requires some { 0 < A.parts }
@@ -152,7 +152,7 @@ impl<T: Measured> BlockList<T> {
         requires within { i ≤ length self.old.items }
         requires room { 1 ≤ self.old.spare }
         requires few { length self.old.items + 1 < 2 ^ 32 }
-        requires units { units_of T.units self.old.items + T.units item < 2 ^ 32 }
+        requires units { total_units T.units self.old.items + T.units item < 2 ^ 32 }
         ensures items { self.new.items ≡ take i self.old.items ++ (item ∷ drop i self.old.items) }
         ensures spare { self.old.spare ≤ self.new.spare + 1 }
         ensures no_more { self.new.spare ≤ self.old.spare }
@@ -190,7 +190,7 @@ impl<T: Measured> BlockList<T> {
         requires some { 0 < length self.old.items }
         requires room { 1 ≤ self.old.spare }
         requires few { length self.old.items + 1 < 2 ^ 32 }
-        requires units { units_of T.units self.old.items + T.units item < 2 ^ 32 }
+        requires units { total_units T.units self.old.items + T.units item < 2 ^ 32 }
         ensures items { self.new.items ≡ take i self.old.items ++ (item ∷ drop i self.old.items) }
         ensures spare { self.old.spare ≤ self.new.spare + 1 }
         ensures no_more { self.new.spare ≤ self.old.spare }

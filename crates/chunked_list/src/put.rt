@@ -1,6 +1,6 @@
 // An item put into blocks: one of them divides at most.
 ghost use Rattle.std.specs.Prelude.{◌≡◌, ◌+◌, ◌^◌, ◌<◌, ◌≤◌, [], ◌∷◌, All, length};
-ghost use Rattle.chunked_list.specs.Blocks.{joined, units_of, block_at, IsPut, IsPlaceIn, IsMadeRoom};
+ghost use Rattle.chunked_list.specs.Blocks.{joined, total_units, block_at, IsInserted, IsPlaceIn, IsMadeRoom};
 
 use crate::Measured;
 use crate::block::{Block, MAX_ITEMS};
@@ -14,8 +14,8 @@ pub(crate) fn put<T: Measured>(row: &mut Row<T>, ready: &mut Vec<Block<T>>, plac
     requires room { length ready.old.items ≤ row.old.spare }
     requires ready { 1 ≤ length ready.old.items }
     requires empty { All (λ block. block ≡ []) ready.old.items }
-    requires units { units_of T.units (joined row.old.blocks) + T.units item < 2 ^ 32 }
-    ensures put { IsPut row.old.blocks row.new.blocks place item }
+    requires units { total_units T.units (joined row.old.blocks) + T.units item < 2 ^ 32 }
+    ensures put { IsInserted row.old.blocks row.new.blocks place item }
     ensures room { length ready.new.items ≤ row.new.spare }
     ensures ready { length ready.old.items ≤ length ready.new.items + 1 }
     ensures no_more { length ready.new.items ≤ length ready.old.items }
@@ -34,7 +34,7 @@ fn make_room<T: Measured>(row: &mut Row<T>, ready: &mut Vec<Block<T>>, place: Pl
     requires room { length ready.old.items ≤ row.old.spare }
     requires ready { 1 ≤ length ready.old.items }
     requires empty { All (λ block. block ≡ []) ready.old.items }
-    requires units { units_of T.units (joined row.old.blocks) < 2 ^ 32 }
+    requires units { total_units T.units (joined row.old.blocks) < 2 ^ 32 }
     ensures made { IsMadeRoom row.old.blocks row.new.blocks place result }
     ensures room { length ready.new.items ≤ row.new.spare }
     ensures ready { length ready.old.items ≤ length ready.new.items + 1 }

@@ -1,7 +1,8 @@
 // Items that are taken out of blocks: blocks that became short are joined with the next ones.
 ghost use Rattle.std.specs.Prelude.{◌≡◌, ◌+◌, ◌^◌, ◌<◌, ◌≤◌, ℕ, [], ◌++◌, length, take, drop, slice_set};
 ghost use Rattle.std.specs.List.{splice};
-ghost use Rattle.chunked_list.specs.Blocks.{joined, units_of, block_at, number_of, IsPlaceIn, AreSizedBut, IsNoLarger};
+ghost use Rattle.chunked_list.specs.Blocks.{joined, total_units, block_at, number_of, IsPlaceIn, AreSizedBut};
+ghost use Rattle.chunked_list.specs.Blocks.{IsNoLarger};
 
 use crate::block::MAX_ITEMS;
 use crate::places::Place;
@@ -40,7 +41,7 @@ fn erase<T: Measured>(row: &mut Row<T>, place: Place, count: usize)
     requires place { IsPlaceIn row.old.blocks place }
     requires next { place.block + 1 < 2 ^ 64 }
     requires within { number_of row.old.blocks place + count ≤ length (joined row.old.blocks) }
-    requires units { units_of T.units (joined row.old.blocks) < 2 ^ 32 }
+    requires units { total_units T.units (joined row.old.blocks) < 2 ^ 32 }
     ensures items { joined row.new.blocks ≡ splice (joined row.old.blocks)
         (number_of row.old.blocks place) (number_of row.old.blocks place + count) [] }
     ensures spare { row.new.spare ≡ row.old.spare }
@@ -58,7 +59,7 @@ fn erase<T: Measured>(row: &mut Row<T>, place: Place, count: usize)
 fn drop_front<T: Measured>(row: &mut Row<T>, block: usize, count: usize)
     requires block { block ≤ length row.old.blocks }
     requires within { count ≤ length (joined (drop block row.old.blocks)) }
-    requires units { units_of T.units (joined row.old.blocks) < 2 ^ 32 }
+    requires units { total_units T.units (joined row.old.blocks) < 2 ^ 32 }
     ensures front { take block row.new.blocks ≡ take block row.old.blocks }
     ensures back { joined (drop block row.new.blocks) ≡ drop count (joined (drop block row.old.blocks)) }
     ensures there { block ≤ length row.new.blocks }
@@ -81,7 +82,7 @@ fn drop_front<T: Measured>(row: &mut Row<T>, block: usize, count: usize)
 
 /// Fills a block that may be short. Those behind it are not.
 fn mend<T: Measured>(row: &mut Row<T>, block: usize)
-    requires { units_of T.units (joined row.old.blocks) < 2 ^ 32 }
+    requires { total_units T.units (joined row.old.blocks) < 2 ^ 32 }
     ensures same { joined row.new.blocks ≡ joined row.old.blocks }
     ensures spare { row.new.spare ≡ row.old.spare }
     ensures sized { (full from : ℕ) → from ≤ block → AreSizedBut row.old.blocks full from (block + 1)
@@ -107,7 +108,7 @@ fn fill<T: Measured>(row: &mut Row<T>, block: usize, next: usize)
     requires next { next ≡ block + 1 }
     requires there { next < length row.old.blocks }
     requires short { length (block_at row.old.blocks block) < 32 }
-    requires units { units_of T.units (joined row.old.blocks) < 2 ^ 32 }
+    requires units { total_units T.units (joined row.old.blocks) < 2 ^ 32 }
     ensures same { joined row.new.blocks ≡ joined row.old.blocks }
     ensures spare { row.new.spare ≡ row.old.spare }
     ensures sized { (full from : ℕ) → from ≤ block → AreSizedBut row.old.blocks full from (block + 1)
@@ -131,7 +132,7 @@ fn lend<T: Measured>(row: &mut Row<T>, block: usize, next: usize, count: usize)
     requires there { next < length row.old.blocks }
     requires room { length (block_at row.old.blocks block) + count ≤ 128 }
     requires within { count ≤ length (block_at row.old.blocks next) }
-    requires units { units_of T.units (joined row.old.blocks) < 2 ^ 32 }
+    requires units { total_units T.units (joined row.old.blocks) < 2 ^ 32 }
     ensures blocks { row.new.blocks ≡ slice_set row.old.blocks block
         (block_at row.old.blocks block ++ take count (block_at row.old.blocks (block + 1))) }
     ensures spare { row.new.spare ≡ row.old.spare }

@@ -2,7 +2,7 @@
 ghost use Rattle.std.specs.Prelude.{◌≡◌, ◌+◌, ◌^◌, ◌<◌, ◌≤◌, [], ◌∷◌, ◌++◌};
 ghost use Rattle.std.specs.Prelude.{length, take, drop, slice_get, slice_set, slice_range, Some, IfOk, OnOk};
 ghost use Rattle.std.specs.List.{splice};
-ghost use Rattle.chunked_list.specs.Blocks.{joined, units_of, map_range, block_at, IsFoundOf, IsPlace, IsAtMark};
+ghost use Rattle.chunked_list.specs.Blocks.{joined, total_units, map_range, block_at, IsFoundOf, IsPlace, IsAtMark};
 
 use crate::block::Block;
 use crate::places::{Found, Mark, Place};
@@ -21,7 +21,7 @@ pub(crate) struct Row<T: Measured> {
 
 impl<T: Measured> Model for Row<T> {
     ghost use Rattle.std.specs.Prelude.{vec_capacity};
-    ghost use Rattle.chunked_list.specs.Blocks.{BlockRow, block_row_code, IsRow};
+    ghost use Rattle.chunked_list.specs.Blocks.{BlockRow, block_row_code, IsBlockRow};
 
     ghost Value = { BlockRow T };
 
@@ -32,7 +32,7 @@ impl<T: Measured> Model for Row<T> {
       spare = r.spare;
     } };
 
-    ghost invariant = { λ r. IsRow T.units r.blocks.items r.sums r.spare (vec_capacity r.blocks) };
+    ghost invariant = { λ r. IsBlockRow T.units r.blocks.items r.sums r.spare (vec_capacity r.blocks) };
 }
 
 impl<T: Measured> Row<T> {
@@ -92,7 +92,7 @@ impl<T: Measured> Row<T> {
     pub(crate) fn insert(&mut self, number: usize, block: Block<T>)
         requires within { number ≤ length self.old.blocks }
         requires room { 1 ≤ self.old.spare }
-        requires units { units_of T.units block < 2 ^ 32 }
+        requires units { total_units T.units block < 2 ^ 32 }
         ensures blocks { self.new.blocks ≡ splice self.old.blocks number number (block ∷ []) }
         ensures spare { self.new.spare + 1 ≡ self.old.spare }
         ensures count { length self.new.blocks ≡ length self.old.blocks + 1 }
@@ -108,7 +108,7 @@ impl<T: Measured> Row<T> {
         requires block { block < length self.old.blocks }
         requires within { i ≤ length (block_at self.old.blocks block) }
         requires room { length (block_at self.old.blocks block) < 128 }
-        requires units { units_of T.units (block_at self.old.blocks block) + T.units item < 2 ^ 32 }
+        requires units { total_units T.units (block_at self.old.blocks block) + T.units item < 2 ^ 32 }
         ensures blocks { self.new.blocks ≡ splice self.old.blocks block (block + 1)
             ((take i (block_at self.old.blocks block) ++ (item ∷ drop i (block_at self.old.blocks block))) ∷ []) }
         ensures spare { self.new.spare ≡ self.old.spare }
@@ -124,7 +124,7 @@ impl<T: Measured> Row<T> {
     pub(crate) fn set(&mut self, block: usize, i: usize, item: T)
         requires block { block < length self.old.blocks }
         requires within { i < length (block_at self.old.blocks block) }
-        requires units { units_of T.units (slice_set (block_at self.old.blocks block) i item) < 2 ^ 32 }
+        requires units { total_units T.units (slice_set (block_at self.old.blocks block) i item) < 2 ^ 32 }
         ensures blocks { self.new.blocks
             ≡ slice_set self.old.blocks block (slice_set (block_at self.old.blocks block) i item) }
         ensures spare { self.new.spare ≡ self.old.spare }
@@ -141,7 +141,7 @@ impl<T: Measured> Row<T> {
         requires block { block < length self.old.blocks }
         requires order { first ≤ last }
         requires within { last ≤ length (block_at self.old.blocks block) }
-        requires units { units_of T.units (block_at self.old.blocks block) < 2 ^ 32 }
+        requires units { total_units T.units (block_at self.old.blocks block) < 2 ^ 32 }
         ensures blocks { self.new.blocks
             ≡ slice_set self.old.blocks block (splice (block_at self.old.blocks block) first last []) }
         ensures spare { self.new.spare ≡ self.old.spare }
@@ -186,8 +186,8 @@ impl<T: Measured> Row<T> {
         requires order { first ≤ last }
         ensures blocks { self.new.blocks
             ≡ slice_set self.old.blocks block (map_range (C.image by.now) (block_at self.old.blocks block) first last) }
-        ensures units { units_of T.units (map_range (C.image by.now) (block_at self.old.blocks block) first last)
-            ≡ units_of T.units (block_at self.old.blocks block) }
+        ensures units { total_units T.units (map_range (C.image by.now) (block_at self.old.blocks block) first last)
+            ≡ total_units T.units (block_at self.old.blocks block) }
         ensures spare { self.new.spare ≡ self.old.spare }
         ensures count { length self.new.blocks ≡ length self.old.blocks }
     {
@@ -201,7 +201,7 @@ impl<T: Measured> Row<T> {
         requires full { length (block_at self.old.blocks block) ≡ 128 }
         requires fresh { fresh ≡ [] }
         requires room { 1 ≤ self.old.spare }
-        requires units { units_of T.units (block_at self.old.blocks block) < 2 ^ 32 }
+        requires units { total_units T.units (block_at self.old.blocks block) < 2 ^ 32 }
         ensures blocks { self.new.blocks ≡ splice self.old.blocks block (block + 1)
             (take 64 (block_at self.old.blocks block) ∷ drop 64 (block_at self.old.blocks block) ∷ []) }
         ensures spare { self.new.spare + 1 ≡ self.old.spare }
@@ -243,7 +243,7 @@ impl<T: Measured> Row<T> {
 
     /// The item of a unit. Each sum that is read is a step.
     pub(crate) fn find<L: Ledger>(&self, place: u32, steps: &mut Steps<L>) -> Found
-        requires place { place < units_of T.units (joined self.now.blocks) }
+        requires place { place < total_units T.units (joined self.now.blocks) }
         requires few { length (joined self.now.blocks) < 2 ^ 32 }
         ensures found { IsFoundOf T.units self.now.blocks place result }
         ensures steps { steps.new ≤ steps.old + (result.block + 129) }

@@ -2,7 +2,7 @@
 use Rattle.std.proofs.Common.{◌≡◌, ◌∙◌, sym, ap, subst, ℕ, List, [], ◌∷◌, ◌++◌, append_assoc, slice_range}
 use Rattle.std.proofs.lemmas.List.{append-nil}
 use Rattle.sprm_table.specs.Sprm.{Prl, SpellsSprmList}
-use Rattle.sprm_table.specs.Cursor.{SprmCursor, left, Takes}
+use Rattle.sprm_table.specs.Cursor.{SprmCursor, left, TakesFirstPrl}
 use Rattle.code_losses.specs.declared.counts.CodeCounts.{CodeCounts}
 use Rattle.code_losses.specs.Counted.{IsListing}
 
@@ -16,7 +16,7 @@ pub record MeetsFront (prls : List Prl) (cursor : SprmCursor) (lists : List (Lis
 
 -- one entry more
 pub front_more : (prls : List Prl) (old new : SprmCursor) (lists : List (List Prl)) (now next : CodeCounts)
-    (code from to : ℕ) → (front : MeetsFront prls old lists now) → Takes old new front.others code from to →
+    (code from to : ℕ) → (front : MeetsFront prls old lists now) → TakesFirstPrl old new front.others code from to →
     ((done : List Prl) → (value : List ℕ) → IsListing lists done now →
     IsListing lists (done ++ (code, value) ∷ []) next) → MeetsFront prls new lists next
 front_more prls old new lists now next code from to front takes meets =

@@ -12,7 +12,7 @@ use Rattle.text_losses.specs.Counts.{lists_with, lists_again, skipped_codes, rep
 use Rattle.code_losses.specs.declared.counts.CodeCounts.{CodeCounts}
 use Rattle.code_losses.specs.Tallies.{code_count}
 use Rattle.code_losses.specs.Counted.{AreCodeCounts}
-use Rattle.code_losses.specs.Losses.{skipped_of, repeated_of, named_by, codes_of}
+use Rattle.code_losses.specs.Losses.{skipped_of, repeated_of, features_by_code, codes_of}
 use Rattle.doc_bits.proofs.Public.{range_more}
 
 -- the features of the first codes
@@ -48,16 +48,17 @@ below_same one other (suc n) same =
     ∙ (sym (below_one other n) ∙ ap (named_below other) (sym e)))))
 
 pub named_lists : (kind : ListKind) (lists : List (List Prl)) (counts : CodeCounts) → AreCodeCounts lists counts →
-    named_by (λ code. skipped_of kind code (slice_index counts.first.counts.items code))
-    ++ named_by (λ code. repeated_of kind code (slice_index counts.again.counts.items code)) ≡ codes_of kind lists
-unfolding named_by codes_of
+    features_by_code (λ code. skipped_of kind code (slice_index counts.first.counts.items code))
+    ++ features_by_code (λ code. repeated_of kind code (slice_index counts.again.counts.items code)) ≡ codes_of kind
+    lists
+unfolding features_by_code codes_of
 named_lists kind lists counts is =
-    let first : named_by (λ code. skipped_of kind code (slice_index counts.first.counts.items code))
+    let first : features_by_code (λ code. skipped_of kind code (slice_index counts.first.counts.items code))
     ≡ skipped_codes kind lists =
     below_same (λ code. skipped_of kind code (slice_index counts.first.counts.items code))
     (λ code. skipped_of kind code (lists_with code lists)) code_count
     (λ code low. ap (skipped_of kind code) (is.first.counts code low)) in
-    let again : named_by (λ code. repeated_of kind code (slice_index counts.again.counts.items code))
+    let again : features_by_code (λ code. repeated_of kind code (slice_index counts.again.counts.items code))
     ≡ repeated_codes kind lists =
     below_same (λ code. repeated_of kind code (slice_index counts.again.counts.items code))
     (λ code. repeated_of kind code (lists_again code lists)) code_count
@@ -65,6 +66,6 @@ named_lists kind lists counts is =
     λ i. first i ++ again i
 
 -- the first codes are all of them
-pub named_all : (each : ℕ → List TextFeature) (n : ℕ) → n ≡ code_count → named_below each n ≡ named_by each
-unfolding named_by
+pub named_all : (each : ℕ → List TextFeature) (n : ℕ) → n ≡ code_count → named_below each n ≡ features_by_code each
+unfolding features_by_code
 named_all each n same = ap (named_below each) same

@@ -11,7 +11,7 @@ use Rattle.sprm_table.specs.Sprm.{Prl}
 use Rattle.piece_table.specs.Front.{ArePrcs}
 use Rattle.piece_table.proofs.Public.{prcs_unique, front_of_prc}
 use Rattle.code_losses.specs.declared.counts.CodeCounts.{CodeCounts}
-use Rattle.code_losses.specs.Counted.{IsFound, AreCodeCounts}
+use Rattle.code_losses.specs.Counted.{IsFoundPrlList, AreCodeCounts}
 use Rattle.code_losses.specs.Prcs.{AreFoundIn, AreListsOfPrcs}
 use Rattle.code_losses.proofs.JoinLemmas.{parts_one}
 use Rattle.code_losses.proofs.OneLemmas.{found_one}
@@ -26,7 +26,7 @@ found_none = record {
 }
 
 pub found_more : (ranges : List (List ℕ)) (lists : List (List Prl)) (bytes : List ℕ) (part : List (List Prl)) →
-    AreFoundIn ranges lists → IsFound bytes part → AreFoundIn (ranges ++ bytes ∷ []) (lists ++ part)
+    AreFoundIn ranges lists → IsFoundPrlList bytes part → AreFoundIn (ranges ++ bytes ∷ []) (lists ++ part)
 found_more ranges lists bytes part are one =
     let len = are.len in
     record {
@@ -43,7 +43,7 @@ found_more ranges lists bytes part are one =
           | inl old ↦
               let below = slice_get_within are.parts k found old in
               absurd (omega (arith, below, range.0, len))
-          | inr last ↦ subst (λ p. IsFound other p) last.1 (subst (λ b. IsFound b part) range.1 one)
+          | inr last ↦ subst (λ p. IsFoundPrlList other p) last.1 (subst (λ b. IsFoundPrlList b part) range.1 one)
         ]
       ];
       joined =

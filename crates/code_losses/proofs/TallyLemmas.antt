@@ -10,7 +10,7 @@ use Rattle.text_losses.specs.Counts.{has_code, has_again, lists_with, lists_agai
 use Rattle.code_losses.specs.declared.counts.Tally.{Tally}
 use Rattle.code_losses.specs.declared.counts.CodeCounts.{CodeCounts}
 use Rattle.code_losses.specs.Tallies.{code_count, MeetsCode, IsTally}
-use Rattle.code_losses.specs.Counted.{HasCounts, AreCodeCounts, IsListing}
+use Rattle.code_losses.specs.Counted.{HasCodeCounts, AreCodeCounts, IsListing}
 
 -- ---- counts of one entry more
 
@@ -280,7 +280,7 @@ with_none code lists = with_last code lists [] ∙ omega arith
 again_none : (code : ℕ) (lists : List (List Prl)) → lists_again code (lists ++ [] ∷ []) ≡ lists_again code lists
 again_none code lists = again_last code lists [] ∙ omega arith
 
-begins : (tally : Tally) (seen : ℕ) (n m : ℕ → ℕ) (b : ℕ → Bool) → HasCounts tally seen n →
+begins : (tally : Tally) (seen : ℕ) (n m : ℕ → ℕ) (b : ℕ → Bool) → HasCodeCounts tally seen n →
     ((code : ℕ) → m code ≡ n code) → ((code : ℕ) → b code ≡ false) → IsTally tally (seen + 1) m b
 begins tally seen n m b is counts none = record {
   codes = is.codes;
@@ -301,7 +301,7 @@ listing_none counts lists is = record {
       (λ c. has_again c []) is.again (λ c. again_none c lists) (λ c. refl);
 }
 
-ends : (tally : Tally) (number : ℕ) (n : ℕ → ℕ) (b : ℕ → Bool) → IsTally tally number n b → HasCounts tally number n
+ends : (tally : Tally) (number : ℕ) (n : ℕ → ℕ) (b : ℕ → Bool) → IsTally tally number n b → HasCodeCounts tally number n
 ends tally number n b is = record { codes = is.codes; counts = is.counts; low = is.low }
 
 pub listing_ends : (old new : CodeCounts) (lists : List (List Prl)) (list : List Prl) → IsListing lists list old →
@@ -314,8 +314,8 @@ listing_ends old new lists list is seen first again =
     let b = ends old.again (old.seen + 1) (λ c. lists_again c more) (λ c. has_again c list) is.again in
     record {
       seen = omega (arith, seen, len, was);
-      first = subst (λ n. HasCounts new.first n (λ c. lists_with c more)) (sym seen)
-          (subst (λ t. HasCounts t (old.seen + 1) (λ c. lists_with c more)) (sym first) a);
-      again = subst (λ n. HasCounts new.again n (λ c. lists_again c more)) (sym seen)
-          (subst (λ t. HasCounts t (old.seen + 1) (λ c. lists_again c more)) (sym again) b);
+      first = subst (λ n. HasCodeCounts new.first n (λ c. lists_with c more)) (sym seen)
+          (subst (λ t. HasCodeCounts t (old.seen + 1) (λ c. lists_with c more)) (sym first) a);
+      again = subst (λ n. HasCodeCounts new.again n (λ c. lists_again c more)) (sym seen)
+          (subst (λ t. HasCodeCounts t (old.seen + 1) (λ c. lists_again c more)) (sym again) b);
     }

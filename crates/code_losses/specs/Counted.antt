@@ -11,7 +11,7 @@ pub record HasAllCodes (counts : CodeCounts) : Type 0 where
   pub again : HasCodes counts.again
 
 -- a tally has these counts, of so many lists
-pub record HasCounts (tally : Tally) (seen : ℕ) (count : ℕ → ℕ) : Type 0 where
+pub record HasCodeCounts (tally : Tally) (seen : ℕ) (count : ℕ → ℕ) : Type 0 where
   pub codes : HasCodes tally
   pub counts : (code : ℕ) → code < code_count → slice_index tally.counts.items code ≡ count code
   pub low : (code : ℕ) → code < code_count → slice_index tally.lists.items code ≤ seen
@@ -19,8 +19,8 @@ pub record HasCounts (tally : Tally) (seen : ℕ) (count : ℕ → ℕ) : Type 0
 -- these lists are counted
 pub record AreCodeCounts (lists : List (List Prl)) (counts : CodeCounts) : Type 0 where
   pub seen : counts.seen ≡ length lists
-  pub first : HasCounts counts.first counts.seen (λ code. lists_with code lists)
-  pub again : HasCounts counts.again counts.seen (λ code. lists_again code lists)
+  pub first : HasCodeCounts counts.first counts.seen (λ code. lists_with code lists)
+  pub again : HasCodeCounts counts.again counts.seen (λ code. lists_again code lists)
 
 -- these lists are counted, and the front of the next one
 pub record IsListing (lists : List (List Prl)) (front : List Prl) (counts : CodeCounts) : Type 0 where
@@ -33,8 +33,8 @@ pub record IsListing (lists : List (List Prl)) (front : List Prl) (counts : Code
       (λ code. has_again code front)
 
 -- the bytes spell the one list that is found, or are cut short
-abbrev pub IsFound : List ℕ → List (List Prl) → Type 0
-IsFound bytes found =
+abbrev pub IsFoundPrlList : List ℕ → List (List Prl) → Type 0
+IsFoundPrlList bytes found =
     ((prls : List Prl) × (SpellsSprmList bytes prls × (found ≡ prls ∷ [])))
     ⊎ ((¬ (IsAcceptedList bytes 0)) × (found ≡ []))
 

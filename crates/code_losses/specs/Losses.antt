@@ -24,8 +24,8 @@ repeated_of kind code count =
     if not (is_added code) || count == 0 then [] else Repeated kind code count ∷ []
 
 -- the same of the codes of 16 bits, ascending
-unfoldable pub named_by : (ℕ → List TextFeature) → List TextFeature
-named_by each = flat_map each (range_with_len 0 code_count)
+unfoldable pub features_by_code : (ℕ → List TextFeature) → List TextFeature
+features_by_code each = flat_map each (range_with_len 0 code_count)
 
 -- what lists of a kind name
 unfoldable pub codes_of : ListKind → List (List Prl) → List TextFeature

@@ -4,11 +4,11 @@ use Rattle.std.specs.Prelude.{slice_get, slice_range, Some}
 use Rattle.std.specs.List.{flat_map}
 use Rattle.sprm_table.specs.Sprm.{Prl}
 use Rattle.fkp_pages.specs.declared.kind.PageKind.{PageKind}
-use Rattle.fkp_pages.specs.Fkp.{HasRunCount, page_count, least_list, IsListOf}
+use Rattle.fkp_pages.specs.Fkp.{HasRunCount, page_run_count, least_list, IsListOf}
 use Rattle.fkp_pages.specs.Bin.{page_at}
 use Rattle.page_copies.specs.Names.{names_page}
 use Rattle.code_losses.specs.declared.counts.CodeCounts.{CodeCounts}
-use Rattle.code_losses.specs.Counted.{IsFound, AreCodeCounts}
+use Rattle.code_losses.specs.Counted.{IsFoundPrlList, AreCodeCounts}
 
 -- the lists of so many parts, one after the other
 pub record AreJoined (is : ℕ → List (List Prl) → Type 0) (count : ℕ) (lists : List (List Prl)) : Type 0 where
@@ -22,19 +22,19 @@ pub record IsRunList (kind : PageKind) (page : List ℕ) (run : ℕ) (found : Li
   pub from : ℕ
   pub to : ℕ
   pub list : IsListOf kind page run from to
-  pub found_is : IsFound (slice_range page (from + least_list kind) to) found
+  pub found_is : IsFoundPrlList (slice_range page (from + least_list kind) to) found
 
 -- the run has no list in the page
-pub record HasNoList (kind : PageKind) (page : List ℕ) (run : ℕ) (found : List (List Prl)) : Type 0 where
+pub record FindsNoList (kind : PageKind) (page : List ℕ) (run : ℕ) (found : List (List Prl)) : Type 0 where
   pub none : (from to : ℕ) → ¬ (IsListOf kind page run from to)
   pub nothing : found ≡ []
 
 abbrev pub IsFoundInRun : PageKind → List ℕ → ℕ → List (List Prl) → Type 0
-IsFoundInRun kind page run found = IsRunList kind page run found ⊎ HasNoList kind page run found
+IsFoundInRun kind page run found = IsRunList kind page run found ⊎ FindsNoList kind page run found
 
 -- the lists of the runs of a page
 abbrev pub AreListsOfPage : PageKind → List ℕ → List (List Prl) → Type 0
-AreListsOfPage kind page lists = AreJoined (IsFoundInRun kind page) (page_count page) lists
+AreListsOfPage kind page lists = AreJoined (IsFoundInRun kind page) (page_run_count page) lists
 
 -- a page that does not lie over the FIB, is named, and has runs
 pub record HasRuns (kind : PageKind) (wd bin : List ℕ) (number : ℕ) : Type 0 where

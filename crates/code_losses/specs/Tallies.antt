@@ -18,7 +18,7 @@ pub record HasNone (tally : Tally) : Type 0 where
   pub lists : (code : ℕ) → slice_index tally.lists.items code ≡ 0
 
 -- the count of a code, and the number of its list
-pub record HasEntry (tally : Tally) (code count number : ℕ) : Type 0 where
+pub record HasTallyEntry (tally : Tally) (code count number : ℕ) : Type 0 where
   pub count_is : slice_index tally.counts.items code ≡ count
   pub list_is : slice_index tally.lists.items code ≡ number
 
@@ -28,11 +28,11 @@ pub record MeetsCode (old new : Tally) (code number : ℕ) (before : Bool) : Typ
   pub codes : HasCodes new
   pub known : before ≡ (slice_index old.lists.items code == number)
   pub here :
-      HasEntry new code
+      HasTallyEntry new code
       (if before then slice_index old.counts.items code else min (slice_index old.counts.items code + 1) (2 ^ 64 - 1))
       number
   pub others : (other : ℕ) → other ≢ code →
-      HasEntry new other (slice_index old.counts.items other) (slice_index old.lists.items other)
+      HasTallyEntry new other (slice_index old.counts.items other) (slice_index old.lists.items other)
 
 -- the counts are these; a code has the number of the list where the list has it
 pub record IsTally (tally : Tally) (number : ℕ) (count : ℕ → ℕ) (has : ℕ → Bool) : Type 0 where

@@ -2,7 +2,7 @@
 ghost use Rattle.std.specs.Prelude.{◌≡◌, ◌^◌, ◌<◌, ◌≤◌, ◌+◌, ℕ, List, [], ◌∷◌, ◌++◌, IfOk};
 ghost use Rattle.sprm_table.specs.Sprm.{Prl, SpellsSprmList, IsAcceptedList};
 ghost use Rattle.code_losses.specs.Tallies.{HasCodes, HasNone, MeetsCode};
-ghost use Rattle.code_losses.specs.Counted.{HasAllCodes, AreCodeCounts, IsFound, IsListing, CountsPart};
+ghost use Rattle.code_losses.specs.Counted.{HasAllCodes, AreCodeCounts, IsFoundPrlList, IsListing, CountsPart};
 
 use doc_bits::Memory;
 use sprm_table::{SprmIter, list_fault};
@@ -105,7 +105,7 @@ impl CodeCounts {
         ensures codes { HasAllCodes self.new }
         ensures seen { self.new.seen ≤ self.old.seen + 1 }
         ensures counted { (lists : List (List Prl))
-            → AreCodeCounts lists self.old → CountsPart (IsFound list.now) lists self.new }
+            → AreCodeCounts lists self.old → CountsPart (IsFoundPrlList list.now) lists self.new }
     {
         match list_fault(list, 0) {
             Some(_) => {}

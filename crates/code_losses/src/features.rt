@@ -2,7 +2,7 @@
 ghost use Rattle.std.specs.Prelude.{◌≡◌, ◌<◌, ◌++◌, slice_index, OnOk};
 ghost use Rattle.text_losses.specs.Features.{is_added as is_added_code};
 ghost use Rattle.code_losses.specs.Tallies.{HasCodes};
-ghost use Rattle.code_losses.specs.Losses.{skipped_of, repeated_of, named_by};
+ghost use Rattle.code_losses.specs.Losses.{skipped_of, repeated_of, features_by_code};
 
 use crate::counts::{CODES, Tally};
 use doc_bits::Memory;
@@ -64,7 +64,7 @@ pub(crate) fn push_all_skipped(
 ) -> Result<(), Memory>
     requires { HasCodes tally.now }
     ensures { OnOk result (features.new.items ≡ features.old.items
-        ++ named_by (λ code. skipped_of kind code (slice_index tally.now.counts.items code))) }
+        ++ features_by_code (λ code. skipped_of kind code (slice_index tally.now.counts.items code))) }
 {
     for code in 0..CODES {
         push_skipped(features, kind, code as u16, tally.counts[code])?;
@@ -80,7 +80,7 @@ pub(crate) fn push_all_repeated(
 ) -> Result<(), Memory>
     requires { HasCodes tally.now }
     ensures { OnOk result (features.new.items ≡ features.old.items
-        ++ named_by (λ code. repeated_of kind code (slice_index tally.now.counts.items code))) }
+        ++ features_by_code (λ code. repeated_of kind code (slice_index tally.now.counts.items code))) }
 {
     for code in 0..CODES {
         push_repeated(features, kind, code as u16, tally.counts[code])?;

@@ -1,9 +1,9 @@
 // The lists of the pages that a bin table names, counted.
 ghost use Rattle.std.specs.Prelude.{◌≡◌, ◌<◌, ◌≤◌, ◌+◌, ◌*◌, ◌/◌, ◌^◌, ℕ, List, IfOk, length};
 ghost use Rattle.sprm_table.specs.Sprm.{Prl};
-ghost use Rattle.fkp_pages.specs.Fkp.{HasRunCount, page_count};
+ghost use Rattle.fkp_pages.specs.Fkp.{HasRunCount, page_run_count};
 ghost use Rattle.code_losses.specs.Counted.{HasAllCodes, AreCodeCounts, CountsPart};
-ghost use Rattle.page_copies.specs.Names.{names_page, mark_of};
+ghost use Rattle.page_copies.specs.Names.{names_page, named_flag};
 ghost use Rattle.code_losses.specs.Pages.{AreListsOfPage, AreListsOfPages};
 ghost use Rattle.code_losses.specs.Pages.{IsFoundInRun, IsFoundInPage};
 
@@ -17,7 +17,7 @@ use std::alloc::Global;
 fn count_run(counts: &mut CodeCounts, kind: PageKind, page: &[u8], run: usize)
     requires page { length page.now ≡ 512 }
     requires counted { HasRunCount kind page.now }
-    requires run { run < page_count page.now }
+    requires run { run < page_run_count page.now }
     requires codes { HasAllCodes counts.old }
     requires few { counts.old.seen < 2 ^ 63 }
     ensures codes { HasAllCodes counts.new }
@@ -53,7 +53,7 @@ fn count_numbered(counts: &mut CodeCounts, kind: PageKind, wd: &[u8], number: us
     requires few { counts.old.seen + 128 < 2 ^ 63 }
     ensures codes { HasAllCodes counts.new }
     ensures seen { counts.new.seen ≤ counts.old.seen + 128 }
-    ensures counted { (bin : List ℕ) → (lists : List (List Prl)) → mark ≡ mark_of (names_page bin number)
+    ensures counted { (bin : List ℕ) → (lists : List (List Prl)) → mark ≡ named_flag (names_page bin number)
         → AreCodeCounts lists counts.old → CountsPart (IsFoundInPage kind wd.now bin number) lists counts.new }
 {
     if number < 2 || mark == 0 {

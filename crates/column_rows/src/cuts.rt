@@ -1,6 +1,6 @@
 // Texts that are cut out of one text.
 ghost use Rattle.std.specs.Prelude.{◌≡◌, ◌≤◌, length};
-ghost use Rattle.plain_doc.specs.Document.{IsFormedText};
+ghost use Rattle.doc_model.specs.Document.{IsFormedText};
 
 use crate::scripted::{EACH, is_edited};
 use doc_bits::Memory;

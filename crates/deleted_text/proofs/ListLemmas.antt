@@ -5,12 +5,9 @@ use Rattle.std.specs.List.{filter, last_or}
 use Rattle.std.proofs.lemmas.List.{append-nil}
 use Rattle.std.proofs.lemmas.List.Elements.{filter-append}
 use Rattle.sprm_table.specs.Sprm.{Prl, SpellsSprmList}
-use Rattle.sprm_table.specs.Cursor.{SprmCursor, left, Takes}
+use Rattle.sprm_table.specs.Cursor.{SprmCursor, left, TakesFirstPrl}
 use Rattle.deleted_text.specs.Deletions.{is_deletion, deleted_after, deleted_by}
-
-pub last_or_both : (o : Option Prl) (xs ys : List Prl) → last_or o (xs ++ ys) ≡ last_or (last_or o xs) ys
-last_or_both o [] ys = refl
-last_or_both o (x ∷ xs) ys = last_or_both (Some x) xs ys
+use Rattle.prop_map.proofs.Public.{last_or_both}
 
 after_last : (before : Bool) (o : Option Prl) (xs : List Prl) →
     deleted_after (last_or o xs) before ≡ deleted_after (last_or None xs) (deleted_after o before)
@@ -46,7 +43,7 @@ says_none prls bytes cursor start spelt = record {
 }
 
 pub says_more : (prls : List Prl) (old new : SprmCursor) (deleted next : Bool) (code from to : ℕ) →
-    (so_far : SaysSoFar prls old deleted) → Takes old new so_far.others code from to →
+    (so_far : SaysSoFar prls old deleted) → TakesFirstPrl old new so_far.others code from to →
     next ≡ deleted_by deleted ((code, slice_range old.bytes from to) ∷ []) → SaysSoFar prls new next
 says_more prls old new deleted next code from to so_far takes says =
     let entry : Prl = (code, slice_range old.bytes from to) in

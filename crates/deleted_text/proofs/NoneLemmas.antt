@@ -26,13 +26,13 @@ use Rattle.direct_props.specs.Stretches.{HasValidList}
 use Rattle.direct_props.proofs.Public.{right_places_have_lists}
 use Rattle.doc_parts.specs.Tabulated.{tabulate}
 use Rattle.doc_losses.proofs.Public.{listed_more, joined_more}
-use Rattle.plain_doc.specs.declared.item.Item.{Item}
-use Rattle.plain_doc.specs.declared.document.Document.{Document}
+use Rattle.doc_model.specs.declared.item.Item.{Item}
+use Rattle.doc_model.specs.declared.document.Document.{Document}
 use Rattle.plain_doc.specs.declared.rules_texts.Side.{Side}
 use Rattle.plain_doc.specs.declared.rules_texts.Side.TheVariants.{Notes, Heads}
-use Rattle.file_rules.specs.Source.{part_bytes}
+use Rattle.file_rules.specs.Source.{table_part_bytes}
 use Rattle.file_rules.specs.FormatRules.{judged_places}
-use Rattle.file_rules.specs.FileRules.{source_of}
+use Rattle.file_rules.specs.FileRules.{doc_source_of}
 use Rattle.file_rules.proofs.Public.{right_characters}
 use Rattle.doc_read.proofs.Public.{RightText}
 use Rattle.doc_mends.specs.declared.mends.DeletedRange.{DeletedRange}
@@ -207,9 +207,9 @@ pub held_false : (r : RightText) (flags : List Bool) → AreTextDeletions r.text
 held_false r flags are = λ k. elim (cases_lt k (length flags)) [
   | inr past ↦ get_or_past flags k false past
   | inl low ↦
-      let source = source_of r.text in
+      let source = doc_source_of r.text in
       let right = right_characters source r.lists.sections r.hold.1.0 r.has.has_sections in
-      none_true (slice_index_or flags k false) (λ t. right_says source.wd (part_bytes source PlcfBteChpx)
+      none_true (slice_index_or flags k false) (λ t. right_says source.wd (table_part_bytes source PlcfBteChpx)
       (slice_index (judged_places source) k) (right k (omega (arith, low, are.len))) ((are.each k low).0 t))
 ]
   where

@@ -2,7 +2,7 @@
 use Rattle.std.specs.Prelude.{IsTrue, slice_index_or}
 use Rattle.std.proofs.Common.{◌≡◌, ◌∙◌, ◌↔◌, sym, ap, refl, ℕ, Bool, true, false, List, arith}
 use Rattle.std.proofs.lemmas.List.{ext_get_or}
-use Rattle.plain_doc.specs.declared.document.Document.{Document}
+use Rattle.doc_model.specs.declared.document.Document.{Document}
 use Rattle.file_rules.specs.FileRules.{FileText}
 use Rattle.doc_mends.specs.declared.mends.DeletedRange.{DeletedRange}
 use Rattle.doc_mends.specs.declared.mends.Mend.{Mend}
@@ -12,7 +12,7 @@ use Rattle.deleted_text.specs.Ranges.{document_ranges, begins_of}
 use Rattle.deleted_text.specs.Strikes.{strike_mends}
 use Rattle.deleted_text.specs.Texts.{AreDeletedRanges, IsStruckText}
 
-flag_one : {P : Type 0} (a b : Bool) → (IsTrue a ↔ P) → (IsTrue b ↔ P) → a ≡ b
+pub flag_one : {P : Type 0} (a b : Bool) → (IsTrue a ↔ P) → (IsTrue b ↔ P) → a ≡ b
 flag_one true true x y = refl
 flag_one true false x y = absurd (cc (y.1 (x.0 refl)))
 flag_one false true x y = absurd (cc (x.1 (y.0 refl)))

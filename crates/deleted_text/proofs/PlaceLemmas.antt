@@ -14,17 +14,18 @@ use Rattle.fkp_pages.specs.declared.kind.RunAnswer.{RunAnswer}
 use Rattle.fkp_pages.specs.declared.kind.RunAnswer.TheVariants.{Found, Empty, NoRun, BadCount, Leaves}
 use Rattle.fkp_pages.specs.declared.bin_table.BinRange.{BinRange}
 use Rattle.fkp_pages.specs.declared.reading.Stretch.{Stretch}
-use Rattle.fkp_pages.specs.Bin.{IsBinTable, IsBinPage, HasBinRange, HasNoBin, page_at}
+use Rattle.fkp_pages.specs.Bin.{IsBinTable, HasBinRange, HasNoBin, page_at}
 use Rattle.fkp_pages.specs.Fkp.{HasRunAnswer}
 use Rattle.fkp_pages.specs.Stretch.{HasStretch}
 use Rattle.fkp_pages.specs.Properties.{IsListAnswered}
 use Rattle.fkp_pages.proofs.Public.{bin_page_one, run_answer_one}
 use Rattle.deleted_text.specs.Deletions.{SaysDeleted, deleted_by}
 use Rattle.deleted_text.specs.Places.{IsDeletedAt, IsAround, IsInPage, AnswersDeleted}
+use Rattle.direct_props.proofs.Public.{bin_page_of}
 
 -- ---- lists
 
-spells_nothing : SpellsSprmList [] []
+pub spells_nothing : SpellsSprmList [] []
 spells_nothing = record { rest = []; entries = All-nil IsPrl; spelt = refl; ends = inl (omega arith) }
 
 pub nothing_said : SaysDeleted [] → ⊥
@@ -70,19 +71,6 @@ said_by page (Leaves entry) says = absurd says
 
 -- ---- places
 
--- a place that a range of the bin table holds
-range_names : (bin : List ℕ) (fc other : ℕ) (range : BinRange) → HasBinRange bin fc range → range.from ≤ other →
-    other < range.to → IsBinPage bin other range.page
-range_names bin fc other range has low high = record {
-  entry = has.entry;
-  range = record {
-    below = has.holds.below;
-    from = omega (arith, low, has.from);
-    to = omega (arith, high, has.to);
-  };
-  page = has.page;
-}
-
 pub no_bin : (wd bin : List ℕ) (fc : ℕ) → HasNoBin bin fc → IsDeletedAt wd bin fc → ⊥
 no_bin wd bin fc none deleted = none deleted.has.named.entry deleted.has.named.range
 
@@ -90,7 +78,7 @@ pub no_page : (wd bin : List ℕ) (fc : ℕ) (range : BinRange) → IsBinTable b
     length wd < 512 * range.page + 512 → IsDeletedAt wd bin fc → ⊥
 no_page wd bin fc range table has short deleted =
     let within = deleted.has.within in
-    let named = range_names bin fc fc range has (omega (arith, has.from, has.holds.from)) (omega (
+    let named = bin_page_of bin fc fc range has (omega (arith, has.from, has.holds.from)) (omega (
       arith,
       has.to,
       has.holds.to,
@@ -113,7 +101,7 @@ pub around_all : (wd bin : List ℕ) (fc : ℕ) (range : BinRange) (stretch : St
     stretch.first ≤ other → other ≤ stretch.last → (IsTrue deleted ↔ IsDeletedAt wd bin other)
 around_all wd bin fc range stretch deleted other table has within met says low high first last =
     let page = page_at wd range.page in
-    let named = range_names bin fc other range has low high in
+    let named = bin_page_of bin fc other range has low high in
     let here = met.answers other first last in (
       λ t.
           let said = said_by page stretch.answer (says.0 t) in

@@ -1,6 +1,6 @@
 -- Ranges of texts, one after the other.
 use Rattle.std.specs.Prelude.{slice_get, MatchOption, if◌then◌else◌}
-use Rattle.std.proofs.Common.{◌≡◌, ◌∙◌, sym, ap, subst, refl, ℕ, zero, suc, ◌+◌, ◌<◌, ◌≤◌, Bool, true, false, ◌&&◌}
+use Rattle.std.proofs.Common.{◌≡◌, ◌∙◌, sym, ap, subst, refl, ℕ, zero, suc, ◌+◌, ◌<◌, ◌≤◌, Bool, true, false}
 use Rattle.std.proofs.Common.{List, [], ◌∷◌, ◌++◌, length, take, drop, get_or, Option, Some}
 use Rattle.std.proofs.Common.{None, All, add-one, arith}
 use Rattle.std.specs.Option.{unwrap_or}
@@ -12,18 +12,20 @@ use Rattle.std.proofs.lemmas.Option.{slice_get_within, get_or_from_slice_get, sl
 use Rattle.doc_bits.specs.declared.places.Story.{Story}
 use Rattle.doc_bits.specs.declared.places.Story.TheVariants.{Main}
 use Rattle.doc_parts.specs.Tabulated.{tabulate}
-use Rattle.doc_losses.proofs.Public.{listed_more, joined_more}
-use Rattle.plain_doc.specs.declared.item.Item.{Item}
-use Rattle.plain_doc.specs.declared.document.Document.{Document}
+use Rattle.doc_losses.proofs.Public.{joined_more}
+use Rattle.doc_model.specs.declared.item.Item.{Item}
+use Rattle.doc_model.specs.declared.document.Document.{Document}
 use Rattle.plain_doc.specs.declared.rules_texts.Side.{Side}
 use Rattle.plain_doc.specs.declared.rules_texts.Side.TheVariants.{Notes, Heads}
-use Rattle.doc_patch.specs.Places.{text_at, HasText, HasRange}
+use Rattle.doc_patch.specs.Places.{story_text, HasText, HasRange}
 use Rattle.doc_mends.specs.declared.mends.DeletedRange.{DeletedRange}
 use Rattle.doc_mends.specs.Mends.{AreRanges}
 use Rattle.doc_mends.specs.Sides.{side_name}
 use Rattle.deleted_text.specs.declared.ranges.StoryBegins.{StoryBegins}
 use Rattle.deleted_text.specs.Ranges.{begins_at, run_end, range_at, text_ranges, items_before, text_flags}
 use Rattle.deleted_text.specs.Ranges.{texts_ranges, document_ranges}
+use Rattle.doc_mends.proofs.Public.{listed_all}
+use Rattle.doc_bits.proofs.Public.{and_first}
 
 -- ---- what is behind a text
 
@@ -50,10 +52,6 @@ prefix_some [] is = absurd (cc is)
 prefix_some (true ∷ xs) is = omega arith
 prefix_some (false ∷ xs) is = absurd (cc is)
 
-both_first : (a b : Bool) → (a && b) ≡ true → a ≡ true
-both_first true b is = refl
-both_first false b is = absurd (cc is)
-
 -- a range of a text of so many items
 pub record IsRangeOf (story : Story) (len : ℕ) (range : DeletedRange) : Type 0 where
   pub story_is : range.story ≡ story
@@ -74,7 +72,7 @@ range_within story flags at range low is =
     let len = length-drop at flags in
     let zero_more : at + 0 ≡ at = omega arith in
     let first : get_or left 0 false ≡ true =
-    get_or-drop at flags 0 false ∙ (ap (λ n. get_or flags n false) zero_more ∙ both_first _ _ found.0) in
+    get_or-drop at flags 0 false ∙ (ap (λ n. get_or flags n false) zero_more ∙ and_first _ _ found.0) in
     let some = prefix_some left first in
     let most = prefix_within left in
     subst (IsRangeOf story (length flags)) found.1 (record {
@@ -90,16 +88,6 @@ one_all : {A : Type 0} (P : A → Type 0) (o : Option A) → ((x : A) → o ≡ 
 one_all P None each = All-nil P
 one_all P (Some x) each = All-cons P x [] (each x refl) (All-nil P)
 
-pub all_listed : {A : Type 0} (P : A → Type 0) (f : ℕ → Option A) (n : ℕ) →
-    ((i : ℕ) (x : A) → i < n → f i ≡ Some x → P x) → All P (filter_map (λ o. o) (tabulate f n))
-unfolding tabulate
-all_listed P f zero each = All-nil P
-all_listed {A = A} P f (suc n) each =
-    let front = all_listed P f n (λ i x low is. each i x (omega (arith, low)) is) in
-    let last = one_all P (f n) (λ x is. each n x (omega arith) is) in
-    subst (λ (l : List A). All P l) (sym (listed_more f n) ∙ ap (λ k. filter_map (λ (o : Option A). o) (tabulate f k))
-    (add-one n)) (All-append P (filter_map (λ o. o) (tabulate f n)) (filter_map (λ o. o) (f n ∷ [])) front last)
-
 pub all_joined : {A : Type 0} (P : A → Type 0) (f : ℕ → List A) (n : ℕ) → ((i : ℕ) → i < n → All P (f i)) →
     All P (flat_map (λ l. l) (tabulate f n))
 unfolding tabulate
@@ -112,7 +100,7 @@ all_joined {A = A} P f (suc n) each =
 -- ---- the ranges of a document are ranges of it
 
 range_there : (document : Document) (story : Story) (text : List Item) (range : DeletedRange) →
-    text_at document story ≡ Some text → IsRangeOf story (length text) range →
+    story_text document story ≡ Some text → IsRangeOf story (length text) range →
     HasText document range.story (HasRange range.from range.to)
 range_there document story text range there is =
     let such : HasText document story (HasRange range.from range.to) =
@@ -121,9 +109,9 @@ range_there document story text range there is =
     subst (λ (s : Story). HasText document s (HasRange range.from range.to)) (sym is.story_is) such
 
 text_there : (document : Document) (story : Story) (text : List Item) (flags : List Bool) →
-    text_at document story ≡ Some text → length flags ≤ length text → AreRanges document (text_ranges story flags)
+    story_text document story ≡ Some text → length flags ≤ length text → AreRanges document (text_ranges story flags)
 text_there document story text flags there short =
-    all_listed (λ (r : DeletedRange). HasText document r.story (HasRange r.from r.to)) (range_at story flags)
+    listed_all (λ (r : DeletedRange). HasText document r.story (HasRange r.from r.to)) (range_at story flags)
     (length flags) (λ at range low is.
     let found = range_within story flags at range low is in
     let within = found.within in
@@ -134,7 +122,7 @@ text_there document story text flags there short =
     }))
 
 texts_there : (document : Document) (side : Side) (texts : List (List Item)) (flags : List Bool) →
-    ((i : ℕ) → text_at document (side_name side i) ≡ slice_get texts i) →
+    ((i : ℕ) → story_text document (side_name side i) ≡ slice_get texts i) →
     AreRanges document (texts_ranges side flags texts)
 texts_there document side texts flags named =
     all_joined (λ (r : DeletedRange). HasText document r.story (HasRange r.from r.to))

@@ -3,9 +3,9 @@ use Rattle.std.proofs.Common.{◌≡◌, sym, subst, refl, ℕ, List, [], ◌∷
 use Rattle.std.proofs.lemmas.List.Elements.{All-head, All-tail}
 use Rattle.doc_bits.specs.declared.places.Story.{Story}
 use Rattle.doc_bits.specs.declared.places.Story.TheVariants.{Main, Note, Head}
-use Rattle.doc_parts.specs.Bookmarks.{AreFormedBookmarks}
-use Rattle.plain_doc.specs.declared.document.Document.{Document}
-use Rattle.plain_doc.specs.Marks.{HasFormedBookmarks}
+use Rattle.document_bookmarks.specs.Bookmarks.{AreFormedBookmarks}
+use Rattle.doc_model.specs.declared.document.Document.{Document}
+use Rattle.doc_model.specs.Marks.{HasFormedBookmarks}
 use Rattle.doc_patch.specs.Changes.{changed, modified_item}
 use Rattle.doc_patch.specs.Places.{HasText, HasRange}
 use Rattle.doc_mends.specs.declared.mends.DeletedRange.{DeletedRange}

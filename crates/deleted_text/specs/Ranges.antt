@@ -8,8 +8,8 @@ use Rattle.doc_bits.specs.declared.places.Story.{Story}
 use Rattle.doc_bits.specs.declared.places.Story.TheVariants.{Main}
 use Rattle.fib_form.specs.Fib.{fib_ccp_text, fib_ccp_ftn}
 use Rattle.doc_parts.specs.Tabulated.{tabulate}
-use Rattle.plain_doc.specs.declared.item.Item.{Item}
-use Rattle.plain_doc.specs.declared.document.Document.{Document}
+use Rattle.doc_model.specs.declared.item.Item.{Item}
+use Rattle.doc_model.specs.declared.document.Document.{Document}
 use Rattle.plain_doc.specs.declared.rules_texts.Side.{Side}
 use Rattle.plain_doc.specs.declared.rules_texts.Side.TheVariants.{Notes, Heads}
 use Rattle.doc_mends.specs.declared.mends.DeletedRange.{DeletedRange}

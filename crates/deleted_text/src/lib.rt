@@ -7,5 +7,5 @@ mod ranges;
 mod striking;
 
 pub use places::{deleted_places, is_bin_table, page_in};
-pub use ranges::{StoryBegins, deleted_ranges, side_name, story_begins};
+pub use ranges::{StoryBegins, deleted_ranges, story_begins};
 pub use striking::strike_text;

@@ -1,13 +1,13 @@
 // The ranges of a document that a reviser deleted.
-ghost use Rattle.std.specs.Prelude.{◌≡◌, ◌<◌, ◌≤◌, ◌^◌, ◌++◌, ◌∷◌, [], length, take, drop, IfOk, OnOk};
+ghost use Rattle.std.specs.Prelude.{◌≡◌, ◌<◌, ◌≤◌, ◌++◌, ◌∷◌, [], length, take, drop, IfOk, OnOk};
 ghost use Rattle.std.specs.List.{filter_map};
-ghost use Rattle.doc_mends.specs.Sides.{side_name as name_of};
 ghost use Rattle.deleted_text.specs.Ranges.{begins_at, run_end, range_at as found_at, text_ranges, texts_ranges};
 ghost use Rattle.deleted_text.specs.Ranges.{begins_of, document_ranges};
 
 use doc_bits::{Memory, Story, get32};
 use doc_columns::{ColumnDocument, ColumnTexts};
-use doc_mends::DeletedRange;
+use doc_mends::{DeletedRange, side_name};
+use fib_form::{CCP_FTN, CCP_TEXT};
 use plain_doc::Side;
 use std::alloc::Global;
 
@@ -17,11 +17,6 @@ pub struct StoryBegins {
     pub notes: usize,
     pub heads: usize,
 }
-
-/// [MS-DOC] ccpText and ccpFtn.
-const CCP_TEXT: usize = 76;
-
-const CCP_FTN: usize = 80;
 
 /// Where these stories of `WordDocument` begin.
 pub fn story_begins(wd: &[u8]) -> StoryBegins
@@ -73,17 +68,6 @@ fn behind(flags: &[bool], count: usize) -> &[bool]
     ensures { result.now ≡ drop count flags.now }
 {
     &flags[count.min(flags.len())..]
-}
-
-/// A note or a header text by its number.
-pub fn side_name(side: Side, number: usize) -> Story
-    requires { number < 2 ^ 32 }
-    ensures { result ≡ name_of side number }
-{
-    match side {
-        Side::Notes => Story::Note(number as u32),
-        Side::Heads => Story::Head(number as u32),
-    }
 }
 
 /// Appends the ranges of several texts, whose flags are one behind the other.

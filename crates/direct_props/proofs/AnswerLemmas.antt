@@ -12,12 +12,13 @@ use Rattle.std.proofs.lemmas.List.{get_or_past}
 use Rattle.fkp_pages.specs.declared.kind.PageKind.TheVariants.{Chpx, Papx}
 use Rattle.doc_bits.proofs.Public.{least_same, least_from}
 use Rattle.fkp_pages.specs.Runs.{run_groups}
-use Rattle.fkp_pages.specs.Fkp.{HasRunAnswer, HasRunCount, page_count, least_list}
+use Rattle.fkp_pages.specs.Fkp.{HasRunAnswer, HasRunCount, page_run_count, least_list}
 use Rattle.fkp_pages.specs.Bin.{IsBinTable, page_at}
 use Rattle.fkp_pages.specs.Laws.{RunAnswerIsOne}
 use Rattle.fkp_pages.proofs.Public.{bin_page_one}
-use Rattle.direct_props.specs.PageRules.{HasPageAnswer, HasBadPage, IsInNoRun, HasListOutside, HasListFault, LooksBad}
-use Rattle.direct_props.specs.PageRules.{HasRoom}
+use Rattle.direct_props.specs.PageRules.{HasPageAnswer, HasBadPage, IsInNoRun, HasListOutside, HasPageListFault}
+use Rattle.direct_props.specs.PageRules.{LooksBad}
+use Rattle.direct_props.specs.PageRules.{HasListRoom}
 
 -- both the number of the page and its answer are one
 pub record IsSameAnswer (n m : ℕ) (a b : RunAnswer) : Type 0 where
@@ -117,10 +118,10 @@ module _ (kind : PageKind) (wd bin : List ℕ) (fc number : ℕ) (answer : RunAn
   pub fault_here : (from to : ℕ) (found : Option ℕ) → answer ≡ Found from to →
       LeastOrNone (From (512 * number + from + least_list kind) (HasSprmFaultAt (slice_range (page_at wd number)
       (from + least_list kind) to) (run_groups kind))) found →
-      LeastOrNone (HasListFault kind wd bin fc) found
+      LeastOrNone (HasPageListFault kind wd bin fc) found
   fault_here from to found e h =
       least_same (From (512 * number + from + least_list kind) (HasSprmFaultAt (slice_range (page_at wd number)
-      (from + least_list kind) to) (run_groups kind))) (HasListFault kind wd bin fc) found
+      (from + least_list kind) to) (run_groups kind))) (HasPageListFault kind wd bin fc) found
       (λ p f. record {
         number = number;
         from = from;
@@ -138,7 +139,7 @@ module _ (kind : PageKind) (wd bin : List ℕ) (fc number : ℕ) (answer : RunAn
       to_is w.fault)
       h
 
-  pub no_list_here : ((from to : ℕ) → answer ≢ Found from to) → Nowhere (HasListFault kind wd bin fc)
+  pub no_list_here : ((from to : ℕ) → answer ≢ Found from to) → Nowhere (HasPageListFault kind wd bin fc)
   no_list_here other p w = other w.from w.to (same w.number (Found w.from w.to) w.answer).answer
 
 -- a page with a count has 512 bytes, so it is in the stream
@@ -147,7 +148,7 @@ pub counted_there : (kind : PageKind) (wd : List ℕ) (number : ℕ) → HasRunC
 counted_there kind wd number count =
     elim (cases_lt (length wd) (512 * number + 512)) [
       | inl short ↦
-          let none : page_count (page_at wd number) ≡ 0 = get_or_past (page_at wd number) 511 0 (simp (
+          let none : page_run_count (page_at wd number) ≡ 0 = get_or_past (page_at wd number) 511 0 (simp (
             length-take,
             length-drop,
           ) (omega arith)) in
@@ -158,7 +159,7 @@ counted_there kind wd number count =
 
 -- the list that a page answers with has room in it
 pub found_has_room : (kind : PageKind) (wd : List ℕ) (fc number from to : ℕ) → HasRunAnswer kind (page_at wd number)
-    fc (Found from to) → HasRoom kind wd number from to
+    fc (Found from to) → HasListRoom kind wd number from to
 found_has_room kind wd fc number from to a =
     let list = a.1.answers in
     record {

@@ -12,13 +12,13 @@ use Rattle.sprm_table.proofs.Public.{passed_none, passed_end}
 use Rattle.fkp_pages.specs.declared.kind.PageKind.{PageKind}
 use Rattle.fkp_pages.specs.declared.kind.PageKind.TheVariants.{Chpx, Papx}
 use Rattle.fkp_pages.specs.declared.kind.RunAnswer.TheVariants.{Found, Empty}
-use Rattle.fkp_pages.specs.Fkp.{HasRunCount, HoldsFc, IsFirstRun, IsListWithin, page_count, most_runs, page_fc}
-use Rattle.fkp_pages.specs.Fkp.{entry_byte, entry_place, list_from, list_to, least_list}
+use Rattle.fkp_pages.specs.Fkp.{HasRunCount, HoldsFc, IsFirstRun, IsListWithin, page_run_count, most_runs, page_fc}
+use Rattle.fkp_pages.specs.Fkp.{entry_byte, run_entry_place, list_from, list_to, least_list}
 use Rattle.fkp_pages.specs.Bin.{IsBinRange, IsBinPage, bin_count, page_number, page_at}
 use Rattle.fkp_pages.specs.Properties.{HasListAt}
 use Rattle.fkp_pages.specs.Runs.{run_groups}
 use Rattle.direct_props.specs.PageRules.{page_rules, IsValidPlace, HasPageAnswer, HasNoPage, HasBadPage, IsInNoRun}
-use Rattle.direct_props.specs.PageRules.{HasListOutside, HasListFault}
+use Rattle.direct_props.specs.PageRules.{HasListOutside, HasPageListFault}
 use Rattle.direct_props.proofs.AnswerLemmas.{found_has_room}
 use Rattle.direct_props.proofs.StretchLemmas.{cut_rest}
 use Rattle.prop_map.proofs.Public.{accepted_of}
@@ -31,7 +31,7 @@ pub record IsValid (kind : PageKind) (wd bin : List ℕ) (fc : ℕ) : Type 0 whe
   pub page : Nowhere (HasBadPage kind wd bin fc)
   pub run : Nowhere (IsInNoRun kind wd bin fc)
   pub list : Nowhere (HasListOutside kind wd bin fc)
-  pub sprms : Nowhere (HasListFault kind wd bin fc)
+  pub sprms : Nowhere (HasPageListFault kind wd bin fc)
 
 pub right_of : (kind : PageKind) (wd bin places : List ℕ) → Hold (page_rules kind wd bin places) → (k : ℕ) →
     k < length places → IsValid kind wd bin (slice_index places k)
@@ -77,9 +77,9 @@ holds_or_not page fc run = elim (cases_lt fc (page_fc page run)) [
 ]
 
 counted_or_not : (kind : PageKind) (page : List ℕ) → HasRunCount kind page ⊎ (¬ (HasRunCount kind page))
-counted_or_not kind page = elim (cases_lt (page_count page) 1) [
+counted_or_not kind page = elim (cases_lt (page_run_count page) 1) [
   | inl none ↦ inr (λ c. let some = c.some in omega arith)
-  | inr some ↦ elim (cases_lt (most_runs kind) (page_count page)) [
+  | inr some ↦ elim (cases_lt (most_runs kind) (page_run_count page)) [
     | inl over ↦ inr (λ c. let most = c.most in omega arith)
     | inr most ↦ inl (record { some = some; most = most })
   ]
@@ -210,9 +210,9 @@ run_list_there kind wd bin fc number run bytes named there count first right =
                 },
               );
             }) there right
-        | inr beyond ↦ absurd (right.list (512 * number + entry_place kind page run) (record {
+        | inr beyond ↦ absurd (right.list (512 * number + run_entry_place kind page run) (record {
           number = number;
-          entry = entry_place kind page run;
+          entry = run_entry_place kind page run;
           answer = record {
             page = named;
             answers = (
@@ -240,7 +240,7 @@ page_list_there kind wd bin fc number bytes named there right =
         here = refl;
         bad = inr (inr bad);
       }))
-      | inl count ↦ elim (first_or_none (page_count page) (λ run. HoldsFc page run fc) (holds_or_not page fc)) [
+      | inl count ↦ elim (first_or_none (page_run_count page) (λ run. HoldsFc page run fc) (holds_or_not page fc)) [
         | inl found ↦ run_list_there kind wd bin fc number found.0 bytes named there count
             (record { below = found.1.below; holds = found.1.is; first = found.1.first }) right
         | inr none ↦ absurd (right.run fc (record {

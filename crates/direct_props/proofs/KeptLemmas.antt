@@ -11,7 +11,7 @@ use Rattle.doc_bits.specs.Together.{AreTogether}
 use Rattle.sprm_table.specs.Sprm.{HasSprmFaultAt}
 use Rattle.prop_map.specs.declared.modifiers.Modifier.{Modifier}
 use Rattle.prop_map.specs.Formed.{IsPropertyMap, paragraph_groups}
-use Rattle.prop_map.specs.Places.{IsListLike}
+use Rattle.grpprl_index.specs.Places.{IsListLike}
 use Rattle.prop_map.specs.Modifiers.{IsFormedModifier}
 use Rattle.fkp_pages.specs.declared.kind.PageKind.{PageKind}
 use Rattle.fkp_pages.specs.declared.kind.PageKind.TheVariants.{Chpx, Papx}
@@ -23,7 +23,7 @@ use Rattle.direct_props.specs.declared.grpprl_cache.Decoded.{Decoded}
 use Rattle.direct_props.specs.declared.grpprl_cache.DecodedRun.{DecodedRun}
 use Rattle.direct_props.specs.declared.pages.PageStretch.{PageStretch}
 use Rattle.direct_props.specs.Direct.{IsDirectMark}
-use Rattle.direct_props.specs.Stretches.{IsValidList, HasPropertiesAround}
+use Rattle.direct_props.specs.Stretches.{IsValidPageList, HasPropertiesAround}
 use Rattle.direct_props.specs.Pages.{HasPageAround}
 use Rattle.direct_props.specs.GrpprlCache.{HasNoFault, HaveNoFault, IsMadeOf, IsMadeIn, AreMade, PlaceSource, IsMadeAt}
 use Rattle.direct_props.specs.GrpprlCache.{AreKept, HasMadeAround, IsMadeByAnswer}
@@ -40,7 +40,7 @@ one_faultless kind wd places from to have one k a b e = elim (last_get places (f
 
 -- a list that has no fault in the stream has none in its page
 pub right_in_page : (kind : PageKind) (wd : List ℕ) (number from to : ℕ) → from + least_list kind ≤ to → to ≤ 511 →
-    HasNoFault kind wd (512 * number + from) (512 * number + to) → IsValidList kind (page_at wd number) from to
+    HasNoFault kind wd (512 * number + from) (512 * number + to) → IsValidPageList kind (page_at wd number) from to
 right_in_page kind wd number from to room within none =
     let e : 512 * number + from + least_list kind ≡ 512 * number + (from + least_list kind) = omega arith in
     record {
@@ -50,7 +50,8 @@ right_in_page kind wd number from to room within none =
           to)) e ∙ sym (in_page wd number (from + least_list kind) to (omega arith) (omega arith))) none;
     }
 
-pub faultless_in_stream : (kind : PageKind) (wd : List ℕ) (number from to : ℕ) → IsValidList kind (page_at wd number)
+pub faultless_in_stream : (kind : PageKind) (wd : List ℕ) (number from to : ℕ) → IsValidPageList kind (page_at wd
+    number)
     from to → HasNoFault kind wd (512 * number + from) (512 * number + to)
 faultless_in_stream kind wd number from to right =
     let room = right.room in
@@ -141,7 +142,7 @@ one_kept kind wd modifier places made from to one none is are = record {
 
 -- what is kept of a list of the stream is what the page's answer makes
 pub kept_answer : (kind : PageKind) (wd : List ℕ) (modifier : Modifier) (number from to : ℕ) (made : Decoded) →
-    IsValidList kind (page_at wd number) from to →
+    IsValidPageList kind (page_at wd number) from to →
     IsMadeOf kind (slice_range wd (512 * number + from) (512 * number + to)) modifier made →
     IsMadeByAnswer kind modifier (page_at wd number) (Found from to) made
 kept_answer kind wd modifier number from to made right is =

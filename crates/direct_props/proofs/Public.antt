@@ -16,4 +16,4 @@ pub use Rattle.direct_props.proofs.RightLemmas.{right_where_hold}
 -- What rows of places represent, part by part.
 pub use Rattle.direct_props.proofs.RowLemmas.{AreRows-nil, AreRows_push, places_of-nil, places_of_push}
 -- The places around a place at which the list is the same.
-pub use Rattle.direct_props.proofs.StretchLemmas.{cut_rest}
+pub use Rattle.direct_props.proofs.StretchLemmas.{bin_page_of, cut_rest}

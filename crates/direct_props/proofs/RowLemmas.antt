@@ -15,24 +15,26 @@ use Rattle.std.proofs.lemmas.List.FromFn.{length-map-range_with_len, get_or-map-
 use Rattle.std.proofs.lemmas.List.Sums.{sum_by-cons}
 use Rattle.std.proofs.lemmas.Option.{get_or_from_slice_get, slice_get-get_or, slice_get_within}
 use Rattle.direct_props.specs.declared.places.PlaceRow.{PlaceRow}
-use Rattle.direct_props.specs.Rows.{AreRows, IsCursor, IsInRow, places_of, row_places}
+use Rattle.direct_props.specs.Rows.{AreRows, IsCursor, IsInRow, row_places_of, row_places}
 use Rattle.doc_bits.proofs.Public.{length_part}
 
 -- ---- rows, part by part
 
 -- no rows have no places
-pub places_of-nil : places_of [] ≡ []
-unfolding places_of
+pub places_of-nil : row_places_of [] ≡ []
+unfolding row_places_of
 places_of-nil = refl
 
 -- the places of the first row are first
-pub places_of-cons : (row : PlaceRow) (rows : List PlaceRow) → places_of (row ∷ rows) ≡ row_places row ++ places_of rows
-unfolding places_of
+pub places_of-cons : (row : PlaceRow) (rows : List PlaceRow) → row_places_of (row ∷ rows) ≡ row_places row ++
+    row_places_of rows
+unfolding row_places_of
 places_of-cons row rows = flat_map-cons row_places row rows
 
 -- the places of rows behind others come behind theirs
-pub places_of-append : (front back : List PlaceRow) → places_of (front ++ back) ≡ places_of front ++ places_of back
-unfolding places_of
+pub places_of-append : (front back : List PlaceRow) → row_places_of (front ++ back) ≡ row_places_of front ++
+    row_places_of back
+unfolding row_places_of
 places_of-append front back = flat_map-append row_places front back
 
 -- a row has as many places as it says
@@ -40,23 +42,23 @@ pub length-row_places : (row : PlaceRow) → length (row_places row) ≡ row.len
 length-row_places row = length-map-range_with_len (λ j. row.at + j * row.step) 0 row.len
 
 -- one row is its places
-pub places_of-one : (row : PlaceRow) → places_of (row ∷ []) ≡ row_places row
+pub places_of-one : (row : PlaceRow) → row_places_of (row ∷ []) ≡ row_places row
 places_of-one row =
     places_of-cons row [] ∙ ap (λ (t : List ℕ). row_places row ++ t) places_of-nil ∙ append-nil (row_places row)
 
 -- a row more puts its places last
 pub places_of_push : (rows : List PlaceRow) (row : PlaceRow) →
-    places_of (rows ++ row ∷ []) ≡ places_of rows ++ row_places row
+    row_places_of (rows ++ row ∷ []) ≡ row_places_of rows ++ row_places row
 places_of_push rows row = rw (places_of-append rows (row ∷ []), places_of-one row) refl
 
 -- rows have as many places as they say
-pub length-places_of : (rows : List PlaceRow) → length (places_of rows) ≡ sum_by (λ row. row.len) rows
+pub length-places_of : (rows : List PlaceRow) → length (row_places_of rows) ≡ sum_by (λ row. row.len) rows
 length-places_of [] = ap length places_of-nil
 length-places_of (row ∷ rows) =
     rw (
       places_of-cons row rows,
       sum_by-cons (λ (r : PlaceRow). r.len) row rows,
-      length-append (row_places row) (places_of rows),
+      length-append (row_places row) (row_places_of rows),
       length-row_places row,
       length-places_of rows,
     ) refl
@@ -74,58 +76,58 @@ AreRows_push rows row each one = All-push (λ (r : PlaceRow). r.at + r.len * r.s
 
 -- the places of rows are those of a front and those of the rest
 pub places_of_parts : (rows : List PlaceRow) (number : ℕ) →
-    places_of rows ≡ places_of (take number rows) ++ places_of (drop number rows)
-places_of_parts rows number = sym (ap places_of (take-append-drop number rows))
+    row_places_of rows ≡ row_places_of (take number rows) ++ row_places_of (drop number rows)
+places_of_parts rows number = sym (ap row_places_of (take-append-drop number rows))
     ∙ places_of-append (take number rows) (drop number rows)
 
 -- the places of a front
-pub places_of-take : (rows : List PlaceRow) (number n : ℕ) → length (places_of (take number rows)) ≡ n →
-    places_of (take number rows) ≡ take n (places_of rows)
+pub places_of-take : (rows : List PlaceRow) (number n : ℕ) → length (row_places_of (take number rows)) ≡ n →
+    row_places_of (take number rows) ≡ take n (row_places_of rows)
 places_of-take rows number n long =
     sym (ap (take n) (places_of_parts rows number)
-    ∙ take_at (places_of (take number rows)) (places_of (drop number rows)) n long)
+    ∙ take_at (row_places_of (take number rows)) (row_places_of (drop number rows)) n long)
 
 -- the places behind it
-pub places_of-drop : (rows : List PlaceRow) (number n : ℕ) → length (places_of (take number rows)) ≡ n →
-    places_of (drop number rows) ≡ drop n (places_of rows)
+pub places_of-drop : (rows : List PlaceRow) (number n : ℕ) → length (row_places_of (take number rows)) ≡ n →
+    row_places_of (drop number rows) ≡ drop n (row_places_of rows)
 places_of-drop rows number n long =
     sym (ap (drop n) (places_of_parts rows number)
-    ∙ subst (λ (m : ℕ). drop m (places_of (take number rows) ++ places_of (drop number rows))
-    ≡ places_of (drop number rows)) long
-    (drop-append_seam (places_of (take number rows)) (places_of (drop number rows))))
+    ∙ subst (λ (m : ℕ). drop m (row_places_of (take number rows) ++ row_places_of (drop number rows))
+    ≡ row_places_of (drop number rows)) long
+    (drop-append_seam (row_places_of (take number rows)) (row_places_of (drop number rows))))
 
 -- a front and the rest are all
 pub length_parts : (rows : List PlaceRow) (number : ℕ) →
-    length (places_of (take number rows)) + length (places_of (drop number rows)) ≡ length (places_of rows)
+    length (row_places_of (take number rows)) + length (row_places_of (drop number rows)) ≡ length (row_places_of rows)
 length_parts rows number = sym (ap length (places_of_parts rows number)
-    ∙ length-append (places_of (take number rows)) (places_of (drop number rows)))
+    ∙ length-append (row_places_of (take number rows)) (row_places_of (drop number rows)))
 
 -- a row more of a front
 pub length_more : (rows : List PlaceRow) (k : ℕ) (d : PlaceRow) → k < length rows →
-    length (places_of (take (k + 1) rows)) ≡ length (places_of (take k rows)) + (get_or rows k d).len
+    length (row_places_of (take (k + 1) rows)) ≡ length (row_places_of (take k rows)) + (get_or rows k d).len
 length_more rows k d within =
     rw (
       take_more rows k d within,
       places_of_push (take k rows) (get_or rows k d),
-      length-append (places_of (take k rows)) (row_places (get_or rows k d)),
+      length-append (row_places_of (take k rows)) (row_places (get_or rows k d)),
       length-row_places (get_or rows k d),
     ) refl
 
 -- a row has no more places than all rows
 pub row_within : (rows : List PlaceRow) (k : ℕ) (d : PlaceRow) → k < length rows →
-    length (places_of (take k rows)) + (get_or rows k d).len ≤ length (places_of rows)
+    length (row_places_of (take k rows)) + (get_or rows k d).len ≤ length (row_places_of rows)
 row_within rows k d within = omega (arith, length_more rows k d within, length_parts rows (k + 1))
 
 -- a front of all rows
 pub length_all : (rows : List PlaceRow) (k : ℕ) → length rows ≤ k →
-    length (places_of (take k rows)) ≡ length (places_of rows)
-length_all rows k all = ap (λ (t : List PlaceRow). length (places_of t)) (take_all k rows all)
+    length (row_places_of (take k rows)) ≡ length (row_places_of rows)
+length_all rows k all = ap (λ (t : List PlaceRow). length (row_places_of t)) (take_all k rows all)
 
 -- ---- a place
 
 -- a place before the end is in a row
 pub is_in_a_row : (rows : List PlaceRow) (place number left : ℕ) → IsInRow rows place number left →
-    place < length (places_of rows) → number < length rows
+    place < length (row_places_of rows) → number < length rows
 is_in_a_row rows place number left found before = elim (cases_lt number (length rows)) [
   | inl inside ↦ inside
   | inr past ↦ absurd (omega (arith, found.here, length_all rows number past))
@@ -142,8 +144,8 @@ left_inside rows place number left d found inside =
 -- the place inside a row
 pub place_in_row : (rows : List PlaceRow) (number left : ℕ) (row : PlaceRow) → slice_get rows number ≡ Some row →
     left < row.len
-    → slice_index (places_of rows) (length (places_of (take number rows)) + left) ≡ row.at + left * row.step
-unfolding places_of
+    → slice_index (row_places_of rows) (length (row_places_of (take number rows)) + left) ≡ row.at + left * row.step
+unfolding row_places_of
 place_in_row rows number left row is inside =
     let here : get_or rows number row ≡ row = get_or_from_slice_get rows number row row is in
     let short : left < length (row_places (get_or rows number row)) =
@@ -185,7 +187,7 @@ drop_part xs from all count le =
 
 -- a cursor at a place of rows
 pub cursor_at : (rows : List PlaceRow) (skipped count number left : ℕ) → AreRows rows →
-    length (places_of rows) < 2 ^ 32 → skipped + count ≤ length (places_of rows)
+    length (row_places_of rows) < 2 ^ 32 → skipped + count ≤ length (row_places_of rows)
     → IsInRow rows skipped number left → IsCursor (drop number rows) left count
 cursor_at rows skipped count number left each few within found = record {
   each = All-drop (λ (row : PlaceRow). row.at + row.len * row.step < 2 ^ 32) number rows each;
@@ -198,22 +200,22 @@ cursor_at rows skipped count number left each few within found = record {
 
 -- and its places
 pub places_at : (rows : List PlaceRow) (skipped count number left : ℕ) → IsInRow rows skipped number left →
-    slice_range (places_of (drop number rows)) left (left + count)
-    ≡ slice_range (places_of rows) skipped (skipped + count)
+    slice_range (row_places_of (drop number rows)) left (left + count)
+    ≡ slice_range (row_places_of rows) skipped (skipped + count)
 places_at rows skipped count number left found =
-    let before = length (places_of (take number rows)) in
+    let before = length (row_places_of (take number rows)) in
     let here : before + left ≡ skipped = found.here in
     let width : left + count - left ≡ skipped + count - skipped = omega arith in
     ap (λ (t : List ℕ). slice_range t left (left + count)) (places_of-drop rows number before refl)
-    ∙ ap (take (left + count - left)) (drop-drop left before (places_of rows)
-    ∙ ap (λ (n : ℕ). drop n (places_of rows)) here)
-    ∙ ap (λ (n : ℕ). take n (drop skipped (places_of rows))) width
+    ∙ ap (take (left + count - left)) (drop-drop left before (row_places_of rows)
+    ∙ ap (λ (n : ℕ). drop n (row_places_of rows)) here)
+    ∙ ap (λ (n : ℕ). take n (drop skipped (row_places_of rows))) width
 
 -- a cursor has as many places as it says
 pub count_is : (rows : List PlaceRow) (skipped count : ℕ) (places : List ℕ) → IsCursor rows skipped count →
-    slice_range (places_of rows) skipped (skipped + count) ≡ places → count ≡ length places
+    slice_range (row_places_of rows) skipped (skipped + count) ≡ places → count ≡ length places
 count_is rows skipped count places cursor is =
-    sym (length_part (places_of rows) skipped count cursor.within) ∙ ap length is
+    sym (length_part (row_places_of rows) skipped count cursor.within) ∙ ap length is
 
 -- a cursor that has a place has one in its first row
 pub first_row : (rows : List PlaceRow) (skipped count : ℕ) (d : PlaceRow) → IsCursor rows skipped count →
@@ -227,22 +229,22 @@ first_row rows skipped count d cursor some =
 
 -- the places of a cursor in its first row
 pub first_places : (rows : List PlaceRow) (skipped count k : ℕ) (d : PlaceRow) (places : List ℕ) →
-    IsCursor rows skipped count → slice_range (places_of rows) skipped (skipped + count) ≡ places
+    IsCursor rows skipped count → slice_range (row_places_of rows) skipped (skipped + count) ≡ places
     → k < count → skipped + k < (get_or rows 0 d).len
     → slice_index places k ≡ (get_or rows 0 d).at + (skipped + k) * (get_or rows 0 d).step
 first_places rows skipped count k d places cursor is below inside =
     let row = get_or rows 0 d in
     let some = first_row rows skipped count d cursor (omega (arith, below)) in
-    let before : length (places_of (take 0 rows)) ≡ 0 = ap length places_of-nil in
-    let place : length (places_of (take 0 rows)) + (skipped + k) ≡ skipped + k = omega (arith, before) in
+    let before : length (row_places_of (take 0 rows)) ≡ 0 = ap length places_of-nil in
+    let place : length (row_places_of (take 0 rows)) + (skipped + k) ≡ skipped + k = omega (arith, before) in
     ap (λ (t : List ℕ). slice_index t k) (sym is)
-    ∙ index_part (places_of rows) skipped count k below
-    ∙ ap (slice_index (places_of rows)) (sym place)
+    ∙ index_part (row_places_of rows) skipped count k below
+    ∙ ap (slice_index (row_places_of rows)) (sym place)
     ∙ place_in_row rows 0 (skipped + k) row (slice_get-get_or rows 0 d some.0) inside
 
 -- the first of them
 pub first_place : (rows : List PlaceRow) (skipped count : ℕ) (d : PlaceRow) (places : List ℕ) →
-    IsCursor rows skipped count → slice_range (places_of rows) skipped (skipped + count) ≡ places → 0 < count
+    IsCursor rows skipped count → slice_range (row_places_of rows) skipped (skipped + count) ≡ places → 0 < count
     → slice_index places 0 ≡ (get_or rows 0 d).at + skipped * (get_or rows 0 d).step
 first_place rows skipped count d places cursor is some =
     let row = get_or rows 0 d in

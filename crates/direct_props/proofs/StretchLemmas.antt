@@ -18,7 +18,7 @@ use Rattle.direct_props.specs.declared.pages.PageCursor.{PageCursor}
 use Rattle.direct_props.specs.declared.pages.PageStretch.{PageStretch}
 use Rattle.direct_props.specs.PageRules.{HasPageAnswer, IsValidPlace, IsValidBetween}
 use Rattle.direct_props.specs.Stretches.{HasValidList}
-use Rattle.direct_props.specs.Pages.{IsPageCursor, IsPageIn, HasPageAround}
+use Rattle.direct_props.specs.Pages.{IsPageCursor, IsStreamPage, HasPageAround}
 use Rattle.direct_props.proofs.AnswerLemmas.{not_bad, runs_here, inside_here, fault_here, no_list_here, found_has_room}
 
 -- a range without its first bytes
@@ -123,7 +123,7 @@ right_list kind wd bin fc number (Leaves entry) has right = right breaks.List (5
 -- the places that a range of the bin table and a stretch of its page have in common
 pub page_stretch : (kind : PageKind) (wd bin : List ℕ) (fc : ℕ) (found : PageCursor) (page : List ℕ) (met : Met) →
     HasBinRange bin fc found.range → IsPageCursor wd bin found → page ≡ page_at wd found.range.page →
-    IsPageIn wd found.range.page →
+    IsStreamPage wd found.range.page →
     HasStretch kind page fc met.stretch → IsRunCursor page met.next →
     HasPageAround kind wd bin fc (record {
       first = max found.range.from met.stretch.first;

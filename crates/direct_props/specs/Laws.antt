@@ -2,7 +2,7 @@
 use Rattle.std.specs.Prelude.{◌≡◌, ℕ, ◌<◌, ◌≤◌, List}
 use Rattle.std.specs.Option.{ForSome}
 use Rattle.doc_bits.specs.Number.{AreBytes}
-use Rattle.doc_bits.specs.Rules.{IsFirst, Breaks, IsLeastOfAll}
+use Rattle.doc_bits.specs.Rules.{IsFirstOffset, Breaks, IsLeastOfAll}
 use Rattle.prop_map.specs.Settings.{Properties}
 use Rattle.prop_map.specs.declared.modifiers.Modifier.{Modifier}
 use Rattle.prop_map.specs.Formed.{IsPropertyMap, character_groups, paragraph_groups}
@@ -30,7 +30,8 @@ DirectMarkIsOne =
 abbrev pub FirstPageFaultIsLeast : Type 0
 FirstPageFaultIsLeast =
     (kind : PageKind) (wd bin places : List ℕ) (r p : ℕ) →
-    IsFirst (page_rules kind wd bin places) r p → IsLeastOfAll (λ a b. a ≤ b) (Breaks (page_rules kind wd bin places))
+    IsFirstOffset (page_rules kind wd bin places) r p → IsLeastOfAll (λ a b. a ≤ b) (Breaks (page_rules kind wd bin
+    places))
     r p
 
 -- a modifier that may be at a place: its maps are well formed, and its style number has 16 bits

@@ -53,7 +53,7 @@ pub record HasListOutside (kind : PageKind) (wd bin : List ℕ) (fc place : ℕ)
   pub here : place ≡ 512 * number + entry
 
 -- the sprms of the list, behind a paragraph's style number, have a fault there
-pub record HasListFault (kind : PageKind) (wd bin : List ℕ) (fc place : ℕ) : Type 0 where
+pub record HasPageListFault (kind : PageKind) (wd bin : List ℕ) (fc place : ℕ) : Type 0 where
   pub number : ℕ
   pub from : ℕ
   pub to : ℕ
@@ -63,7 +63,7 @@ pub record HasListFault (kind : PageKind) (wd bin : List ℕ) (fc place : ℕ) :
       (HasSprmFaultAt (slice_range (page_at wd number) (from + least_list kind) to) (run_groups kind)) place
 
 -- a list that a page in the stream can have
-pub record HasRoom (kind : PageKind) (wd : List ℕ) (number from to : ℕ) : Type 0 where
+pub record HasListRoom (kind : PageKind) (wd : List ℕ) (number from to : ℕ) : Type 0 where
   pub there : 512 * number + 512 ≤ length wd
   pub room : from + least_list kind ≤ to
   pub within : to ≤ 511
@@ -74,7 +74,7 @@ BreaksPageRule breaks.Bin kind wd bin fc place = HasNoPage bin fc place
 BreaksPageRule breaks.Page kind wd bin fc place = HasBadPage kind wd bin fc place
 BreaksPageRule breaks.Run kind wd bin fc place = IsInNoRun kind wd bin fc place
 BreaksPageRule breaks.List kind wd bin fc place = HasListOutside kind wd bin fc place
-BreaksPageRule breaks.Sprm kind wd bin fc place = HasListFault kind wd bin fc place
+BreaksPageRule breaks.Sprm kind wd bin fc place = HasPageListFault kind wd bin fc place
 
 -- one of the places breaks the rule
 abbrev pub BreaksAtPlaces : PageRule → PageKind → List ℕ → List ℕ → List ℕ → ℕ → Type 0

@@ -15,7 +15,7 @@ pub record IsPageCursor (wd bin : List ℕ) (cursor : PageCursor) : Type 0 where
   pub runs : IsRunCursor (page_at wd cursor.range.page) cursor.runs
 
 -- a page of the stream that is no page over the FIB
-pub record IsPageIn (wd : List ℕ) (number : ℕ) : Type 0 where
+pub record IsStreamPage (wd : List ℕ) (number : ℕ) : Type 0 where
   pub low : 2 ≤ number
   pub small : number < 2 ^ 22
   pub within : 512 * number + 512 ≤ length wd
@@ -24,7 +24,7 @@ pub record IsPageIn (wd : List ℕ) (number : ℕ) : Type 0 where
 pub record HasPageAround (kind : PageKind) (wd bin : List ℕ) (fc : ℕ) (stretch : PageStretch) : Type 0 where
   pub from : stretch.first ≤ fc
   pub to : fc ≤ stretch.last
-  pub page : IsPageIn wd stretch.number
+  pub page : IsStreamPage wd stretch.number
   pub each :
       (other : ℕ) → stretch.first ≤ other → other ≤ stretch.last →
       HasPageAnswer kind wd bin other stretch.number stretch.answer

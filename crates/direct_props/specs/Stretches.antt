@@ -17,14 +17,14 @@ use Rattle.direct_props.specs.Direct.{IsDirectCharacter}
 use Rattle.direct_props.specs.PageRules.{IsValidBetween}
 
 -- a list with room for itself before the last byte of a page, whose sprms have no fault
-pub record IsValidList (kind : PageKind) (page : List ℕ) (from to : ℕ) : Type 0 where
+pub record IsValidPageList (kind : PageKind) (page : List ℕ) (from to : ℕ) : Type 0 where
   pub room : from + least_list kind ≤ to
   pub within : to ≤ 511
   pub sprms : Nowhere (HasSprmFaultAt (slice_range page (from + least_list kind) to) (run_groups kind))
 
 -- the answer is a run without properties, or one with such a list
 abbrev pub HasValidList : PageKind → List ℕ → RunAnswer → Type 0
-HasValidList kind page (Found from to) = IsValidList kind page from to
+HasValidList kind page (Found from to) = IsValidPageList kind page from to
 HasValidList kind page Empty = ⊤
 HasValidList kind page NoRun = ⊥
 HasValidList kind page BadCount = ⊥

@@ -11,7 +11,7 @@ ghost use Rattle.fkp_pages.specs.Bin.{page_at};
 ghost use Rattle.fkp_pages.specs.Properties.{bare_list};
 ghost use Rattle.fkp_pages.specs.Runs.{run_groups};
 ghost use Rattle.direct_props.specs.Stretches.{HasValidList};
-ghost use Rattle.direct_props.specs.Pages.{IsPageIn};
+ghost use Rattle.direct_props.specs.Pages.{IsStreamPage};
 ghost use Rattle.direct_props.specs.GrpprlCache.{AreKept, HasNoFault, IsBareMade, IsMadeByAnswer, IsMadeOf};
 ghost use Rattle.direct_props.specs.GrpprlCache.{MakesCharacter, MakesMark};
 
@@ -20,7 +20,8 @@ use crate::lists::{bare, list_in};
 use crate::rules::style_len;
 use doc_bits::{Memory, get16};
 use fkp_pages::{PAGE_LEN, PageKind, RunAnswer};
-use prop_map::{Modifier, PropMap, SeenGrpprls};
+use grpprl_index::SeenGrpprls;
+use prop_map::{Modifier, PropMap};
 use std::alloc::Global;
 
 /// What a list and then a modifier make: the style number of a mark, or 0, and properties.
@@ -89,7 +90,7 @@ impl GrpprlCache {
         number: u32,
         answer: RunAnswer,
     ) -> Result<Option<Decoded>, Memory>
-        requires page { IsPageIn source.now.wd.now number }
+        requires page { IsStreamPage source.now.wd.now number }
         requires kept { AreKept source.now.kind source.now.wd.now source.now.modifier.now
             self.old.places self.old.made.items }
         requires bare { IsBareMade source.now.kind source.now.modifier.now self.old.bare }
@@ -140,7 +141,7 @@ impl GrpprlCache {
         number: u32,
         range: (usize, usize),
     ) -> Result<Option<Decoded>, Memory>
-        requires page { IsPageIn source.now.wd.now number }
+        requires page { IsStreamPage source.now.wd.now number }
         requires kept { AreKept source.now.kind source.now.wd.now source.now.modifier.now
             self.old.places self.old.made.items }
         ensures kept { AreKept source.now.kind source.now.wd.now source.now.modifier.now

@@ -1,7 +1,7 @@
 // Places of text units, kept as rows.
 ghost use Rattle.std.specs.Prelude.{◌≡◌, ◌+◌, ◌*◌, ◌<◌, ◌≤◌, ◌^◌, ◌++◌, ℕ, length, take, drop};
 ghost use Rattle.std.specs.Prelude.{slice_index, slice_range, IfOk};
-ghost use Rattle.direct_props.specs.Rows.{AreRows, IsInRow, places_of};
+ghost use Rattle.direct_props.specs.Rows.{AreRows, IsInRow, row_places_of};
 
 use doc_bits::Memory;
 use std::alloc::Global;
@@ -25,11 +25,11 @@ pub struct Places<'a> {
 
 impl<'a> Model for Places<'a> {
     ghost use Rattle.std.specs.Prelude.{ℕ, List, ◌+◌, slice_range};
-    ghost use Rattle.direct_props.specs.Rows.{IsCursor, places_of};
+    ghost use Rattle.direct_props.specs.Rows.{IsCursor, row_places_of};
 
     ghost Value = { List ℕ };
 
-    ghost view = { λ p. slice_range (places_of p.rows.now) p.skipped (p.skipped + p.count) };
+    ghost view = { λ p. slice_range (row_places_of p.rows.now) p.skipped (p.skipped + p.count) };
 
     ghost invariant = { λ p. IsCursor p.rows.now p.skipped p.count };
 }
@@ -38,8 +38,8 @@ impl<'a> Places<'a> {
     /// All places of these rows.
     pub fn of(rows: &'a [PlaceRow]) -> Places<'a>
         requires rows { AreRows rows.now }
-        requires few { length (places_of rows.now) < 2 ^ 32 }
-        ensures { result ≡ places_of rows.now }
+        requires few { length (row_places_of rows.now) < 2 ^ 32 }
+        ensures { result ≡ row_places_of rows.now }
     {
         let count = count_of(rows);
         from_place(rows, 0, count)
@@ -147,7 +147,7 @@ struct RowSpot {
 
 /// The row of a place.
 fn find_row(rows: &[PlaceRow], place: usize) -> RowSpot
-    requires { place ≤ length (places_of rows.now) }
+    requires { place ≤ length (row_places_of rows.now) }
     ensures { IsInRow rows.now place result.row result.left }
 {
     let mut left = place;
@@ -167,9 +167,9 @@ fn find_row(rows: &[PlaceRow], place: usize) -> RowSpot
 /// So many places of rows behind the first `skipped`.
 fn from_place<'a>(rows: &'a [PlaceRow], skipped: usize, count: usize) -> Places<'a>
     requires rows { AreRows rows.now }
-    requires few { length (places_of rows.now) < 2 ^ 32 }
-    requires within { skipped + count ≤ length (places_of rows.now) }
-    ensures { result ≡ slice_range (places_of rows.now) skipped (skipped + count) }
+    requires few { length (row_places_of rows.now) < 2 ^ 32 }
+    requires within { skipped + count ≤ length (row_places_of rows.now) }
+    ensures { result ≡ slice_range (row_places_of rows.now) skipped (skipped + count) }
 {
     let spot = find_row(rows, skipped);
     Places {
@@ -181,8 +181,8 @@ fn from_place<'a>(rows: &'a [PlaceRow], skipped: usize, count: usize) -> Places<
 
 /// The number of places of rows.
 fn count_of(rows: &[PlaceRow]) -> usize
-    requires { length (places_of rows.now) < 2 ^ 32 }
-    ensures { result ≡ length (places_of rows.now) }
+    requires { length (row_places_of rows.now) < 2 ^ 32 }
+    ensures { result ≡ length (row_places_of rows.now) }
 {
     let mut count = 0;
     for row in rows {

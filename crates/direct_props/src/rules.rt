@@ -2,7 +2,7 @@
 ghost use Rattle.std.specs.Prelude.{◌≡◌, ℕ, List, ◌↔◌, ◌+◌, ◌*◌, ◌<◌};
 ghost use Rattle.std.specs.Prelude.{◌≤◌, ◌^◌, length, slice_range, IsTrue, IfOk};
 ghost use Rattle.std.specs.Prelude.{IfSome, MatchOption, MatchResult, OnOk, ⊤};
-ghost use Rattle.doc_bits.specs.Rules.{From, Hold, IsFirst, LeastOrNone};
+ghost use Rattle.doc_bits.specs.Rules.{From, Hold, IsFirstOffset, LeastOrNone};
 ghost use Rattle.sprm_table.specs.Sprm.{HasSprmFaultAt, fault_place};
 ghost use Rattle.fkp_pages.specs.declared.kind.PageKind.{PageKind as PageType};
 ghost use Rattle.fkp_pages.specs.declared.kind.RunAnswer.TheVariants.{Found, Leaves};
@@ -10,11 +10,11 @@ ghost use Rattle.fkp_pages.specs.Fkp.{HasRunAnswer, least_list};
 ghost use Rattle.fkp_pages.specs.Bin.{IsBinTable, page_at};
 ghost use Rattle.fkp_pages.specs.Runs.{run_groups};
 ghost use Rattle.direct_props.specs.PageRules.{AreValidPlaces, BreaksAtPlaces, BreaksPageRule, HasBadPage};
-ghost use Rattle.direct_props.specs.PageRules.{HasListFault, HasListOutside, HasPageAnswer, HasRoom, IsInNoRun};
+ghost use Rattle.direct_props.specs.PageRules.{HasPageListFault, HasListOutside, HasPageAnswer, HasListRoom, IsInNoRun};
 ghost use Rattle.direct_props.specs.PageRules.{IsValidPlace, LooksBad, first_rule as first_number};
 ghost use Rattle.direct_props.specs.PageRules.{page_rules};
 ghost use Rattle.direct_props.specs.Stretches.{HasValidList};
-ghost use Rattle.direct_props.specs.Pages.{IsPageIn, IsValidStretch};
+ghost use Rattle.direct_props.specs.Pages.{IsStreamPage, IsValidStretch};
 ghost use Rattle.direct_props.specs.GrpprlCache.{HaveNoFault};
 
 use crate::Places;
@@ -24,7 +24,7 @@ use doc_bits::{Memory, lesser};
 use fkp_pages::{
     PAGE_LEN, PageKind, RunAnswer, bin_at, chpx_at, groups_of_runs, papx_at, run_answer_is_one,
 };
-use prop_map::SeenGrpprls;
+use grpprl_index::SeenGrpprls;
 use sprm_table::{SprmFault, list_fault};
 use std::alloc::Global;
 use thiserror::Error;
@@ -71,7 +71,7 @@ pub fn check_places(
     requires small { length wd.now < 2 ^ 32 }
     ensures judged { IfOk result (λ fault. MatchOption fault
         (Hold (page_rules kind wd.now bin.now places.now))
-        (λ fault. IsFirst (page_rules kind wd.now bin.now places.now) fault.rule fault.offset)) }
+        (λ fault. IsFirstOffset (page_rules kind wd.now bin.now places.now) fault.rule fault.offset)) }
 
     // The same of each place, as readers of properties ask for it.
     ensures right { IfOk result (λ fault. MatchOption fault (AreValidPlaces kind wd.now bin.now places.now) (λ _. ⊤)) }
@@ -125,7 +125,7 @@ pub fn check_rows(
     requires small { length wd.now < 2 ^ 32 }
     ensures judged { IfOk result (λ fault. MatchOption fault
         (Hold (page_rules kind wd.now bin.now places.now))
-        (λ fault. IsFirst (page_rules kind wd.now bin.now places.now) fault.rule fault.offset)) }
+        (λ fault. IsFirstOffset (page_rules kind wd.now bin.now places.now) fault.rule fault.offset)) }
 
     // The same of each place, as readers of properties ask for it.
     ensures right { IfOk result (λ fault. MatchOption fault (AreValidPlaces kind wd.now bin.now places.now) (λ _. ⊤)) }
@@ -219,7 +219,7 @@ fn is_valid(
     answer: RunAnswer,
     known: &mut SeenGrpprls,
 ) -> Result<bool, Memory>
-    requires page { IsPageIn wd.now number }
+    requires page { IsStreamPage wd.now number }
     requires known { HaveNoFault kind wd.now known.old }
     ensures known { OnOk result (HaveNoFault kind wd.now known.new) }
     ensures right { IfOk result (λ right. IsTrue right → HasValidList kind (page_at wd.now number) answer) }
@@ -241,7 +241,7 @@ fn is_valid_list(
     range: (usize, usize),
     known: &mut SeenGrpprls,
 ) -> Result<bool, Memory>
-    requires page { IsPageIn wd.now number }
+    requires page { IsStreamPage wd.now number }
     requires known { HaveNoFault kind wd.now known.old }
     ensures known { OnOk result (HaveNoFault kind wd.now known.new) }
     ensures right { IfOk result
@@ -272,7 +272,7 @@ pub fn check_each(kind: PageKind, wd: &[u8], bin: &[u8], places: &[u32]) -> Resu
     requires small { length wd.now < 2 ^ 32 }
     ensures { MatchResult result
         (λ _. Hold (page_rules kind wd.now bin.now places.now))
-        (λ fault. IsFirst (page_rules kind wd.now bin.now places.now) fault.rule fault.offset) }
+        (λ fault. IsFirstOffset (page_rules kind wd.now bin.now places.now) fault.rule fault.offset) }
 {
     let first = first_rule(kind);
     if let Some(offset) = least_of(PageRule::Bin, kind, wd, bin, places) {
@@ -456,7 +456,7 @@ fn sprm_fault(kind: PageKind, wd: &[u8], found: PageAnswer) -> Option<u32>
     requires { found.number < 2 ^ 22 }
     ensures { (bin : List ℕ) (fc : ℕ) → IsBinTable bin
         → HasPageAnswer kind wd.now bin fc found.number found.answer
-        → LeastOrNone (HasListFault kind wd.now bin fc) result }
+        → LeastOrNone (HasPageListFault kind wd.now bin fc) result }
 {
     run_answer_is_one();
     match found.answer {
@@ -471,7 +471,7 @@ fn sprm_fault(kind: PageKind, wd: &[u8], found: PageAnswer) -> Option<u32>
 /// Where the sprms of a list have a fault that a page has. A list that it can't have is not looked at.
 fn fault_in(kind: PageKind, wd: &[u8], number: u32, from: usize, to: usize) -> Option<u32>
     requires { number < 2 ^ 22 }
-    ensures { HasRoom kind wd.now number from to → LeastOrNone (From (512 * number + from + least_list kind)
+    ensures { HasListRoom kind wd.now number from to → LeastOrNone (From (512 * number + from + least_list kind)
         (HasSprmFaultAt (slice_range (page_at wd.now number) (from + least_list kind) to) (run_groups kind))) result }
 {
     let Some(page) = page_of(wd, number) else {

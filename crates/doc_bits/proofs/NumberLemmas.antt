@@ -10,7 +10,7 @@ use Rattle.std.specs.Int.{bytes_low_first}
 use borrow.Rule.Slice.PartMut.{put_mid}
 use Rattle.byteorder.specs.Endian.{little_from}
 use Rattle.byteorder.specs.Numbers.{little_number-reads_back, length-bytes_low_first}
-use Rattle.doc_bits.specs.Number.{number_at, number_bytes, numbers, zeros}
+use Rattle.doc_bits.specs.Number.{number_at, number_bytes, u32_list_bytes, zeros}
 
 -- the lowest byte apart, and the rest as a number one place on
 pub number_at-first : (xs : List ℕ) (at k : ℕ) → number_at xs at (suc k) ≡ slice_index xs at + 256 * number_at xs
@@ -129,24 +129,25 @@ put_mid-number k at value xs buf e =
     rw (e, width, none, append-nil (number_bytes k value), drop-drop k at xs)
 
 -- four bytes for each number
-pub length-numbers : (xs : List ℕ) → length (numbers xs) ≡ 4 * length xs
+pub length-numbers : (xs : List ℕ) → length (u32_list_bytes xs) ≡ 4 * length xs
 length-numbers [] = refl
 length-numbers (x ∷ xs) =
     let ih = length-numbers xs in
     let four = length-number_bytes 4 x in
-    omega (arith, length-append (number_bytes 4 x) (numbers xs))
+    omega (arith, length-append (number_bytes 4 x) (u32_list_bytes xs))
 
 -- each number is at four times its place
 pub number_at-numbers : (xs more : List ℕ) (k : ℕ) → k < length xs → slice_index xs k < 2 ^ 32 →
-    number_at (numbers xs ++ more) (4 * k) 4 ≡ slice_index xs k
+    number_at (u32_list_bytes xs ++ more) (4 * k) 4 ≡ slice_index xs k
 number_at-numbers [] more k h small = absurd (omega arith)
 number_at-numbers (x ∷ xs) more zero h small =
-    rw (append_assoc (number_bytes 4 x) (numbers xs) more) (number_at-number_bytes 4 x (numbers xs ++ more) small)
+    rw (append_assoc (number_bytes 4 x) (u32_list_bytes xs) more) (number_at-number_bytes 4 x (u32_list_bytes xs ++
+    more) small)
 number_at-numbers (x ∷ xs) more (suc k) h small =
     let ih = number_at-numbers xs more k (omega arith) small in
     let place : 4 * suc k ≡ length (number_bytes 4 x) + 4 * k = omega (arith, length-number_bytes 4 x) in
-    rw (append_assoc (number_bytes 4 x) (numbers xs) more, place)
-    (number_at-after (number_bytes 4 x) (numbers xs ++ more) (4 * k) 4 ∙ ih)
+    rw (append_assoc (number_bytes 4 x) (u32_list_bytes xs) more, place)
+    (number_at-after (number_bytes 4 x) (u32_list_bytes xs ++ more) (4 * k) 4 ∙ ih)
 
 -- ---- zero bytes
 

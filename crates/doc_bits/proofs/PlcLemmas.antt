@@ -5,7 +5,7 @@ use Rattle.std.specs.Prelude.{All, slice_get}
 use Rattle.std.specs.List.{flat_map}
 use Rattle.std.proofs.lemmas.List.{take_at, drop_at, drop-drop}
 use Rattle.std.proofs.lemmas.List.Elements.{All-head, All-tail}
-use Rattle.doc_bits.specs.Number.{number_at, number_bytes, numbers}
+use Rattle.doc_bits.specs.Number.{number_at, number_bytes, u32_list_bytes}
 use Rattle.doc_bits.proofs.NumberLemmas.{length-numbers, number_at-numbers, number_at-read_back, length-number_bytes}
 use Rattle.doc_bits.specs.Plc.{printed_plc, HasPlc}
 
@@ -51,20 +51,21 @@ printed-HasPlc size (cp ∷ cps) end parts some same small last sized =
     let tail = length-joined size parts sized in
     record {
       whole =
-          let a = length-append (numbers starts) (number_bytes 4 end ++ joined parts) in
+          let a = length-append (u32_list_bytes starts) (number_bytes 4 end ++ joined parts) in
           let b = length-append (number_bytes 4 end) (joined parts) in
           let product : length parts * size ≡ length starts * size = ap (λ n. n * size) same in
           omega arith;
       cps = λ k h. number_at-numbers starts (number_bytes 4 end ++ joined parts) k h (small k 0 h);
-      last = subst (λ place. number_at (numbers starts ++ (number_bytes 4 end ++ joined parts)) place 4 ≡ end) front
-          (number_at-read_back 4 end (numbers starts) (joined parts) last);
+      last = subst (λ place. number_at (u32_list_bytes starts ++ (number_bytes 4 end ++ joined parts)) place 4 ≡ end)
+          front
+          (number_at-read_back 4 end (u32_list_bytes starts) (joined parts) last);
       entries = λ k h.
           let from : ℕ = 4 * (length starts + 1) + size * k in
           let width : from + size - from ≡ size = omega arith in
           let place : from ≡ 4 * length starts + (4 + size * k) = omega arith in
-          let cut : drop from (numbers starts ++ (number_bytes 4 end ++ joined parts)) ≡ drop (size * k)
+          let cut : drop from (u32_list_bytes starts ++ (number_bytes 4 end ++ joined parts)) ≡ drop (size * k)
           (joined parts) =
-          rw place (drop-front (numbers starts) (number_bytes 4 end ++ joined parts) (4 * length starts)
+          rw place (drop-front (u32_list_bytes starts) (number_bytes 4 end ++ joined parts) (4 * length starts)
           (4 + size * k) front ∙ drop-front (number_bytes 4 end) (joined parts) 4 (size * k) four) in
           rw (width, cut) (slice_get-joined size parts k sized (omega arith));
     }

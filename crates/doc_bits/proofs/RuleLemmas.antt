@@ -3,7 +3,8 @@ use Rattle.std.proofs.Common.{◌≡◌, ◌⊎◌, inl, inr, ℕ, ◌+◌, ◌<
 use Rattle.std.proofs.Common.{arith}
 use Rattle.std.proofs.lemmas.Bool.{cases_lt}
 use Rattle.doc_bits.specs.declared.places.Where.{Where}
-use Rattle.doc_bits.specs.Rules.{Rules, rule, ◌then◌, given, Nowhere, IsLeast, Hold, FirstBy, IsFirst, LeastOrNone}
+use Rattle.doc_bits.specs.Rules.{Rules, rule, ◌then◌, given, Nowhere, IsLeast, Hold, FirstBy, IsFirstOffset}
+use Rattle.doc_bits.specs.Rules.{LeastOrNone}
 use Rattle.doc_bits.specs.Rules.{Among, From, lesser_of, IsSingle, Breaks, Ascends, IsLeastOfAll}
 use Rattle.doc_bits.specs.Places.{IsFirstPlace, rules_in}
 use Rattle.doc_bits.proofs.PlaceLemmas.{upto_same}
@@ -105,7 +106,8 @@ hold_in part (first then next) h = (hold_in part first h.0, hold_in part next h.
 hold_in part (given is rules) h = (h.0, (h.1.0, hold_in part (rules h.0) h.1.1))
 
 -- a layer's first broken rule is that of its part
-pub first_in : (part : Where) (rules : Rules ℕ) (r p : ℕ) → IsFirst rules r p → IsFirstPlace (rules_in part rules) r
+pub first_in : (part : Where) (rules : Rules ℕ) (r p : ℕ) → IsFirstOffset rules r p → IsFirstPlace (rules_in part rules)
+    r
     (part, p)
 first_in part (rule number breaks) r p h = (
   h.0,

@@ -25,8 +25,8 @@ unfoldable pub number_bytes : ℕ → ℕ → List ℕ
 number_bytes width x = bytes_low_first 0 width x
 
 -- the bytes of 32-bit numbers, one after the other
-abbrev pub numbers : List ℕ → List ℕ
-numbers xs = flat_map (number_bytes 4) xs
+abbrev pub u32_list_bytes : List ℕ → List ℕ
+u32_list_bytes xs = flat_map (number_bytes 4) xs
 
 -- zero bytes
 unfoldable pub zeros : ℕ → List ℕ

@@ -2,7 +2,7 @@
 use Rattle.std.specs.Prelude.{◌≡◌, ℕ, ◌+◌, ◌*◌, ◌^◌, ◌<◌, List, [], ◌∷◌, ◌++◌, length, Some, All, slice_get}
 use Rattle.std.specs.Prelude.{slice_index, slice_range}
 use Rattle.std.specs.List.{flat_map}
-use Rattle.doc_bits.specs.Number.{u32_at, number_bytes, numbers}
+use Rattle.doc_bits.specs.Number.{u32_at, number_bytes, u32_list_bytes}
 
 -- the bytes of a table, the size of an entry and the number of entries
 pub record PlcPart : Type 0 where
@@ -27,7 +27,7 @@ plc_entry part i =
 abbrev pub printed_plc : List ℕ → ℕ → List (List ℕ) → List ℕ
 printed_plc [] end entries = []
 printed_plc (cp ∷ cps) end entries =
-    numbers (cp ∷ cps) ++ (number_bytes 4 end ++ flat_map (λ entry. entry) entries)
+    u32_list_bytes (cp ∷ cps) ++ (number_bytes 4 end ++ flat_map (λ entry. entry) entries)
 
 -- the bytes are a table of these CPs, this last CP and these entries
 pub record HasPlc (bytes : List ℕ) (size : ℕ) (starts : List ℕ) (end : ℕ) (parts : List (List ℕ)) : Type 0 where

@@ -34,8 +34,8 @@ FirstBy upto (first then next) r p = FirstBy upto first r p ⊎ (Hold first × F
 FirstBy upto (given {A = A} is rules) r p = (x : A) × (is x × FirstBy upto (rules x) r p)
 
 -- the same in a layer, where places are offsets
-abbrev pub IsFirst : Rules ℕ → ℕ → ℕ → Type 0
-IsFirst = FirstBy (λ a b. a ≤ b)
+abbrev pub IsFirstOffset : Rules ℕ → ℕ → ℕ → Type 0
+IsFirstOffset = FirstBy (λ a b. a ≤ b)
 
 -- what a function that checks one rule answers: its least place, or nothing where it holds
 abbrev pub LeastOrNone : (ℕ → Type 0) → Option ℕ → Type 0

@@ -11,9 +11,9 @@ use Rattle.doc_bits.specs.Together.{AreTogether}
 use Rattle.doc_bits.proofs.Public.{All_at, same_entry}
 use Rattle.prop_map.specs.Settings.{Properties}
 use Rattle.run_lists.specs.Changed.{IsChanged}
-use Rattle.plain_doc.specs.declared.item.Item.{Item}
-use Rattle.plain_doc.specs.Document.{IsFormedItem, IsFormedText}
-use Rattle.plain_doc.proofs.Public.{length-splice, IsFormedList-splice}
+use Rattle.doc_model.specs.declared.item.Item.{Item}
+use Rattle.doc_model.specs.Document.{IsFormedItem, IsFormedText}
+use Rattle.doc_model.proofs.Public.{length-splice, IsFormedList-splice}
 use Rattle.doc_columns.specs.declared.attached.Attached.{Attached}
 use Rattle.doc_columns.specs.Attached.{attached_of, IsRanged}
 use Rattle.doc_columns.specs.Columns.{item_of, items_of, AreColumns}

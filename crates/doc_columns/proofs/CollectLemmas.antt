@@ -12,11 +12,11 @@ use Rattle.prop_map.specs.Settings.{Properties}
 use Rattle.doc_bits.proofs.Public.{All_at}
 use Rattle.run_lists.specs.declared.runs.Run.{Run}
 use Rattle.run_lists.specs.declared.cursor.Cursor.{Cursor}
-use Rattle.run_lists.specs.Places.{IsAt}
+use Rattle.run_lists.specs.Places.{IsAtRunBegin}
 use Rattle.run_lists.specs.Spread.{expanded, total_len}
 use Rattle.run_lists.proofs.Public.{length-spread, extent-nil, count_within, run_range as range_of_run, value_in_run}
-use Rattle.plain_doc.specs.declared.item.Item.{Item}
-use Rattle.plain_doc.specs.Document.{IsFormedItem}
+use Rattle.doc_model.specs.declared.item.Item.{Item}
+use Rattle.doc_model.specs.Document.{IsFormedItem}
 use Rattle.doc_columns.specs.declared.attached.Attached.{Attached}
 use Rattle.doc_columns.specs.Attached.{attached_of}
 use Rattle.doc_columns.specs.Columns.{item_of, items_of}
@@ -25,8 +25,12 @@ use Rattle.doc_columns.proofs.ItemsOfLemmas.{items_of-range, items_of-append, it
 
 -- a walk begins at the start
 pub start_at : {T : Type 0} (runs : List (Run T)) (cursor : Cursor) → cursor ≡ (record { run = 0; begin = 0 }) →
-    IsAt runs cursor
-start_at {T = T} runs cursor is = subst (IsAt runs) (sym is) (record { there = omega arith; begins = extent-nil T })
+    IsAtRunBegin runs cursor
+start_at {T = T} runs cursor is = subst (IsAtRunBegin runs) (sym is) (record {
+  there = omega arith;
+  begins = extent-nil
+      T;
+})
 
 -- a longer front
 front_more : (text : List Item) (place count : ℕ) →

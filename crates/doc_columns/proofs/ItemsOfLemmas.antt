@@ -7,11 +7,11 @@ use Rattle.std.proofs.lemmas.List.{length-map, length-replicate}
 use Rattle.std.proofs.lemmas.List.Elements.{All-nil, All-cons, All-head, All-tail, All-append}
 use Rattle.prop_map.specs.Formed.{IsPropertyMap, character_groups}
 use Rattle.prop_map.specs.Settings.{Properties}
-use Rattle.plain_doc.specs.declared.item.Item.{Item}
-use Rattle.plain_doc.specs.declared.item.Mark.{Mark}
-use Rattle.plain_doc.specs.Document.{HasPropertyMaps, IsFormedItem, IsFormedText}
-use Rattle.plain_doc.proofs.Public.{length-splice, IsFormedList-splice, IsFormedList-add, ForSome-from_cases}
-use Rattle.plain_doc.proofs.Public.{HasPropertyMaps-from_parts}
+use Rattle.doc_model.specs.declared.item.Item.{Item}
+use Rattle.doc_model.specs.declared.item.Mark.{Mark}
+use Rattle.doc_model.specs.Document.{HasPropertyMaps, IsFormedItem, IsFormedText}
+use Rattle.doc_model.proofs.Public.{length-splice, IsFormedList-splice, IsFormedList-add, ForSome-from_cases}
+use Rattle.doc_model.proofs.Public.{HasPropertyMaps-from_parts}
 use Rattle.doc_columns.specs.declared.attached.Attached.{Attached}
 use Rattle.doc_columns.specs.Attached.{attached_of, nothing, IsRanged}
 use Rattle.doc_columns.specs.Columns.{item_of, items_of, bare_items, AreColumns}

@@ -14,9 +14,9 @@ use Rattle.run_lists.specs.declared.runs.Run.{Run}
 use Rattle.run_lists.specs.Spread.{expanded, total_len}
 use Rattle.run_lists.proofs.Public.{length-spread, extent_all, value_in_run}
 use Rattle.text_codes.specs.Paragraph.{paragraph_mark}
-use Rattle.plain_doc.specs.declared.item.Item.{Item}
+use Rattle.doc_model.specs.declared.item.Item.{Item}
 use Rattle.plain_doc.specs.declared.text_walk.TextWalk.{TextWalk}
-use Rattle.plain_doc.specs.Document.{HasPropertyMaps}
+use Rattle.doc_model.specs.Document.{HasPropertyMaps}
 use Rattle.plain_doc.specs.RulesOfItems.{IsShortChp}
 use Rattle.plain_doc.specs.RulesOfTexts.{EndsRight, last_unit}
 use Rattle.plain_doc.proofs.Public.{maps_there, one_passed}
@@ -26,7 +26,7 @@ use Rattle.doc_columns.specs.declared.attached.Attached.{Attached}
 use Rattle.doc_columns.specs.declared.judge.JudgedText.{JudgedText}
 use Rattle.doc_columns.specs.Attached.{has_something, attached_of}
 use Rattle.doc_columns.specs.Columns.{item_of}
-use Rattle.doc_columns.specs.Judging.{IsJudgedText, IsPassedTo, IsRunAt}
+use Rattle.doc_columns.specs.Judging.{IsJudgedText, IsPassedTo, IsAttachedRun}
 use Rattle.doc_columns.proofs.CollectLemmas.{whole_text, run_inside}
 use Rattle.doc_columns.proofs.ItemsOfLemmas.{item_at}
 
@@ -35,7 +35,7 @@ use Rattle.doc_columns.proofs.ItemsOfLemmas.{item_at}
 -- a run is beside the items of its places
 pub run_at : (text : List Item) (runs : List (Run Attached)) (k place : ℕ) (run : Run Attached) →
     expanded runs ≡ map attached_of text → slice_get runs k ≡ Some run → place ≡ total_len (take k runs)
-    → IsRunAt text place run
+    → IsAttachedRun text place run
 run_at text runs k place run bs is begins = record {
   within = run_inside text runs k place run bs is begins;
   values = λ at from until.
@@ -70,7 +70,7 @@ chps_long judged right =
 
 -- the item of the columns is in the text
 pub made_there : (judged : JudgedText) (place at : ℕ) (run : Run Attached) (unit : ℕ) (chp : Properties) →
-    IsJudgedText judged → IsRunAt judged.text.now place run → place ≤ at → at < place + run.count
+    IsJudgedText judged → IsAttachedRun judged.text.now place run → place ≤ at → at < place + run.count
     → slice_get judged.units.now at ≡ Some unit → slice_get (expanded judged.chps.now) at ≡ Some chp
     → slice_get judged.text.now at ≡ Some (item_of unit chp run.value)
 made_there judged place at run unit chp right stands from until unit_there chp_there =
@@ -104,7 +104,7 @@ not_last part text at item there ends plain last =
 
 -- a bare item is passed
 one_bare : (judged : JudgedText) (place at : ℕ) (run : Run Attached) (walk : TextWalk) (item : Item) →
-    IsJudgedText judged → IsRunAt judged.text.now place run → has_something run.value ≡ false
+    IsJudgedText judged → IsAttachedRun judged.text.now place run → has_something run.value ≡ false
     → All IsPlainUnit (slice_range judged.units.now place (place + run.count)) → place ≤ at
     → at < place + run.count → slice_get judged.text.now at ≡ Some item → IsPassedTo judged at walk
     → IsPassedTo judged (at + 1) walk
@@ -141,7 +141,7 @@ one_bare judged place at run walk item right stands bare plain from until there 
     (not_last judged.part text at item there right.ends plain_unit))
 
 bare_on : (judged : JudgedText) (place n : ℕ) (run : Run Attached) (walk : TextWalk) → IsJudgedText judged →
-    IsRunAt judged.text.now place run → has_something run.value ≡ false
+    IsAttachedRun judged.text.now place run → has_something run.value ≡ false
     → All IsPlainUnit (slice_range judged.units.now place (place + run.count)) → n ≤ run.count
     → IsPassedTo judged place walk → IsPassedTo judged (place + n) walk
 bare_on judged place zero run walk right stands bare plain few passed =
@@ -162,7 +162,7 @@ bare_on judged place (suc n) run walk right stands bare plain few passed =
 
 -- a run of bare items is passed where their units are plain
 pub bare_run : (judged : JudgedText) (place : ℕ) (run : Run Attached) (walk : TextWalk) → IsJudgedText judged →
-    IsRunAt judged.text.now place run → has_something run.value ≡ false
+    IsAttachedRun judged.text.now place run → has_something run.value ≡ false
     → All IsPlainUnit (slice_range judged.units.now place (place + run.count)) → IsPassedTo judged place walk
     → IsPassedTo judged (place + run.count) walk
 bare_run judged place run walk right stands bare plain passed =

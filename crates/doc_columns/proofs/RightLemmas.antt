@@ -12,13 +12,13 @@ use Rattle.prop_map.specs.Formed.{IsPropertyMap, character_groups}
 use Rattle.text_codes.specs.Paragraph.{paragraph_mark}
 use Rattle.doc_bits.specs.declared.places.Where.{Where}
 use Rattle.doc_bits.specs.Rules.{LeastOrNone}
-use Rattle.doc_parts.specs.declared.bookmark_order.Bookmark.{Bookmark}
-use Rattle.doc_parts.specs.Bookmarks.{AreFormedBookmarks}
-use Rattle.doc_parts.specs.Names.{HasSameName}
-use Rattle.plain_doc.specs.declared.item.Item.{Item}
-use Rattle.plain_doc.specs.Document.{IsFormedItem}
+use Rattle.document_bookmarks.specs.declared.bookmark_order.Bookmark.{Bookmark}
+use Rattle.document_bookmarks.specs.Bookmarks.{AreFormedBookmarks}
+use Rattle.document_bookmarks.specs.Names.{HasSameName}
+use Rattle.doc_model.specs.declared.item.Item.{Item}
+use Rattle.doc_model.specs.Document.{IsFormedItem}
 use Rattle.plain_doc.specs.RulesOfTexts.{EndsRight, IsHead}
-use Rattle.plain_doc.specs.Marks.{most_bookmarks}
+use Rattle.doc_model.specs.Marks.{most_bookmarks}
 use Rattle.doc_columns.specs.Marks.{AreValidBookmarks}
 
 -- the properties of formed items are of characters

@@ -1,5 +1,5 @@
 -- A document by columns, as it is seen.
-use Rattle.plain_doc.specs.declared.document.Document.{Document}
+use Rattle.doc_model.specs.declared.document.Document.{Document}
 use Rattle.doc_columns.specs.declared.document.ColumnDocument.TheInside.{Inside}
 
 -- the document of these columns

@@ -17,26 +17,26 @@ use Rattle.doc_bits.specs.declared.places.Where.{Where}
 use Rattle.doc_bits.specs.declared.places.Where.TheVariants.{File, Wd, Table, Sheet as SheetPart, Main, Note, Head}
 use Rattle.text_codes.specs.Paragraph.{cell_mark, is_paragraph_end}
 use Rattle.style_sheet.specs.Sheet.{Sheet}
-use Rattle.style_sheet.specs.Chain.{kind_at, HasSoundBases}
+use Rattle.style_sheet.specs.Chain.{style_kind_at, HasSoundBases}
 use Rattle.style_sheet.specs.Written.{IsWritable}
-use Rattle.plain_doc.specs.declared.item.Item.{Item}
-use Rattle.plain_doc.specs.declared.document.Document.{Document}
+use Rattle.doc_model.specs.declared.item.Item.{Item}
+use Rattle.doc_model.specs.declared.document.Document.{Document}
 use Rattle.plain_doc.specs.declared.rules_texts.ItemRule.{ItemRule}
 use Rattle.plain_doc.specs.declared.rules_texts.ItemRule.TheVariants.{Placing, Styles, Properties}
 use Rattle.plain_doc.specs.declared.text_walk.TextWalk.{TextWalk}
-use Rattle.plain_doc.specs.Nesting.{field_characters, most_open, AreFields}
-use Rattle.plain_doc.specs.Rows.{FitsRow, open_cells, cells_after, is_on, paragraph_value}
+use Rattle.plain_doc.specs.Nesting.{field_characters, most_open, AreNestedFields}
+use Rattle.plain_doc.specs.Rows.{FitsRow, open_cells, cells_after, is_byte_one, paragraph_value}
 use Rattle.plain_doc.specs.RulesOfItems.{IsPlacedRight, HasShortProperties, IsShortChp, IsShortPap, IsShortSect}
-use Rattle.plain_doc.specs.RulesOfTexts.{EndsRight, HasParagraphStyle, text_of}
+use Rattle.plain_doc.specs.RulesOfTexts.{EndsRight, HasParagraphStyle, text_of_place}
 use Rattle.plain_doc.specs.RulesOfSheet.{note_count, section_count, heads_of_sections, item_count, most_items}
 use Rattle.plain_doc.specs.RulesOfSheet.{HasShortStyle}
 use Rattle.plain_doc.specs.RightDocument.{HoldsAtItems, IsValidText}
-use Rattle.plain_doc.specs.OpenFields.{after_unit}
+use Rattle.plain_doc.specs.OpenFields.{after_field_character}
 use Rattle.plain_doc.specs.Sound.{IsSound}
 use Rattle.plain_doc.specs.TextRules.{IsValidItem}
 use Rattle.plain_doc.specs.TextWalk.{PassesItem}
 use Rattle.plain_doc.proofs.Public.{open_cells_more, last_is_mark, sound_is_valid, right_is_sound}
-use Rattle.doc_columns.specs.Specials.{is_special, special_items, IsPlainUnit, HasValidBareItems, AreSpecialsOf}
+use Rattle.doc_columns.specs.Specials.{is_special_item, special_items, IsPlainUnit, HasValidBareItems, AreSpecialsOf}
 use Rattle.doc_columns.specs.Marks.{AreValidBookmarks}
 
 -- ---- units of no mark
@@ -59,7 +59,7 @@ record Bare (item : Item) : Type 0 where
   fld : is_some item.fld ≡ false
   note : is_some item.note ≡ false
 
-bare_parts : (item : Item) → is_special item ≡ false → Bare item
+bare_parts : (item : Item) → is_special_item item ≡ false → Bare item
 bare_parts item bare =
     let first = or_parts (is_some item.mark) (is_some item.sect || (is_some item.fld || is_some item.note)) bare in
     let second = or_parts (is_some item.sect) (is_some item.fld || is_some item.note) first.1 in
@@ -70,7 +70,7 @@ not_there : (b : Bool) → b ≡ false → IsTrue b → ⊥
 not_there b none there = cc
 
 -- it is right anywhere but at the end
-bare_placed : (part : Where) (len place : ℕ) (item : Item) → is_special item ≡ false → IsPlainUnit item.unit →
+bare_placed : (part : Where) (len place : ℕ) (item : Item) → is_special_item item ≡ false → IsPlainUnit item.unit →
     (place + 1 ≡ len → ⊥) → IsPlacedRight part len place item
 bare_placed part len place item bare plain inside =
     let lacks = bare_parts item bare in
@@ -96,15 +96,15 @@ bare_placed part len place item bare plain inside =
 
 -- the unit of a bare item of such a text
 plain_at : (text : List Item) → HasValidBareItems text → (i : ℕ) (item : Item) → slice_get text i ≡ Some item →
-    is_special item ≡ false → IsPlainUnit item.unit
+    is_special_item item ≡ false → IsPlainUnit item.unit
 plain_at text right i item there =
-    subst (λ (x : Item). is_special x ≡ false → IsPlainUnit x.unit) (get_or_from_slice_get text i item item there)
-    (All-get_or (λ (x : Item). is_special x ≡ false → IsPlainUnit x.unit) text i item
+    subst (λ (x : Item). is_special_item x ≡ false → IsPlainUnit x.unit) (get_or_from_slice_get text i item item there)
+    (All-get_or (λ (x : Item). is_special_item x ≡ false → IsPlainUnit x.unit) text i item
     (slice_get_within text i item there) right.plain)
 
 -- ---- the special items of a front
 
-pub special-cons : (has : Bool) (item : Item) (text : List Item) → is_special item ≡ has →
+pub special-cons : (has : Bool) (item : Item) (text : List Item) → is_special_item item ≡ has →
     special_items (item ∷ text) ≡ cond has (item ∷ special_items text) (special_items text)
 special-cons has item text is = ap (λ (b : Bool). cond b (item ∷ special_items text) (special_items text)) is
 
@@ -117,10 +117,10 @@ item_and_rest text i item there =
     ∙ ap (λ (x : Item). x ∷ drop (suc i) text) (get_or_from_slice_get text i item item there))
 
 -- the special items of a text around one of them
-around : (text : List Item) (i : ℕ) (item : Item) → slice_get text i ≡ Some item → is_special item ≡ true →
+around : (text : List Item) (i : ℕ) (item : Item) → slice_get text i ≡ Some item → is_special_item item ≡ true →
     special_items text ≡ special_items (take i text) ++ (item ∷ special_items (drop (i + 1) text))
 around text i item there special =
-    ap special_items (sym (take-append-drop i text)) ∙ filter-append is_special (take i text) (drop i text)
+    ap special_items (sym (take-append-drop i text)) ∙ filter-append is_special_item (take i text) (drop i text)
     ∙ ap (λ (rest : List Item). special_items (take i text) ++ special_items rest) (item_and_rest text i item there)
     ∙ ap (λ (rest : List Item). special_items (take i text) ++ rest)
     (special-cons true item (drop (i + 1) text) special)
@@ -133,7 +133,7 @@ more_specials text i k le =
     let parts : special_items (take k text) ≡ special_items (take i text) ++ special_items (take (k - i)
     (drop i text)) =
     ap (λ (n : ℕ). special_items (take n text)) (sym sum) ∙ ap special_items (take-add i (k - i) text)
-    ∙ filter-append is_special (take i text) (take (k - i) (drop i text)) in
+    ∙ filter-append is_special_item (take i text) (take (k - i) (drop i text)) in
     omega (
       arith,
       ap length parts,
@@ -141,19 +141,19 @@ more_specials text i k le =
     )
 
 -- one item more of a front
-special_more : (text : List Item) (i : ℕ) (item : Item) → slice_get text i ≡ Some item → is_special item ≡ true →
+special_more : (text : List Item) (i : ℕ) (item : Item) → slice_get text i ≡ Some item → is_special_item item ≡ true →
     length (special_items (take (i + 1) text)) ≡ length (special_items (take i text)) + 1
 special_more text i item there special =
     let within = slice_get_within text i item there in
-    let here : is_special (get_or text i item) ≡ true =
-    ap is_special (get_or_from_slice_get text i item item there) ∙ special in
-    length-filter_more is_special text i item within
+    let here : is_special_item (get_or text i item) ≡ true =
+    ap is_special_item (get_or_from_slice_get text i item item there) ∙ special in
+    length-filter_more is_special_item text i item within
     ∙ ap (λ (b : Bool). length (special_items (take i text)) + cond b 1 0) here
 
 -- ---- the last item
 
 last_by : (has : Bool) (text : List Item) → HasValidBareItems text → (i : ℕ) (item : Item) →
-    slice_get text i ≡ Some item → i + 1 ≡ length text → is_special item ≡ has → is_special item ≡ true
+    slice_get text i ≡ Some item → i + 1 ≡ length text → is_special_item item ≡ has → is_special_item item ≡ true
 last_by true text right i item there end is = is
 last_by false text right i item there end is =
     let within = slice_get_within text i item there in
@@ -166,8 +166,8 @@ last_by false text right i item there end is =
 
 -- the last item is a special one
 last_special : (text : List Item) → HasValidBareItems text → (i : ℕ) (item : Item) → slice_get text i ≡ Some item →
-    i + 1 ≡ length text → is_special item ≡ true
-last_special text right i item there end = last_by (is_special item) text right i item there end refl
+    i + 1 ≡ length text → is_special_item item ≡ true
+last_special text right i item there end = last_by (is_special_item item) text right i item there end refl
 
 -- ---- the place of a special item among them
 
@@ -185,7 +185,7 @@ record HasPlace (text : List Item) (i : ℕ) (item : Item) (place : ℕ) : Type 
   ended : i + 1 ≡ length text → place + 1 ≡ length (special_items text)
 
 none_behind : (text : List Item) → HasValidBareItems text → (i : ℕ) (item : Item) → slice_get text i ≡ Some item →
-    is_special item ≡ true → length (special_items (take i text)) + 1 ≡ length (special_items text)
+    is_special_item item ≡ true → length (special_items (take i text)) + 1 ≡ length (special_items text)
     → i + 1 < length text → ⊥
 none_behind text right i item there special all more =
     let last = length text - 1 in
@@ -201,7 +201,7 @@ none_behind text right i item there special all more =
     omega arith
 
 place_of : (text : List Item) → HasValidBareItems text → (i : ℕ) (item : Item) → slice_get text i ≡ Some item →
-    is_special item ≡ true → HasPlace text i item (length (special_items (take i text)))
+    is_special_item item ≡ true → HasPlace text i item (length (special_items (take i text)))
 place_of text right i item there special =
     let front = special_items (take i text) in
     let back = special_items (drop (i + 1) text) in
@@ -241,20 +241,20 @@ no_cell false on n none = refl
 -- a bare item opens and closes none
 same_cells : (cells : ℕ) (item : Item) → IsPlainUnit item.unit → cells_after cells item ≡ cells
 same_cells cells item plain =
-    no_cell (eqb item.unit cell_mark) (is_on (paragraph_value item 0x2417)) cells
+    no_cell (eqb item.unit cell_mark) (is_byte_one (paragraph_value item 0x2417)) cells
     (ne_eqb item.unit cell_mark plain.cell)
 
-cells_step : (has : Bool) (front : List Item) (item : Item) → (is_special item ≡ false → IsPlainUnit item.unit) →
-    is_special item ≡ has → open_cells (special_items front) ≡ open_cells front
+cells_step : (has : Bool) (front : List Item) (item : Item) → (is_special_item item ≡ false → IsPlainUnit item.unit) →
+    is_special_item item ≡ has → open_cells (special_items front) ≡ open_cells front
     → open_cells (special_items (front ++ item ∷ [])) ≡ open_cells (front ++ item ∷ [])
 cells_step true front item plain is same =
-    ap open_cells (filter-append is_special front (item ∷ [])
+    ap open_cells (filter-append is_special_item front (item ∷ [])
     ∙ ap (λ (items : List Item). special_items front ++ items) (special-cons true item [] is))
     ∙ cells_onto_last (special_items front) item
     ∙ ap (λ (n : ℕ). cells_after n item) same
     ∙ sym (cells_onto_last front item)
 cells_step false front item plain is same =
-    ap open_cells (filter-append is_special front (item ∷ [])
+    ap open_cells (filter-append is_special_item front (item ∷ [])
     ∙ ap (λ (items : List Item). special_items front ++ items) (special-cons false item [] is)
     ∙ append-nil (special_items front))
     ∙ same
@@ -262,7 +262,7 @@ cells_step false front item plain is same =
     ∙ sym (cells_onto_last front item)
 
 cells_of_front : (n : ℕ) (text : List Item) (d : Item) → n ≤ length text →
-    All (λ item. is_special item ≡ false → IsPlainUnit item.unit) text →
+    All (λ item. is_special_item item ≡ false → IsPlainUnit item.unit) text →
     open_cells (special_items (take n text)) ≡ open_cells (take n text)
 cells_of_front zero text d le plain = refl
 cells_of_front (suc n) text d le plain =
@@ -270,11 +270,11 @@ cells_of_front (suc n) text d le plain =
     let item = get_or text n d in
     subst (λ (items : List Item). open_cells (special_items items) ≡ open_cells items)
     (sym (subst (λ (m : ℕ). take m text ≡ take n text ++ item ∷ []) (add-one n) (take_more text n d within)))
-    (cells_step (is_special item) (take n text) item
-    (All-get_or (λ (x : Item). is_special x ≡ false → IsPlainUnit x.unit) text n d within plain) refl
+    (cells_step (is_special_item item) (take n text) item
+    (All-get_or (λ (x : Item). is_special_item x ≡ false → IsPlainUnit x.unit) text n d within plain) refl
     (cells_of_front n text d (omega (arith, le)) plain))
 
-cells_of_all : (text : List Item) → All (λ item. is_special item ≡ false → IsPlainUnit item.unit) text →
+cells_of_all : (text : List Item) → All (λ item. is_special_item item ≡ false → IsPlainUnit item.unit) text →
     open_cells (special_items text) ≡ open_cells text
 cells_of_all [] plain = refl
 cells_of_all (item ∷ text) plain =
@@ -293,7 +293,7 @@ field_characters-cons false item text is =
     ap (λ (b : Bool). map (λ (x : Item). x.unit) (cond b (item ∷ filter (λ (x : Item). is_some x.fld) text)
     (filter (λ (x : Item). is_some x.fld) text))) is
 
-fields_step : (has : Bool) (item : Item) (text : List Item) → is_special item ≡ has →
+fields_step : (has : Bool) (item : Item) (text : List Item) → is_special_item item ≡ has →
     field_characters (special_items text) ≡ field_characters text
     → field_characters (special_items (item ∷ text)) ≡ field_characters (item ∷ text)
 fields_step true item text is same =
@@ -310,14 +310,14 @@ fields_step false item text is same =
 -- the field characters are those of the special items
 same_fields : (text : List Item) → field_characters (special_items text) ≡ field_characters text
 same_fields [] = refl
-same_fields (item ∷ text) = fields_step (is_special item) item text refl (same_fields text)
+same_fields (item ∷ text) = fields_step (is_special_item item) item text refl (same_fields text)
 
 count-cons : (such : Item → Bool) (item : Item) (text : List Item) →
     count_by such (item ∷ text) ≡ cond (such item) 1 0 + count_by such text
 count-cons such item text = sum_by-cons (λ (x : Item). cond (such x) 1 0) item text
 
 count_step : (has : Bool) (such : Item → Bool) (item : Item) (text : List Item) →
-    (is_special item ≡ false → such item ≡ false) → is_special item ≡ has
+    (is_special_item item ≡ false → such item ≡ false) → is_special_item item ≡ has
     → count_by such (special_items text) ≡ count_by such text
     → count_by such (special_items (item ∷ text)) ≡ count_by such (item ∷ text)
 count_step true such item text none is same =
@@ -332,16 +332,16 @@ count_step false such item text none is same =
     omega (arith, count-cons such item text, nothing, fewer, same)
 
 -- what no bare item has is counted among the special ones
-same_count : (such : Item → Bool) → ((item : Item) → is_special item ≡ false → such item ≡ false) →
+same_count : (such : Item → Bool) → ((item : Item) → is_special_item item ≡ false → such item ≡ false) →
     (text : List Item) → count_by such (special_items text) ≡ count_by such text
 same_count such none [] = refl
 same_count such none (item ∷ text) =
-    count_step (is_special item) such item text (none item) refl (same_count such none text)
+    count_step (is_special_item item) such item text (none item) refl (same_count such none text)
 
 -- ---- the text
 
 placed_by : (has : Bool) (part : Where) (text : List Item) → HasValidBareItems text → (i : ℕ) (item : Item) →
-    slice_get text i ≡ Some item → is_special item ≡ has
+    slice_get text i ≡ Some item → is_special_item item ≡ has
     → HoldsAtItems (special_items text) (IsPlacedRight part (length (special_items text)))
     → IsPlacedRight part (length text) i item
 placed_by true part text right i item there is placed =
@@ -369,25 +369,25 @@ both_false : (b c : Bool) → b ≡ false → IsTrue (b && c) → ⊥
 both_false true c none both = absurd (cc)
 both_false false c none both = absurd (cc)
 
-bare_fits : (cells : ℕ) (item : Item) → is_special item ≡ false → IsPlainUnit item.unit → FitsRow cells item
+bare_fits : (cells : ℕ) (item : Item) → is_special_item item ≡ false → IsPlainUnit item.unit → FitsRow cells item
 bare_fits cells item bare plain = record {
   row = λ mark.
-      absurd (both_false (eqb item.unit cell_mark) (is_on (paragraph_value item 0x2417))
+      absurd (both_false (eqb item.unit cell_mark) (is_byte_one (paragraph_value item 0x2417))
       (ne_eqb item.unit cell_mark plain.cell) mark);
   outside = λ mark.
-      absurd (both_false (is_some item.mark) (not (eqb item.unit cell_mark) && not (is_on (paragraph_value item
+      absurd (both_false (is_some item.mark) (not (eqb item.unit cell_mark) && not (is_byte_one (paragraph_value item
       0x2416)))
       (bare_parts item bare).mark mark);
 }
 
 rows_by : (has : Bool) (text : List Item) → HasValidBareItems text → (i : ℕ) (item : Item) →
-    slice_get text i ≡ Some item → is_special item ≡ has
+    slice_get text i ≡ Some item → is_special_item item ≡ has
     → HoldsAtItems (special_items text) (λ k x. FitsRow (open_cells (take k (special_items text))) x)
     → FitsRow (open_cells (take i text)) item
 rows_by true text right i item there is rows =
     let place = place_of text right i item there is in
     let cells = cells_of_all (take i text) (All-take
-    (λ (x : Item). is_special x ≡ false → IsPlainUnit x.unit) i text right.plain) in
+    (λ (x : Item). is_special_item x ≡ false → IsPlainUnit x.unit) i text right.plain) in
     subst (λ (n : ℕ). FitsRow n item) (ap open_cells place.before ∙ cells)
     (rows (length (special_items (take i text))) item place.there)
 rows_by false text right i item there is rows =
@@ -397,15 +397,15 @@ no_mark : {A : Type 0} (o : Option A) (P : A → Type 0) → is_some o ≡ false
 no_mark o P none x is = let some : is_some o ≡ true = ap is_some is in absurd (cc)
 
 styles_by : (has : Bool) (sheet : Sheet) (text : List Item) → HasValidBareItems text → (i : ℕ) (item : Item) →
-    slice_get text i ≡ Some item → is_special item ≡ has
+    slice_get text i ≡ Some item → is_special_item item ≡ has
     → HoldsAtItems (special_items text) (λ k x. HasParagraphStyle sheet x) → HasParagraphStyle sheet item
 styles_by true sheet text right i item there is styles =
     styles (length (special_items (take i text))) item (place_of text right i item there is).there
 styles_by false sheet text right i item there is styles =
-    no_mark item.mark (λ mark. kind_at sheet mark.istd ≡ 1) (bare_parts item is).mark
+    no_mark item.mark (λ mark. style_kind_at sheet mark.istd ≡ 1) (bare_parts item is).mark
 
 short_by : (has : Bool) (text : List Item) → HasValidBareItems text → (i : ℕ) (item : Item) →
-    slice_get text i ≡ Some item → is_special item ≡ has
+    slice_get text i ≡ Some item → is_special_item item ≡ has
     → HoldsAtItems (special_items text) (λ k x. HasShortProperties x) → HasShortProperties item
 short_by true text right i item there is short =
     short (length (special_items (take i text))) item (place_of text right i item there is).there
@@ -422,11 +422,12 @@ short_by false text right i item there is short =
 
 -- ---- a walk over a text
 
-bare_right : (rule : ItemRule) (sheet : Sheet) (part : Where) (len place : ℕ) (item : Item) → is_special item ≡ false →
+bare_right : (rule : ItemRule) (sheet : Sheet) (part : Where) (len place : ℕ) (item : Item) → is_special_item item ≡
+    false →
     IsPlainUnit item.unit → IsShortChp item.chp → (place + 1 ≡ len → ⊥) → IsValidItem rule sheet part len place item
 bare_right Placing sheet part len place item bare plain short inside = bare_placed part len place item bare plain inside
 bare_right Styles sheet part len place item bare plain short inside =
-    no_mark item.mark (λ mark. kind_at sheet mark.istd ≡ 1) (bare_parts item bare).mark
+    no_mark item.mark (λ mark. style_kind_at sheet mark.istd ≡ 1) (bare_parts item bare).mark
 bare_right Properties sheet part len place item bare plain short inside = record {
   chp = short;
   pap = no_mark item.mark (λ mark. IsShortPap mark.pap) (bare_parts item bare).mark;
@@ -435,7 +436,7 @@ bare_right Properties sheet part len place item bare plain short inside = record
 
 -- a walk goes past a bare item and carries what it carried
 pub bare_passes : (sheet : Sheet) (part : Where) (len place : ℕ) (item : Item) (walk : TextWalk) →
-    is_special item ≡ false → IsPlainUnit item.unit → IsShortChp item.chp → (place + 1 ≡ len → ⊥)
+    is_special_item item ≡ false → IsPlainUnit item.unit → IsShortChp item.chp → (place + 1 ≡ len → ⊥)
     → PassesItem sheet part len place item walk walk
 bare_passes sheet part len place item walk bare plain short inside =
     let lacks = bare_parts item bare in
@@ -446,7 +447,8 @@ bare_passes sheet part len place item walk bare plain short inside =
       row = bare_fits walk.cells item bare plain;
       cells = sym (same_cells walk.cells item plain);
       fields =
-          ap (λ (b : Bool). cond b (after_unit most_open item.unit walk.fields) (Some walk.fields)) lacks.fld;
+          ap (λ (b : Bool). cond b (after_field_character most_open item.unit walk.fields) (Some walk.fields))
+          lacks.fld;
       notes = omega (arith, no_notes);
       sections = omega (arith, no_sections);
     }
@@ -465,20 +467,20 @@ pub text_by_specials : (sheet : Sheet) (part : Where) (text : List Item) → Has
     IsValidText sheet part (special_items text) → IsValidText sheet part text
 text_by_specials sheet part text right kept = record {
   ends = ends_by part text right kept.ends;
-  placed = λ i item there. placed_by (is_special item) part text right i item there refl kept.placed;
-  fields = subst (AreFields most_open) (same_fields text) kept.fields;
-  rows = λ i item there. rows_by (is_special item) text right i item there refl kept.rows;
+  placed = λ i item there. placed_by (is_special_item item) part text right i item there refl kept.placed;
+  fields = subst (AreNestedFields most_open) (same_fields text) kept.fields;
+  rows = λ i item there. rows_by (is_special_item item) text right i item there refl kept.rows;
   row_ends = sym (cells_of_all text right.plain) ∙ kept.row_ends;
-  styles = λ i item there. styles_by (is_special item) sheet text right i item there refl kept.styles;
-  short = λ i item there. short_by (is_special item) text right i item there refl kept.short;
+  styles = λ i item there. styles_by (is_special_item item) sheet text right i item there refl kept.styles;
+  short = λ i item there. short_by (is_special_item item) text right i item there refl kept.short;
 }
 
 -- ---- the document
 
-no_note : (item : Item) → is_special item ≡ false → is_some item.note ≡ false
+no_note : (item : Item) → is_special_item item ≡ false → is_some item.note ≡ false
 no_note item bare = (bare_parts item bare).note
 
-no_sect : (item : Item) → is_special item ≡ false → is_some item.sect ≡ false
+no_sect : (item : Item) → is_special_item item ≡ false → is_some item.sect ≡ false
 no_sect item bare = (bare_parts item bare).sect
 
 -- the text of a list whose special items are at the same place of the other list
@@ -495,8 +497,8 @@ list_right texts number text right there =
     (All-get_or HasValidBareItems texts number text (slice_get_within texts number text there) right)
 
 text_there : (document kept : Document) → AreSpecialsOf document kept → (part : Where) (text : List Item) →
-    text_of document part ≡ Some text →
-    (text_of kept part ≡ Some (special_items text)) × HasValidBareItems text
+    text_of_place document part ≡ Some text →
+    (text_of_place kept part ≡ Some (special_items text)) × HasValidBareItems text
 text_there document kept are File text there = absurd (cc)
 text_there document kept are Wd text there = absurd (cc)
 text_there document kept are Table text there = absurd (cc)

@@ -7,41 +7,41 @@ use Rattle.std.proofs.lemmas.Option.{same_Some, slice_get-map, slice_get_past}
 use Rattle.doc_bits.proofs.Public.{there_is, get-map, slice_get-take, got_drop}
 use Rattle.run_lists.specs.Spread.{expanded}
 use Rattle.run_lists.proofs.Public.{length-spread}
-use Rattle.plain_doc.specs.declared.item.Item.{Item}
-use Rattle.plain_doc.specs.Stretches.{joins_at, joins_next, BeginsStretch}
+use Rattle.doc_model.specs.declared.item.Item.{Item}
+use Rattle.doc_model.specs.Stretches.{joins_at, joins_next, BeginsStretch}
 use Rattle.doc_columns.specs.declared.attached.Attached.{Attached}
 use Rattle.doc_columns.specs.declared.walk.Parts.{Parts}
 use Rattle.doc_columns.specs.declared.walk.Walk.{Walk}
 use Rattle.doc_columns.specs.Attached.{attached_of}
-use Rattle.doc_columns.specs.Walks.{items_in, AreParts, IsWalk}
+use Rattle.doc_columns.specs.Walks.{items_in, AreFullParts, IsColumnWalk}
 use Rattle.doc_columns.proofs.ItemsOfLemmas.{length-items_of, units-items_of, chps-items_of, attachments-items_of}
 use Rattle.doc_columns.proofs.CollectLemmas.{start_at}
 
 -- ---- columns and items
 
-pub long_chps : (parts : Parts) → AreParts parts → length (expanded parts.chps.now) ≡ length parts.units.now
+pub long_chps : (parts : Parts) → AreFullParts parts → length (expanded parts.chps.now) ≡ length parts.units.now
 long_chps parts are = length-spread parts.chps.now ∙ are.chps_long
 
-pub long_attachments : (parts : Parts) → AreParts parts → length (expanded parts.attachments.now) ≡ length
+pub long_attachments : (parts : Parts) → AreFullParts parts → length (expanded parts.attachments.now) ≡ length
     parts.units.now
 long_attachments parts are = length-spread parts.attachments.now ∙ are.attachments_long
 
-pub items_long : (parts : Parts) → AreParts parts → length (items_in parts) ≡ length parts.units.now
+pub items_long : (parts : Parts) → AreFullParts parts → length (items_in parts) ≡ length parts.units.now
 items_long parts are =
     length-items_of parts.units.now (expanded parts.chps.now) (expanded parts.attachments.now) (long_chps parts are)
     (long_attachments parts are)
 
-pub units_are : (parts : Parts) → AreParts parts → map (λ item. item.unit) (items_in parts) ≡ parts.units.now
+pub units_are : (parts : Parts) → AreFullParts parts → map (λ item. item.unit) (items_in parts) ≡ parts.units.now
 units_are parts are =
     units-items_of parts.units.now (expanded parts.chps.now) (expanded parts.attachments.now) (long_chps parts are)
     (long_attachments parts are)
 
-pub chps_are : (parts : Parts) → AreParts parts → map (λ item. item.chp) (items_in parts) ≡ expanded parts.chps.now
+pub chps_are : (parts : Parts) → AreFullParts parts → map (λ item. item.chp) (items_in parts) ≡ expanded parts.chps.now
 chps_are parts are =
     chps-items_of parts.units.now (expanded parts.chps.now) (expanded parts.attachments.now) (long_chps parts are)
     (long_attachments parts are)
 
-pub attachments_are : (parts : Parts) → AreParts parts → map attached_of (items_in parts) ≡ expanded
+pub attachments_are : (parts : Parts) → AreFullParts parts → map attached_of (items_in parts) ≡ expanded
     parts.attachments.now
 attachments_are parts are =
     attachments-items_of parts.units.now (expanded parts.chps.now) (expanded parts.attachments.now) (long_chps parts
@@ -49,7 +49,8 @@ attachments_are parts are =
     (long_attachments parts are)
 
 -- what is beside an item is in its column
-pub attached_there : (parts : Parts) → AreParts parts → (k : ℕ) (item : Item) → slice_get (items_in parts) k ≡ Some item
+pub attached_there : (parts : Parts) → AreFullParts parts → (k : ℕ) (item : Item) → slice_get (items_in parts) k ≡ Some
+    item
     →
     slice_get (expanded parts.attachments.now) k ≡ Some (attached_of item)
 attached_there parts are k item here =
@@ -58,7 +59,7 @@ attached_there parts are k item here =
 
 -- ---- walks
 
-pub later_walk : (parts : Parts) (walk : Walk) (m n : ℕ) → IsWalk parts walk m → m ≤ n → IsWalk parts walk n
+pub later_walk : (parts : Parts) (walk : Walk) (m n : ℕ) → IsColumnWalk parts walk m → m ≤ n → IsColumnWalk parts walk n
 later_walk parts walk m n is le = record {
   at_chps = is.at_chps;
   chps_ahead = (let ahead = is.chps_ahead in omega (arith, ahead, le));
@@ -68,9 +69,9 @@ later_walk parts walk m n is le = record {
 
 pub first_walk : (parts : Parts) (walk : Walk) →
     walk ≡ record { chps = record { run = 0; begin = 0 }; attachments = record { run = 0; begin = 0 } } →
-    IsWalk parts walk 0
+    IsColumnWalk parts walk 0
 first_walk parts walk is =
-    subst (λ (w : Walk). IsWalk parts w 0) (sym is)
+    subst (λ (w : Walk). IsColumnWalk parts w 0) (sym is)
     (record {
       at_chps = start_at parts.chps.now (record { run = 0; begin = 0 }) refl;
       chps_ahead = omega arith;

@@ -7,20 +7,20 @@ use Rattle.std.proofs.lemmas.List.Edits.{length-between}
 use Rattle.prop_map.specs.Settings.{Properties}
 use Rattle.run_lists.specs.declared.runs.Run.{Run}
 use Rattle.run_lists.specs.Spread.{expanded, total_len}
-use Rattle.run_lists.specs.Places.{IsAt}
+use Rattle.run_lists.specs.Places.{IsAtRunBegin}
 use Rattle.run_lists.proofs.Public.{extent-take, length-spread, spread_push, spread-take, spread-drop}
-use Rattle.plain_doc.specs.declared.item.Item.{Item}
+use Rattle.doc_model.specs.declared.item.Item.{Item}
 use Rattle.doc_columns.specs.declared.attached.Attached.{Attached}
 use Rattle.doc_columns.specs.declared.window.Whole.{Whole}
 use Rattle.doc_columns.specs.declared.window.Span.{Span}
 use Rattle.doc_columns.specs.declared.window.Spans.{Spans}
 use Rattle.doc_columns.specs.declared.walk.Parts.{Parts}
 use Rattle.doc_columns.specs.declared.walk.Walk.{Walk}
-use Rattle.plain_doc.specs.Document.{IsFormedText}
+use Rattle.doc_model.specs.Document.{IsFormedText}
 use Rattle.doc_columns.specs.Attached.{attached_of}
 use Rattle.doc_columns.specs.Columns.{items_of, AreColumns}
-use Rattle.doc_columns.specs.Walks.{items_in, AreParts, IsWalk}
-use Rattle.doc_columns.specs.Windows.{in_span, whole_items, window_items, AreWhole, IsSpanOf, IsWindow}
+use Rattle.doc_columns.specs.Walks.{items_in, AreFullParts, IsColumnWalk}
+use Rattle.doc_columns.specs.Windows.{in_span, column_items, window_items, AreWhole, IsSpanOf, IsWindow}
 use Rattle.doc_columns.specs.Windows.{IsWalkOver, IsWalkBefore}
 use Rattle.doc_columns.proofs.ItemsOfLemmas.{text_long, units-items_of, chps-items_of, attachments-items_of}
 use Rattle.doc_columns.proofs.ChangesLemmas.{range_are, range_columns}
@@ -52,10 +52,10 @@ pub record IsWithin (whole : Whole) (place : ℕ) : Type 0 where
   pub chps : place ≤ total_len whole.chps.items
   pub attachments : place ≤ total_len whole.attachments.items
 
-pub within_columns : (whole : Whole) (place : ℕ) → AreWhole whole → place ≤ length (whole_items whole) →
+pub within_columns : (whole : Whole) (place : ℕ) → AreWhole whole → place ≤ length (column_items whole) →
     IsWithin whole place
 within_columns whole place are within =
-    let long = text_long whole.units.items (expanded whole.chps.items) (expanded whole.attachments.items) (whole_items
+    let long = text_long whole.units.items (expanded whole.chps.items) (expanded whole.attachments.items) (column_items
     whole)
     are refl in
     record {
@@ -67,7 +67,7 @@ within_columns whole place are within =
 -- a window of columns, and the items that it has
 pub record IsWindowOf (whole : Whole) (spans : Spans) (from to : ℕ) : Type 0 where
   pub window : IsWindow whole spans
-  pub items : window_items whole spans ≡ slice_range (whole_items whole) from to
+  pub items : window_items whole spans ≡ slice_range (column_items whole) from to
 
 -- spans of runs that begin and end at the places of the units are a window
 pub window_of : (whole : Whole) (from to : ℕ) (chps attachments : Span) → AreWhole whole → from ≤ to →
@@ -98,7 +98,7 @@ window_of whole from to chps attachments are ordered within chps_is attachments_
                 chps_range attachments_range;
           };
       items =
-          range_columns us cs bs (slice_range us from to) some_chps some_attachments (whole_items whole) from to refl
+          range_columns us cs bs (slice_range us from to) some_chps some_attachments (column_items whole) from to refl
           chps_range attachments_range refl;
     }
 
@@ -149,7 +149,7 @@ whole_range xs from to start end =
     ∙ take_all to xs (omega (arith, end))
 
 -- parts of a text whose items are formed are columns
-pub columns_of_parts : (parts : Parts) → AreParts parts → IsFormedText (items_in parts) →
+pub columns_of_parts : (parts : Parts) → AreFullParts parts → IsFormedText (items_in parts) →
     AreColumns parts.units.now (expanded parts.chps.now) (expanded parts.attachments.now)
 columns_of_parts parts are formed =
     record { chps_long = long_chps parts are; attachments_long = long_attachments parts are; formed = formed }
@@ -190,12 +190,12 @@ pub record ArePartsOf (whole : Whole) (parts : Parts) : Type 0 where
   pub chps : parts.chps.now ≡ whole.chps.items
   pub attachments : parts.attachments.now ≡ whole.attachments.items
 
-pub same_items : (whole : Whole) (parts : Parts) → ArePartsOf whole parts → items_in parts ≡ whole_items whole
+pub same_items : (whole : Whole) (parts : Parts) → ArePartsOf whole parts → items_in parts ≡ column_items whole
 same_items whole parts are = λ i. items_of (are.units i) (expanded (are.chps i)) (expanded (are.attachments i))
 
-pub parts_long : (whole : Whole) (parts : Parts) → ArePartsOf whole parts → AreWhole whole → AreParts parts
+pub parts_long : (whole : Whole) (parts : Parts) → ArePartsOf whole parts → AreWhole whole → AreFullParts parts
 parts_long whole parts are whole_is =
-    let long = text_long whole.units.items (expanded whole.chps.items) (expanded whole.attachments.items) (whole_items
+    let long = text_long whole.units.items (expanded whole.chps.items) (expanded whole.attachments.items) (column_items
     whole)
     whole_is refl in
     record {
@@ -220,11 +220,11 @@ parts_long whole parts are whole_is =
 
 -- a walk over the columns is one over the parts
 pub walk_of_parts : (whole : Whole) (parts : Parts) (walk : Walk) (place : ℕ) → ArePartsOf whole parts →
-    IsWalkOver whole walk → IsWalkBefore walk place → IsWalk parts walk place
+    IsWalkOver whole walk → IsWalkBefore walk place → IsColumnWalk parts walk place
 walk_of_parts whole parts walk place are over before = record {
-  at_chps = subst (λ (runs : List (Run Properties)). IsAt runs walk.chps) (sym are.chps) over.at_chps;
+  at_chps = subst (λ (runs : List (Run Properties)). IsAtRunBegin runs walk.chps) (sym are.chps) over.at_chps;
   chps_ahead = before.chps_ahead;
-  at_attachments = subst (λ (runs : List (Run Attached)). IsAt runs walk.attachments) (sym are.attachments)
+  at_attachments = subst (λ (runs : List (Run Attached)). IsAtRunBegin runs walk.attachments) (sym are.attachments)
       over.at_attachments;
   attachments_ahead = before.attachments_ahead;
 }

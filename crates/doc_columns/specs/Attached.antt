@@ -1,7 +1,7 @@
 -- What is attached to the unit of an item.
 use Rattle.std.specs.Prelude.{◌^◌, ◌<◌, ◌||◌, Bool, is_some, None}
 use Rattle.std.specs.Option.{ForSome}
-use Rattle.plain_doc.specs.declared.item.Item.{Item}
+use Rattle.doc_model.specs.declared.item.Item.{Item}
 use Rattle.doc_columns.specs.declared.attached.Attached.{Attached}
 
 -- of an item

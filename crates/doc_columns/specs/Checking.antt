@@ -1,6 +1,6 @@
 -- Why a document by columns is refused.
 use Rattle.std.specs.Prelude.{⊤}
-use Rattle.plain_doc.specs.declared.document.Document.{Document}
+use Rattle.doc_model.specs.declared.document.Document.{Document}
 use Rattle.plain_doc.specs.Sound.{NamesFirstRule, document_rules}
 use Rattle.doc_columns.specs.declared.checking.CheckFault.{CheckFault}
 use Rattle.doc_columns.specs.declared.checking.CheckFault.TheVariants.{Rule, Memory}

@@ -2,9 +2,9 @@
 use Rattle.std.specs.Prelude.{◌≡◌, ℕ, ◌+◌, ◌<◌, ◌≤◌, List, length, map, All, Some, slice_get}
 use Rattle.run_lists.specs.declared.runs.Run.{Run}
 use Rattle.run_lists.specs.Spread.{expanded}
-use Rattle.plain_doc.specs.declared.item.Item.{Item}
+use Rattle.doc_model.specs.declared.item.Item.{Item}
 use Rattle.plain_doc.specs.declared.text_walk.TextWalk.{TextWalk}
-use Rattle.plain_doc.specs.Document.{IsFormedText}
+use Rattle.doc_model.specs.Document.{IsFormedText}
 use Rattle.plain_doc.specs.RulesOfItems.{IsShortChp}
 use Rattle.plain_doc.specs.RulesOfTexts.{EndsRight}
 use Rattle.plain_doc.specs.TextWalk.{HasPassed}
@@ -25,7 +25,7 @@ abbrev pub IsPassedTo : JudgedText → ℕ → TextWalk → Type 0
 IsPassedTo judged place walk = HasPassed judged.sheet.now judged.part judged.text.now place walk
 
 -- the run is what is beside the items of the text from a place on
-pub record IsRunAt (text : List Item) (place : ℕ) (run : Run Attached) : Type 0 where
+pub record IsAttachedRun (text : List Item) (place : ℕ) (run : Run Attached) : Type 0 where
   pub within : place + run.count ≤ length text
   pub values :
       (at : ℕ) → place ≤ at → at < place + run.count → slice_get (map attached_of text) at ≡ Some run.value

@@ -1,6 +1,6 @@
 -- What the special items of a document say of all of it.
 use Rattle.std.specs.Prelude.{◌≤◌, length}
-use Rattle.plain_doc.specs.declared.document.Document.{Document}
+use Rattle.doc_model.specs.declared.document.Document.{Document}
 use Rattle.plain_doc.specs.RulesOfSheet.{item_count, most_items}
 use Rattle.plain_doc.specs.Sound.{IsSound}
 use Rattle.doc_columns.specs.Specials.{AreSpecialsOf}

@@ -1,10 +1,10 @@
 -- What a sound document says of its bookmarks alone: no item of its texts tells it.
 use Rattle.std.specs.Prelude.{ℕ, ◌≤◌, List, length}
 use Rattle.doc_bits.specs.Rules.{Nowhere}
-use Rattle.doc_parts.specs.declared.bookmark_order.Bookmark.{Bookmark}
-use Rattle.doc_parts.specs.Bookmarks.{AreFormedBookmarks}
-use Rattle.doc_parts.specs.Names.{HasSameName}
-use Rattle.plain_doc.specs.Marks.{most_bookmarks}
+use Rattle.document_bookmarks.specs.declared.bookmark_order.Bookmark.{Bookmark}
+use Rattle.document_bookmarks.specs.Bookmarks.{AreFormedBookmarks}
+use Rattle.document_bookmarks.specs.Names.{HasSameName}
+use Rattle.doc_model.specs.Marks.{most_bookmarks}
 
 -- the bookmarks of a main text of this length are formed, not too many, and none has the name of an earlier one
 pub record AreValidBookmarks (len : ℕ) (list : List Bookmark) : Type 0 where

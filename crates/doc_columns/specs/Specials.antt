@@ -4,18 +4,18 @@
 use Rattle.std.specs.Prelude.{◌≡◌, ◌≢◌, ◌⊎◌, ℕ, ◌||◌, Bool, false, List, [], is_some, map, Some}
 use Rattle.std.specs.List.{All, filter}
 use Rattle.text_codes.specs.Paragraph.{paragraph_mark, cell_mark}
-use Rattle.plain_doc.specs.declared.item.Item.{Item}
-use Rattle.plain_doc.specs.declared.document.Document.{Document}
+use Rattle.doc_model.specs.declared.item.Item.{Item}
+use Rattle.doc_model.specs.declared.document.Document.{Document}
 use Rattle.plain_doc.specs.RulesOfItems.{IsShortChp}
 use Rattle.plain_doc.specs.RulesOfTexts.{last_unit}
 
 -- the item has something beside its properties
-abbrev pub is_special : Item → Bool
-is_special item = is_some item.mark || (is_some item.sect || (is_some item.fld || is_some item.note))
+abbrev pub is_special_item : Item → Bool
+is_special_item item = is_some item.mark || (is_some item.sect || (is_some item.fld || is_some item.note))
 
 -- those of a text, in their order
 abbrev pub special_items : List Item → List Item
-special_items text = filter is_special text
+special_items text = filter is_special_item text
 
 -- a bare item does not have the unit of a mark
 pub record IsPlainUnit (unit : ℕ) : Type 0 where
@@ -24,7 +24,7 @@ pub record IsPlainUnit (unit : ℕ) : Type 0 where
 
 -- the bare items of the text are right, all properties of characters are short, and the last unit is a paragraph mark
 pub record HasValidBareItems (text : List Item) : Type 0 where
-  pub plain : All (λ item. is_special item ≡ false → IsPlainUnit item.unit) text
+  pub plain : All (λ item. is_special_item item ≡ false → IsPlainUnit item.unit) text
   pub short : All (λ item. IsShortChp item.chp) text
   pub ends : (text ≡ []) ⊎ (last_unit text ≡ Some paragraph_mark)
 

@@ -2,8 +2,8 @@
 use Rattle.std.specs.Prelude.{◌≡◌, ℕ, ◌≤◌, List, length, slice_range, take}
 use Rattle.run_lists.specs.declared.runs.Run.{Run}
 use Rattle.run_lists.specs.Spread.{expanded, total_len}
-use Rattle.run_lists.specs.Places.{IsAt}
-use Rattle.plain_doc.specs.declared.item.Item.{Item}
+use Rattle.run_lists.specs.Places.{IsAtRunBegin}
+use Rattle.doc_model.specs.declared.item.Item.{Item}
 use Rattle.doc_columns.specs.declared.walk.Walk.{Walk}
 use Rattle.doc_columns.specs.declared.window.Whole.{Whole}
 use Rattle.doc_columns.specs.declared.window.Span.{Span}
@@ -20,8 +20,8 @@ pub record IsSpan (len : ℕ) (span : Span) : Type 0 where
   pub within : span.to ≤ len
 
 -- the items of whole columns
-abbrev pub whole_items : Whole → List Item
-whole_items whole = items_of whole.units.items (expanded whole.chps.items) (expanded whole.attachments.items)
+abbrev pub column_items : Whole → List Item
+column_items whole = items_of whole.units.items (expanded whole.chps.items) (expanded whole.attachments.items)
 
 -- the items of the spans
 abbrev pub window_items : Whole → Spans → List Item
@@ -50,8 +50,8 @@ pub record IsSpanOf {T : Type 0} (runs : List (Run T)) (from to : ℕ) (span : S
 
 -- the walk is at runs of the columns
 pub record IsWalkOver (whole : Whole) (walk : Walk) : Type 0 where
-  pub at_chps : IsAt whole.chps.items walk.chps
-  pub at_attachments : IsAt whole.attachments.items walk.attachments
+  pub at_chps : IsAtRunBegin whole.chps.items walk.chps
+  pub at_attachments : IsAtRunBegin whole.attachments.items walk.attachments
 
 -- and not behind the place
 pub record IsWalkBefore (walk : Walk) (place : ℕ) : Type 0 where

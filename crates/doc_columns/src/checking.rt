@@ -1,6 +1,6 @@
 // A document by columns checked by the rules on documents.
 ghost use Rattle.std.specs.Prelude.{MatchResult};
-ghost use Rattle.plain_doc.specs.Marks.{HasFormedBookmarks};
+ghost use Rattle.doc_model.specs.Marks.{HasFormedBookmarks};
 ghost use Rattle.plain_doc.specs.Sound.{IsSound};
 ghost use Rattle.doc_columns.specs.Checking.{IsCheckFault};
 

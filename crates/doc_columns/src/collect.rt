@@ -1,7 +1,7 @@
 // The items of a run, put one by one.
 ghost use Rattle.std.specs.Prelude.{◌≡◌, ◌+◌, ◌<◌, ◌≤◌, ◌^◌, ◌++◌, length, OnOk};
 ghost use Rattle.run_lists.specs.Spread.{expanded, total_len};
-ghost use Rattle.run_lists.specs.Places.{IsAt};
+ghost use Rattle.run_lists.specs.Places.{IsAtRunBegin};
 ghost use Rattle.doc_columns.specs.RunItems.{HasMapsWith, run_items};
 
 use crate::Attached;
@@ -30,11 +30,11 @@ pub(crate) fn push_run(
 ) -> Result<(), Memory>
     requires within { place + run.now.count ≤ length parts.now.units.now }
     requires long { total_len parts.now.chps.now ≡ length parts.now.units.now }
-    requires at { IsAt parts.now.chps.now cursor.old }
+    requires at { IsAtRunBegin parts.now.chps.now cursor.old }
     requires ahead { cursor.old.begin ≤ place }
     requires few { length items.old + run.now.count < 2 ^ 32 }
     requires maps { HasMapsWith parts.now.units.now (expanded parts.now.chps.now) place run.now }
-    ensures at { OnOk result (IsAt parts.now.chps.now cursor.new) }
+    ensures at { OnOk result (IsAtRunBegin parts.now.chps.now cursor.new) }
     ensures ahead { OnOk result (cursor.new.begin ≤ place + run.now.count) }
     ensures items { OnOk result (items.new ≡ items.old
         ++ run_items parts.now.units.now (expanded parts.now.chps.now) place run.now) }

@@ -1,8 +1,8 @@
 // Parts of columns, copied.
 ghost use Rattle.std.specs.Prelude.{◌≡◌, ◌+◌, ◌^◌, ◌<◌, ◌≤◌, ◌++◌, length, replicate, slice_range, IfOk, OnOk};
 ghost use Rattle.run_lists.specs.Spread.{expanded};
-ghost use Rattle.plain_doc.specs.Document.{IsFormedText};
-ghost use Rattle.doc_columns.specs.Walks.{items_in, AreParts, IsWalk};
+ghost use Rattle.doc_model.specs.Document.{IsFormedText};
+ghost use Rattle.doc_columns.specs.Walks.{items_in, AreFullParts, IsColumnWalk};
 
 use crate::own::OwnColumns;
 use crate::{Parts, Walk};
@@ -18,9 +18,9 @@ pub(crate) fn copy_part(
     from: usize,
     to: usize,
 ) -> Result<OwnColumns, Memory>
-    requires parts { AreParts parts.now }
+    requires parts { AreFullParts parts.now }
     requires formed { IsFormedText (items_in parts.now) }
-    requires walk { IsWalk parts.now walk from }
+    requires walk { IsColumnWalk parts.now walk from }
     requires ordered { from ≤ to }
     requires within { to ≤ length parts.now.units.now }
     ensures { IfOk result (λ copy. copy ≡ slice_range (items_in parts.now) from to) }

@@ -21,8 +21,8 @@ pub struct ColumnDocument {
 }
 
 impl Model for ColumnDocument {
-    ghost use Rattle.plain_doc.specs.declared.document.Document.{Document};
-    ghost use Rattle.plain_doc.specs.contracts.document.Document as document;
+    ghost use Rattle.doc_model.specs.declared.document.Document.{Document};
+    ghost use Rattle.doc_model.specs.contracts.document.Document as document;
 
     ghost Value = { Document };
 

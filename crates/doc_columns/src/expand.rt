@@ -1,6 +1,6 @@
 // Columns put as plain texts and documents, and these as columns.
 ghost use Rattle.std.specs.Prelude.{◌≡◌, IfOk};
-ghost use Rattle.plain_doc.specs.Document.{IsFormedText};
+ghost use Rattle.doc_model.specs.Document.{IsFormedText};
 
 use crate::collect::{TextParts, push_run};
 use crate::document::{OtherParts, TextColumns, copy_others};

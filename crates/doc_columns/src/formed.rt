@@ -1,7 +1,7 @@
 // What holds of every document by columns. None of these functions does anything when it runs.
 ghost use Rattle.std.specs.Prelude.{◌≡◌, ◌∷◌, length, All};
 ghost use Rattle.doc_bits.specs.Number.{AreBytes};
-ghost use Rattle.plain_doc.specs.Formed.{IsFormed, carried_parts};
+ghost use Rattle.doc_model.specs.Formed.{IsFormed, carried_parts};
 
 use crate::ColumnDocument;
 use plain_doc::{Carried, is_word};

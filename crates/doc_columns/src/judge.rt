@@ -4,12 +4,12 @@ ghost use Rattle.std.specs.Prelude.{◌≡◌, ◌⊎◌, ◌+◌, ◌-◌, ◌<
 ghost use Rattle.std.specs.Prelude.{Some, IsTrue, IfOk, IfSome, OnOk};
 ghost use Rattle.prop_map.specs.Formed.{IsPropertyMap, character_groups};
 ghost use Rattle.run_lists.specs.Spread.{expanded};
-ghost use Rattle.run_lists.specs.Places.{IsAt};
+ghost use Rattle.run_lists.specs.Places.{IsAtRunBegin};
 ghost use Rattle.plain_doc.specs.RulesOfItems.{IsShortChp};
 ghost use Rattle.plain_doc.specs.RulesOfTexts.{IsHead};
-ghost use Rattle.plain_doc.specs.TextWalk.{KeepsTextRules, AreValidTexts, HasCounts};
+ghost use Rattle.plain_doc.specs.TextWalk.{KeepsTextRules, AreValidTexts, HasTextCounts};
 ghost use Rattle.doc_columns.specs.Specials.{IsPlainUnit};
-ghost use Rattle.doc_columns.specs.Judging.{IsJudgedText, IsPassedTo, IsRunAt};
+ghost use Rattle.doc_columns.specs.Judging.{IsJudgedText, IsPassedTo, IsAttachedRun};
 
 use crate::columns::item_with;
 use crate::{Attached, ColumnTexts, Columns};
@@ -57,7 +57,7 @@ pub(crate) fn right_counts(
     text: &Columns,
 ) -> Result<Option<Counts>, Memory>
     ensures { IfOk result (λ found. IfSome found (λ counts.
-        KeepsTextRules sheet.now part text.now × HasCounts text.now counts)) }
+        KeepsTextRules sheet.now part text.now × HasTextCounts text.now counts)) }
 {
     let _len = text.len();
     let judged = JudgedText {
@@ -117,7 +117,7 @@ fn judged_counts(alloc: Global, judged: &JudgedText<'_>) -> Result<Option<Counts
     requires { IsJudgedText judged.now }
     ensures { IfOk result (λ found. IfSome found (λ counts.
         KeepsTextRules judged.now.sheet.now judged.now.part judged.now.text.now
-        × HasCounts judged.now.text.now counts)) }
+        × HasTextCounts judged.now.text.now counts)) }
 {
     let mut walk = TextWalk::new();
     let mut cursor = Cursor::new();
@@ -141,11 +141,11 @@ fn pass_run(
     walk: &mut TextWalk,
 ) -> Result<bool, Memory>
     requires judged { IsJudgedText judged.now }
-    requires run { IsRunAt judged.now.text.now place run.now }
-    requires at { IsAt judged.now.chps.now cursor.old }
+    requires run { IsAttachedRun judged.now.text.now place run.now }
+    requires at { IsAtRunBegin judged.now.chps.now cursor.old }
     requires ahead { cursor.old.begin ≤ place }
     requires passed { IsPassedTo judged.now place walk.old }
-    ensures at { OnOk result (IsAt judged.now.chps.now cursor.new) }
+    ensures at { OnOk result (IsAtRunBegin judged.now.chps.now cursor.new) }
     ensures ahead { OnOk result (cursor.new.begin ≤ place + run.now.count) }
     ensures passed { IfOk result (λ known. IsTrue known → IsPassedTo judged.now (place + run.now.count) walk.new) }
 {
@@ -173,11 +173,11 @@ fn pass_items(
     walk: &mut TextWalk,
 ) -> Result<bool, Memory>
     requires judged { IsJudgedText judged.now }
-    requires run { IsRunAt judged.now.text.now place run.now }
-    requires at { IsAt judged.now.chps.now cursor.old }
+    requires run { IsAttachedRun judged.now.text.now place run.now }
+    requires at { IsAtRunBegin judged.now.chps.now cursor.old }
     requires ahead { cursor.old.begin ≤ place }
     requires passed { IsPassedTo judged.now place walk.old }
-    ensures at { OnOk result (IsAt judged.now.chps.now cursor.new) }
+    ensures at { OnOk result (IsAtRunBegin judged.now.chps.now cursor.new) }
     ensures ahead { OnOk result (cursor.new.begin ≤ place + run.now.count) }
     ensures passed { IfOk result (λ known. IsTrue known → IsPassedTo judged.now (place + run.now.count) walk.new) }
 {
@@ -201,12 +201,12 @@ fn made_item(
     at: usize,
 ) -> Result<Item, Memory>
     requires judged { IsJudgedText judged.now }
-    requires run { IsRunAt judged.now.text.now place run.now }
-    requires at { IsAt judged.now.chps.now cursor.old }
+    requires run { IsAttachedRun judged.now.text.now place run.now }
+    requires at { IsAtRunBegin judged.now.chps.now cursor.old }
     requires ahead { cursor.old.begin ≤ at }
     requires from { place ≤ at }
     requires until { at < place + run.now.count }
-    ensures at { OnOk result (IsAt judged.now.chps.now cursor.new) }
+    ensures at { OnOk result (IsAtRunBegin judged.now.chps.now cursor.new) }
     ensures ahead { OnOk result (cursor.new.begin ≤ at) }
     ensures item { IfOk result (λ item. slice_get judged.now.text.now at ≡ Some item) }
 {

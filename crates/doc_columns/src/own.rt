@@ -4,7 +4,7 @@ ghost use Rattle.std.specs.Prelude.{[], ◌∷◌, ◌++◌, length, map, All, I
 ghost use Rattle.std.specs.List.{splice};
 ghost use Rattle.prop_map.specs.Formed.{IsPropertyMap, character_groups};
 ghost use Rattle.run_lists.specs.Spread.{expanded};
-ghost use Rattle.plain_doc.specs.Document.{HasPropertyMaps, IsFormedText};
+ghost use Rattle.doc_model.specs.Document.{HasPropertyMaps, IsFormedText};
 ghost use Rattle.doc_columns.specs.Attached.{attached_of};
 ghost use Rattle.doc_columns.specs.Columns.{item_of, items_of, bare_items};
 
@@ -28,8 +28,8 @@ pub(crate) struct OwnColumns {
 impl Model for OwnColumns {
     ghost use Rattle.std.specs.Prelude.{List};
     ghost use Rattle.std.specs.Coded.{coded_list};
-    ghost use Rattle.plain_doc.specs.declared.item.Item.{Item};
-    ghost use Rattle.plain_doc.specs.contracts.item.Item as item;
+    ghost use Rattle.doc_model.specs.declared.item.Item.{Item};
+    ghost use Rattle.doc_model.specs.contracts.item.Item as item;
     ghost use Rattle.doc_columns.specs.Columns.{items_of, AreColumns};
 
     ghost Value = { List Item };

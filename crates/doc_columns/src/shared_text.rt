@@ -1,8 +1,8 @@
 // A text that others are cut out of. What is cut out at borders of runs is a window of its columns, and shares them.
 ghost use Rattle.std.specs.Prelude.{◌≡◌, ◌≤◌, length, slice_range, IfOk, IfSome};
 ghost use Rattle.run_lists.specs.Spread.{total_len};
-ghost use Rattle.run_lists.specs.Places.{IsAt};
-ghost use Rattle.doc_columns.specs.Windows.{whole_items, window_items, AreWhole, IsWindow, IsSpanOf};
+ghost use Rattle.run_lists.specs.Places.{IsAtRunBegin};
+ghost use Rattle.doc_columns.specs.Windows.{column_items, window_items, AreWhole, IsWindow, IsSpanOf};
 ghost use Rattle.doc_columns.specs.Windows.{IsWalkOver, IsWalkBefore};
 
 use crate::copying::{copy_part, into_rows};
@@ -25,15 +25,15 @@ pub struct SharedText {
 impl Model for SharedText {
     ghost use Rattle.std.specs.Prelude.{List};
     ghost use Rattle.std.specs.Coded.{coded_list};
-    ghost use Rattle.plain_doc.specs.declared.item.Item.{Item};
-    ghost use Rattle.plain_doc.specs.contracts.item.Item as item;
-    ghost use Rattle.doc_columns.specs.Windows.{whole_items, IsWholeAt};
+    ghost use Rattle.doc_model.specs.declared.item.Item.{Item};
+    ghost use Rattle.doc_model.specs.contracts.item.Item as item;
+    ghost use Rattle.doc_columns.specs.Windows.{column_items, IsWholeAt};
 
     ghost Value = { List Item };
 
     ghost coded = { coded_list item.the_row.coded };
 
-    ghost view = { λ w. whole_items w.whole.value };
+    ghost view = { λ w. column_items w.whole.value };
 
     ghost invariant = { λ w. IsWholeAt w.whole.value w.walk };
 }
@@ -67,7 +67,7 @@ impl SharedText {
 /// The columns with a list of runs each.
 fn whole_of(alloc: Global, own: OwnColumns, ends: &[u32]) -> Result<Whole, Memory>
     ensures whole { IfOk result AreWhole }
-    ensures items { IfOk result (λ whole. whole_items whole ≡ own) }
+    ensures items { IfOk result (λ whole. column_items whole ≡ own) }
 {
     let OwnColumns {
         units,
@@ -94,9 +94,9 @@ fn cut_from(
     requires whole { AreWhole whole.now.value }
     requires walk { IsWalkOver whole.now.value walk.old }
     requires ordered { from ≤ to }
-    requires within { to ≤ length (whole_items whole.now.value) }
+    requires within { to ≤ length (column_items whole.now.value) }
     ensures walk { IsWalkOver whole.now.value walk.new }
-    ensures cut { IfOk result (λ cut. cut ≡ slice_range (whole_items whole.now.value) from to) }
+    ensures cut { IfOk result (λ cut. cut ≡ slice_range (column_items whole.now.value) from to) }
 {
     let columns = whole.as_ref();
     let start = walk_before(columns, *walk, from);
@@ -125,11 +125,11 @@ fn spans(whole: &Whole, walk: &mut Walk, from: usize, to: usize) -> Option<Spans
     requires walk { IsWalkOver whole.now walk.old }
     requires before { IsWalkBefore walk.old from }
     requires ordered { from ≤ to }
-    requires within { to ≤ length (whole_items whole.now) }
+    requires within { to ≤ length (column_items whole.now) }
     ensures walk { IsWalkOver whole.now walk.new }
     ensures window { IfSome result (IsWindow whole.now) }
     ensures items { IfSome result (λ spans.
-        window_items whole.now spans ≡ slice_range (whole_items whole.now) from to) }
+        window_items whole.now spans ≡ slice_range (column_items whole.now) from to) }
 {
     let Some(chps) = span(&whole.chps, &mut walk.chps, from, to) else {
         return None;
@@ -147,11 +147,11 @@ fn spans(whole: &Whole, walk: &mut Walk, from: usize, to: usize) -> Option<Spans
 /// The runs from one that begins at `from` to before one that begins at `to`, or behind the last. The cursor goes
 /// there.
 fn span<T>(runs: &[Run<T>], cursor: &mut Cursor, from: usize, to: usize) -> Option<Span>
-    requires at { IsAt runs.now cursor.old }
+    requires at { IsAtRunBegin runs.now cursor.old }
     requires ahead { cursor.old.begin ≤ from }
     requires ordered { from ≤ to }
     requires within { to ≤ total_len runs.now }
-    ensures at { IsAt runs.now cursor.new }
+    ensures at { IsAtRunBegin runs.now cursor.new }
     ensures span { IfSome result (IsSpanOf runs.now from to) }
 {
     let Some(first) = border(runs, cursor, from) else {
@@ -168,10 +168,10 @@ fn span<T>(runs: &[Run<T>], cursor: &mut Cursor, from: usize, to: usize) -> Opti
 
 /// Which run begins at a place, if one does. The cursor goes to the run of the place.
 fn border<T>(runs: &[Run<T>], cursor: &mut Cursor, place: usize) -> Option<usize>
-    requires at { IsAt runs.now cursor.old }
+    requires at { IsAtRunBegin runs.now cursor.old }
     requires ahead { cursor.old.begin ≤ place }
     requires within { place ≤ total_len runs.now }
-    ensures at { IsAt runs.now cursor.new }
+    ensures at { IsAtRunBegin runs.now cursor.new }
     ensures ahead { cursor.new.begin ≤ place }
     ensures begins { IfSome result (λ run. (run ≡ cursor.new.run) × (cursor.new.begin ≡ place)) }
     ensures order { cursor.old.run ≤ cursor.new.run }
@@ -199,8 +199,8 @@ fn copy_range(
     requires walk { IsWalkOver whole.now walk }
     requires before { IsWalkBefore walk from }
     requires ordered { from ≤ to }
-    requires within { to ≤ length (whole_items whole.now) }
-    ensures { IfOk result (λ copy. copy ≡ slice_range (whole_items whole.now) from to) }
+    requires within { to ≤ length (column_items whole.now) }
+    ensures { IfOk result (λ copy. copy ≡ slice_range (column_items whole.now) from to) }
 {
     let parts = Parts {
         units: &whole.units,

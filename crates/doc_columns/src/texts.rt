@@ -2,7 +2,7 @@
 ghost use Rattle.std.specs.Prelude.{◌≡◌, ◌+◌, ◌-◌, ◌^◌, ◌<◌, ◌≤◌, [], ◌∷◌, ◌++◌, length};
 ghost use Rattle.std.specs.Prelude.{slice_get, slice_set, slice_range, Some, IfOk, OnOk, OnErr};
 ghost use Rattle.std.specs.List.{splice};
-ghost use Rattle.plain_doc.specs.Document.{AreFormedTexts};
+ghost use Rattle.doc_model.specs.Document.{AreFormedTexts};
 
 use crate::Columns;
 use doc_bits::{Memory, splice_list};
@@ -19,9 +19,9 @@ pub struct ColumnTexts {
 impl Model for ColumnTexts {
     ghost use Rattle.std.specs.Prelude.{List};
     ghost use Rattle.std.specs.Coded.{coded_list};
-    ghost use Rattle.plain_doc.specs.declared.item.Item.{Item};
-    ghost use Rattle.plain_doc.specs.contracts.item.Item as item;
-    ghost use Rattle.plain_doc.specs.Document.{AreFormedTexts};
+    ghost use Rattle.doc_model.specs.declared.item.Item.{Item};
+    ghost use Rattle.doc_model.specs.contracts.item.Item as item;
+    ghost use Rattle.doc_model.specs.Document.{AreFormedTexts};
 
     ghost Value = { List (List Item) };
 

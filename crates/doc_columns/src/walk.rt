@@ -1,11 +1,11 @@
 // A walk over the columns of a text, run by run.
 ghost use Rattle.std.specs.Prelude.{◌≡◌, ℕ, ◌+◌, ◌-◌, ◌^◌, ◌<◌, ◌≤◌, length, slice_get, Some, None, IsSome};
 ghost use Rattle.run_lists.specs.Spread.{expanded, total_len};
-ghost use Rattle.run_lists.specs.Places.{IsAt};
-ghost use Rattle.plain_doc.specs.declared.item.Item.{Item};
+ghost use Rattle.run_lists.specs.Places.{IsAtRunBegin};
+ghost use Rattle.doc_model.specs.declared.item.Item.{Item};
 ghost use Rattle.doc_columns.specs.declared.attached.Attached as stands;
 ghost use Rattle.doc_columns.specs.Attached.{attached_of};
-ghost use Rattle.doc_columns.specs.Walks.{items_in, AreParts, IsWalk};
+ghost use Rattle.doc_columns.specs.Walks.{items_in, AreFullParts, IsColumnWalk};
 
 use crate::{Attached, Columns};
 use prop_map::PropMap;
@@ -22,7 +22,7 @@ pub struct Parts<'a> {
 impl Columns {
     /// The three columns.
     pub fn parts(&self) -> Parts<'_>
-        ensures parts { AreParts result }
+        ensures parts { AreFullParts result }
         ensures items { items_in result ≡ self.now }
     {
         let _len = self.len();
@@ -63,10 +63,10 @@ pub struct Alike<'a> {
 
 /// What the items from a place on have in common, which the walk is not behind and goes to.
 pub fn alike_from<'a>(parts: &Parts<'a>, walk: &mut Walk, place: usize) -> Alike<'a>
-    requires parts { AreParts parts.now }
-    requires walk { IsWalk parts.now walk.old place }
+    requires parts { AreFullParts parts.now }
+    requires walk { IsColumnWalk parts.now walk.old place }
     requires within { place < length parts.now.units.now }
-    ensures walk { IsWalk parts.now walk.new place }
+    ensures walk { IsColumnWalk parts.now walk.new place }
     ensures some { place < result.end }
     ensures within { result.end ≤ length parts.now.units.now }
     ensures chps { (k : ℕ) (item : Item) → place ≤ k → k < result.end
@@ -92,10 +92,10 @@ pub fn paragraph_end(
 ) -> usize
     requires long { total_len attachments.now ≡ len }
     requires few { len < 2 ^ 32 }
-    requires at { IsAt attachments.now marks.old }
+    requires at { IsAtRunBegin attachments.now marks.old }
     requires ahead { marks.old.begin ≤ place }
     requires within { place < len }
-    ensures at { IsAt attachments.now marks.new }
+    ensures at { IsAtRunBegin attachments.now marks.new }
     ensures ahead { marks.new.begin < result }
     ensures some { place < result }
     ensures within { result ≤ len }

@@ -1,9 +1,9 @@
 // A text that is a window of columns which other texts share. Contracts see the list of its items.
 ghost use Rattle.std.specs.Prelude.{◌≡◌, ◌≤◌, length, map, slice_range, IfOk};
 ghost use Rattle.run_lists.specs.Spread.{expanded};
-ghost use Rattle.plain_doc.specs.Document.{IsFormedText};
+ghost use Rattle.doc_model.specs.Document.{IsFormedText};
 ghost use Rattle.doc_columns.specs.Attached.{attached_of};
-ghost use Rattle.doc_columns.specs.Walks.{items_in, AreParts};
+ghost use Rattle.doc_columns.specs.Walks.{items_in, AreFullParts};
 ghost use Rattle.doc_columns.specs.Windows.{in_span, window_items, IsSpan, IsWindow};
 
 use crate::copying::copy_part;
@@ -50,8 +50,8 @@ pub(crate) struct Window {
 impl Model for Window {
     ghost use Rattle.std.specs.Prelude.{List};
     ghost use Rattle.std.specs.Coded.{coded_list};
-    ghost use Rattle.plain_doc.specs.declared.item.Item.{Item};
-    ghost use Rattle.plain_doc.specs.contracts.item.Item as item;
+    ghost use Rattle.doc_model.specs.declared.item.Item.{Item};
+    ghost use Rattle.doc_model.specs.contracts.item.Item as item;
     ghost use Rattle.doc_columns.specs.Windows.{window_items, IsWindow};
 
     ghost Value = { List Item };
@@ -151,7 +151,7 @@ impl Window {
 
     /// The three columns.
     fn parts(&self) -> Parts<'_>
-        ensures parts { AreParts result }
+        ensures parts { AreFullParts result }
         ensures items { items_in result ≡ self.now }
     {
         let _len = self.len();

@@ -12,27 +12,28 @@ use Rattle.doc_bits.proofs.Public.{hold_in, hold_or_first}
 use Rattle.cfb_streams.specs.Contents.{Contents, HasNamed}
 use Rattle.cfb_streams.specs.Container.{container_rules, outer_rules, HasContents}
 use Rattle.cfb_streams.specs.Names.{wd_name}
-use Rattle.cfb_streams.proofs.Public.{outer_single, contents_stored, contents_unique}
+use Rattle.cfb_streams.proofs.Public.{outer_single, contents_unique}
 use Rattle.fib_form.specs.declared.form.Form.{Form}
 use Rattle.fib_form.specs.declared.form.Form.TheVariants.{Early, Later}
 use Rattle.fib_form.specs.Fib.{FibField, CbRgFcLcb, LaterCswNew, CswNew, NFib, fib_number, field_offset, fib_form}
-use Rattle.fib_form.specs.Fib.{fib_size, form_size, pair_place}
+use Rattle.fib_form.specs.Fib.{fib_size, form_size, fib_pair_place}
 use Rattle.fib_form.specs.FibFields.{fib_fields}
-use Rattle.fib_form.specs.FibRules.{IsOther, IsShort, IsWrongSize, IsWrongTail, HasOtherStory, IsWrongLength, fib_rules}
+use Rattle.fib_form.specs.FibRules.{IsWrongField, IsTruncatedFib, IsWrongSize, IsWrongTail, HasOtherStory}
+use Rattle.fib_form.specs.FibRules.{IsWrongTextLength, fib_rules}
 use Rattle.fib_versions.specs.declared.further.Further.{Further}
-use Rattle.fib_versions.specs.Versions.{pair_count, csw_new, version_size, early_ccp, all_text_length}
+use Rattle.fib_versions.specs.Versions.{fib_pair_count, csw_new, version_size, early_ccp, all_text_length}
 use Rattle.fib_versions.specs.Early.{early_pairs, early_fields}
 use Rattle.fib_versions.specs.VersionRules.{IsShortFib, HasOtherForm, HasWrongLength, version_rules}
 use Rattle.fib_versions.proofs.Public.{version_rules-IsSingle}
-use Rattle.plain_doc.specs.declared.document.Document.{Document}
+use Rattle.doc_model.specs.declared.document.Document.{Document}
 use Rattle.plain_doc.specs.Sound.{IsSound, document_rules}
 use Rattle.plain_doc.proofs.Public.{document_rules-IsSingle}
-use Rattle.file_rules.specs.FileRules.{FileText, HasText, source_of, contents_rules, wd_rules, table_rules}
+use Rattle.file_rules.specs.FileRules.{FileText, HasFileText, doc_source_of, contents_rules, wd_rules, table_rules}
 use Rattle.file_rules.specs.FileRules.{rules_of_pieces, table_stream_name}
 use Rattle.file_rules.specs.PartRules.{part_rules}
 use Rattle.file_rules.proofs.Public.{part_single, pieces_single, named_one, single_in, hold_out}
 use Rattle.doc_read.specs.Holds.{FileParts, HasFileParts, HoldsDocument, IsAccepted}
-use Rattle.doc_read.proofs.Public.{held_formed, held_parts}
+use Rattle.doc_read.proofs.Public.{held_formed, held_parts, named_bytes}
 use Rattle.doc_losses.specs.References.{names_of}
 use Rattle.doc_losses.proofs.Public.{names_none, no_references}
 use Rattle.doc_meaning.specs.Apart.{ReadsClx, IsReadTable}
@@ -68,7 +69,7 @@ outer_holds file hold =
 
 -- ---- the FIB
 
-the_number : (wd : List ℕ) (field : FibField) (wanted : ℕ) → Nowhere (IsOther wd field wanted) →
+the_number : (wd : List ℕ) (field : FibField) (wanted : ℕ) → Nowhere (IsWrongField wd field wanted) →
     fib_number field wd ≡ wanted
 the_number wd field wanted none = elim (cases_eq (fib_number field wd) wanted) [
   | inl same ↦ same
@@ -79,39 +80,40 @@ the_number wd field wanted none = elim (cases_eq (fib_number field wd) wanted) [
 record HasKnownSize (wd : List ℕ) : Type 0 where
   size : version_size wd ≡ fib_size wd
   least : form_size Early ≤ fib_size wd
-  pairs : 93 ≤ pair_count wd
+  pairs : 93 ≤ fib_pair_count wd
 
 known_size : (wd : List ℕ) → Nowhere (IsWrongSize wd) → HasKnownSize wd
-known_size wd none = by_form (pair_count wd == 0x6C) refl
+known_size wd none = by_form (fib_pair_count wd == 0x6C) refl
   where
     tail_of : (form : Form) → fib_form wd ≡ form → Nowhere (IsWrongTail form wd)
     tail_of form is =
         subst (λ (f : Form). Nowhere (IsWrongTail f wd)) is (λ p broken. none p (inr (inr (inr broken))))
 
-    by_form : (is : Bool) → (pair_count wd == 0x6C) ≡ is → HasKnownSize wd
+    by_form : (is : Bool) → (fib_pair_count wd == 0x6C) ≡ is → HasKnownSize wd
     by_form true is =
-        let count : pair_count wd ≡ 0x6C = eqb-true (pair_count wd) 0x6C is in
+        let count : fib_pair_count wd ≡ 0x6C = eqb-true (fib_pair_count wd) 0x6C is in
         let form : fib_form wd ≡ Later = ap (λ (b : Bool). if b then Later else Early) is in
         let new : csw_new wd ≡ 2 =
-        ap (λ n. u16_at wd (pair_place n)) count
+        ap (λ n. u16_at wd (fib_pair_place n)) count
         ∙ the_number wd LaterCswNew 2 (λ p broken. tail_of Later form p (inl broken)) in
         let whole : fib_size wd ≡ 1024 = ap form_size form in
-        let size : version_size wd ≡ 1024 = λ i. pair_place (count i) + (if new i == 0 then 2 else 6) in
+        let size : version_size wd ≡ 1024 = λ i. fib_pair_place (count i) + (if new i == 0 then 2 else 6) in
         record { size = size ∙ sym whole; least = omega (arith, whole); pairs = omega (arith, count) }
     by_form false is =
-        let other : pair_count wd ≢ 0x6C = λ e. absurd (true≢false (sym (eq-eqb (pair_count wd) 0x6C e) ∙ is)) in
-        let count : pair_count wd ≡ 93 = elim (cases_eq (pair_count wd) 93) [
+        let other : fib_pair_count wd ≢ 0x6C = λ e. absurd (true≢false (sym (eq-eqb (fib_pair_count wd) 0x6C e) ∙ is))
+        in
+        let count : fib_pair_count wd ≡ 93 = elim (cases_eq (fib_pair_count wd) 93) [
           | inl same ↦ same
           | inr differs ↦ absurd (none (field_offset CbRgFcLcb) (inr (inr (inl (refl, (differs, other))))))
         ] in
         let form : fib_form wd ≡ Early = ap (λ (b : Bool). if b then Later else Early) is in
         let new : csw_new wd ≡ 0 =
-        ap (λ n. u16_at wd (pair_place n)) count ∙ the_number wd CswNew 0 (tail_of Early form) in
+        ap (λ n. u16_at wd (fib_pair_place n)) count ∙ the_number wd CswNew 0 (tail_of Early form) in
         let whole : fib_size wd ≡ 900 = ap form_size form in
-        let size : version_size wd ≡ 900 = λ i. pair_place (count i) + (if new i == 0 then 2 else 6) in
+        let size : version_size wd ≡ 900 = λ i. fib_pair_place (count i) + (if new i == 0 then 2 else 6) in
         record { size = size ∙ sym whole; least = omega (arith, whole); pairs = omega (arith, count) }
 
-long_fib : (wd : List ℕ) → HasKnownSize wd → Nowhere (IsShort wd) → Nowhere (IsShortFib wd)
+long_fib : (wd : List ℕ) → HasKnownSize wd → Nowhere (IsTruncatedFib wd) → Nowhere (IsShortFib wd)
 long_fib wd known short = λ p broken. elim broken.1 [
   | inl low ↦ short p (broken.0, omega (arith, low, known.least))
   | inr known_fib ↦ short p (broken.0, subst (λ n. length wd < n) known.size known_fib.1)
@@ -126,7 +128,7 @@ known_form wd known none = λ p broken. elim broken [
   ]
 ]
 
-few_stories : (wd : List ℕ) → Nowhere (Among 4 (HasOtherStory wd)) → Nowhere (IsWrongLength wd) →
+few_stories : (wd : List ℕ) → Nowhere (Among 4 (HasOtherStory wd)) → Nowhere (IsWrongTextLength wd) →
     Nowhere (HasWrongLength wd)
 few_stories wd stories none = λ p broken. elim broken.1 [
   | inl empty ↦ none p (broken.0, inl empty)
@@ -233,7 +235,7 @@ read_holds wd table read fields (short, (ident, (nfib, (hidden, (glossary, (size
 -- and so do those on its parts
 read_breaks : (file : List ℕ) (contents : Contents) (wd read : List ℕ) (text : FileText) (number : ℕ) (place : Place) →
     HasContents file contents → IsReadTable contents wd read → HasFront wd read (all_text_length wd) → AreBytes wd →
-    HasText contents text → Hold (part_rules (source_of text)) →
+    HasFileText contents text → Hold (part_rules (doc_source_of text)) →
     IsFirstPlace (read_table_rules wd read) number place → ⊥
 read_breaks file contents wd read text number place has reads front bytes has_text hold (inl pieces) =
     hold_or_first Upto (rules_of_pieces (lifted_wd wd) read (all_text_length wd)) number place
@@ -242,15 +244,9 @@ read_breaks file contents wd read text number place has reads front bytes has_te
     hold_or_first Upto (part_rules source) number place (part_single source)
     (source_held file contents wd read text source has reads front bytes has_text hold is) first
 
--- a stream of the root is a list of bytes
-named_bytes : (file : List ℕ) (contents : Contents) (name bytes : List ℕ) → AreBytes file → HasContents file contents →
-    HasNamed contents.streams name bytes → AreBytes bytes
-named_bytes file contents name bytes are has named =
-    subst AreBytes (sym named.same) (contents_stored file contents are has named.index named.stream named.here).small
-
 wd_breaks : (file : List ℕ) (contents : Contents) (wd : List ℕ) (text : FileText) (number : ℕ) (place : Place) →
     AreBytes file → HasContents file contents → HasNamed contents.streams wd_name wd → Hold (wd_rules contents wd) →
-    HasText contents text → Hold (part_rules (source_of text)) →
+    HasFileText contents text → Hold (part_rules (doc_source_of text)) →
     IsFirstPlace (lifted_wd_rules contents wd) number place → ⊥
 wd_breaks file contents wd text number place bytes has named hold has_text parts (inl fib) =
     hold_or_first Upto (rules_in Wd (version_rules wd)) number place

@@ -2,7 +2,7 @@
 use Rattle.std.proofs.Common.{◌≡◌, ◌∙◌, sym, ap, subst, ℕ, List, Bool, Option}
 use Rattle.cfb_streams.specs.Contents.{HasNamed}
 use Rattle.cfb_streams.specs.Names.{wd_name}
-use Rattle.plain_doc.specs.declared.document.Document.{Document}
+use Rattle.doc_model.specs.declared.document.Document.{Document}
 use Rattle.file_rules.specs.FileRules.{table_stream_name}
 use Rattle.file_rules.proofs.Public.{named_one}
 use Rattle.doc_lift.specs.declared.lifting.Lifted.{Lifted}
@@ -13,16 +13,16 @@ use Rattle.deleted_text.specs.Texts.{AreTextDeletions}
 use Rattle.huge_papx.specs.Defined.{IsDefined, IsStruckThenDefined}
 use Rattle.huge_papx.specs.Texts.{AreTextOffsets, IsStruckDefined}
 use Rattle.doc_fit.specs.declared.losses.Found.{Found}
-use Rattle.doc_fit.specs.Opened.{HasDeletions, IsFoundIn}
+use Rattle.doc_fit.specs.Opened.{HasDeletions, AreFoundLosses}
 
 -- the streams of the report are those of the text
-pub main_same : (before : Lifted) (found : Found) → (has : HasDeletions before) → (is : IsFoundIn before found) →
+pub main_same : (before : Lifted) (found : Found) → (has : HasDeletions before) → (is : AreFoundLosses before found) →
     is.losses.wd ≡ has.text.wd
 main_same before found has is =
     named_one has.file before.outer.container wd_name is.losses.wd has.text.wd has.has_contents is.losses.named
     has.has_text.has_wd
 
-pub own_table : (before : Lifted) (found : Found) → (has : HasDeletions before) → (is : IsFoundIn before found) →
+pub own_table : (before : Lifted) (found : Found) → (has : HasDeletions before) → (is : AreFoundLosses before found) →
     is.losses.table ≡ has.text.table
 own_table before found has is =
     let container = before.outer.container in
@@ -33,7 +33,7 @@ own_table before found has is =
     has.has_text.has_table
 
 pub struck_text : (before : Lifted) (found : Found) (struck : Document) (flags : List Bool)
-    (offsets : List (Option ℕ)) (mends : List Mend) → (has : HasDeletions before) → IsFoundIn before found →
+    (offsets : List (Option ℕ)) (mends : List Mend) → (has : HasDeletions before) → AreFoundLosses before found →
     flags ≡ before.deleted.items → offsets ≡ before.offsets.items →
     IsStruckThenDefined found.begins (flags, offsets) before.document struck mends →
     IsStruckDefined has.text before.document struck mends

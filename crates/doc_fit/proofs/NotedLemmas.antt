@@ -15,8 +15,8 @@ use Rattle.cfb_streams.proofs.Public.{contents_unique}
 use Rattle.fib_form.specs.FibRules.{fib_rules}
 use Rattle.fib_versions.specs.declared.further.Further.TheVariants as further
 use Rattle.fib_versions.specs.Versions.{further_count}
-use Rattle.plain_doc.specs.declared.document.Document.{Document}
-use Rattle.plain_doc.specs.Marks.{HasFormedBookmarks}
+use Rattle.doc_model.specs.declared.document.Document.{Document}
+use Rattle.doc_model.specs.Marks.{HasFormedBookmarks}
 use Rattle.plain_doc.specs.Sound.{IsSound, document_rules}
 use Rattle.plain_doc.proofs.Public.{document_rules-IsSingle}
 use Rattle.file_rules.specs.FileRules.{FileText, contents_rules, table_stream_name}
@@ -28,7 +28,7 @@ use Rattle.doc_lift.specs.declared.lifting.Lifted.{Lifted}
 use Rattle.doc_lift.specs.LiftedFiles.{IsLifted, lifted_rules}
 use Rattle.doc_lift.proofs.Public.{lifted_single}
 use Rattle.doc_losses.specs.References.{Names, names_of}
-use Rattle.doc_losses.specs.Marks.{named_by}
+use Rattle.doc_losses.specs.Marks.{names_of_marks}
 use Rattle.doc_losses.proofs.Public.{same_names}
 use Rattle.doc_mends.specs.declared.mends.NoteStory.{NoteStory}
 use Rattle.doc_mends.specs.declared.mends.NoteStory.TheVariants as note_story
@@ -41,14 +41,14 @@ use Rattle.huge_papx.proofs.Public.{struck_defined_one, struck_defined_formed}
 use Rattle.further_notes.specs.declared.splicing.Spliced.{Spliced}
 use Rattle.further_notes.specs.declared.stories.NotedStories.{NotedStories}
 use Rattle.further_notes.specs.declared.stories.NotedStories.TheVariants.{Both, Endnotes, Comments}
-use Rattle.further_notes.specs.NoteFiles.{story_of}
+use Rattle.further_notes.specs.NoteFiles.{story_behind}
 use Rattle.further_notes.specs.Noted.{IsSpliced, HasNoSplice, has_story}
 use Rattle.further_notes.proofs.Public.{meant_one, splice_is_one, splice_formed, has_some}
 use Rattle.loss_report.specs.Features.{Inventory}
 use Rattle.doc_fit.specs.declared.losses.Found.{Found}
 use Rattle.doc_fit.specs.declared.opening.OpenedAny.{OpenedAny}
-use Rattle.doc_fit.specs.Opened.{IsFoundIn, IsOpenedAny}
-use Rattle.doc_fit.specs.Noted.{IsNotedText, HasNoted, CanNote, CannotNote, AreNoted, IsDocumentWith, AreLinesWith}
+use Rattle.doc_fit.specs.Opened.{AreFoundLosses, IsOpenedAny}
+use Rattle.doc_fit.specs.Noted.{IsNotedText, HasNoted, CanNote, CannotNote, AreNoted, IsFitDocument, AreLinesWith}
 use Rattle.doc_fit.specs.Noted.{HasTwoStreams, LacksStory, IsSplicedOf, HasNoSpliceOf, IsStruckLifted, lines_left}
 use Rattle.doc_fit.specs.Noted.{HasFileStreams, IsNotedReport, IsOpenedNoted, IsOpenedFit, IsFirstNoted, choices}
 use Rattle.doc_fit.specs.Noted.{IsOpenedFirst, IsOpenedAsNoted, lacks_some}
@@ -90,8 +90,8 @@ noted_one stories file one other bytes a b =
     (subst (λ (t : FileText). IsNotedText stories t a.meant one a.mends) text a.noted_is)) b.noted_is
 
 pub document_one : (noted : Option NotedStories) (file : List ℕ) (one other : Document) (mends others : List Mend) →
-    AreBytes file → Hold (lifted_rules file) → IsDocumentWith noted file one mends →
-    IsDocumentWith noted file other others → (one ≡ other) × (mends ≡ others)
+    AreBytes file → Hold (lifted_rules file) → IsFitDocument noted file one mends →
+    IsFitDocument noted file other others → (one ≡ other) × (mends ≡ others)
 document_one (Some stories) file one other mends others bytes rules a b =
     let same = noted_one stories file one other bytes a.noted b.noted in
     (same.0, a.mends_are ∙ (same.1 ∙ sym b.mends_are))
@@ -121,7 +121,7 @@ lines_with_one noted text inventory a b x y =
 -- ---- an accepted file
 
 -- it has nothing of a further story
-counts_none : (wd : List ℕ) (story : NoteStory) → Hold (fib_rules wd) → further_count wd (story_of story) ≡ 0
+counts_none : (wd : List ℕ) (story : NoteStory) → Hold (fib_rules wd) → further_count wd (story_behind story) ≡ 0
 counts_none wd note_story.Endnotes (_, (_, (_, (_, (_, (_, (stories, (_, parts)))))))) =
     elim (cases_eq (further_count wd further.Endnotes) 0) [
       | inl same ↦ same
@@ -156,7 +156,7 @@ never_noted stories file document other holds has =
 
 -- what it holds is what a fit of it is
 pub document_held : (noted : Option NotedStories) (file : List ℕ) (document other : Document) (mends : List Mend) →
-    IsAccepted file → HoldsDocument file document → IsDocumentWith noted file other mends → other ≡ document
+    IsAccepted file → HoldsDocument file document → IsFitDocument noted file other mends → other ≡ document
 document_held (Some stories) file document other mends accepted holds is =
     absurd (never_noted stories file document other holds is.noted)
 document_held None file document other mends accepted holds is =
@@ -181,7 +181,7 @@ two_same file lifted is has =
 
 -- each of these stories has something
 lacks_none : (stories : NotedStories) (wd : List ℕ) →
-    ((story : NoteStory) → has_story stories story ≡ true → 1 ≤ further_count wd (story_of story)) →
+    ((story : NoteStory) → has_story stories story ≡ true → 1 ≤ further_count wd (story_behind story)) →
     lacks_some stories wd ≡ false
 lacks_none Both wd some =
     let endnotes = some note_story.Endnotes refl in
@@ -282,8 +282,8 @@ module _ (stories : NotedStories) (file : List ℕ) (lifted : Lifted) (bytes : A
           splice_formed stories is.text.wd is.text.table struck.document spliced.document spliced.made.items splice_there
           (struck_defined_formed is.text lifted.document struck.document strikes is.formed struck_there)
 
-      module _ (found : Found) (finds : IsFoundIn lifted found) (after : Document) (others : List Mend)
-          (mended : IsMended (named_by found.marks) spliced.document after others) where
+      module _ (found : Found) (finds : AreFoundLosses lifted found) (after : Document) (others : List Mend)
+          (mended : IsMended (names_of_marks found.marks) spliced.document after others) where
         noted_there : IsNotedText stories is.text lifted.document after (map MakeNote spliced.made.items ++ (strikes ++ others))
         noted_there =
             let losses = finds.losses in
@@ -305,7 +305,7 @@ module _ (stories : NotedStories) (file : List ℕ) (lifted : Lifted) (bytes : A
             }
 
         pub noted_formed : HasFormedBookmarks after
-        noted_formed = bookmarks_stay (named_by found.marks) spliced.document after others spliced_formed mended
+        noted_formed = bookmarks_stay (names_of_marks found.marks) spliced.document after others spliced_formed mended
 
         -- where a rule on documents is broken then
         pub not_noted : (rule : ℕ) (place : Place) → IsFirstPlace (document_rules after) rule place →

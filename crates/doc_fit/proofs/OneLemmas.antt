@@ -7,7 +7,7 @@ use Rattle.cfb_streams.specs.Contents.{Contents, HasNamed}
 use Rattle.cfb_streams.specs.Names.{wd_name}
 use Rattle.cfb_streams.proofs.Public.{contents_unique, storages_unique}
 use Rattle.file_rules.specs.Units.{text_units}
-use Rattle.file_rules.specs.FileRules.{FileText, HasText}
+use Rattle.file_rules.specs.FileRules.{FileText, HasFileText}
 use Rattle.file_rules.proofs.Public.{named_one, text_one}
 use Rattle.loss_report.specs.Features.{Inventory}
 use Rattle.text_losses.specs.declared.features.TextFeature.{TextFeature}
@@ -93,7 +93,7 @@ inventory_one file a b x y =
     contents_unique file a.outer.container b.outer.container x.has_contents y.has_contents in
     let storages : a.outer.storages ≡ b.outer.storages =
     storages_unique file a.outer.storages b.outer.storages x.storages y.storages in
-    let there : HasText b.outer.container x.text = subst (λ c. HasText c x.text) contents x.has_text in
+    let there : HasFileText b.outer.container x.text = subst (λ c. HasFileText c x.text) contents x.has_text in
     let text : x.text ≡ y.text =
     text_one file b.outer.container x.text y.text y.has_contents there y.has_text in
     let wd : a.wd ≡ b.wd = x.wd ∙ (ap (λ (t : FileText). t.wd) text ∙ sym y.wd) in
@@ -106,7 +106,7 @@ pub text_same : (file : List ℕ) (a b : Inventory) → (x : HasInventory file a
 text_same file a b x y =
     let contents : a.outer.container ≡ b.outer.container =
     contents_unique file a.outer.container b.outer.container x.has_contents y.has_contents in
-    let there : HasText b.outer.container x.text = subst (λ c. HasText c x.text) contents x.has_text in
+    let there : HasFileText b.outer.container x.text = subst (λ c. HasFileText c x.text) contents x.has_text in
     text_one file b.outer.container x.text y.text y.has_contents there y.has_text
 
 pub lines_one : (text : FileText) (inventory : Inventory) (a b : List (List ℕ)) → AreFitLines text inventory a →

@@ -2,10 +2,10 @@
 use Rattle.std.proofs.Common.{◌≡◌, ◌∙◌, subst, ℕ, List}
 use Rattle.cfb_streams.specs.Contents.{Contents}
 use Rattle.cfb_streams.proofs.Public.{contents_unique}
-use Rattle.file_rules.specs.FileRules.{FileText, HasText}
+use Rattle.file_rules.specs.FileRules.{FileText, HasFileText}
 use Rattle.file_rules.proofs.Public.{text_one, refused-first, refused-next, refused-given}
 use Rattle.doc_losses.specs.References.{names_of}
-use Rattle.plain_doc.specs.Marks.{HasFormedBookmarks}
+use Rattle.doc_model.specs.Marks.{HasFormedBookmarks}
 use Rattle.doc_bits.specs.Rules.{Hold, given}
 use Rattle.plain_doc.specs.Sound.{document_rules}
 use Rattle.file_rules.specs.declared.fault.ReadFault.{ReadFault}
@@ -27,7 +27,7 @@ text_meant file lifted is =
     let same : is.means.parts.contents ≡ lifted.outer.container =
     contents_unique file is.means.parts.contents lifted.outer.container has.has_contents is.has_contents in
     text_one file lifted.outer.container is.text is.means.parts.text is.has_contents is.has_text
-    (subst (λ (c : Contents). HasText c is.means.parts.text) same has.has_text)
+    (subst (λ (c : Contents). HasFileText c is.means.parts.text) same has.has_text)
 
 reported_text : (file : List ℕ) (before after : Lifted) (lines : List (List ℕ)) (mends : List Mend) →
     (is : IsLifted file before) → (reported : IsReported before after lines mends) →

@@ -1,22 +1,19 @@
 -- The rules on the pieces of a file that docbin accepts, 26 to 32, hold of what is read in place of its table stream.
 use Rattle.std.specs.Prelude.{slice_index, slice_range, flat_map}
 use Rattle.std.proofs.Common.{◌≡◌, ◌∙◌, sym, ap, subst, refl, inl, inr, ℕ, ◌+◌, ◌*◌, ◌<◌, ◌≤◌, List, [], ◌∷◌}
-use Rattle.std.proofs.Common.{◌++◌, length, map, All, arith}
+use Rattle.std.proofs.Common.{◌++◌, length, map, arith}
 use Rattle.std.proofs.lemmas.Bool.{cases_eq}
 use Rattle.std.proofs.lemmas.List.{length-append}
-use Rattle.std.proofs.lemmas.Option.{get_or_from_slice_get, slice_get_within}
+use Rattle.std.proofs.lemmas.Option.{get_or_from_slice_get}
 use Rattle.doc_bits.specs.declared.places.Where.TheVariants.{Wd, Table}
 use Rattle.doc_bits.specs.Rules.{Hold, Nowhere, Among, From, rule}
 use Rattle.doc_bits.specs.Plc.{PlcPart}
-use Rattle.doc_bits.proofs.Public.{there_is, get-map, All_at, All-from_slice_get, hold_in}
-use Rattle.sprm_table.specs.Sprm.{SpellsSprmList, HasSprmFaultAt}
-use Rattle.sprm_table.proofs.Public.{spelt_unique}
-use Rattle.prop_map.specs.declared.modifiers.Modifier.{Modifier}
-use Rattle.prop_map.specs.Modifiers.{IsModifierOf, IsSpeltModifier}
+use Rattle.doc_bits.proofs.Public.{there_is, get-map, hold_in}
+use Rattle.sprm_table.specs.Sprm.{HasSprmFaultAt}
 use Rattle.prop_map.specs.Formed.{prc_groups}
-use Rattle.prl_skips.proofs.Public.{modify_skips, right_skips}
+use Rattle.prl_skips.proofs.Public.{right_skips}
 use Rattle.part_skips.specs.Prcs.{AreListsSkipped, SkipsPrcs}
-use Rattle.part_skips.proofs.Public.{prcs_length}
+use Rattle.part_skips.proofs.Public.{prcs_length, made_sizes, prc_before}
 use Rattle.fib_form.specs.declared.form.Form.TheVariants.{Early}
 use Rattle.fib_form.specs.declared.table_parts.TablePart.{TablePart}
 use Rattle.fib_form.specs.declared.table_parts.TablePart.TheVariants.{Stshf, PlcffndRef, PlcffndTxt, PlcfSed, PlcfHdd}
@@ -24,20 +21,19 @@ use Rattle.fib_form.specs.declared.table_parts.TablePart.TheVariants.{PlcfBteChp
 use Rattle.fib_form.specs.declared.table_parts.TablePart.TheVariants.{PlcfFldHdr, PlcfFldFtn, Dop, SttbfAssoc, Clx}
 use Rattle.fib_form.specs.declared.table_parts.TablePart.TheVariants.{PlfLst, PlfLfo}
 use Rattle.fib_form.specs.Fib.{CcpAtn, field_offset, fib_pair, fib_size, form_size}
-use Rattle.fib_form.specs.FibFields.{FibFields, fib_fields, pair_at, text_length}
+use Rattle.fib_form.specs.FibFields.{FibFields, fib_fields, listed_pair, text_length}
 use Rattle.fib_form.specs.FibRules.{HasOtherStory}
-use Rattle.fib_form.specs.TableParts.{pair_of}
+use Rattle.fib_form.specs.TableParts.{pair_number}
 use Rattle.fib_versions.specs.Early.{early_pairs, early_fields}
 use Rattle.fib_versions.specs.Versions.{further_ccp, all_text_length}
 use Rattle.piece_table.specs.declared.pcd.Prm.TheVariants.{Prc}
-use Rattle.piece_table.specs.Clx.{ClxParts, IsWrongAt, IsGrpprl, BeginsPcdt, prc_bytes, pcdt_bytes}
+use Rattle.piece_table.specs.Clx.{ClxParts, IsWrongClxAt, BeginsPcdt, prc_bytes, pcdt_bytes}
 use Rattle.piece_table.specs.declared.pieces.Piece.{Piece}
 use Rattle.piece_table.specs.Piece.{piece_end}
 use Rattle.piece_table.specs.Clx.{prc_place, plc_place, clx_piece, pcd_prm}
 use Rattle.piece_table.specs.declared.pieces.TextBounds.{TextBounds}
 use Rattle.piece_table.specs.ClxRules.{LeavesStream, IsFaultyPrc, IsLongPrc, piece_rules}
 use Rattle.piece_table.specs.ClxRules.{parts_rules, clx_rules, text_bounds}
-use Rattle.piece_table.specs.PrmLists.{IsPrmModifier}
 use Rattle.piece_table.proofs.Public.{prcs_unique, pcdt_no_prc}
 use Rattle.file_rules.specs.PairRules.{BreaksPairs, IsWrongPart, read_pairs}
 use Rattle.file_rules.specs.FileRules.{clx_of, rules_of_pieces, table_rules}
@@ -56,8 +52,8 @@ read_pair : (wd : List ℕ) (k : ℕ) → k < 16 → fib_fields (lifted_wd wd) �
     fib_pair (lifted_wd wd) (slice_index read_pairs k) ≡ fib_pair wd (slice_index read_pairs k)
 read_pair wd k low fields =
     let found = there_is read_parts k low in
-    let here : slice_index read_pairs k ≡ pair_of found.0 =
-    get_or_from_slice_get read_pairs k (pair_of found.0) 0 (get-map pair_of read_parts k found.0 found.1) in
+    let here : slice_index read_pairs k ≡ pair_number found.0 =
+    get_or_from_slice_get read_pairs k (pair_number found.0) 0 (get-map pair_number read_parts k found.0 found.1) in
     subst (λ n. fib_pair (lifted_wd wd) n ≡ fib_pair wd n) (sym here) (pair_same wd (lifted_wd wd) found.0 fields)
 
 pairs_hold : (wd : List ℕ) (len new_len : ℕ) → fib_fields (lifted_wd wd) ≡ early_fields wd (early_pairs wd) →
@@ -97,29 +93,6 @@ same_len wd stories =
     )
 
 -- ---- Prcs
-
--- the modifier that it has
-modifier_before : (prcs made : List (List ℕ)) (number : ℕ) (modifier : Modifier) → AreListsSkipped prcs made →
-    IsPrmModifier made (Prc number) modifier → IsPrmModifier prcs (Prc number) modifier
-modifier_before prcs made number modifier are is =
-    let list = is.named.0 in
-    let there = is.named.1.0 in
-    let spelt = is.named.1.1 in
-    let old = there_is prcs number (omega (arith, are.count, slice_get_within made number list there)) in
-    let does : IsSpeltModifier list modifier =
-    λ others also. subst (λ l. IsModifierOf l modifier) (spelt_unique list is.sprms others spelt also) is.does in
-    elim ((are.each number old.0 list old.1 there).skips) [
-      | inl skips ↦ record {
-        sprms = skips.prls;
-        named = (old.0, (old.1, skips.spelt));
-        does = (modify_skips old.0 list modifier skips).0 does skips.prls skips.spelt;
-      }
-      | inr stays ↦ record {
-        sprms = is.sprms;
-        named = (old.0, (old.1, subst (λ l. SpellsSprmList l is.sprms) stays.1 spelt));
-        does = is.does;
-      }
-    ]
 
 faulty_prcs : (old new : ClxParts) (at : ℕ) → new.plc ≡ old.plc → AreListsSkipped old.prcs new.prcs →
     Nowhere (Among (length old.prcs) (IsFaultyPrc old at)) → Nowhere (Among (length new.prcs) (IsFaultyPrc new at))
@@ -161,7 +134,7 @@ long_prcs old new at plc are none = λ p broken.
           names = subst (λ (q : PlcPart). pcd_prm q long.named.piece ≡ Prc number) plc long.named.names;
         };
         modifier = long.modifier;
-        does = modifier_before old.prcs new.prcs number long.modifier are long.does;
+        does = prc_before old.prcs new.prcs number long.modifier are long.does;
         long = long.long;
         here = refl;
       };
@@ -200,12 +173,6 @@ same_place old new s =
       length-append (flat_map prc_bytes s.prcs) s.rest,
     )
 
-made_sizes : (prcs made : List (List ℕ)) → All IsGrpprl prcs → AreListsSkipped prcs made → All IsGrpprl made
-made_sizes prcs made sizes are = All-from_slice_get IsGrpprl made (λ k list there.
-    let old = there_is prcs k (omega (arith, are.count, slice_get_within made k list there)) in
-    let size = All_at IsGrpprl prcs k old.0 sizes old.1 in
-    omega (arith, size, (are.each k old.0 list old.1 there).len))
-
 skipped_clx : (old new : List ℕ) (at : ℕ) (bounds : TextBounds) (text_len : ℕ) → SkipsPrcs old new →
     Hold (clx_rules old at bounds text_len) → Hold (clx_rules new at bounds text_len)
 skipped_clx old new at bounds text_len s (right, (parts, (spelt, hold))) =
@@ -242,7 +209,7 @@ skipped_clx old new at bounds text_len s (right, (parts, (spelt, hold))) =
       ),
     )
   where
-    no_wrong : Nowhere (From at (IsWrongAt old)) → (offset : ℕ) → ¬ (IsWrongAt new offset)
+    no_wrong : Nowhere (From at (IsWrongClxAt old)) → (offset : ℕ) → ¬ (IsWrongClxAt new offset)
     no_wrong none offset wrong =
         let same = prcs_unique s.made wrong.prcs s.rest wrong.left (made_sizes s.prcs s.made s.sizes s.skips)
         wrong.sizes (sym s.is ∙ wrong.spelt) s.no_more wrong.no_prc in
@@ -268,7 +235,7 @@ read_clx wd table read at bounds text_len (inr stays) hold =
     subst (λ (t : List ℕ). Hold (clx_rules (clx_of wd t) at bounds text_len)) (sym stays.1) hold
 read_clx wd table read at bounds text_len (inl skips) hold =
     let pairs = early_pairs wd in
-    let pair : pair_at pairs (pair_of Clx) ≡ fib_pair wd (pair_of Clx) = early_part wd Clx in
+    let pair : listed_pair pairs (pair_number Clx) ≡ fib_pair wd (pair_number Clx) = early_part wd Clx in
     let own : slice_range table (clx_from pairs) (clx_to pairs) ≡ clx_of wd table =
     ap (λ (p : ℕ × ℕ). slice_range table p.0 (p.0 + p.1)) pair in
     let made : slice_range read (clx_from pairs) (clx_to pairs) ≡ clx_of wd read =
@@ -303,7 +270,7 @@ pub pieces_hold : (wd table read : List ℕ) → fib_fields (lifted_wd wd) ≡ e
     Hold (rules_of_pieces (lifted_wd wd) read (all_text_length wd))
 pieces_hold wd table read fields stories least long clx hold =
     let early = lifted_wd wd in
-    let at = (fib_pair wd (pair_of Clx)).0 in
+    let at = (fib_pair wd (pair_number Clx)).0 in
     let own = text_bounds (fib_size wd) (length wd) in
     let new = text_bounds (fib_size early) (length early) in
     let len = text_length (fib_fields wd).ccps in
@@ -315,11 +282,11 @@ pieces_hold wd table read fields stories least long clx hold =
     let bounded = clx_bounds (clx_of wd read) at own new len (omega (arith, size, least)) bytes skipped in
     let counted : Hold (clx_rules (clx_of wd read) at new (all_text_length wd)) =
     subst (λ n. Hold (clx_rules (clx_of wd read) at new n)) (same_len wd stories) bounded in
-    let there : Hold (clx_rules (clx_of early read) (fib_pair early (pair_of Clx)).0 new (all_text_length wd)) =
+    let there : Hold (clx_rules (clx_of early read) (fib_pair early (pair_number Clx)).0 new (all_text_length wd)) =
     subst (λ (p : ℕ × ℕ). Hold (clx_rules (slice_range read p.0 (p.0 + p.1)) p.0 new (all_text_length wd)))
     (sym pair) counted in (
       λ p broken. pairs_hold wd (length table) (length read) fields (clx_table_len (early_pairs wd) table read clx)
           (hold_out Wd (rule 26 (BreaksPairs wd (length table))) hold.0) p.1 broken.1,
       hold_in Table
-          (clx_rules (clx_of early read) (fib_pair early (pair_of Clx)).0 new (all_text_length wd)) there,
+          (clx_rules (clx_of early read) (fib_pair early (pair_number Clx)).0 new (all_text_length wd)) there,
     )

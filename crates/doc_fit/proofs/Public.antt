@@ -14,5 +14,6 @@ pub use Rattle.doc_fit.proofs.OneLemmas.{inventory_one, refused_one, text_same}
 pub use Rattle.doc_fit.proofs.OpenLemmas.{mended_by, text_meant}
 -- What is read in place of a file is one, and an accepted file is read as it is.
 pub use Rattle.doc_fit.proofs.ReadAsLemmas.{AreOneRead, accepted_read, long_read, read_bytes, read_one}
+pub use Rattle.doc_fit.proofs.ReadAsLemmas.{refused_not_accepted}
 -- What a rule that is broken tells of a file: where it is one on the program, WordDocument is there.
 pub use Rattle.doc_fit.proofs.RefusalLemmas.{refused_by}

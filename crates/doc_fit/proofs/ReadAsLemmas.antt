@@ -10,7 +10,7 @@ use Rattle.cfb_streams.specs.Container.{outer_rules}
 use Rattle.doc_read.specs.Holds.{IsAccepted, all_rules}
 use Rattle.doc_read.proofs.Public.{all_single}
 use Rattle.file_mends.specs.declared.mends.FileMend.{FileMend}
-use Rattle.file_mends.specs.Sectors.{FillsSector, IsCut}
+use Rattle.file_mends.specs.Sectors.{FillsSector, IsCutFile}
 use Rattle.file_rules.specs.declared.fault.ReadFault.{ReadFault}
 use Rattle.file_rules.specs.Faults.{IsReadFault}
 use Rattle.file_mends.specs.Mends.{FileCopy, IsMendedBy, MendsRule, StaysUnmended, bytes_read}
@@ -19,7 +19,7 @@ use Rattle.doc_fit.specs.declared.opening.OpenedAny.{OpenedAny}
 use Rattle.doc_fit.specs.declared.file_opening.OpenedFile.{OpenedFile}
 use Rattle.doc_fit.specs.Noted.{IsOpenedFit}
 use Rattle.doc_fit.specs.Rules.{fit_rules}
-use Rattle.doc_fit.specs.ReadAs.{MendsFirst, HasNoMend, MendsInTurn, MendsRules, mend_count, IsReadAs}
+use Rattle.doc_fit.specs.ReadAs.{MendsFirst, HasNoMend, MendsInTurn, MendsRules, most_mends, IsMendedRead}
 use Rattle.doc_fit.specs.ReadAs.{IsOpenedFile, MendsCopyFirst, StaysFirst, IsMendedOn}
 use Rattle.doc_fit.proofs.MeaningLemmas.{fit_single}
 
@@ -105,10 +105,10 @@ none_in_turn (suc more) whole (mend ∷ mends) read none is = absurd (none mend 
 -- what stays, and what is mended in turn
 stays_one : (file whole : List ℕ) (mends others : List FileMend) (a b : List ℕ) →
     IsAccepted file ⊎ HasNoMend whole → (mends ≡ []) × (a ≡ whole) → ¬ IsAccepted file →
-    MendsInTurn mend_count whole others b → (mends ≡ others) × (a ≡ b)
+    MendsInTurn most_mends whole others b → (mends ≡ others) × (a ≡ b)
 stays_one file whole mends others a b (inl accepted) x refused y = absurd (refused accepted)
 stays_one file whole mends others a b (inr none) x refused y =
-    let z = none_in_turn mend_count whole others b none y in (x.0 ∙ sym z.0, x.1 ∙ sym z.1)
+    let z = none_in_turn most_mends whole others b none y in (x.0 ∙ sym z.0, x.1 ∙ sym z.1)
 
 rules_one : (file whole : List ℕ) (mends others : List FileMend) (a b : List ℕ) → AreBytes whole →
     MendsRules file whole mends a → MendsRules file whole others b → (mends ≡ others) × (a ≡ b)
@@ -117,20 +117,21 @@ rules_one file whole mends others a b bytes (inl x) (inr y) = stays_one file who
 rules_one file whole mends others a b bytes (inr x) (inl y) =
     let one = stays_one file whole others mends b a y.0 y.1 x.0 x.1 in (sym one.0, sym one.1)
 rules_one file whole mends others a b bytes (inr x) (inr y) =
-    in_turn_one mend_count whole mends others a b bytes x.1 y.1
+    in_turn_one most_mends whole mends others a b bytes x.1 y.1
 
 rules_bytes : (file whole : List ℕ) (mends : List FileMend) (read : List ℕ) → AreBytes whole →
     MendsRules file whole mends read → AreBytes read
 rules_bytes file whole mends read bytes (inl x) = subst AreBytes (sym x.1.1) bytes
-rules_bytes file whole mends read bytes (inr x) = in_turn_bytes mend_count whole mends read bytes x.1
+rules_bytes file whole mends read bytes (inr x) = in_turn_bytes most_mends whole mends read bytes x.1
 
 -- a file is read in one way, with the same mends
 pub record AreOneRead (mends others : List FileMend) (a b : List ℕ) : Type 0 where
   pub mends_same : mends ≡ others
   pub read : a ≡ b
 
-pub read_one : (file : List ℕ) (mends others : List FileMend) (a b : List ℕ) → AreBytes file → IsReadAs file mends a →
-    IsReadAs file others b → AreOneRead mends others a b
+pub read_one : (file : List ℕ) (mends others : List FileMend) (a b : List ℕ) → AreBytes file → IsMendedRead file mends a
+    →
+    IsMendedRead file others b → AreOneRead mends others a b
 read_one file mends others a b bytes x y =
     let filled = fill_one file x.sector y.sector x.whole y.whole x.fills y.fills in
     let rest =
@@ -145,7 +146,8 @@ read_one file mends others a b bytes x y =
     }
 
 -- what is read is a list of bytes
-pub read_bytes : (file : List ℕ) (mends : List FileMend) (read : List ℕ) → AreBytes file → IsReadAs file mends read →
+pub read_bytes : (file : List ℕ) (mends : List FileMend) (read : List ℕ) → AreBytes file → IsMendedRead file mends read
+    →
     AreBytes read
 read_bytes file mends read bytes is =
     rules_bytes file is.whole is.parts read (fill_bytes file is.sector is.whole bytes is.fills) is.emptied
@@ -153,7 +155,7 @@ read_bytes file mends read bytes is =
 -- ---- accepted files
 
 -- the last sector of an accepted file is whole
-whole_accepted : (file : List ℕ) → IsAccepted file → ¬ IsCut file
+whole_accepted : (file : List ℕ) → IsAccepted file → ¬ IsCutFile file
 whole_accepted file accepted cut =
     accepted.0.0.0.0 (File, _) (refl, record { here = refl; wrong = inl cut.cut })
 
@@ -168,7 +170,7 @@ rules_none file whole mends read accepted (inl x) = x.1
 rules_none file whole mends read accepted (inr x) = absurd (x.0 accepted)
 
 pub accepted_read : (file : List ℕ) (mends : List FileMend) (read : List ℕ) → IsAccepted file →
-    IsReadAs file mends read → AreOneRead mends [] read file
+    IsMendedRead file mends read → AreOneRead mends [] read file
 accepted_read file mends read accepted is =
     let filled = fills_none file is.sector is.whole accepted is.fills in
     let rest = rules_none file is.whole is.parts read accepted is.emptied in
@@ -219,7 +221,7 @@ refused_accepted plain file copy fault fills accepted refused = record {
 -- another one is mended
 pub opened_mended : (plain : Bool) (file : List ℕ) (copy : FileCopy) (found : OpenedFile) →
     FillsSector file copy.mends (bytes_read file copy) → ¬ (IsAccepted file) →
-    IsMendedOn plain file mend_count copy found → IsOpenedFile plain file found
+    IsMendedOn plain file most_mends copy found → IsOpenedFile plain file found
 opened_mended plain file copy found fills refused is = record {
   read_as = record {
     whole = bytes_read file copy;
@@ -324,7 +326,7 @@ long_in_turn (suc more) file (mend ∷ mends) read long is =
 long_rules : (file whole : List ℕ) (mends : List FileMend) (read : List ℕ) → 7143936 < length whole →
     MendsRules file whole mends read → read ≡ whole
 long_rules file whole mends read long (inl x) = x.1.1
-long_rules file whole mends read long (inr x) = long_in_turn mend_count whole mends read long x.1
+long_rules file whole mends read long (inr x) = long_in_turn most_mends whole mends read long x.1
 
 long_fills : (file : List ℕ) (mends : List FileMend) (filled : List ℕ) → 7143936 < length file →
     FillsSector file mends filled → filled ≡ file
@@ -334,7 +336,7 @@ long_fills file mends filled long (inr x) = x.same
 
 -- such a file is read as it is
 pub long_read : (file : List ℕ) (mends : List FileMend) (read : List ℕ) → 7143936 < length file →
-    IsReadAs file mends read → read ≡ file
+    IsMendedRead file mends read → read ≡ file
 long_read file mends read long is =
     let whole : is.whole ≡ file = long_fills file is.sector is.whole long is.fills in
     long_rules file is.whole is.parts read (subst (λ (w : List ℕ). 7143936 < length w) (sym whole) long) is.emptied

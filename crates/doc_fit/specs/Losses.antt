@@ -5,11 +5,11 @@ use Rattle.cfb_streams.specs.Contents.{HasNamed}
 use Rattle.cfb_streams.specs.Container.{HasContents, ListsStorages}
 use Rattle.cfb_streams.specs.Names.{wd_name}
 use Rattle.fib_form.specs.Fib.{table_part}
-use Rattle.fib_form.specs.TableParts.{pair_of}
+use Rattle.fib_form.specs.TableParts.{pair_number}
 use Rattle.fib_form.specs.declared.table_parts.TablePart.TheVariants.{PlcfBteChpx, PlcfBtePapx, Clx}
 use Rattle.fib_versions.specs.VersionRules.{version_rules}
 use Rattle.file_rules.specs.Units.{text_units}
-use Rattle.file_rules.specs.FileRules.{FileText, HasText, table_stream_name}
+use Rattle.file_rules.specs.FileRules.{FileText, HasFileText, table_stream_name}
 use Rattle.doc_lift.specs.declared.lifting.Lifted.{Lifted}
 use Rattle.loss_report.specs.Features.{Inventory}
 use Rattle.loss_report.specs.Losses.{losses}
@@ -24,7 +24,7 @@ pub record HasInventory (file : List ℕ) (inventory : Inventory) : Type 0 where
   pub has_contents : HasContents file inventory.outer.container
   pub storages : ListsStorages file inventory.outer.storages
   pub text : FileText
-  pub has_text : HasText inventory.outer.container text
+  pub has_text : HasFileText inventory.outer.container text
   pub wd : inventory.wd ≡ text.wd
   pub units : inventory.units ≡ text_units text.wd text.pieces
 
@@ -32,9 +32,9 @@ pub record HasInventory (file : List ℕ) (inventory : Inventory) : Type 0 where
 abbrev pub list_parts : (wd table : List ℕ) → ListParts
 list_parts wd table = record {
   wd = wd;
-  characters = table_part wd table (pair_of PlcfBteChpx);
-  paragraphs = table_part wd table (pair_of PlcfBtePapx);
-  clx = table_part wd table (pair_of Clx);
+  characters = table_part wd table (pair_number PlcfBteChpx);
+  paragraphs = table_part wd table (pair_number PlcfBtePapx);
+  clx = table_part wd table (pair_number Clx);
 }
 
 -- what of its lists is left out

@@ -9,9 +9,9 @@ use Rattle.cfb_streams.specs.Contents.{HasNamed}
 use Rattle.cfb_streams.specs.Names.{wd_name}
 use Rattle.fib_versions.specs.declared.further.Further.TheVariants as further
 use Rattle.fib_versions.specs.Versions.{further_count}
-use Rattle.plain_doc.specs.declared.document.Document.{Document}
+use Rattle.doc_model.specs.declared.document.Document.{Document}
 use Rattle.plain_doc.specs.Sound.{IsSound}
-use Rattle.file_rules.specs.FileRules.{FileText, HasText, table_stream_name}
+use Rattle.file_rules.specs.FileRules.{FileText, HasFileText, table_stream_name}
 use Rattle.doc_meaning.specs.Meaning.{MeansDocument}
 use Rattle.doc_lift.specs.declared.lifting.Lifted.{Lifted}
 use Rattle.doc_lift.specs.LiftedFiles.{IsLifted, lifted_rules}
@@ -91,9 +91,9 @@ pub record IsNotedOf (stories : NotedStories) (file : List ℕ) (document : Docu
     pub noted : HasNoted stories file document
     pub mends_are : mends ≡ noted.mends
 
-abbrev pub IsDocumentWith : (noted : Option NotedStories) → List ℕ → Document → List Mend → Type 0
-IsDocumentWith (Some stories) file document mends = IsNotedOf stories file document mends
-IsDocumentWith None file document mends = IsMendedOf file document mends
+abbrev pub IsFitDocument : (noted : Option NotedStories) → List ℕ → Document → List Mend → Type 0
+IsFitDocument (Some stories) file document mends = IsNotedOf stories file document mends
+IsFitDocument None file document mends = IsMendedOf file document mends
 
 -- ---- lines
 
@@ -162,7 +162,7 @@ pub record HasNoSpliceOf (stories : NotedStories) (lifted : Lifted) : Type 0 whe
 pub record IsStruckLifted (before after : Lifted) (strikes : List Mend) : Type 0 where
   pub outer : after.outer ≡ before.outer
   pub text : FileText
-  pub has_text : HasText before.outer.container text
+  pub has_text : HasFileText before.outer.container text
   pub struck_is : IsStruckDefined text before.document after.document strikes
 
 -- what is lifted, before the texts of these stories are notes and after it is mended

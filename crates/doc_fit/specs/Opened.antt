@@ -5,11 +5,11 @@ use Rattle.cfb_streams.specs.Container.{HasContents}
 use Rattle.plain_doc.specs.Sound.{IsSound}
 use Rattle.doc_lift.specs.declared.lifting.Lifted.{Lifted}
 use Rattle.doc_lift.specs.LiftedFiles.{IsLifted}
-use Rattle.file_rules.specs.FileRules.{FileText, HasText}
+use Rattle.file_rules.specs.FileRules.{FileText, HasFileText}
 use Rattle.deleted_text.specs.Ranges.{begins_of}
 use Rattle.deleted_text.specs.Texts.{AreTextDeletions}
 use Rattle.huge_papx.specs.Texts.{AreTextOffsets}
-use Rattle.doc_losses.specs.Marks.{AreMarksOf}
+use Rattle.doc_losses.specs.Marks.{AreFileMarks}
 use Rattle.doc_mends.specs.declared.mends.Mend.{Mend}
 use Rattle.doc_fit.specs.declared.losses.Found.{Found}
 use Rattle.doc_fit.specs.declared.opening.OpenedAny.{OpenedAny}
@@ -18,9 +18,9 @@ use Rattle.doc_fit.specs.Rules.{IsMendedText}
 
 -- the lines of what is left out of what is lifted, the CPs of the marks of stories that are left out, and where the
 -- stories begin
-pub record IsFoundIn (lifted : Lifted) (found : Found) : Type 0 where
+pub record AreFoundLosses (lifted : Lifted) (found : Found) : Type 0 where
   pub losses : AreLossLines lifted found.losses
-  pub marks : AreMarksOf losses.wd losses.table found.marks
+  pub marks : AreFileMarks losses.wd losses.table found.marks
   pub begins : found.begins ≡ begins_of losses.wd
 
 -- the text that the streams name, what of it a reviser deleted, and which places of Data its paragraphs name
@@ -28,7 +28,7 @@ pub record HasDeletions (lifted : Lifted) : Type 0 where
   pub file : List ℕ
   pub has_contents : HasContents file lifted.outer.container
   pub text : FileText
-  pub has_text : HasText lifted.outer.container text
+  pub has_text : HasFileText lifted.outer.container text
   pub deleted : AreTextDeletions text lifted.deleted.items
   pub offsets : AreTextOffsets text lifted.offsets.items
 
@@ -36,7 +36,7 @@ pub record HasDeletions (lifted : Lifted) : Type 0 where
 pub record IsReported (before after : Lifted) (lines : List (List ℕ)) (mends : List Mend) : Type 0 where
   pub losses : AreLossLines before lines
   pub text : FileText
-  pub has_text : HasText before.outer.container text
+  pub has_text : HasFileText before.outer.container text
   pub mended : IsMendedText text before.document after.document mends
 
 pub record IsOpenedAny (file : List ℕ) (opened : OpenedAny) : Type 0 where

@@ -31,17 +31,17 @@ MendsInTurn (suc more) file (mend ∷ mends) read =
     (mended : List ℕ) × (MendsFirst file mend mended × MendsInTurn more mended mends read)
 
 -- how many mends there are at most: six parts that a document goes without, and ten slots of the style sheet
-abbrev pub mend_count : ℕ
-mend_count = 16
+abbrev pub most_mends : ℕ
+most_mends = 16
 
 -- a file that is accepted is read as it is, and so is one whose first broken rule is none that is mended
 abbrev pub MendsRules : (file whole : List ℕ) → List FileMend → List ℕ → Type 0
 MendsRules file whole mends read =
     ((IsAccepted file ⊎ HasNoMend whole) × ((mends ≡ []) × (read ≡ whole)))
-    ⊎ ((¬ IsAccepted file) × MendsInTurn mend_count whole mends read)
+    ⊎ ((¬ IsAccepted file) × MendsInTurn most_mends whole mends read)
 
 -- the mends of a file, and what is read in place of it
-pub record IsReadAs (file : List ℕ) (mends : List FileMend) (read : List ℕ) : Type 0 where
+pub record IsMendedRead (file : List ℕ) (mends : List FileMend) (read : List ℕ) : Type 0 where
   pub whole : List ℕ
   pub sector : List FileMend
   pub fills : FillsSector file sector whole
@@ -50,12 +50,12 @@ pub record IsReadAs (file : List ℕ) (mends : List FileMend) (read : List ℕ) 
   pub emptied : MendsRules file whole parts read
 
 -- what is read is opened, or it breaks a rule first
-abbrev pub IsOpenedAs : Bool → List ℕ → OpenedFile → Type 0
-IsOpenedAs plain read found = MatchResult found.opened (IsOpenedFit plain read) (IsReadFault (fit_rules read))
+abbrev pub IsFitOpened : Bool → List ℕ → OpenedFile → Type 0
+IsFitOpened plain read found = MatchResult found.opened (IsOpenedFit plain read) (IsReadFault (fit_rules read))
 
 pub record IsOpenedFile (plain : Bool) (file : List ℕ) (found : OpenedFile) : Type 0 where
-  pub read_as : IsReadAs file found.mended.mends (bytes_read file found.mended)
-  pub opened : IsOpenedAs plain (bytes_read file found.mended) found
+  pub read_as : IsMendedRead file found.mended.mends (bytes_read file found.mended)
+  pub opened : IsFitOpened plain (bytes_read file found.mended) found
 
 -- the first broken rule of what is read is mended, and the mend is behind the others
 pub record MendsCopyFirst (file : List ℕ) (old new : FileCopy) (mend : FileMend) : Type 0 where
@@ -72,4 +72,4 @@ pub record IsMendedOn (plain : Bool) (file : List ℕ) (most : ℕ) (before : Fi
   pub more : List FileMend
   pub mends_are : found.mended.mends ≡ before.mends ++ more
   pub in_turn : MendsInTurn most (bytes_read file before) more (bytes_read file found.mended)
-  pub opened : IsOpenedAs plain (bytes_read file found.mended) found
+  pub opened : IsFitOpened plain (bytes_read file found.mended) found

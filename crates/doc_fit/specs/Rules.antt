@@ -2,7 +2,7 @@
 use Rattle.std.specs.Prelude.{◌≡◌, List, ℕ, ◌++◌}
 use Rattle.doc_bits.specs.Rules.{Rules, ◌then◌, given, Hold}
 use Rattle.doc_bits.specs.Places.{Place}
-use Rattle.plain_doc.specs.declared.document.Document.{Document}
+use Rattle.doc_model.specs.declared.document.Document.{Document}
 use Rattle.plain_doc.specs.Sound.{document_rules}
 use Rattle.doc_losses.specs.References.{names_of}
 use Rattle.doc_mends.specs.declared.mends.Mend.{Mend}

@@ -1,7 +1,7 @@
 // The lines of what is left out of a file, and the marks of stories that are left out.
 ghost use Rattle.std.specs.Prelude.{IfOk};
 ghost use Rattle.doc_fit.specs.Losses.{HasLiftedStreams};
-ghost use Rattle.doc_fit.specs.Opened.{IsFoundIn};
+ghost use Rattle.doc_fit.specs.Opened.{AreFoundLosses};
 
 use crate::list_losses::{add_features, text_losses_of};
 use crate::streams::{fib_of, main_stream, table_stream};
@@ -24,7 +24,7 @@ pub(crate) struct Found {
 /// stories begin.
 pub(crate) fn found_in(alloc: Global, lifted: &Lifted) -> Result<Found, Memory>
     requires { HasLiftedStreams lifted.now }
-    ensures { IfOk result (IsFoundIn lifted.now) }
+    ensures { IfOk result (AreFoundLosses lifted.now) }
 {
     let wd = main_stream(&lifted.outer);
     let fib = fib_of(wd);

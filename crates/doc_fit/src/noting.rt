@@ -5,7 +5,7 @@ ghost use Rattle.file_rules.specs.Faults.{IsReadFault};
 ghost use Rattle.doc_mends.specs.declared.mends.Mend.TheVariants.{MakeNote};
 ghost use Rattle.doc_lift.specs.LiftedFiles.{IsLifted};
 ghost use Rattle.doc_fit.specs.Losses.{HasLiftedStreams};
-ghost use Rattle.doc_fit.specs.Opened.{HasDeletions, IsFoundIn};
+ghost use Rattle.doc_fit.specs.Opened.{HasDeletions, AreFoundLosses};
 ghost use Rattle.doc_fit.specs.Noted.{AreNoted, CannotNote, HasFileStreams, HasNoSpliceOf, IsFirstNoted, LacksStory};
 ghost use Rattle.doc_fit.specs.Noted.{IsSplicedOf, IsStruckLifted, IsNotedReport, IsOpenedFirst, IsOpenedNoted};
 ghost use Rattle.doc_fit.specs.Noted.{IsOpenedAsNoted, IsOpenedFit, choices, one_story};
@@ -226,7 +226,7 @@ fn note_lifted(
 /// Strikes what a reviser deleted of what was lifted, and gives rows the cells that Data has for them.
 fn strike_lifted(alloc: Global, lifted: &mut Lifted, found: &Found) -> Result<Vec<Mend>, Memory>
     requires deletions { HasDeletions lifted.old }
-    requires found { IsFoundIn lifted.old found.now }
+    requires found { AreFoundLosses lifted.old found.now }
     ensures { IfOk result (λ strikes. IsStruckLifted lifted.old lifted.new strikes.items) }
 {
     let deleted = mem::replace(&mut lifted.deleted, Vec::new(alloc));

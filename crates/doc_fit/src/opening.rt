@@ -1,6 +1,6 @@
 // A file of any program is opened: its document is lifted out of it, mended and checked, and what is left out is named.
 ghost use Rattle.std.specs.Prelude.{◌≡◌, IfOk, MatchResult};
-ghost use Rattle.plain_doc.specs.Marks.{HasFormedBookmarks};
+ghost use Rattle.doc_model.specs.Marks.{HasFormedBookmarks};
 ghost use Rattle.plain_doc.specs.Sound.{IsSound};
 ghost use Rattle.file_rules.specs.Faults.{IsReadFault};
 ghost use Rattle.doc_lift.specs.LiftedFiles.{IsLifted};

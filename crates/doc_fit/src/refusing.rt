@@ -13,7 +13,9 @@ use crate::status::{STATUS_ENCRYPTED, STATUS_NOT_WORD};
 use crate::streams::main_stream;
 use cfb_streams::{Container, OuterContainer};
 use doc_bits::{Memory, Text, Where, get16};
-use doc_lift::ReadFault;
+use doc_lift::{
+    RULE_CHPX_BIN, RULE_CHPX_RUN, RULE_PAPX_BIN, RULE_PAPX_LIST, RULE_PAPX_RUN, ReadFault,
+};
 use fib_form::{N_FIB, RULE_FORM, RULE_IDENT};
 use run_stages::{Ending, STATUS_REFUSED, reason_of_name, rule_broken, why_refused};
 use std::alloc::Global;
@@ -30,17 +32,6 @@ const RULE_CHARACTER_CODES: u8 = 43;
 const RULE_PARAGRAPH_CODES: u8 = 48;
 
 const RULE_STYLE_CODES: u8 = 51;
-
-/// The rules on places that no run of a page holds.
-const RULE_CHPX_BIN: u8 = 39;
-
-const RULE_CHPX_RUN: u8 = 41;
-
-const RULE_PAPX_BIN: u8 = 44;
-
-const RULE_PAPX_RUN: u8 = 46;
-
-const RULE_PAPX_LIST: u8 = 47;
 
 const OTHER_PROGRAM: &str =
     "of Word 95 or older, or of another program: soffice --convert-to doc makes a Word 97 document of it";

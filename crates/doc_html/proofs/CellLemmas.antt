@@ -7,15 +7,15 @@ use Rattle.std.proofs.Math.ListN.{drop_of_length-le}
 use Rattle.std.proofs.lemmas.Option.{same_Some}
 use Rattle.doc_bits.proofs.Public.{there_is}
 use Rattle.run_lists.specs.Spread.{expanded}
-use Rattle.plain_doc.specs.declared.item.Item.{Item}
-use Rattle.plain_doc.specs.declared.item.Mark.{Mark}
-use Rattle.plain_doc.specs.Settings.{is_inside}
-use Rattle.plain_doc.specs.Stretches.{stretches}
-use Rattle.plain_doc.proofs.Public.{stretches-nil}
+use Rattle.doc_model.specs.declared.item.Item.{Item}
+use Rattle.doc_model.specs.declared.item.Mark.{Mark}
+use Rattle.doc_model.specs.Settings.{is_inside}
+use Rattle.doc_model.specs.Stretches.{stretches}
+use Rattle.doc_model.proofs.Public.{stretches-nil}
 use Rattle.doc_columns.specs.Attached.{attached_of}
 use Rattle.doc_columns.specs.declared.attached.Attached.{Attached}
 use Rattle.doc_columns.specs.declared.walk.Parts.{Parts}
-use Rattle.doc_columns.specs.Walks.{items_in, AreParts}
+use Rattle.doc_columns.specs.Walks.{items_in, AreFullParts}
 use Rattle.doc_columns.proofs.Public.{attached_there, items_long, part_at, range_got, range_long, units_are}
 use Rattle.cell_spans.specs.declared.tables.Tables.{Tables}
 use Rattle.doc_view.specs.Seen.{standing_of}
@@ -25,7 +25,7 @@ use Rattle.doc_places.specs.Cells.{tables_from}
 
 -- the last item of a paragraph has this unit and this mark
 last_is : {B : Type 0} (f : Option Item → B) (g : ℕ → Option Mark → B) → ((item : Item) → f (Some item) ≡ g item.unit
-    item.mark) → (parts : Parts) → AreParts parts → (from to unit : ℕ) (attached : Attached) → from < to →
+    item.mark) → (parts : Parts) → AreFullParts parts → (from to unit : ℕ) (attached : Attached) → from < to →
     to ≤ length parts.units.now → slice_get parts.units.now (to - 1) ≡ Some unit →
     slice_get (expanded parts.attachments.now) (to - 1) ≡ Some attached →
     f (slice_get (slice_range (items_in parts) from to) (length (slice_range (items_in parts) from to) - 1))
@@ -44,7 +44,7 @@ last_is f g each parts are from to unit attached some within unit_is last =
     part_at (λ (item : Item). item.unit) items parts.units.now (to - 1) one.0 unit (units_are parts are) here unit_is in
     ap f one.1 ∙ each one.0 ∙ (λ i. g (unit_same i) (same i).mark)
 
-behind_last : (parts : Parts) → AreParts parts → (from to unit : ℕ) (attached : Attached) → from < to →
+behind_last : (parts : Parts) → AreFullParts parts → (from to unit : ℕ) (attached : Attached) → from < to →
     to ≤ length parts.units.now → slice_get parts.units.now (to - 1) ≡ Some unit →
     slice_get (expanded parts.attachments.now) (to - 1) ≡ Some attached → (tables : Tables) (is_mark : Bool) →
     tables_behind tables is_mark (slice_get (slice_range (items_in parts) from to) (length (slice_range (items_in parts)
@@ -53,7 +53,7 @@ behind_last parts are from to unit attached some within unit_is last tables is_m
     last_is (tables_behind tables is_mark) (λ (u : ℕ) (mark : Option Mark). tables_by tables (standing_of u mark) is_mark
     (definition_in mark)) (λ item. refl) parts are from to unit attached some within unit_is last
 
-depth_last : (parts : Parts) → AreParts parts → (from to unit : ℕ) (attached : Attached) → from < to →
+depth_last : (parts : Parts) → AreFullParts parts → (from to unit : ℕ) (attached : Attached) → from < to →
     to ≤ length parts.units.now → slice_get parts.units.now (to - 1) ≡ Some unit →
     slice_get (expanded parts.attachments.now) (to - 1) ≡ Some attached → (is_mark : Bool) →
     depth_ending is_mark (slice_get (slice_range (items_in parts) from to) (length (slice_range (items_in parts) from to)
@@ -63,7 +63,7 @@ depth_last parts are from to unit attached some within unit_is last is_mark =
     refl) parts are from to unit attached some within unit_is last
 
 -- one paragraph more
-pub tables_on : (is_mark : ℕ → ℕ → ℕ → Bool) (number : ℕ) (parts : Parts) → AreParts parts → (from to unit : ℕ)
+pub tables_on : (is_mark : ℕ → ℕ → ℕ → Bool) (number : ℕ) (parts : Parts) → AreFullParts parts → (from to unit : ℕ)
     (attached : Attached) → from < to → to ≤ length parts.units.now →
     stretches is_inside (drop from (items_in parts)) ≡ slice_range (items_in parts) from to ∷ stretches is_inside (drop
     to (items_in parts)) → slice_get parts.units.now (to - 1) ≡ Some unit →
@@ -97,7 +97,7 @@ tables_end is_mark number place tables items past =
 -- ---- how deep paragraphs are
 
 -- one more
-pub depths_on : (is_mark : ℕ → ℕ → ℕ → Bool) (number : ℕ) (parts : Parts) → AreParts parts → (from to unit : ℕ)
+pub depths_on : (is_mark : ℕ → ℕ → ℕ → Bool) (number : ℕ) (parts : Parts) → AreFullParts parts → (from to unit : ℕ)
     (attached : Attached) → from < to → to ≤ length parts.units.now →
     stretches is_inside (drop from (items_in parts)) ≡ slice_range (items_in parts) from to ∷ stretches is_inside (drop
     to (items_in parts)) → slice_get parts.units.now (to - 1) ≡ Some unit →

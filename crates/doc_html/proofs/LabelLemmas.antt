@@ -8,23 +8,25 @@ use Rattle.view_places.specs.declared.element.Element.{Element}
 use Rattle.view_places.specs.declared.element.Element.TheVariants.{Label}
 use Rattle.view_places.specs.declared.glyph.Glyph.TheVariants.{Unit}
 use Rattle.doc_view.specs.Labels.{label_glyph, label_glyphs}
-use Rattle.doc_places.specs.Places.{label_places, shown}
+use Rattle.doc_places.specs.Places.{label_places, shown_place}
 
 -- one unit more
 pub units_on : (path : List Element) (units : List ℕ) (i : ℕ) → i < length units →
-    map (shown path) (filter_map label_glyph (take i units))
-    ++ map (shown path) (cons_option (label_glyph (slice_index units i)) [])
-    ≡ map (shown path) (filter_map label_glyph (take (i + 1) units))
+    map (shown_place path) (filter_map label_glyph (take i units))
+    ++ map (shown_place path) (cons_option (label_glyph (slice_index units i)) [])
+    ≡ map (shown_place path) (filter_map label_glyph (take (i + 1) units))
 units_on path units i within =
-    sym (ap (λ (us : List ℕ). map (shown path) (filter_map label_glyph us)) (take_more units i 0 within)
-    ∙ ap (map (shown path)) (filter_map-append label_glyph (take i units) (slice_index units i ∷ []))
-    ∙ map-append (shown path) (filter_map label_glyph (take i units)) (cons_option (label_glyph (slice_index units i))
+    sym (ap (λ (us : List ℕ). map (shown_place path) (filter_map label_glyph us)) (take_more units i 0 within)
+    ∙ ap (map (shown_place path)) (filter_map-append label_glyph (take i units) (slice_index units i ∷ []))
+    ∙ map-append (shown_place path) (filter_map label_glyph (take i units)) (cons_option (label_glyph (slice_index units
+    i))
     []))
 
 -- the units, and a space behind them
 pub label_whole : (path : List Element) (units : List ℕ) →
-    map (shown path) (filter_map label_glyph units) ++ shown path (Unit 0x20) ∷ [] ≡ map (shown path) (label_glyphs units)
-label_whole path units = sym (map-append (shown path) (filter_map label_glyph units) (Unit 0x20 ∷ []))
+    map (shown_place path) (filter_map label_glyph units) ++ shown_place path (Unit 0x20) ∷ [] ≡ map (shown_place path)
+    (label_glyphs units)
+label_whole path units = sym (map-append (shown_place path) (filter_map label_glyph units) (Unit 0x20 ∷ []))
 
 -- a label without units has no place
 pub no_label : (block : List Element) (units : List ℕ) → length units ≡ 0 → label_places block units ≡ []
@@ -32,7 +34,8 @@ no_label block [] none = refl
 no_label block (unit ∷ units) none = absurd (omega (arith, none))
 
 -- one that has some
-pub some_label : (block : List Element) (units : List ℕ) → 0 < length units → label_places block units ≡ map (shown
+pub some_label : (block : List Element) (units : List ℕ) → 0 < length units → label_places block units ≡ map
+    (shown_place
     (block ++ Label ∷ [])) (label_glyphs units)
 some_label block [] some = absurd (omega (arith, some))
 some_label block (unit ∷ units) some = refl

@@ -5,7 +5,7 @@ use Rattle.std.proofs.Common.{append_assoc, append-nil, Some, Bool, true, false,
 use Rattle.std.specs.Prelude.{slice_get, if◌then◌else◌}
 use Rattle.std.proofs.Math.ListN.{drop_of_length-le}
 use Rattle.run_lists.proofs.Public.{run_and_rest}
-use Rattle.plain_doc.specs.declared.item.Item.{Item}
+use Rattle.doc_model.specs.declared.item.Item.{Item}
 use Rattle.doc_outer.specs.declared.sink.Sink.{Ghosts}
 use Rattle.view_places.specs.declared.element.Element.{Element}
 use Rattle.view_places.specs.declared.element.Element.TheVariants.{BackLink}
@@ -16,7 +16,7 @@ use Rattle.form_page.proofs.Public.{places_none, places_then}
 use Rattle.doc_view.specs.declared.reading.Manner.{Manner}
 use Rattle.doc_view.specs.declared.references.Reference.{Reference}
 use Rattle.doc_view.specs.Seen.{Formats, paragraphs_of}
-use Rattle.doc_places.specs.Places.{hypertext_of, label_of, no_cells, note_path, note_places, notes_places, shown}
+use Rattle.doc_places.specs.Places.{hypertext_of, label_of, no_cells, note_path, note_places, notes_places, shown_place}
 use Rattle.doc_places.specs.Places.{text_places}
 use Rattle.doc_html.proofs.WriteLemmas.{puts_same}
 
@@ -92,11 +92,11 @@ notes_written sink start page out now formats manner number references notes k e
 
 -- ---- one note
 
-pub is_hidden : (shown : Bool) → not shown ≡ true → shown ≡ false
+pub is_hidden : (shown_place : Bool) → not shown_place ≡ true → shown_place ≡ false
 is_hidden true is = absurd (cc (is))
 is_hidden false is = refl
 
-pub is_not_hidden : (shown : Bool) → not shown ≡ false → shown ≡ true
+pub is_not_hidden : (shown_place : Bool) → not shown_place ≡ false → shown_place ≡ true
 is_not_hidden true is = refl
 is_not_hidden false is = absurd (cc (is))
 
@@ -109,7 +109,7 @@ pub note_hidden : {K : Type 0} (sink : Ghosts K) (a : K) (page : FormPage) (form
 note_hidden sink a page formats manner number reference note hidden =
     let none : Places = [] in
     puts_same sink a a page page none (note_places formats manner number reference note) (sym (ap (λ (b : Bool). if b
-    then shown
+    then shown_place
     (note_path number ++ BackLink number ∷ []) (label_of reference.number) ∷ text_places (hypertext_of [] number note no_cells) (note_path number)
     (paragraphs_of formats
     manner note) else none) hidden)) (places_none sink a page)
@@ -117,13 +117,14 @@ note_hidden sink a page formats manner number reference note hidden =
 -- one that is shown: its label, and its text
 pub note_shown : {K : Type 0} (sink : Ghosts K) (a b c : K) (p q r : FormPage) (formats : Formats) (manner : Manner)
     (number : ℕ)
-    (reference : Reference) (note : List Item) → reference.is_shown ≡ true → PutsPlaces sink a p b q (shown (note_path
+    (reference : Reference) (note : List Item) → reference.is_shown ≡ true → PutsPlaces sink a p b q (shown_place
+    (note_path
     number ++
     BackLink number ∷ []) (label_of reference.number) ∷ []) → PutsPlaces sink b q c r (text_places (hypertext_of [] number note no_cells) (note_path number)
     (paragraphs_of
     formats manner note)) → PutsPlaces sink a p c r (note_places formats manner number reference note)
 note_shown sink a b c p q r formats manner number reference note is label text =
-    let label_place = shown (note_path number ++ BackLink number ∷ []) (label_of reference.number) in
+    let label_place = shown_place (note_path number ++ BackLink number ∷ []) (label_of reference.number) in
     let rest = text_places (hypertext_of [] number note no_cells) (note_path number) (paragraphs_of formats manner note) in
     let none : Places = [] in
     puts_same sink a c p r (label_place ∷ rest) (note_places formats manner number reference note) (sym (ap (λ (b :

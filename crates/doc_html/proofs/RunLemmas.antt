@@ -6,8 +6,8 @@ use Rattle.std.proofs.lemmas.List.{length-map, map-append}
 use Rattle.std.proofs.lemmas.Option.{slice_get_within}
 use Rattle.doc_bits.proofs.Public.{range_split, length_part}
 use Rattle.doc_outer.specs.declared.sink.Sink.{Ghosts}
-use Rattle.plain_doc.specs.declared.item.Item.{Item}
-use Rattle.plain_doc.specs.declared.item.NoteKind.{NoteKind}
+use Rattle.doc_model.specs.declared.item.Item.{Item}
+use Rattle.doc_model.specs.declared.item.NoteKind.{NoteKind}
 use Rattle.doc_columns.specs.declared.attached.Attached.{Attached}
 use Rattle.char_formats.specs.declared.format.CharFormat.{CharFormat}
 use Rattle.field_links.specs.declared.places.OpenField.{OpenField}
@@ -32,7 +32,7 @@ use Rattle.doc_places.specs.Places.{count_of, format_elements, item_places, item
 use Rattle.doc_places.specs.Places.{link_to, up_to_reference}
 use Rattle.doc_places.specs.declared.links.Origin.{Origin}
 use Rattle.doc_html.specs.declared.reading.Reading.{Reading}
-use Rattle.doc_html.specs.Writes.{At, IsReading, Writes, label_before, links_in}
+use Rattle.doc_html.specs.Writes.{WrittenAt, IsReading, WritesItems, label_before, links_in}
 use Rattle.doc_html.proofs.WriteLemmas.{puts_same, referred_on}
 
 -- ---- what is seen of a run
@@ -170,7 +170,7 @@ places_written : {K : Type 0} (sink : Ghosts K) (out mid next : K) (page said le
     CharFormat) (link : Option Link) (units : List ℕ) → 0 < length units → ((k : ℕ) → k < length units → links (place + k)
     ≡ link) → PutsPlaces sink out page mid said (if true && not begun then label_places block label else []) →
     PutsPlaces sink mid said next left (unit_places (block ++ (link_elements link ++ format_elements format)) units) →
-    Writes sink (record {
+    WritesItems sink (record {
       out = out;
       page = page;
       begun = begun;
@@ -220,7 +220,7 @@ pub run_written : {K : Type 0} (sink : Ghosts K) (out mid next : K) (page said l
     PutsPlaces sink out page mid said (if true && not reading.begun then label_places block label else []) →
     PutsPlaces sink mid said next left (unit_places (block ++ (link_elements link ++ format_elements format)) (slice_range
     units reading.course.place (reading.course.place + count))) →
-    Writes sink (record {
+    WritesItems sink (record {
       out = out;
       page = page;
       begun = reading.begun;
@@ -257,7 +257,7 @@ run_written sink out mid next page said left reading link block label formats ma
     let written =
     places_written sink out mid next page said left reading.begun reading.count from reading.course.references.list
     links block label format link run (omega (arith, long)) same first puts in
-    subst (λ (seen : List Seen). Writes sink (record {
+    subst (λ (seen : List Seen). WritesItems sink (record {
       out = out;
       page = page;
       begun = reading.begun;
@@ -274,7 +274,7 @@ run_written sink out mid next page said left reading link block label formats ma
       references = reading.course.references.list;
     }) links block label seen)
     (sym (run_seen formats manner istd items units format attached reading.course n is.course shows are has))
-    (subst (λ (to : ℕ). Writes sink (record {
+    (subst (λ (to : ℕ). WritesItems sink (record {
       out = out;
       page = page;
       begun = reading.begun;

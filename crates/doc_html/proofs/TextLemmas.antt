@@ -27,13 +27,16 @@ use Rattle.doc_places.specs.declared.lists.Frame.{Frame}
 use Rattle.doc_places.specs.declared.lists.ListItem.{ListItem}
 use Rattle.doc_places.specs.declared.lists.Lists.{Lists}
 use Rattle.doc_places.specs.declared.looks.Look.{Look}
-use Rattle.doc_places.specs.Lists.{frame_at, frame_elements, level_elements, lists_after, lists_of, no_lists, with_item}
+use Rattle.doc_places.specs.Lists.{frame_at, frame_elements, level_elements, lists_after, open_lists_of, no_open_lists}
+use Rattle.doc_places.specs.Lists.{with_item}
 use Rattle.doc_places.specs.Looks.{label_units, look_of}
-use Rattle.doc_places.specs.Places.{Hypertext, anchor_places, around_of, block_of, cell_at, cell_form, cell_of, is_bare}
-use Rattle.doc_places.specs.Places.{item_count, item_elements, items_places, label_places, nested_cell, nested_elements}
+use Rattle.doc_places.specs.Places.{Hypertext, anchor_places, around_of, block_of, cell_at, cell_form, cell_of}
+use Rattle.doc_places.specs.Places.{is_bare_in_cell}
+use Rattle.doc_places.specs.Places.{paragraphs_len, item_elements, items_places, label_places, nested_cell}
+use Rattle.doc_places.specs.Places.{nested_elements}
 use Rattle.doc_places.specs.Places.{outer_cell, own_elements, paragraph_places, paragraphs_places, text_places}
 use Rattle.doc_places.proofs.Public.{grid_of-cons}
-use Rattle.doc_html.specs.Writes.{At, Writes, head_by, label_before}
+use Rattle.doc_html.specs.Writes.{WrittenAt, WritesItems, head_by, label_before}
 
 -- what was written of a text, where some paragraphs are left
 pub record TextAt {K : Type 0} (sink : Ghosts K) (start : K) (page : FormPage) (out : K) (now : FormPage) (hypertext :
@@ -41,8 +44,8 @@ pub record TextAt {K : Type 0} (sink : Ghosts K) (start : K) (page : FormPage) (
     (all rest : List Paragraph) (grid : Grid) (lists : Lists) (count place : ℕ) (first references : List Reference) : Type 0 where
   pub before : List Paragraph
   pub grid_is : grid ≡ grid_of before
-  pub lists_is : lists ≡ lists_of before
-  pub place_is : place ≡ item_count before
+  pub lists_is : lists ≡ open_lists_of before
+  pub place_is : place ≡ paragraphs_len before
   pub places : Places
   pub puts : PutsPlaces sink start page out now places
   pub whole : places ++ paragraphs_places hypertext outer before count rest ≡ text_places hypertext outer all
@@ -51,7 +54,7 @@ pub record TextAt {K : Type 0} (sink : Ghosts K) (start : K) (page : FormPage) (
 -- at the start all is left
 pub text_start : {K : Type 0} (sink : Ghosts K) (start : K) (page : FormPage) (hypertext : Hypertext) (outer : List
     Element) (all : List Paragraph) (grid : Grid) (lists : Lists) (references : List Reference) →
-    grid ≡ record { number = 0; table = 0; row = 0; cell = 0; ended = 0; heads = true } → lists ≡ no_lists →
+    grid ≡ record { number = 0; table = 0; row = 0; cell = 0; ended = 0; heads = true } → lists ≡ no_open_lists →
     TextAt sink start page start page hypertext outer all all grid lists 0 0 references references
 text_start sink start page hypertext outer all grid lists references is none = record {
   before = [];
@@ -79,14 +82,15 @@ label_first block label seen begun none =
 
 -- one paragraph more: its anchors, its label, and what is shown of it
 pub text_on : {K : Type 0} (sink : Ghosts K) (start : K) (page : FormPage) (hypertext : Hypertext) (outer : List
-    Element) (all there rest : List Paragraph) (grid : Grid) (lists : Lists) (first : List Reference) (a b : At K)
+    Element) (all there rest : List Paragraph) (grid : Grid) (lists : Lists) (first : List Reference) (a b : WrittenAt
+    K)
     (out : K) (left : FormPage) (standing : Standing) (own : Option ParagraphValues) (seen : List Seen) → there ≡
     record { standing = standing; values = own; items = seen } ∷ rest → a.begun ≡ false →
     TextAt sink start page a.out a.page hypertext outer all there grid lists a.count a.place first a.references →
     PutsPlaces sink a.out a.page out left (anchor_places (outer ++ block_of grid (cell_at hypertext.cells grid standing
     (grid.heads && head_by standing rest)) (look_of own (is_in_table standing) (nat_le 2 (length seen))) lists)
     (hypertext.anchors a.place (a.place + length seen))) →
-    Writes sink (record a { out = out; page = left }) b (hypertext.links a.place) (outer ++ block_of grid (cell_at
+    WritesItems sink (record a { out = out; page = left }) b (hypertext.links a.place) (outer ++ block_of grid (cell_at
     hypertext.cells grid standing (grid.heads && head_by standing rest)) (look_of own (is_in_table standing) (nat_le 2
     (length seen))) lists)
     (label_units (look_of own (is_in_table standing) (nat_le 2 (length seen))).item own) seen →
@@ -209,9 +213,9 @@ pub block_few : (grid : Grid) (cell : Option InCell) (look : Look) (lists : List
     lists) ≤ 13
 block_few grid cell look lists =
     let around = around_of grid cell look.item lists in
-    let own = own_elements (is_bare cell) grid.number look in
+    let own = own_elements (is_bare_in_cell cell) grid.number look in
     let few = around_few grid cell look.item lists in
-    let one = own_few (is_bare cell) grid.number look in
+    let one = own_few (is_bare_in_cell cell) grid.number look in
     let long = length-append around own in
     omega (arith, few, one, long)
 

@@ -9,7 +9,7 @@ use Rattle.std.proofs.lemmas.List.Elements.{filter_map-append}
 use Rattle.doc_view.specs.declared.reading.Seen.{Seen}
 use Rattle.doc_view.specs.declared.reading.TextKind.TheVariants as text_kind
 use Rattle.doc_view.specs.Seen.{Paragraph}
-use Rattle.doc_html.specs.Head.{is_title, longest_title, seen_unit, title_in, title_units, untitled}
+use Rattle.doc_html.specs.Head.{is_title_text, longest_title, seen_unit, title_in, title_units, untitled}
 
 -- what a title has of an item
 abbrev pub item_units : Seen → List ℕ
@@ -49,13 +49,13 @@ longer_title title after more unit few is one =
 
 -- ---- paragraphs
 
-pub title_here : (paragraph : Paragraph) (more : List Paragraph) → is_title (title_units paragraph.items) ≡ true →
+pub title_here : (paragraph : Paragraph) (more : List Paragraph) → is_title_text (title_units paragraph.items) ≡ true →
     title_in (paragraph ∷ more) ≡ title_units paragraph.items
 unfolding title_in
 title_here paragraph more is =
     ap (λ (b : Bool). if b then title_units paragraph.items else title_in more) is
 
-pub title_past : (paragraph : Paragraph) (more : List Paragraph) → is_title (title_units paragraph.items) ≡ false →
+pub title_past : (paragraph : Paragraph) (more : List Paragraph) → is_title_text (title_units paragraph.items) ≡ false →
     title_in (paragraph ∷ more) ≡ title_in more
 unfolding title_in
 title_past paragraph more is =

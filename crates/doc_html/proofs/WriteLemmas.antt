@@ -8,7 +8,7 @@ use Rattle.view_places.specs.declared.glyph.Glyph.{Glyph}
 use Rattle.std.proofs.lemmas.List.Elements.{filter_map-append}
 use Rattle.std.proofs.lemmas.Option.{slice_get_within}
 use Rattle.doc_outer.specs.declared.sink.Sink.{Ghosts}
-use Rattle.plain_doc.specs.declared.item.Item.{Item}
+use Rattle.doc_model.specs.declared.item.Item.{Item}
 use Rattle.doc_columns.specs.Attached.{attached_of}
 use Rattle.doc_columns.specs.declared.attached.Attached.{Attached}
 use Rattle.doc_columns.specs.declared.walk.Walk.{Walk}
@@ -28,7 +28,7 @@ use Rattle.doc_view.specs.Seen.{Formats, front_of, references_in, seen_as, some_
 use Rattle.doc_view.proofs.Public.{seen_none, seen_one, seen_range, seen_then, course_walk, references_on}
 use Rattle.std.proofs.Math.Bool.{or_assoc}
 use Rattle.std.proofs.lemmas.List.Folds.{list_any-append}
-use Rattle.doc_places.specs.Places.{count_of, item_places, items_places, label_places, link_to, place_of}
+use Rattle.doc_places.specs.Places.{count_of, item_places, items_places, label_places, link_to, glyph_place}
 use Rattle.doc_places.specs.Places.{up_to_reference}
 use Rattle.doc_places.proofs.Public.{up_to_reference-more, count_one, items_places-append, items_places-hidden}
 use Rattle.doc_places.proofs.Public.{items_places-none, items_places-one}
@@ -36,7 +36,7 @@ use Rattle.view_places.specs.declared.element.Link.{Link}
 use Rattle.field_links.specs.OpenFields.{hyperlink_in}
 use Rattle.doc_places.specs.declared.links.Origin.{Origin}
 use Rattle.doc_html.specs.declared.reading.Reading.{Reading}
-use Rattle.doc_html.specs.Writes.{At, IsReading, Writes, label_before, links_in}
+use Rattle.doc_html.specs.Writes.{WrittenAt, IsReading, WritesItems, label_before, links_in}
 use Rattle.doc_bits.proofs.Public.{or_false, take_step}
 
 -- other places that are the same
@@ -47,12 +47,13 @@ puts_same sink a b page left xs ys is puts = subst (λ (places : Places). PutsPl
 
 -- an item that is shown
 pub shown_item : (block : List Element) (link : Option Link) (count : ℕ) (seen : Seen) (glyph : Option Glyph) →
-    seen.is_shown ≡ true → seen.glyph ≡ glyph → item_places block link count seen ≡ place_of block link count seen glyph
+    seen.is_shown ≡ true → seen.glyph ≡ glyph → item_places block link count seen ≡ glyph_place block link count seen
+    glyph
     ∷ []
 shown_item block link count seen glyph is same =
     let none : Places = [] in
-    ap (λ (b : Bool). if b then place_of block link count seen seen.glyph ∷ [] else none) is ∙ ap (λ (g : Option
-    Glyph). place_of block link count seen g ∷ []) same
+    ap (λ (b : Bool). if b then glyph_place block link count seen seen.glyph ∷ [] else none) is ∙ ap (λ (g : Option
+    Glyph). glyph_place block link count seen g ∷ []) same
 
 -- ---- a label before the first item that is shown
 
@@ -75,8 +76,9 @@ label_then false false other label first second none =
     (λ i. none refl i ++ (here ++ second)) ∙ sym (λ i. here ++ (none refl i ++ second))
 
 -- nothing was written
-pub writes_none : {K : Type 0} (sink : Ghosts K) (a : At K) (links : ℕ → Option Link) (block : List Element) (label :
-    List ℕ) → Writes sink a a links block label []
+pub writes_none : {K : Type 0} (sink : Ghosts K) (a : WrittenAt K) (links : ℕ → Option Link) (block : List Element)
+    (label :
+    List ℕ) → WritesItems sink a a links block label []
 writes_none sink a links block label = record {
   puts =
       puts_same sink a.out a.out a.page a.page [] (items_places links block a.count a.place []) (sym (items_places-none
@@ -88,8 +90,10 @@ writes_none sink a links block label = record {
 }
 
 -- some items were written, and then others
-pub writes_then : {K : Type 0} (sink : Ghosts K) (a b c : At K) (links : ℕ → Option Link) (block : List Element) (label :
-    List ℕ) (xs ys : List Seen) → Writes sink a b links block label xs → Writes sink b c links block label ys → Writes
+pub writes_then : {K : Type 0} (sink : Ghosts K) (a b c : WrittenAt K) (links : ℕ → Option Link) (block : List Element)
+    (label :
+    List ℕ) (xs ys : List Seen) → WritesItems sink a b links block label xs → WritesItems sink b c links block label ys
+    → WritesItems
     sink a c links block label (xs ++ ys)
 writes_then sink a b c links block label xs ys one other =
     let count = a.count + length (references_in xs) in
@@ -144,43 +148,54 @@ writes_then sink a b c links block label xs ys one other =
 
 -- ---- ranges of items
 
-pub writes_start : {K : Type 0} (sink : Ghosts K) (a : At K) (links : ℕ → Option Link) (block : List Element) (label : List ℕ) (formats :
-    Formats) (manner : Manner) (istd : ℕ) (items : List Item) (place : ℕ) → Writes sink a a links block label (seen_range
+pub writes_start : {K : Type 0} (sink : Ghosts K) (a : WrittenAt K) (links : ℕ → Option Link) (block : List Element)
+    (label : List ℕ) (formats :
+    Formats) (manner : Manner) (istd : ℕ) (items : List Item) (place : ℕ) → WritesItems sink a a links block label
+    (seen_range
     formats manner istd items place place)
 writes_start sink a links block label formats manner istd items place =
-    subst (λ (seen : List Seen). Writes sink a a links block label seen) (sym (seen_none formats manner istd items place))
+    subst (λ (seen : List Seen). WritesItems sink a a links block label seen) (sym (seen_none formats manner istd items
+    place))
     (writes_none sink a links block label)
 
-pub writes_further : {K : Type 0} (sink : Ghosts K) (a b c : At K) (links : ℕ → Option Link) (block : List Element) (label : List ℕ) (formats :
+pub writes_further : {K : Type 0} (sink : Ghosts K) (a b c : WrittenAt K) (links : ℕ → Option Link) (block : List
+    Element) (label : List ℕ) (formats :
     Formats) (manner : Manner) (istd : ℕ) (items : List Item) (from mid to : ℕ) → from ≤ mid → mid ≤ to →
-    Writes sink a b links block label (seen_range formats manner istd items from mid) →
-    Writes sink b c links block label (seen_range formats manner istd items mid to) →
-    Writes sink a c links block label (seen_range formats manner istd items from to)
+    WritesItems sink a b links block label (seen_range formats manner istd items from mid) →
+    WritesItems sink b c links block label (seen_range formats manner istd items mid to) →
+    WritesItems sink a c links block label (seen_range formats manner istd items from to)
 writes_further sink a b c links block label formats manner istd items from mid to low high one other =
-    subst (λ (seen : List Seen). Writes sink a c links block label seen) (sym (seen_then formats manner istd items from mid
+    subst (λ (seen : List Seen). WritesItems sink a c links block label seen) (sym (seen_then formats manner istd items
+    from mid
     to low high))
     (writes_then sink a b c links block label (seen_range formats manner istd items from mid) (seen_range formats manner istd
     items mid to) one other)
 
-pub writes_to : {K : Type 0} (sink : Ghosts K) (a b : At K) (links : ℕ → Option Link) (block : List Element) (label : List ℕ) (formats :
-    Formats) (manner : Manner) (istd : ℕ) (items : List Item) (from mid to : ℕ) → mid ≡ to → Writes sink a b links block
+pub writes_to : {K : Type 0} (sink : Ghosts K) (a b : WrittenAt K) (links : ℕ → Option Link) (block : List Element)
+    (label : List ℕ) (formats :
+    Formats) (manner : Manner) (istd : ℕ) (items : List Item) (from mid to : ℕ) → mid ≡ to → WritesItems sink a b links
+    block
     label (seen_range formats manner istd items from mid) →
-    Writes sink a b links block label (seen_range formats manner istd items from to)
+    WritesItems sink a b links block label (seen_range formats manner istd items from to)
 writes_to sink a b links block label formats manner istd items from mid to same writes =
-    subst (λ (n : ℕ). Writes sink a b links block label (seen_range formats manner istd items from n)) same writes
+    subst (λ (n : ℕ). WritesItems sink a b links block label (seen_range formats manner istd items from n)) same writes
 
 -- the same inside of the same elements
-pub writes_in : {K : Type 0} (sink : Ghosts K) (a b : At K) (links : ℕ → Option Link) (block other : List Element) (label : List ℕ) (seen : List
-    Seen) → block ≡ other → Writes sink a b links block label seen → Writes sink a b links other label seen
-writes_in sink a b links block other label seen is writes = subst (λ (path : List Element). Writes sink a b links path label seen)
+pub writes_in : {K : Type 0} (sink : Ghosts K) (a b : WrittenAt K) (links : ℕ → Option Link) (block other : List
+    Element) (label : List ℕ) (seen : List
+    Seen) → block ≡ other → WritesItems sink a b links block label seen → WritesItems sink a b links other label seen
+writes_in sink a b links block other label seen is writes = subst (λ (path : List Element). WritesItems sink a b links
+    path label seen)
     is writes
 
 -- the same in the same paragraph
-pub writes_from : {K : Type 0} (sink : Ghosts K) (a b : At K) (one other : Origin) (items : List Item) (block : List
-    Element) (label : List ℕ) (seen : List Seen) → one ≡ other → Writes sink a b (links_in one items) block label seen →
-    Writes sink a b (links_in other items) block label seen
+pub writes_from : {K : Type 0} (sink : Ghosts K) (a b : WrittenAt K) (one other : Origin) (items : List Item) (block :
+    List
+    Element) (label : List ℕ) (seen : List Seen) → one ≡ other → WritesItems sink a b (links_in one items) block label
+    seen →
+    WritesItems sink a b (links_in other items) block label seen
 writes_from sink a b one other items block label seen is writes =
-    subst (λ (origin : Origin). Writes sink a b (links_in origin items) block label seen) is writes
+    subst (λ (origin : Origin). WritesItems sink a b (links_in origin items) block label seen) is writes
 
 -- ---- the item of a place
 
@@ -192,7 +207,7 @@ item_writes : {K : Type 0} (sink : Ghosts K) (out mid next : K) (page said left 
     : ℕ) (kept : KeptReferences) (links : ℕ → Option Link) (block : List Element) (label : List ℕ) (seen : Seen) →
     PutsPlaces sink out page mid said (if seen.is_shown && not begun then label_places block label else []) →
     PutsPlaces sink mid said next left (item_places block (links place) count seen) →
-    Writes sink (record {
+    WritesItems sink (record {
       out = out;
       page = page;
       begun = begun;
@@ -233,7 +248,7 @@ pub item_written : {K : Type 0} (sink : Ghosts K) (out mid next : K) (page said 
     link ≡ link_to origin.note referred (hyperlink_in origin.begin course.fields) →
     PutsPlaces sink out page mid said (if seen.is_shown && not begun then label_places block label else []) →
     PutsPlaces sink mid said next left (item_places block link count seen) →
-    Writes sink (record {
+    WritesItems sink (record {
       out = out;
       page = page;
       begun = begun;
@@ -254,7 +269,7 @@ item_written sink out mid next page said left begun count referred origin link b
     let links = links_in origin items in
     let right : link ≡ links course.place =
     leads ∙ (λ i. link_to origin.note (up_to i) (hyperlink_in origin.begin (is.fields i))) in
-    subst (λ (all : List Seen). Writes sink (record {
+    subst (λ (all : List Seen). WritesItems sink (record {
       out = out;
       page = page;
       begun = begun;

@@ -8,7 +8,7 @@ use Rattle.style_sheet.specs.Sheet.{Sheet, style_at}
 use Rattle.style_sheet.specs.declared.styles.Style.{Style}
 use Rattle.style_sheet.specs.declared.styles.Kind.{Kind}
 use Rattle.style_sheet.specs.declared.styles.Kind.TheVariants.{Para, Char, Other}
-use Rattle.plain_doc.specs.declared.document.Document.{Document}
+use Rattle.doc_model.specs.declared.document.Document.{Document}
 use Rattle.view_places.specs.declared.glyph.Glyph.{Glyph}
 use Rattle.view_places.specs.declared.glyph.Glyph.TheVariants.{Unit, Tab, LineBreak, PageBreak, NoteMark, Picture}
 use Rattle.view_places.specs.declared.glyph.Glyph.TheVariants.{Object}
@@ -20,10 +20,10 @@ use Rattle.doc_view.specs.Seen.{Formats, Paragraph, paragraphs_of, shown_glyph}
 use Rattle.html_page.specs.Pages.{Head}
 
 -- the value of the character properties of a style at a code
-abbrev pub value_in : Kind → ℕ → Option (List ℕ)
-value_in (Para pap chp) code = get chp code
-value_in (Char chp) code = get chp code
-value_in (Other stk upxes) code = None
+abbrev pub style_value : Kind → ℕ → Option (List ℕ)
+style_value (Para pap chp) code = get chp code
+style_value (Char chp) code = get chp code
+style_value (Other stk upxes) code = None
 
 -- a language identifier has two bytes
 abbrev pub identifier_in : List ℕ → Option ℕ
@@ -35,14 +35,14 @@ identifier_of (Some value) = identifier_in value
 
 -- [MS-DOC] sprmCRgLid0, and before it sprmCRgLid0_80: the language of text that is not East Asian
 abbrev pub later_language : Kind → Option ℕ
-later_language kind = identifier_of (value_in kind 0x4873)
+later_language kind = identifier_of (style_value kind 0x4873)
 
 abbrev pub language_by : Kind → Option (List ℕ) → Option ℕ
 language_by kind None = later_language kind
 language_by kind (Some value) = identifier_in value
 
 abbrev pub language_in : Kind → Option ℕ
-language_in kind = language_by kind (value_in kind 0x486D)
+language_in kind = language_by kind (style_value kind 0x486D)
 
 abbrev pub language_at : Option Style → Option ℕ
 language_at None = None
@@ -79,8 +79,8 @@ abbrev pub title_units : List Seen → List ℕ
 title_units seen = take longest_title (filter_map seen_unit seen)
 
 -- some unit is more than a space
-abbrev pub is_title : List ℕ → Bool
-is_title units = list_any (λ unit. nat_lt 0x20 unit) units
+abbrev pub is_title_text : List ℕ → Bool
+is_title_text units = list_any (λ unit. nat_lt 0x20 unit) units
 
 abbrev pub untitled : List ℕ
 untitled = codes "Untitled"
@@ -89,12 +89,13 @@ untitled = codes "Untitled"
 unfoldable pub title_in : List Paragraph → List ℕ
 title_in [] = untitled
 title_in (paragraph ∷ more) =
-    if is_title (title_units paragraph.items) then title_units paragraph.items else title_in more
+    if is_title_text (title_units paragraph.items) then title_units paragraph.items else title_in more
 
 -- Profile: the main text is read as the text of a header is, in which nothing refers to a note
-abbrev pub title_of : Formats → Options → Document → List ℕ
-title_of formats options document = title_in (paragraphs_of formats (header_manner options document) document.main)
+abbrev pub document_title : Formats → Options → Document → List ℕ
+document_title formats options document = title_in (paragraphs_of formats (header_manner options document)
+    document.main)
 
-abbrev pub head_of : Formats → Options → Document → Head
-head_of formats options document =
-    record { language = language_of document.sheet; title = units_text None (title_of formats options document) }
+abbrev pub page_head : Formats → Options → Document → Head
+page_head formats options document =
+    record { language = language_of document.sheet; title = units_text None (document_title formats options document) }

@@ -8,8 +8,8 @@ use Rattle.html_page.specs.Pages.{page_tokens}
 use Rattle.doc_view.specs.declared.view.Options.{Options}
 use Rattle.doc_view.specs.Page.{AreFormats}
 use Rattle.doc_view.specs.Seen.{Formats}
-use Rattle.doc_places.specs.Places.{places_of}
-use Rattle.doc_html.specs.Head.{head_of}
+use Rattle.doc_places.specs.Places.{document_places}
+use Rattle.doc_html.specs.Head.{page_head}
 use Rattle.form_page.specs.declared.page.PageForm.{PageForm}
 use Rattle.doc_html.specs.Page.{IsFormPage, IsHtmlPage, IsSafe}
 
@@ -28,8 +28,8 @@ pub record IsReadBack (options : Options) (source : PageSource) (bytes : List �
   pub text : List ℕ
   pub bytes_are : bytes ≡ encode_utf8_all text
   pub reads :
-      read text ≡ page_tokens source (head_of formats options source.document)
-      (places_of formats values options source.document)
+      read text ≡ page_tokens source (page_head formats options source.document)
+      (document_places formats values options source.document)
   pub safe : IsSafe source.images text
 
 abbrev pub HtmlPagesAreReadBack : Type 0

@@ -2,9 +2,9 @@
 use Rattle.std.specs.Prelude.{◌≡◌, ℕ, ◌+◌, ◌≤◌, Bool, false, not, ◌&&◌, ◌||◌, List, [], ◌++◌, Option, length, take, drop}
 use Rattle.std.specs.Prelude.{if◌then◌else◌}
 use Rattle.doc_outer.specs.declared.sink.Sink.{Ghosts}
-use Rattle.plain_doc.specs.declared.item.Item.{Item}
-use Rattle.plain_doc.specs.Settings.{is_inside}
-use Rattle.plain_doc.specs.Stretches.{stretches}
+use Rattle.doc_model.specs.declared.item.Item.{Item}
+use Rattle.doc_model.specs.Settings.{is_inside}
+use Rattle.doc_model.specs.Stretches.{stretches}
 use Rattle.view_places.specs.declared.element.Element.{Element}
 use Rattle.form_page.specs.declared.page.FormPage.{FormPage}
 use Rattle.form_page.specs.Forms.{Places, PutsPlaces}
@@ -13,7 +13,7 @@ use Rattle.doc_view.specs.declared.reading.Seen.{Seen}
 use Rattle.doc_view.specs.declared.references.Reference.{Reference}
 use Rattle.doc_view.specs.declared.standing.Standing.{Standing}
 use Rattle.doc_view.specs.Course.{IsCourse}
-use Rattle.doc_view.specs.Layout.{ends_head, keeps_row}
+use Rattle.doc_view.specs.Layout.{ends_head, row_goes_on}
 use Rattle.doc_view.specs.Seen.{Formats, Paragraph, paragraphs_from, references_in, some_shown}
 use Rattle.doc_places.specs.Grid.{is_head_row}
 use Rattle.view_places.specs.declared.element.Link.{Link}
@@ -29,7 +29,7 @@ paragraphs_left formats manner items place =
 
 -- whether the row of a paragraph is a head, by the paragraphs behind it
 abbrev pub head_by : Standing → List Paragraph → Bool
-head_by standing more = if keeps_row standing then is_head_row more else ends_head standing
+head_by standing more = if row_goes_on standing then is_head_row more else ends_head standing
 
 -- the course is that of its place, no more references were met than items, and the last one ends there
 pub record IsReading (manner : Manner) (items : List Item) (reading : Reading) : Type 0 where
@@ -39,7 +39,7 @@ pub record IsReading (manner : Manner) (items : List Item) (reading : Reading) :
 
 -- what was written of a page, whether something of the paragraph was and up to which place, and how many references and
 -- which were met
-pub record At (K : Type 0) : Type 0 where
+pub record WrittenAt (K : Type 0) : Type 0 where
   pub out : K
   pub page : FormPage
   pub begun : Bool
@@ -47,7 +47,7 @@ pub record At (K : Type 0) : Type 0 where
   pub place : ℕ
   pub references : List Reference
 
-abbrev pub at : {K : Type 0} → K → Writer → Reading → At K
+abbrev pub at : {K : Type 0} → K → Writer → Reading → WrittenAt K
 at out writer reading = record {
   out = out;
   page = writer.page;
@@ -58,7 +58,7 @@ at out writer reading = record {
 }
 
 -- where nothing of the paragraph was written
-abbrev pub at_front : {K : Type 0} → At K → At K
+abbrev pub at_front : {K : Type 0} → WrittenAt K → WrittenAt K
 at_front at = record at { begun = false }
 
 -- the links of a paragraph
@@ -70,7 +70,8 @@ abbrev pub label_before : Bool → List Element → List ℕ → List Seen → P
 label_before begun block label seen = if some_shown seen && not begun then label_places block label else []
 
 -- items of a paragraph with these links and this label were written
-pub record Writes {K : Type 0} (sink : Ghosts K) (before after : At K) (links : ℕ → Option Link) (block : List Element)
+pub record WritesItems {K : Type 0} (sink : Ghosts K) (before after : WrittenAt K) (links : ℕ → Option Link) (block :
+    List Element)
     (label : List ℕ) (seen : List Seen) : Type 0 where
   pub puts :
       PutsPlaces sink before.out before.page after.out after.page

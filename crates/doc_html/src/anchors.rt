@@ -1,6 +1,6 @@
 // The anchors of bookmarks.
 ghost use Rattle.std.specs.Prelude.{◌≡◌, ◌+◌, ◌-◌, ◌^◌, ◌<◌, ◌≤◌, ◌++◌, [], ◌∷◌, length, nat_lt, true};
-ghost use Rattle.doc_places.specs.Places.{anchor_places, bare, lead, numbers};
+ghost use Rattle.doc_places.specs.Places.{anchor_places, bare_place, lead, consecutive};
 ghost use Rattle.form_page.specs.Forms.{PutsPlaces};
 ghost use Rattle.view_places.specs.declared.element.Element.TheVariants.{Anchor};
 
@@ -23,7 +23,7 @@ pub(crate) fn write_anchors<K: Sink>(
     ensures path { writer.new.path ≡ writer.old.path }
     ensures next { result ≡ lead bookmarks.now end }
     ensures puts { PutsPlaces K.Sink out.old writer.old.page out.new writer.new.page
-        (anchor_places writer.old.path (numbers next (lead bookmarks.now end - next))) }
+        (anchor_places writer.old.path (consecutive next (lead bookmarks.now end - next))) }
 {
     let mut number = next;
     while begins_before(bookmarks, number, end) {
@@ -62,7 +62,7 @@ fn write_anchor<K: Sink>(writer: &mut Writer<'_>, out: &mut K, number: usize)
     requires { length writer.old.path < MAX_DEPTH }
     ensures path { writer.new.path ≡ writer.old.path }
     ensures puts { PutsPlaces K.Sink out.old writer.old.page out.new writer.new.page
-        (bare (writer.old.path ++ Anchor number ∷ []) ∷ []) }
+        (bare_place (writer.old.path ++ Anchor number ∷ []) ∷ []) }
 {
     let depth = writer.path.len();
     writer.path.push(Element::Anchor(number));

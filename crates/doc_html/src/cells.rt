@@ -1,9 +1,9 @@
 // How far the cells of a text reach, and the tables inside of them.
 ghost use Rattle.std.specs.Prelude.{◌≡◌, ◌+◌, ◌-◌, ◌∷◌, [], ◌==◌, ◌&&◌, not, option_map, IfOk, OnOk};
-ghost use Rattle.doc_columns.specs.Walks.{items_in, AreParts};
+ghost use Rattle.doc_columns.specs.Walks.{items_in, AreFullParts};
 ghost use Rattle.doc_view.specs.Seen.{standing_of};
 ghost use Rattle.doc_places.specs.Cells.{definition_in, tables_by};
-ghost use Rattle.doc_places.specs.Places.{cells_of, has_label};
+ghost use Rattle.doc_places.specs.Places.{table_cells_of, has_label};
 
 use crate::anchors::next_anchor;
 use crate::depths::depth_by;
@@ -31,8 +31,8 @@ pub(crate) fn cells_of(
     bookmarks: &Bookmarks,
     values: &ParagraphValuesList,
 ) -> Result<TableCells, Memory>
-    requires { AreParts parts.now }
-    ensures { IfOk result (λ cells. cells ≡ cells_of bookmarks.now values.now (items_in parts.now)) }
+    requires { AreFullParts parts.now }
+    ensures { IfOk result (λ cells. cells ≡ table_cells_of bookmarks.now values.now (items_in parts.now)) }
 {
     let len = parts.units.len();
     let mut tables = Tables::new(alloc);

@@ -1,6 +1,6 @@
 // How deep the paragraphs of a text are in tables.
 ghost use Rattle.std.specs.Prelude.{◌≡◌, Some};
-ghost use Rattle.plain_doc.specs.Rows.{is_on, value_in};
+ghost use Rattle.plain_doc.specs.Rows.{is_byte_one, mark_value_in};
 ghost use Rattle.doc_places.specs.Cells.{depth_by, depth_of, inner_depth, outer_depth};
 
 use doc_bits::get32;
@@ -54,7 +54,7 @@ fn inner_depth(mark: &Option<Mark>, is_mark: bool) -> Depth
 
 /// How deep a mark says that its paragraph is; 1 where it says nothing.
 fn depth_of(mark: &Option<Mark>) -> u32
-    ensures { result ≡ depth_of (value_in mark.now 0x6649) }
+    ensures { result ≡ depth_of (mark_value_in mark.now 0x6649) }
 {
     match value_at(mark, DEPTH) {
         None => 1,
@@ -71,7 +71,7 @@ fn depth_in(value: &[u8]) -> u32
 
 /// Whether a mark has the byte 01 at a code.
 fn is_set(mark: &Option<Mark>, code: Code) -> bool
-    ensures { result ≡ is_on (value_in mark.now code.0) }
+    ensures { result ≡ is_byte_one (mark_value_in mark.now code.0) }
 {
     match value_at(mark, code) {
         None => false,

@@ -1,6 +1,6 @@
 // What is said of a page.
 ghost use Rattle.std.specs.Prelude.{◌≡◌, None, Some, MatchOption};
-ghost use Rattle.doc_html.specs.Head.{identifier_in, language_in, language_of, later_language, value_in};
+ghost use Rattle.doc_html.specs.Head.{identifier_in, language_in, language_of, later_language, style_value};
 
 use doc_bits::get16;
 use sprm_table::Code;
@@ -43,7 +43,8 @@ fn later_language(kind: &Kind) -> Option<u16>
 
 /// The value of the character properties at a code.
 fn value_in(kind: &Kind, code: Code) -> Option<&[u8]>
-    ensures { MatchOption result (value_in kind.now code.0 ≡ None) (λ value. value_in kind.now code.0 ≡ Some value.now) }
+    ensures { MatchOption result (style_value kind.now code.0 ≡ None) (λ value. style_value kind.now code.0 ≡ Some
+        value.now) }
 {
     match kind {
         Kind::Para { chp, .. } => chp.get(code),

@@ -1,9 +1,9 @@
 // Rows that are the heads of tables.
 ghost use Rattle.std.specs.Prelude.{◌≡◌, ◌≤◌, length, Bool, None, Some, if◌then◌else◌};
-ghost use Rattle.run_lists.specs.Places.{IsAt};
-ghost use Rattle.doc_columns.specs.Walks.{items_in, AreParts};
+ghost use Rattle.run_lists.specs.Places.{IsAtRunBegin};
+ghost use Rattle.doc_columns.specs.Walks.{items_in, AreFullParts};
 ghost use Rattle.doc_view.specs.declared.reading.Manner.{Manner};
-ghost use Rattle.doc_view.specs.Layout.{keeps_row};
+ghost use Rattle.doc_view.specs.Layout.{row_goes_on};
 ghost use Rattle.doc_view.specs.Seen.{Formats};
 ghost use Rattle.doc_places.specs.Grid.{is_head_row};
 ghost use Rattle.doc_html.specs.Writes.{head_by, paragraphs_left};
@@ -21,8 +21,8 @@ pub(crate) fn is_head(
     standing: Standing,
     known: Option<bool>,
 ) -> bool
-    requires parts { AreParts parts.now }
-    requires marks { IsAt parts.now.attachments.now marks }
+    requires parts { AreFullParts parts.now }
+    requires marks { IsAtRunBegin parts.now.attachments.now marks }
     requires ahead { marks.begin ≤ place }
     requires within { place ≤ length parts.now.units.now }
     requires known { (formats : Formats) (manner : Manner) (head : Bool) → known ≡ Some head
@@ -41,7 +41,7 @@ pub(crate) fn is_head(
 
 /// What is known of the row of the next paragraph behind one whose row is a head or not.
 pub(crate) fn known_behind(standing: Standing, is_head: bool) -> Option<bool>
-    ensures { result ≡ (if keeps_row standing then Some is_head else None) }
+    ensures { result ≡ (if row_goes_on standing then Some is_head else None) }
 {
     if standing.keeps_row() {
         Some(is_head)
@@ -52,8 +52,8 @@ pub(crate) fn known_behind(standing: Standing, is_head: bool) -> Option<bool>
 
 /// Whether the row that goes on at a place is a head of its table. It is linear in the rest of the row.
 fn is_head_row(parts: &Parts<'_>, from: Cursor, place: usize) -> bool
-    requires parts { AreParts parts.now }
-    requires marks { IsAt parts.now.attachments.now from }
+    requires parts { AreFullParts parts.now }
+    requires marks { IsAtRunBegin parts.now.attachments.now from }
     requires ahead { from.begin ≤ place }
     requires within { place ≤ length parts.now.units.now }
     ensures { (formats : Formats) (manner : Manner)

@@ -1,12 +1,12 @@
 // The notes of a page.
 ghost use Rattle.std.specs.Prelude.{◌≡◌, ℕ, ◌+◌, ◌^◌, ◌<◌, ◌++◌, [], ◌∷◌, length, List, slice_get, true, Some};
-ghost use Rattle.style_sheet.specs.Chain.{kind_at};
-ghost use Rattle.plain_doc.specs.declared.item.Item.{Item};
+ghost use Rattle.style_sheet.specs.Chain.{style_kind_at};
+ghost use Rattle.doc_model.specs.declared.item.Item.{Item};
 ghost use Rattle.plain_doc.specs.RightDocument.{HoldsAtItems};
 ghost use Rattle.plain_doc.specs.RulesOfTexts.{HasParagraphStyle};
 ghost use Rattle.doc_view.specs.Page.{AreFormats};
 ghost use Rattle.doc_view.specs.Seen.{Formats};
-ghost use Rattle.doc_places.specs.Places.{label_of, note_path, note_places, notes_places, shown};
+ghost use Rattle.doc_places.specs.Places.{label_of, note_path, note_places, notes_places, shown_place};
 ghost use Rattle.form_page.specs.Forms.{PutsPlaces};
 ghost use Rattle.view_places.specs.declared.element.Element.TheVariants.{BackLink};
 ghost use Rattle.doc_view.specs.declared.reading.TextKind.TheVariants as text_kind;
@@ -45,7 +45,7 @@ impl Notes<'_> {
         out: &mut K,
         references: &References,
     )
-        requires normal { kind_at self.now.formats.now 0 ≡ 1 }
+        requires normal { style_kind_at self.now.formats.now 0 ≡ 1 }
         requires styles { (k : ℕ) (note : List Item) → slice_get self.now.texts.now k ≡ Some note
             → HoldsAtItems note (λ i item. HasParagraphStyle self.now.formats.now item) }
         requires path { writer.old.path ≡ [] }
@@ -69,7 +69,7 @@ impl Notes<'_> {
         k: usize,
         reference: Reference,
     )
-        requires normal { kind_at self.now.formats.now 0 ≡ 1 }
+        requires normal { style_kind_at self.now.formats.now 0 ≡ 1 }
         requires styles { (k : ℕ) (note : List Item) → slice_get self.now.texts.now k ≡ Some note
             → HoldsAtItems note (λ i item. HasParagraphStyle self.now.formats.now item) }
         requires there { k < length self.now.texts.now }
@@ -114,7 +114,7 @@ fn open_note<K: Sink>(writer: &mut Writer<'_>, out: &mut K, number: usize, label
     requires { writer.old.path ≡ [] }
     ensures path { writer.new.path ≡ note_path number }
     ensures puts { PutsPlaces K.Sink out.old writer.old.page out.new writer.new.page
-        (shown (note_path number ++ BackLink number ∷ []) (label_of label) ∷ []) }
+        (shown_place (note_path number ++ BackLink number ∷ []) (label_of label) ∷ []) }
 {
     writer.path.push(Element::Notes);
     writer.path.push(Element::Note(number));

@@ -3,18 +3,18 @@ ghost use Rattle.std.specs.Prelude.{◌≡◌, ℕ, ◌+◌, ◌^◌, ◌<◌, �
 ghost use Rattle.std.specs.Prelude.{is_some, if◌then◌else◌, None, slice_index, true};
 ghost use Rattle.doc_view.specs.Blocks.{IsItself, shows_units};
 ghost use Rattle.std.specs.List.{count_by};
-ghost use Rattle.style_sheet.specs.Chain.{kind_at};
-ghost use Rattle.plain_doc.specs.declared.item.Item.{Item};
+ghost use Rattle.style_sheet.specs.Chain.{style_kind_at};
+ghost use Rattle.doc_model.specs.declared.item.Item.{Item};
 ghost use Rattle.plain_doc.specs.RightDocument.{HoldsAtItems};
 ghost use Rattle.plain_doc.specs.RulesOfTexts.{HasParagraphStyle};
-ghost use Rattle.doc_columns.specs.Walks.{items_in, AreParts, IsWalk};
+ghost use Rattle.doc_columns.specs.Walks.{items_in, AreFullParts, IsColumnWalk};
 ghost use Rattle.doc_view.specs.Course.{HasAttached, HasFormat, IsCourse, has_reference};
 ghost use Rattle.doc_view.specs.declared.reading.Manner.{Manner};
 ghost use Rattle.doc_view.specs.Page.{AreFormats};
 ghost use Rattle.doc_view.specs.Seen.{Formats, paragraphs_of, references_of, seen_from, with_values};
 ghost use Rattle.doc_places.specs.Places.{count_of, hypertext_of, text_places};
 ghost use Rattle.form_page.specs.Forms.{PutsPlaces};
-ghost use Rattle.doc_html.specs.Writes.{IsReading, Writes, at, links_in};
+ghost use Rattle.doc_html.specs.Writes.{IsReading, WritesItems, at, links_in};
 
 use crate::anchors::write_anchors;
 use crate::heads::{is_head, known_behind};
@@ -105,8 +105,8 @@ pub(crate) fn write_text<K: Sink>(
     context: &Context<'_>,
     references: References,
 ) -> References
-    requires parts { AreParts text.now.parts }
-    requires normal { kind_at text.now.formats.now 0 ≡ 1 }
+    requires parts { AreFullParts text.now.parts }
+    requires normal { style_kind_at text.now.formats.now 0 ≡ 1 }
     requires styles { HoldsAtItems (items_in text.now.parts) (λ i item. HasParagraphStyle text.now.formats.now item) }
     requires room { count_by (has_reference text.now.manner) (items_in text.now.parts) ≤ references.room }
     requires depth { length writer.old.path + 21 ≤ MAX_DEPTH }
@@ -169,19 +169,19 @@ fn write_paragraph<K: Sink>(
     bounds: Bounds,
     label: &[u16],
 )
-    requires parts { AreParts text.now.parts }
-    requires walk { IsWalk text.now.parts reading.old.course.walk reading.old.course.place }
+    requires parts { AreFullParts text.now.parts }
+    requires walk { IsColumnWalk text.now.parts reading.old.course.walk reading.old.course.place }
     requires reading { IsReading text.now.manner (items_in text.now.parts) reading.old }
     requires ahead { reading.old.course.place ≤ bounds.end }
     requires within { bounds.end ≤ length text.now.parts.units.now }
-    requires style { kind_at text.now.formats.now bounds.istd ≡ 1 }
+    requires style { style_kind_at text.now.formats.now bounds.istd ≡ 1 }
     requires depth { length writer.old.path + 8 ≤ MAX_DEPTH }
     ensures place { reading.new.course.place ≡ bounds.end }
-    ensures walk { IsWalk text.now.parts reading.new.course.walk bounds.end }
+    ensures walk { IsColumnWalk text.now.parts reading.new.course.walk bounds.end }
     ensures reading { IsReading text.now.manner (items_in text.now.parts) reading.new }
     ensures path { writer.new.path ≡ writer.old.path }
     ensures origin { reading.new.origin ≡ reading.old.origin }
-    ensures writes { (formats : Formats) → AreFormats text.now.formats.now formats → Writes K.Sink
+    ensures writes { (formats : Formats) → AreFormats text.now.formats.now formats → WritesItems K.Sink
         (at out.old writer.old reading.old) (at out.new writer.new reading.new)
         (links_in reading.old.origin (items_in text.now.parts)) writer.old.path label.now
         (seen_from formats text.now.manner bounds.istd (take reading.old.course.place (items_in text.now.parts))
@@ -207,7 +207,7 @@ fn write_stretch<K: Sink>(
     stretch: &Stretch<'_>,
     label: &[u16],
 )
-    requires parts { AreParts text.now.parts }
+    requires parts { AreFullParts text.now.parts }
     requires reading { IsReading text.now.manner (items_in text.now.parts) reading.old }
     requires ahead { reading.old.course.place ≤ stretch.now.until }
     requires within { stretch.now.until ≤ length text.now.parts.units.now }
@@ -221,7 +221,7 @@ fn write_stretch<K: Sink>(
     ensures origin { reading.new.origin ≡ reading.old.origin }
     ensures writes { (formats : Formats) (istd : ℕ)
         → HasFormat formats istd (items_in text.now.parts) reading.old.course.place stretch.now.until stretch.now.format
-        → Writes K.Sink
+        → WritesItems K.Sink
         (at out.old writer.old reading.old) (at out.new writer.new reading.new)
         (links_in reading.old.origin (items_in text.now.parts)) writer.old.path label.now
         (seen_from formats text.now.manner istd (take reading.old.course.place (items_in text.now.parts))
@@ -242,7 +242,7 @@ fn write_some<K: Sink>(
     stretch: &Stretch<'_>,
     label: &[u16],
 )
-    requires parts { AreParts text.now.parts }
+    requires parts { AreFullParts text.now.parts }
     requires reading { IsReading text.now.manner (items_in text.now.parts) reading.old }
     requires ahead { reading.old.course.place < stretch.now.until }
     requires within { stretch.now.until ≤ length text.now.parts.units.now }
@@ -257,7 +257,7 @@ fn write_some<K: Sink>(
     ensures origin { reading.new.origin ≡ reading.old.origin }
     ensures writes { (formats : Formats) (istd : ℕ)
         → HasFormat formats istd (items_in text.now.parts) reading.old.course.place stretch.now.until stretch.now.format
-        → Writes K.Sink
+        → WritesItems K.Sink
         (at out.old writer.old reading.old) (at out.new writer.new reading.new)
         (links_in reading.old.origin (items_in text.now.parts)) writer.old.path label.now
         (seen_from formats text.now.manner istd (take reading.old.course.place (items_in text.now.parts))
@@ -289,7 +289,7 @@ fn write_item<K: Sink>(
     stretch: &Stretch<'_>,
     label: &[u16],
 )
-    requires parts { AreParts text.now.parts }
+    requires parts { AreFullParts text.now.parts }
     requires reading { IsReading text.now.manner (items_in text.now.parts) reading.old }
     requires ahead { reading.old.course.place < stretch.now.until }
     requires within { stretch.now.until ≤ length text.now.parts.units.now }
@@ -303,7 +303,7 @@ fn write_item<K: Sink>(
     ensures origin { reading.new.origin ≡ reading.old.origin }
     ensures writes { (formats : Formats) (istd : ℕ)
         → HasFormat formats istd (items_in text.now.parts) reading.old.course.place stretch.now.until stretch.now.format
-        → Writes K.Sink
+        → WritesItems K.Sink
         (at out.old writer.old reading.old) (at out.new writer.new reading.new)
         (links_in reading.old.origin (items_in text.now.parts)) writer.old.path label.now
         (seen_from formats text.now.manner istd (take reading.old.course.place (items_in text.now.parts))

@@ -1,15 +1,16 @@
 // The title of a page: what is seen of the first paragraph that has more than spaces.
 ghost use Rattle.std.specs.Prelude.{◌≡◌, ◌+◌, ◌<◌, ◌≤◌, ◌∷◌, ◌++◌, [], length, take, slice_range, IfOk, OnOk};
 ghost use Rattle.std.specs.List.{cons_option, count_by};
-ghost use Rattle.style_sheet.specs.Chain.{kind_at};
+ghost use Rattle.style_sheet.specs.Chain.{style_kind_at};
 ghost use Rattle.plain_doc.specs.RightDocument.{HoldsAtItems};
 ghost use Rattle.plain_doc.specs.RulesOfTexts.{HasParagraphStyle};
 ghost use Rattle.plain_doc.specs.Sound.{IsSound};
-ghost use Rattle.doc_columns.specs.Walks.{items_in, AreParts, IsWalk};
+ghost use Rattle.doc_columns.specs.Walks.{items_in, AreFullParts, IsColumnWalk};
 ghost use Rattle.doc_view.specs.Course.{IsCourse, has_reference};
 ghost use Rattle.doc_view.specs.Page.{AreFormats};
 ghost use Rattle.doc_view.specs.Seen.{Formats, paragraphs_of, seen_from};
-ghost use Rattle.doc_html.specs.Head.{is_title, longest_title, seen_unit, title_in, title_of, title_unit, title_units};
+ghost use Rattle.doc_html.specs.Head.{is_title_text, longest_title, seen_unit, title_in, document_title, title_unit};
+ghost use Rattle.doc_html.specs.Head.{title_units};
 
 use char_formats::StyleFormats;
 use doc_bits::{Memory, Units};
@@ -38,7 +39,7 @@ pub(crate) fn title_of(
     requires sound { IsSound document.now }
     requires formats { formats.now ≡ document.now.sheet }
     ensures { IfOk result (λ title. (all : Formats) → AreFormats document.now.sheet all
-        → title ≡ title_of all options document.now) }
+        → title ≡ document_title all options document.now) }
 {
     let text = Text {
         parts: document.main.parts(),
@@ -55,8 +56,8 @@ pub(crate) fn title_of(
 
 /// The title of a text. It is linear in what is before the paragraph that it is taken from, and in that one.
 fn title_in(alloc: Global, text: &Text<'_>) -> Result<Units, Memory>
-    requires parts { AreParts text.now.parts }
-    requires normal { kind_at text.now.formats.now 0 ≡ 1 }
+    requires parts { AreFullParts text.now.parts }
+    requires normal { style_kind_at text.now.formats.now 0 ≡ 1 }
     requires styles { HoldsAtItems (items_in text.now.parts) (λ i item. HasParagraphStyle text.now.formats.now item) }
     requires room { count_by (has_reference text.now.manner) (items_in text.now.parts) ≡ 0 }
     ensures { IfOk result (λ title. (formats : Formats) → AreFormats text.now.formats.now formats
@@ -83,7 +84,7 @@ fn title_in(alloc: Global, text: &Text<'_>) -> Result<Units, Memory>
 
 /// Whether some unit is more than a space.
 fn is_title(units: &[u16]) -> bool
-    ensures { result ≡ is_title units.now }
+    ensures { result ≡ is_title_text units.now }
 {
     for unit in units {
         if *unit > SPACE {
@@ -100,14 +101,14 @@ fn paragraph_title(
     text: &Text<'_>,
     bounds: Bounds,
 ) -> Result<Units, Memory>
-    requires parts { AreParts text.now.parts }
-    requires walk { IsWalk text.now.parts course.old.walk course.old.place }
+    requires parts { AreFullParts text.now.parts }
+    requires walk { IsColumnWalk text.now.parts course.old.walk course.old.place }
     requires course { IsCourse text.now.manner (items_in text.now.parts) course.old }
     requires ahead { course.old.place ≤ bounds.end }
     requires within { bounds.end ≤ length text.now.parts.units.now }
-    requires style { kind_at text.now.formats.now bounds.istd ≡ 1 }
+    requires style { style_kind_at text.now.formats.now bounds.istd ≡ 1 }
     ensures place { OnOk result (course.new.place ≡ bounds.end) }
-    ensures walk { OnOk result (IsWalk text.now.parts course.new.walk bounds.end) }
+    ensures walk { OnOk result (IsColumnWalk text.now.parts course.new.walk bounds.end) }
     ensures course { OnOk result (IsCourse text.now.manner (items_in text.now.parts) course.new) }
     ensures title { IfOk result (λ title. (formats : Formats) → AreFormats text.now.formats.now formats
         → title ≡ title_units (seen_from formats text.now.manner bounds.istd
@@ -124,13 +125,13 @@ fn paragraph_title(
 
 /// What is seen of the item of the place in a paragraph of a style; goes behind it.
 fn next_seen(course: &mut Course, text: &Text<'_>, istd: u16) -> Seen
-    requires parts { AreParts text.now.parts }
-    requires walk { IsWalk text.now.parts course.old.walk course.old.place }
+    requires parts { AreFullParts text.now.parts }
+    requires walk { IsColumnWalk text.now.parts course.old.walk course.old.place }
     requires course { IsCourse text.now.manner (items_in text.now.parts) course.old }
     requires within { course.old.place < length text.now.parts.units.now }
-    requires style { kind_at text.now.formats.now istd ≡ 1 }
+    requires style { style_kind_at text.now.formats.now istd ≡ 1 }
     ensures place { course.new.place ≡ course.old.place + 1 }
-    ensures walk { IsWalk text.now.parts course.new.walk (course.old.place + 1) }
+    ensures walk { IsColumnWalk text.now.parts course.new.walk (course.old.place + 1) }
     ensures course { IsCourse text.now.manner (items_in text.now.parts) course.new }
     ensures seen { (formats : Formats) → AreFormats text.now.formats.now formats
         → result ∷ [] ≡ seen_from formats text.now.manner istd (take course.old.place (items_in text.now.parts))

@@ -6,14 +6,14 @@ ghost use Rattle.style_sheet.specs.Chain.{HasSoundBases};
 ghost use Rattle.plain_doc.specs.Sound.{IsSound};
 ghost use Rattle.list_numbers.specs.ParagraphValues.{AreParagraphValuesOf};
 ghost use Rattle.page_out.specs.Printed.{Prints};
-ghost use Rattle.doc_pictures.specs.Files.{files_of};
-ghost use Rattle.html_page.specs.Sources.{PageSource, source_of};
-ghost use Rattle.form_page.specs.Forms.{IsFresh, PutsPlaces, form_of, form_text, page_in};
+ghost use Rattle.doc_pictures.specs.Files.{image_files};
+ghost use Rattle.html_page.specs.Sources.{PageSource, page_source_of};
+ghost use Rattle.form_page.specs.Forms.{IsFresh, PutsPlaces, page_form_of, form_text, page_in};
 ghost use Rattle.doc_view.specs.Page.{AreFormats};
 ghost use Rattle.doc_view.specs.Seen.{Formats};
-ghost use Rattle.doc_places.specs.Places.{cells_of, places_of};
+ghost use Rattle.doc_places.specs.Places.{table_cells_of, document_places};
 ghost use Rattle.doc_html.specs.Page.{IsFormPage, IsHtmlPage, IsSafe};
-ghost use Rattle.doc_html.specs.Head.{head_of, title_of};
+ghost use Rattle.doc_html.specs.Head.{page_head, document_title};
 
 use crate::cells::cells_of;
 use crate::head::language_of;
@@ -54,16 +54,17 @@ pub fn write_html<K: Sink>(
     out: &mut K,
 ) -> Result<(), ViewFault>
     requires { IsSound source.now.document.now }
-    ensures ok { OnOk result ((bytes : List ℕ) × (IsHtmlPage options (source_of source.now) bytes
+    ensures ok { OnOk result ((bytes : List ℕ) × (IsHtmlPage options (page_source_of source.now) bytes
         × Appends (K.written out.old) (K.written out.new) bytes)) }
 
     // No markup of the page comes from the document but links to allowed URLs, and anchors; images are files of its
     // pictures.
-    ensures safe { OnOk result ((page : List ℕ) × (IsSafe (files_of source.now.images) page
+    ensures safe { OnOk result ((page : List ℕ) × (IsSafe (image_files source.now.images) page
         × Appends (K.written out.old) (K.written out.new) (encode_utf8_all page))) }
 
     // A sink that fails has taken a prefix of the page.
-    ensures prefix { IsErrOf result ViewFault.Sink → (bytes : List ℕ) × (IsHtmlPage options (source_of source.now) bytes
+    ensures prefix { IsErrOf result ViewFault.Sink → (bytes : List ℕ) × (IsHtmlPage options (page_source_of source.now)
+        bytes
         × AppendsPrefix (K.written out.old) (K.written out.new) bytes) }
     ensures failed { IsErrOf result ViewFault.Sink → Rose (K.faults out.old) (K.faults out.new) }
 
@@ -83,11 +84,12 @@ pub fn write_form<K: Sink>(
     out: &mut K,
 ) -> Result<(), ViewFault>
     requires { IsSound source.now.document.now }
-    ensures ok { OnOk result ((bytes : List ℕ) × (IsFormPage form options (source_of source.now) bytes
+    ensures ok { OnOk result ((bytes : List ℕ) × (IsFormPage form options (page_source_of source.now) bytes
         × Appends (K.written out.old) (K.written out.new) bytes)) }
 
     // A sink that fails has taken a prefix of the page.
-    ensures prefix { IsErrOf result ViewFault.Sink → (bytes : List ℕ) × (IsFormPage form options (source_of source.now) bytes
+    ensures prefix { IsErrOf result ViewFault.Sink → (bytes : List ℕ) × (IsFormPage form options (page_source_of
+        source.now) bytes
         × AppendsPrefix (K.written out.old) (K.written out.new) bytes) }
     ensures failed { IsErrOf result ViewFault.Sink → Rose (K.faults out.old) (K.faults out.new) }
 
@@ -109,9 +111,10 @@ fn needs_of(alloc: Global, document: &ColumnDocument, options: Options) -> Resul
     requires bases { HasSoundBases document.now.sheet }
     ensures formats { IfOk result (λ needs. needs.formats ≡ document.now.sheet) }
     ensures values { IfOk result (λ needs. AreParagraphValuesOf document.now needs.values) }
-    ensures cells { IfOk result (λ needs. needs.cells ≡ cells_of document.now.bookmarks needs.values document.now.main) }
+    ensures cells { IfOk result (λ needs. needs.cells ≡ table_cells_of document.now.bookmarks needs.values
+        document.now.main) }
     ensures title { IfOk result (λ needs. (formats : Formats) → AreFormats document.now.sheet formats
-        → needs.title ≡ title_of formats options document.now) }
+        → needs.title ≡ document_title formats options document.now) }
     ensures references { IfOk result (λ needs.
         needs.references ≡ record { list = []; room = length document.now.notes }) }
     ensures block { IfOk result (λ needs. needs.block ≡ []) }
@@ -144,14 +147,15 @@ fn write_with<K: Sink>(
     requires sound { IsSound source.now.document.now }
     requires formats { needs.formats ≡ source.now.document.now.sheet }
     requires values { AreParagraphValuesOf source.now.document.now needs.values }
-    requires cells { needs.cells ≡ cells_of source.now.document.now.bookmarks needs.values source.now.document.now.main }
+    requires cells { needs.cells ≡ table_cells_of source.now.document.now.bookmarks needs.values
+        source.now.document.now.main }
     requires title { (formats : Formats) → AreFormats source.now.document.now.sheet formats
-        → needs.title ≡ title_of formats options source.now.document.now }
+        → needs.title ≡ document_title formats options source.now.document.now }
     requires references { needs.references ≡ record { list = []; room = length source.now.document.now.notes } }
     requires block { needs.block ≡ [] }
-    ensures ok { OnOk result ((bytes : List ℕ) × (IsFormPage form options (source_of source.now) bytes
+    ensures ok { OnOk result ((bytes : List ℕ) × (IsFormPage form options (page_source_of source.now) bytes
         × Appends (K.written out.old) (K.written out.new) bytes)) }
-    ensures prefix { OnErr result ((bytes : List ℕ) × (IsFormPage form options (source_of source.now) bytes
+    ensures prefix { OnErr result ((bytes : List ℕ) × (IsFormPage form options (page_source_of source.now) bytes
         × AppendsPrefix (K.written out.old) (K.written out.new) bytes)) }
     ensures failed { OnErr result (Rose (K.faults out.old) (K.faults out.new)) }
 {
@@ -200,15 +204,17 @@ impl<'a> Shown<'a> {
         requires sound { IsSound self.now.source.document.now }
         requires formats { self.now.formats.now ≡ self.now.source.document.now.sheet }
         requires cells { self.now.cells.now
-            ≡ cells_of self.now.source.document.now.bookmarks self.now.values.now self.now.source.document.now.main }
+            ≡ table_cells_of self.now.source.document.now.bookmarks self.now.values.now
+            self.now.source.document.now.main }
         requires references { references ≡ record { list = []; room = length self.now.source.document.now.notes } }
         requires title { (formats : Formats) → AreFormats self.now.source.document.now.sheet formats
-            → self.now.title.now ≡ title_of formats self.now.options self.now.source.document.now }
-        requires fresh { IsFresh page [] (source_of self.now.source) }
+            → self.now.title.now ≡ document_title formats self.now.options self.now.source.document.now }
+        requires fresh { IsFresh page [] (page_source_of self.now.source) }
         ensures { (formats : Formats) → AreFormats self.now.source.document.now.sheet formats
             → Prints K.Sink out.old (page_in page.entry) out.new (page_in result)
-            (form_text (form_of page.entry) (source_of self.now.source)
-            (head_of formats self.now.options self.now.source.document.now) (places_of formats self.now.values.now self.now.options self.now.source.document.now)) }
+            (form_text (page_form_of page.entry) (page_source_of self.now.source)
+            (page_head formats self.now.options self.now.source.document.now) (document_places formats
+            self.now.values.now self.now.options self.now.source.document.now)) }
     {
         let mut writer = Writer {
             page,
@@ -233,12 +239,13 @@ impl<'a> Shown<'a> {
         requires sound { IsSound self.now.source.document.now }
         requires formats { self.now.formats.now ≡ self.now.source.document.now.sheet }
         requires cells { self.now.cells.now
-            ≡ cells_of self.now.source.document.now.bookmarks self.now.values.now self.now.source.document.now.main }
+            ≡ table_cells_of self.now.source.document.now.bookmarks self.now.values.now
+            self.now.source.document.now.main }
         requires references { references ≡ record { list = []; room = length self.now.source.document.now.notes } }
         requires path { writer.old.path ≡ [] }
         ensures { (formats : Formats) → AreFormats self.now.source.document.now.sheet formats
             → PutsPlaces K.Sink out.old writer.old.page out.new writer.new.page
-            (places_of formats self.now.values.now self.now.options self.now.source.document.now) }
+            (document_places formats self.now.values.now self.now.options self.now.source.document.now) }
     {
         let document = self.source.document;
         let fonts = fonts_of(document);

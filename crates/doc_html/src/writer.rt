@@ -3,8 +3,8 @@ ghost use Rattle.std.specs.Prelude.{◌≡◌, ◌+◌, ◌^◌, ◌<◌, ◌≤
 ghost use Rattle.std.specs.Char.{IsScalar};
 ghost use Rattle.std.specs.List.{All, cons_option, filter_map};
 ghost use Rattle.doc_view.specs.Labels.{label_glyph, label_glyphs};
-ghost use Rattle.doc_places.specs.Places.{bare, format_elements, inline_elements, item_places, label_places};
-ghost use Rattle.doc_places.specs.Places.{link_elements, shown};
+ghost use Rattle.doc_places.specs.Places.{bare_place, format_elements, inline_elements, item_places, label_places};
+ghost use Rattle.doc_places.specs.Places.{link_elements, shown_place};
 ghost use Rattle.glyph_units.specs.Glyphs.{unit_places};
 ghost use Rattle.view_places.specs.declared.element.Element.TheVariants.{Label};
 ghost use Rattle.form_page.specs.Forms.{PutsPlaces};
@@ -74,7 +74,7 @@ impl Writer<'_> {
         requires { length self.old.path + 8 ≤ MAX_DEPTH }
         ensures path { self.new.path ≡ self.old.path }
         ensures puts { PutsPlaces K.Sink out.old self.old.page out.new self.new.page
-            (bare (self.old.path ++ link_elements link) ∷ []) }
+            (bare_place (self.old.path ++ link_elements link) ∷ []) }
     {
         let depth = self.path.len();
         push_link(&mut self.path, link);
@@ -116,7 +116,7 @@ impl Writer<'_> {
         requires room { length self.old.path + 8 ≤ MAX_DEPTH }
         ensures path { self.new.path ≡ self.old.path }
         ensures puts { PutsPlaces K.Sink out.old self.old.page out.new self.new.page
-            (map (shown (self.old.path ++ Label ∷ [])) (label_glyphs label.now)) }
+            (map (shown_place (self.old.path ++ Label ∷ [])) (label_glyphs label.now)) }
     {
         let depth = self.path.len();
         self.path.push(Element::Label);
@@ -129,7 +129,7 @@ impl Writer<'_> {
     fn write_units<K: Sink>(&mut self, out: &mut K, units: &[u16])
         ensures path { self.new.path ≡ self.old.path }
         ensures puts { PutsPlaces K.Sink out.old self.old.page out.new self.new.page
-            (map (shown self.old.path) (filter_map label_glyph units.now)) }
+            (map (shown_place self.old.path) (filter_map label_glyph units.now)) }
     {
         for unit in units {
             self.write_unit(out, *unit);
@@ -140,7 +140,7 @@ impl Writer<'_> {
     fn write_unit<K: Sink>(&mut self, out: &mut K, unit: u16)
         ensures path { self.new.path ≡ self.old.path }
         ensures puts { PutsPlaces K.Sink out.old self.old.page out.new self.new.page
-            (map (shown self.old.path) (cons_option (label_glyph unit) [])) }
+            (map (shown_place self.old.path) (cons_option (label_glyph unit) [])) }
     {
         match label_glyph(unit) {
             None => {}
@@ -161,7 +161,7 @@ impl Writer<'_> {
         requires few { count + 1 < 2 ^ 64 }
         ensures path { self.new.path ≡ self.old.path }
         ensures puts { PutsPlaces K.Sink out.old self.old.page out.new self.new.page
-            (shown (self.old.path ++ inline_elements link count seen.now.format seen.now.reference) glyph ∷ []) }
+            (shown_place (self.old.path ++ inline_elements link count seen.now.format seen.now.reference) glyph ∷ []) }
     {
         let depth = self.path.len();
         push_inline(&mut self.path, link, count, &seen.format, seen.reference);

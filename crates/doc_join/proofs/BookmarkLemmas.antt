@@ -19,12 +19,12 @@ use Rattle.std.proofs.lemmas.List.Sorted.{searchable_from_sorted}
 use Rattle.std.proofs.lemmas.Option.{get_or_from_slice_get}
 use Rattle.doc_bits.specs.Rules.{Nowhere}
 use Rattle.doc_bits.proofs.Public.{there_is}
-use Rattle.doc_parts.specs.declared.bookmark_order.Bookmark.{Bookmark}
-use Rattle.doc_parts.specs.Order.{in_order}
-use Rattle.doc_parts.specs.Bookmarks.{bookmark_cmp, IsFormedBookmark, AreFormedBookmarks}
-use Rattle.doc_parts.specs.Names.{name_cmp, is_named, AreApart, HasSameName}
-use Rattle.doc_parts.proofs.Public.{bookmark_total, in_order_sorted, all_in_order, order_counted, named_is, one_named}
-use Rattle.doc_parts.proofs.Public.{apart_more, apart_less, apart_nowhere}
+use Rattle.document_bookmarks.specs.declared.bookmark_order.Bookmark.{Bookmark}
+use Rattle.document_bookmarks.specs.Order.{in_order}
+use Rattle.document_bookmarks.specs.Bookmarks.{bookmark_cmp, IsFormedBookmark, AreFormedBookmarks}
+use Rattle.document_bookmarks.specs.Names.{name_cmp, is_named, AreApart, HasSameName}
+use Rattle.document_bookmarks.proofs.Public.{bookmark_total, in_order_sorted, all_in_order, order_counted, named_is}
+use Rattle.document_bookmarks.proofs.Public.{one_named, apart_more, apart_less, apart_nowhere}
 use Rattle.doc_join.specs.Bookmarks.{bookmark_behind, has_name, bookmarks_from_second, joined_bookmarks}
 
 -- ---- one more of the second document

@@ -6,8 +6,8 @@ use Rattle.doc_bits.proofs.Public.{hold_or_first}
 use Rattle.doc_bits.specs.Rules.{Nowhere, Hold, IsSingle}
 use Rattle.doc_bits.specs.Places.{Place, Upto, IsFirstPlace}
 use Rattle.doc_bits.specs.declared.places.Where.{Where}
-use Rattle.plain_doc.specs.declared.item.Item.{Item}
-use Rattle.plain_doc.specs.declared.document.Document.{Document}
+use Rattle.doc_model.specs.declared.item.Item.{Item}
+use Rattle.doc_model.specs.declared.document.Document.{Document}
 use Rattle.plain_doc.specs.Nesting.{field_characters, most_open, BreaksNesting}
 use Rattle.plain_doc.specs.Rows.{FitsRow, open_cells, BreaksRows}
 use Rattle.plain_doc.specs.RulesOfItems.{IsWrongItem, IsPlacedRight, HasShortProperties}

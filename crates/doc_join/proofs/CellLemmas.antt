@@ -6,7 +6,7 @@ use Rattle.std.specs.Prelude.{slice_get}
 use Rattle.std.proofs.lemmas.List.{append-nil, take_more}
 use Rattle.std.proofs.lemmas.Option.{get_or_from_slice_get}
 use Rattle.doc_bits.proofs.Public.{there_is}
-use Rattle.plain_doc.specs.declared.item.Item.{Item}
+use Rattle.doc_model.specs.declared.item.Item.{Item}
 use Rattle.plain_doc.specs.Rows.{open_cells, cells_after}
 use Rattle.plain_doc.proofs.Public.{open_cells-nil}
 use Rattle.doc_columns.proofs.Public.{cells_onto_last}

@@ -13,14 +13,14 @@ use Rattle.prop_map.specs.Settings.{Properties}
 use Rattle.run_lists.specs.declared.runs.Run.{Run}
 use Rattle.run_lists.specs.Spread.{expanded, total_len}
 use Rattle.run_lists.proofs.Public.{spread_push, length-spread, count_within}
-use Rattle.plain_doc.specs.declared.item.Item.{Item}
-use Rattle.plain_doc.specs.Document.{IsFormedItem, IsFormedText}
+use Rattle.doc_model.specs.declared.item.Item.{Item}
+use Rattle.doc_model.specs.Document.{IsFormedItem, IsFormedText}
 use Rattle.doc_columns.specs.declared.attached.Attached.{Attached}
 use Rattle.doc_columns.specs.Attached.{attached_of}
 use Rattle.doc_columns.specs.Columns.{item_of, items_of}
 use Rattle.doc_columns.proofs.Public.{items_of-maps}
 use Rattle.doc_join.specs.declared.renumbering.Renumbering.{Renumbering}
-use Rattle.doc_join.specs.Settings.{renumbered}
+use Rattle.doc_join.specs.Settings.{renumbered_chp}
 use Rattle.doc_join.specs.Texts.{renumbered_item, renumbered_text, ending_section, section_ended, HasOwnStyle}
 use Rattle.doc_join.specs.Texts.{HaveOwnStyles}
 use Rattle.doc_join.specs.JoinedColumns.{renumbered_attached, HasOwnMark}
@@ -80,7 +80,7 @@ column_few f runs text is formed =
 -- ---- the text of columns that became others
 
 columns_renumbered : (numbers : Renumbering) (units : List ℕ) (chps : List Properties) (attachments : List Attached) →
-    items_of units (map (renumbered numbers) chps) (map (renumbered_attached numbers) attachments)
+    items_of units (map (renumbered_chp numbers) chps) (map (renumbered_attached numbers) attachments)
     ≡ map (renumbered_item numbers) (items_of units chps attachments)
 columns_renumbered numbers [] chps attachments = refl
 columns_renumbered numbers (unit ∷ units) [] attachments = refl
@@ -91,7 +91,7 @@ columns_renumbered numbers (unit ∷ units) (chp ∷ chps) (attached ∷ attachm
 
 pub text_renumbered : (numbers : Renumbering) (text : List Item) (units : List ℕ) (chps : List Properties)
     (attachments : List Attached) → units ≡ map (λ (item : Item). item.unit) text →
-    chps ≡ map (renumbered numbers) (map (λ (item : Item). item.chp) text)
+    chps ≡ map (renumbered_chp numbers) (map (λ (item : Item). item.chp) text)
     → attachments ≡ map (renumbered_attached numbers) (map attached_of text)
     → items_of units chps attachments ≡ renumbered_text numbers text
 text_renumbered numbers text units chps attachments first second third =

@@ -8,13 +8,13 @@ use Rattle.doc_bits.proofs.Public.{get-map}
 use Rattle.doc_bits.specs.Places.{Place}
 use Rattle.doc_bits.specs.declared.places.Where.{Where}
 use Rattle.doc_bits.specs.declared.places.Where.TheVariants.{File, Wd, Table, Sheet as SheetPart, Main, Note, Head}
-use Rattle.plain_doc.specs.declared.item.Item.{Item}
-use Rattle.plain_doc.specs.declared.document.Document.{Document}
-use Rattle.plain_doc.specs.RulesOfTexts.{text_of}
+use Rattle.doc_model.specs.declared.item.Item.{Item}
+use Rattle.doc_model.specs.declared.document.Document.{Document}
+use Rattle.plain_doc.specs.RulesOfTexts.{text_of_place}
 use Rattle.doc_join.specs.declared.renumbering.Renumbering.{Renumbering}
 use Rattle.doc_join.specs.Texts.{renumbered_item, renumbered_mark, renumbered_text, ending_section}
 use Rattle.doc_join.specs.Effects.{IsMarkFrom, Effects, AreEffectsAt, renumbered_effects}
-use Rattle.doc_join.specs.Settings.{renumbered}
+use Rattle.doc_join.specs.Settings.{renumbered_chp}
 use Rattle.doc_join.specs.Join.{document_join, first_numbers, second_numbers}
 use Rattle.doc_join.specs.Laws.{CanBeJoined, main_end, place_from_second, IsNoSeparator, with_section_ended}
 use Rattle.doc_join.specs.Laws.{JoinsKeepEffects}
@@ -32,14 +32,14 @@ pub record IsMoved (numbers : Renumbering) (old joined : Document) (text : List 
     Type 0 where
   pub shift : ℕ
   pub made : List Item
-  pub is : text_of joined there.0 ≡ Some made
+  pub is : text_of_place joined there.0 ≡ Some made
   pub stands : StandsIn numbers shift text made
   pub at : there.1 ≡ shift + place
 
 pub effects_moved : (numbers : Renumbering) (old joined : Document) (place there : Place) (found : Effects)
     (item : Item) (was : AreEffectsAt old place found) → IsSheetPart numbers old.sheet joined.sheet →
     numbers.before + numbers.slots ≤ 4094 → (moved : IsMoved numbers old joined was.text place.1 there) →
-    slice_get moved.made there.1 ≡ Some item → item.chp ≡ renumbered numbers found.item.chp →
+    slice_get moved.made there.1 ≡ Some item → item.chp ≡ renumbered_chp numbers found.item.chp →
     AreEffectsAt joined there (record (renumbered_effects numbers found) { item = item })
 effects_moved numbers old joined place there found item was part few moved here chp = record {
   text = moved.made;
@@ -50,7 +50,8 @@ effects_moved numbers old joined place there found item was part few moved here 
       (mark_stands numbers moved.shift was.text moved.made place.1 found.mark moved.stands was.mark);
   characters =
       subst (λ direct.
-      IsEffectiveCharacter joined.sheet (found.mark.istd + numbers.before) direct (renumbered numbers found.characters))
+      IsEffectiveCharacter joined.sheet (found.mark.istd + numbers.before) direct (renumbered_chp numbers
+      found.characters))
       (sym chp)
       (character_moved numbers old.sheet joined.sheet found.mark.istd found.item.chp found.characters part few
       was.characters);
@@ -61,7 +62,7 @@ effects_moved numbers old joined place there found item was part few moved here 
 -- ---- the law
 
 renumbered_text_moves : (numbers : Renumbering) (old joined : Document) (text : List Item) (place : ℕ) (there : Place) →
-    text_of joined there.0 ≡ Some (renumbered_text numbers text) → there.1 ≡ place →
+    text_of_place joined there.0 ≡ Some (renumbered_text numbers text) → there.1 ≡ place →
     IsMoved numbers old joined text place there
 renumbered_text_moves numbers old joined text place there is at = record {
   shift = 0;
@@ -78,7 +79,7 @@ first_numbers_few first second can = omega (arith, can.fits)
 -- a place in a text of notes or header texts
 first_kept_text : (first second : Document) (part : Where) (at : ℕ) (found : Effects) (can : CanBeJoined first second)
     (was : AreEffectsAt first (part, at) found) →
-    text_of (document_join first second) part ≡ Some (renumbered_text (first_numbers first) was.text) →
+    text_of_place (document_join first second) part ≡ Some (renumbered_text (first_numbers first) was.text) →
     AreEffectsAt (document_join first second) (part, at) (renumbered_effects (first_numbers first) found)
 unfolding renumbered_text_moves
 first_kept_text first second part at found can was is =
@@ -91,7 +92,7 @@ first_kept_text first second part at found can was is =
 
 second_kept_text : (first second : Document) (part there : Where) (at : ℕ) (found : Effects)
     (can : CanBeJoined first second) (was : AreEffectsAt second (part, at) found) →
-    text_of (document_join first second) there ≡ Some (renumbered_text (second_numbers first second) was.text) →
+    text_of_place (document_join first second) there ≡ Some (renumbered_text (second_numbers first second) was.text) →
     AreEffectsAt (document_join first second) (there, at) (renumbered_effects (second_numbers first second) found)
 unfolding renumbered_text_moves
 second_kept_text first second part there at found can was is =
@@ -117,7 +118,7 @@ main_moved first second at text is = record {
 
 first_kept_main : (first second : Document) (at : ℕ) (found : Effects) (item : Item) → CanBeJoined first second →
     AreEffectsAt first (Main, at) found → slice_get (document_join first second).main at ≡ Some item →
-    item.chp ≡ renumbered (first_numbers first) found.item.chp →
+    item.chp ≡ renumbered_chp (first_numbers first) found.item.chp →
     AreEffectsAt (document_join first second) (Main, at)
     (record (renumbered_effects (first_numbers first) found) { item = item })
 unfolding main_moved

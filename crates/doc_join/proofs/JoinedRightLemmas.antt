@@ -13,21 +13,21 @@ use Rattle.doc_bits.specs.Rules.{Nowhere}
 use Rattle.doc_bits.specs.Places.{rank}
 use Rattle.doc_bits.specs.declared.places.Where.{Where}
 use Rattle.doc_bits.specs.declared.places.Where.TheVariants.{File, Wd, Table, Sheet as SheetPart, Main, Note, Head}
-use Rattle.doc_parts.specs.Names.{HasSameName}
+use Rattle.document_bookmarks.specs.Names.{HasSameName}
 use Rattle.style_sheet.specs.Sheet.{Sheet}
 use Rattle.style_sheet.specs.Chain.{HasSoundBases}
 use Rattle.style_sheet.specs.Written.{IsWritable}
-use Rattle.plain_doc.specs.declared.item.Item.{Item}
-use Rattle.plain_doc.specs.declared.document.Document.{Document}
-use Rattle.plain_doc.specs.Document.{IsFormedText}
-use Rattle.plain_doc.specs.Formed.{IsFormed}
-use Rattle.plain_doc.specs.RulesOfTexts.{text_of}
+use Rattle.doc_model.specs.declared.item.Item.{Item}
+use Rattle.doc_model.specs.declared.document.Document.{Document}
+use Rattle.doc_model.specs.Document.{IsFormedText}
+use Rattle.doc_model.specs.Formed.{IsFormed}
+use Rattle.plain_doc.specs.RulesOfTexts.{text_of_place}
 use Rattle.plain_doc.specs.RulesOfSheet.{HasShortStyle, note_count, head_count}
 use Rattle.plain_doc.specs.RightDocument.{IsValidText, IsValidDocument}
 use Rattle.plain_doc.proofs.Public.{sound_is_valid}
 use Rattle.doc_join.specs.declared.renumbering.Renumbering.{Renumbering}
 use Rattle.doc_join.specs.Texts.{renumbered_item, renumbered_text, renumbered_texts, ending_section, section_ended}
-use Rattle.doc_join.specs.Texts.{joined_main, joined_texts}
+use Rattle.doc_join.specs.Texts.{joined_main, texts_of_both}
 use Rattle.doc_join.specs.Join.{document_join, first_numbers, second_numbers}
 use Rattle.doc_join.specs.Laws.{CanBeJoined}
 use Rattle.doc_join.proofs.SoundLemmas.{are_few}
@@ -42,7 +42,7 @@ use Rattle.doc_join.proofs.BookmarkLemmas.{joined_apart}
 -- all that a right document says but the numbers of items and of bookmarks
 pub record IsValidAttachedCounts (document : Document) : Type 0 where
   pub texts :
-      (part : Where) (text : List Item) → text_of document part ≡ Some text → IsValidText document.sheet part text
+      (part : Where) (text : List Item) → text_of_place document part ≡ Some text → IsValidText document.sheet part text
   pub notes : length document.notes ≡ note_count document.main
   pub heads : length document.heads ≡ head_count document.main
   pub bases : HasSoundBases document.sheet
@@ -98,7 +98,7 @@ main_counted p first_maps second_maps first second sheet right same each =
     )
 
 length-texts : (from : ℕ) (first_maps second_maps : Renumbering) (first second : List (List Item)) →
-    length (joined_texts from first_maps first second_maps second) ≡ length first + (length second - from)
+    length (texts_of_both from first_maps first second_maps second) ≡ length first + (length second - from)
 length-texts from first_maps second_maps first second =
     omega (
       arith,
@@ -129,7 +129,7 @@ heads_alike one other = record {
 
 -- the texts of a well-formed document
 formed_text : (document : Document) (part : Where) (text : List Item) → IsFormed document →
-    text_of document part ≡ Some text → IsFormedText text
+    text_of_place document part ≡ Some text → IsFormedText text
 formed_text document File text formed is = absurd (none-some text is)
 formed_text document Wd text formed is = absurd (none-some text is)
 formed_text document Table text formed is = absurd (none-some text is)
@@ -145,7 +145,7 @@ formed_text document (Head number) text formed is =
 -- a text of a document stays right in the joined one
 stays : (document : Document) (numbers : Renumbering) (joined : Sheet) (part other : Where) (text : List Item) →
     IsFormed document → IsValidDocument document → IsSheetPart numbers document.sheet joined → IsLikePart part other →
-    text_of document part ≡ Some text → IsValidText joined other (renumbered_text numbers text)
+    text_of_place document part ≡ Some text → IsValidText joined other (renumbered_text numbers text)
 stays document numbers joined part other text formed right within like is =
     text_stays_right numbers document.sheet joined part other text within like
     (formed_text document part text formed is) (right.texts part text is)
@@ -155,7 +155,7 @@ texts_right : (from : ℕ) (first_maps second_maps : Renumbering) (first second 
     0) →
     ((i : ℕ) (text : List Item) → slice_get first i ≡ Some text → P (renumbered_text first_maps text)) →
     ((i : ℕ) (text : List Item) → slice_get second i ≡ Some text → P (renumbered_text second_maps text)) →
-    (i : ℕ) (text : List Item) → slice_get (joined_texts from first_maps first second_maps second) i ≡ Some text → P
+    (i : ℕ) (text : List Item) → slice_get (texts_of_both from first_maps first second_maps second) i ≡ Some text → P
     text
 texts_right from first_maps second_maps first second P one other i text is =
     let front = renumbered_texts first_maps first in
@@ -190,7 +190,8 @@ main_right first second can =
     (omega (arith, some, length-map second.main (renumbered_item (second_numbers first second))))
 
 all_texts_right : (first second : Document) → CanBeJoined first second → (part : Where) (text : List Item) →
-    text_of (document_join first second) part ≡ Some text → IsValidText (document_join first second).sheet part text
+    text_of_place (document_join first second) part ≡ Some text → IsValidText (document_join first second).sheet part
+    text
 all_texts_right first second can File text is = absurd (none-some text is)
 all_texts_right first second can Wd text is = absurd (none-some text is)
 all_texts_right first second can Table text is = absurd (none-some text is)

@@ -12,16 +12,16 @@ use Rattle.doc_bits.proofs.Public.{number_at-number_bytes}
 use Rattle.prop_map.specs.Settings.{Properties}
 use Rattle.style_sheet.specs.declared.styles.Style.{Style}
 use Rattle.style_sheet.specs.Sheet.{Sheet, style_at}
-use Rattle.style_sheet.specs.Chain.{kind_at, kind_in}
+use Rattle.style_sheet.specs.Chain.{style_kind_at, style_kind_in}
 use Rattle.effective_props.specs.declared.effective.ParaEffect.{ParaEffect}
-use Rattle.effective_props.specs.Values.{tabs_code, values_at, value_of, effective_value, IsEffectiveMap}
+use Rattle.effective_props.specs.Values.{tabs_code, values_at, combined_value, effective_value, IsEffectiveMap}
 use Rattle.effective_props.specs.Layers.{paragraph_properties, character_properties, properties_of_styles}
 use Rattle.effective_props.specs.Layers.{AreChainLayers}
 use Rattle.effective_props.specs.Layers.{character_style_code, named_style, AreNamedLayers}
 use Rattle.effective_props.specs.Effective.{IsEffectiveCharacter, IsEffectiveParagraph}
 use Rattle.doc_join.specs.declared.renumbering.Renumbering.{Renumbering}
-use Rattle.doc_join.specs.Numbers.{no_style, style_behind}
-use Rattle.doc_join.specs.Settings.{renumbered}
+use Rattle.doc_join.specs.Numbers.{no_style, renumbered_style}
+use Rattle.doc_join.specs.Settings.{renumbered_chp}
 use Rattle.doc_join.proofs.SettingLemmas.{renamed, get-renumbered-other, get-renumbered-style}
 use Rattle.doc_join.proofs.PartLemmas.{IsSheetPart, chain_there, chain_moved}
 
@@ -60,9 +60,9 @@ chain_layers properties change numbers sheet joined istd layers part each old = 
 
 character_chain : (numbers : Renumbering) (sheet joined : Sheet) (istd : ℕ) (layers : List Properties) →
     IsSheetPart numbers sheet joined → AreChainLayers character_properties sheet istd layers →
-    AreChainLayers character_properties joined (istd + numbers.before) (map (renumbered numbers) layers)
+    AreChainLayers character_properties joined (istd + numbers.before) (map (renumbered_chp numbers) layers)
 character_chain numbers sheet joined istd layers part old =
-    chain_layers character_properties (renumbered numbers) numbers sheet joined istd layers part part.characters old
+    chain_layers character_properties (renumbered_chp numbers) numbers sheet joined istd layers part part.characters old
 
 paragraph_chain : (numbers : Renumbering) (sheet joined : Sheet) (istd : ℕ) (layers : List Properties) →
     IsSheetPart numbers sheet joined → AreChainLayers paragraph_properties sheet istd layers →
@@ -80,9 +80,9 @@ number_small numbers istd true is few = let low = ltb-true istd numbers.slots is
 number_small numbers istd false is few = omega arith
 
 pub read_back : (numbers : Renumbering) (value : List ℕ) → numbers.before + numbers.slots ≤ 4094 →
-    u16_at (renamed numbers value) 0 ≡ style_behind numbers (u16_at value 0)
+    u16_at (renamed numbers value) 0 ≡ renumbered_style numbers (u16_at value 0)
 read_back numbers value few =
-    let number = style_behind numbers (u16_at value 0) in
+    let number = renumbered_style numbers (u16_at value 0) in
     let small : number < 65536 =
     number_small numbers (u16_at value 0) (nat_lt (u16_at value 0) numbers.slots) refl few in
     ap (λ (bytes : List ℕ). u16_at bytes 0) (sym (append-nil (number_bytes 2 number)))
@@ -90,28 +90,28 @@ read_back numbers value few =
 
 named_one : (numbers : Renumbering) (sheet joined : Sheet) (istd : ℕ) (layers : List Properties) →
     IsSheetPart numbers sheet joined → AreNamedLayers sheet (Some istd) layers →
-    AreNamedLayers joined (Some (style_behind numbers istd)) (map (renumbered numbers) layers)
+    AreNamedLayers joined (Some (renumbered_style numbers istd)) (map (renumbered_chp numbers) layers)
 named_one numbers sheet joined istd layers part old = elim (cases_lt istd numbers.slots) [
   | inl within ↦
-      let here : style_behind numbers istd ≡ istd + numbers.before =
+      let here : renumbered_style numbers istd ≡ istd + numbers.before =
       ap (λ b. cond b (istd + numbers.before) no_style) (lt-ltb istd numbers.slots within) in
-      subst (λ n. AreNamedLayers joined (Some n) (map (renumbered numbers) layers)) (sym here) (
+      subst (λ n. AreNamedLayers joined (Some n) (map (renumbered_chp numbers) layers)) (sym here) (
         (λ kind.
             character_chain numbers sheet joined istd layers part (old.0 (sym (part.kinds istd within) ∙ kind))),
-        (λ kind. ap (map (renumbered numbers)) (old.1 (λ same. kind (part.kinds istd within ∙ same)))),
+        (λ kind. ap (map (renumbered_chp numbers)) (old.1 (λ same. kind (part.kinds istd within ∙ same)))),
       )
   | inr beyond ↦
-      let here : style_behind numbers istd ≡ no_style =
+      let here : renumbered_style numbers istd ≡ no_style =
       ap (λ b. cond b (istd + numbers.before) no_style) (le-ltb istd numbers.slots beyond) in
       let few = part.few in
-      let none : kind_at joined no_style ≡ 0 =
-      ap kind_in (get_or_past joined.styles no_style None (omega (arith, few))) in
-      let none_before : kind_at sheet istd ≡ 0 =
-      ap kind_in (get_or_past sheet.styles istd None (omega (arith, beyond, part.slots))) in
-      subst (λ n. AreNamedLayers joined (Some n) (map (renumbered numbers) layers)) (sym here) (
+      let none : style_kind_at joined no_style ≡ 0 =
+      ap style_kind_in (get_or_past joined.styles no_style None (omega (arith, few))) in
+      let none_before : style_kind_at sheet istd ≡ 0 =
+      ap style_kind_in (get_or_past sheet.styles istd None (omega (arith, beyond, part.slots))) in
+      subst (λ n. AreNamedLayers joined (Some n) (map (renumbered_chp numbers) layers)) (sym here) (
         (λ kind. absurd (omega (arith, kind, none))),
         (λ kind.
-            ap (map (renumbered numbers)) (old.1 (λ same. absurd (omega (arith, same, none_before))))),
+            ap (map (renumbered_chp numbers)) (old.1 (λ same. absurd (omega (arith, same, none_before))))),
       )
 ]
 
@@ -119,19 +119,20 @@ named_in : (numbers : Renumbering) (sheet joined : Sheet) (named : Option (List 
     IsSheetPart numbers sheet joined → numbers.before + numbers.slots ≤ 4094 →
     AreNamedLayers sheet (option_map (λ value. u16_at value 0) named) layers →
     AreNamedLayers joined (option_map (λ value. u16_at value 0) (option_map (renamed numbers) named))
-    (map (renumbered numbers) layers)
-named_in numbers sheet joined None layers part few old = ap (map (renumbered numbers)) old
+    (map (renumbered_chp numbers) layers)
+named_in numbers sheet joined None layers part few old = ap (map (renumbered_chp numbers)) old
 named_in numbers sheet joined (Some value) layers part few old =
-    subst (λ n. AreNamedLayers joined (Some n) (map (renumbered numbers) layers)) (sym (read_back numbers value few))
+    subst (λ n. AreNamedLayers joined (Some n) (map (renumbered_chp numbers) layers)) (sym (read_back numbers value
+    few))
     (named_one numbers sheet joined (u16_at value 0) layers part old)
 
 named_layers : (numbers : Renumbering) (sheet joined : Sheet) (direct : Properties) (layers : List Properties) →
     IsSheetPart numbers sheet joined → numbers.before + numbers.slots ≤ 4094 →
     AreNamedLayers sheet (named_style direct) layers →
-    AreNamedLayers joined (named_style (renumbered numbers direct)) (map (renumbered numbers) layers)
+    AreNamedLayers joined (named_style (renumbered_chp numbers direct)) (map (renumbered_chp numbers) layers)
 named_layers numbers sheet joined direct layers part few old =
     subst (λ (o : Option (List ℕ)).
-    AreNamedLayers joined (option_map (λ value. u16_at value 0) o) (map (renumbered numbers) layers))
+    AreNamedLayers joined (option_map (λ value. u16_at value 0) o) (map (renumbered_chp numbers) layers))
     (sym (get-renumbered-style numbers direct))
     (named_in numbers sheet joined (get direct character_style_code) layers part few old)
 
@@ -139,10 +140,10 @@ named_layers numbers sheet joined direct layers part few old =
 
 -- at other codes the layers have the same values
 values_other : (numbers : Renumbering) (layers : List Properties) (code : ℕ) → code ≢ character_style_code →
-    values_at (map (renumbered numbers) layers) code ≡ values_at layers code
+    values_at (map (renumbered_chp numbers) layers) code ≡ values_at layers code
 values_other numbers [] code apart = refl
 values_other numbers (layer ∷ layers) code apart =
-    ap (λ o. cons_option o (values_at (map (renumbered numbers) layers) code))
+    ap (λ o. cons_option o (values_at (map (renumbered_chp numbers) layers) code))
     (get-renumbered-other numbers layer code apart)
     ∙ ap (cons_option (get layer code)) (values_other numbers layers code apart)
 
@@ -152,11 +153,11 @@ cons_named change None values = refl
 cons_named change (Some value) values = refl
 
 values_named : (numbers : Renumbering) (layers : List Properties) →
-    values_at (map (renumbered numbers) layers) character_style_code
+    values_at (map (renumbered_chp numbers) layers) character_style_code
     ≡ map (renamed numbers) (values_at layers character_style_code)
 values_named numbers [] = refl
 values_named numbers (layer ∷ layers) =
-    ap (λ o. cons_option o (values_at (map (renumbered numbers) layers) character_style_code))
+    ap (λ o. cons_option o (values_at (map (renumbered_chp numbers) layers) character_style_code))
     (get-renumbered-style numbers layer)
     ∙ (ap (cons_option (option_map (renamed numbers) (get layer character_style_code))) (values_named numbers layers)
     ∙ cons_named (renamed numbers) (get layer character_style_code) (values_at layers character_style_code))
@@ -168,10 +169,10 @@ last_named change before (value ∷ values) = last_named change (Some value) val
 
 pub map_renumbered : (numbers : Renumbering) (layers : List Properties) (made : Properties) → IsEffectiveMap layers made
     →
-    IsEffectiveMap (map (renumbered numbers) layers) (renumbered numbers made)
+    IsEffectiveMap (map (renumbered_chp numbers) layers) (renumbered_chp numbers made)
 map_renumbered numbers layers made effective code = elim (cases_Bool (code == character_style_code)) [
   | inl same ↦
-      subst (λ n. get (renumbered numbers made) n ≡ effective_value (map (renumbered numbers) layers) n)
+      subst (λ n. get (renumbered_chp numbers made) n ≡ effective_value (map (renumbered_chp numbers) layers) n)
       (sym (eqb-true code character_style_code same))
       (get-renumbered-style numbers made
       ∙ (ap (option_map (renamed numbers)) (effective character_style_code)
@@ -181,7 +182,7 @@ map_renumbered numbers layers made effective code = elim (cases_Bool (code == ch
       let apart : code ≢ character_style_code = λ same. absurd (cc (other, eq-eqb code character_style_code same)) in
       get-renumbered-other numbers made code apart
       ∙ (effective code
-      ∙ ap (λ values. cond (code == tabs_code) None (value_of code values))
+      ∙ ap (λ values. cond (code == tabs_code) None (combined_value code values))
       (sym (values_other numbers layers code apart)))
 ]
 
@@ -190,9 +191,9 @@ map_renumbered numbers layers made effective code = elim (cases_Bool (code == ch
 pub character_moved : (numbers : Renumbering) (sheet joined : Sheet) (istd : ℕ) (direct made : Properties) →
     IsSheetPart numbers sheet joined → numbers.before + numbers.slots ≤ 4094 →
     IsEffectiveCharacter sheet istd direct made →
-    IsEffectiveCharacter joined (istd + numbers.before) (renumbered numbers direct) (renumbered numbers made)
+    IsEffectiveCharacter joined (istd + numbers.before) (renumbered_chp numbers direct) (renumbered_chp numbers made)
 character_moved numbers sheet joined istd direct made part few old =
-    let change = renumbered numbers in
+    let change = renumbered_chp numbers in
     let are = old.are in
     record {
       layers = map change old.layers;

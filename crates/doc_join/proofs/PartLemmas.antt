@@ -12,13 +12,13 @@ use Rattle.style_sheet.specs.declared.styles.Style.{Style}
 use Rattle.style_sheet.specs.declared.styles.Kind.{Kind}
 use Rattle.style_sheet.specs.declared.styles.Kind.TheVariants.{Para, Char, Other}
 use Rattle.style_sheet.specs.Sheet.{Sheet, style_at}
-use Rattle.style_sheet.specs.Changes.{characters_of, paragraphs_of, with_characters}
-use Rattle.style_sheet.specs.Chain.{properties_kind, kind_in, kind_at, base_in, base_at, IsBaseChain}
+use Rattle.style_sheet.specs.Changes.{kind_characters, pap_of_style, with_characters}
+use Rattle.style_sheet.specs.Chain.{properties_kind, style_kind_in, style_kind_at, base_in, base_at, IsBaseChain}
 use Rattle.style_sheet.proofs.Public.{there}
 use Rattle.effective_props.specs.Layers.{paragraph_properties, character_properties}
 use Rattle.doc_join.specs.declared.renumbering.Renumbering.{Renumbering}
 use Rattle.doc_join.specs.Numbers.{base_behind, numbers_of_first, numbers_of_second}
-use Rattle.doc_join.specs.Settings.{renumbered}
+use Rattle.doc_join.specs.Settings.{renumbered_chp}
 use Rattle.doc_join.specs.Styles.{slot_from_first, slot_from_second, slots_from_first, slots_from_second, joined_sheet}
 use Rattle.doc_join.proofs.SettingLemmas.{renumbered-empty}
 use Rattle.doc_join.proofs.SheetLemmas.{length-first, length-second}
@@ -27,7 +27,8 @@ use Rattle.doc_join.proofs.SheetLemmas.{length-first, length-second}
 pub record IsSheetPart (numbers : Renumbering) (sheet joined : Sheet) : Type 0 where
   pub slots : numbers.slots ≡ length sheet.styles
   pub few : length joined.styles ≤ 4094
-  pub kinds : (istd : ℕ) → istd < numbers.slots → kind_at joined (istd + numbers.before) ≡ kind_at sheet istd
+  pub kinds : (istd : ℕ) → istd < numbers.slots → style_kind_at joined (istd + numbers.before) ≡ style_kind_at sheet
+      istd
   pub roots :
       (istd : ℕ) → istd < numbers.slots → base_at sheet istd ≡ None → base_at joined (istd + numbers.before) ≡ None
   pub bases :
@@ -39,7 +40,7 @@ pub record IsSheetPart (numbers : Renumbering) (sheet joined : Sheet) : Type 0 w
   pub characters :
       (istd : ℕ) → istd < numbers.slots →
       character_properties (style_at joined (istd + numbers.before))
-      ≡ renumbered numbers (character_properties (style_at sheet istd))
+      ≡ renumbered_chp numbers (character_properties (style_at sheet istd))
 
 -- ---- one slot
 
@@ -48,22 +49,23 @@ same_kind (Para pap chp) map = refl
 same_kind (Char chp) map = refl
 same_kind (Other stk upxes) map = refl
 
-same_paragraphs : (kind : Kind) (map : Properties) → paragraphs_of (with_characters kind map) ≡ paragraphs_of kind
+same_paragraphs : (kind : Kind) (map : Properties) → pap_of_style (with_characters kind map) ≡ pap_of_style kind
 same_paragraphs (Para pap chp) map = refl
 same_paragraphs (Char chp) map = refl
 same_paragraphs (Other stk upxes) map = refl
 
 new_characters : (numbers : Renumbering) (kind : Kind) →
-    characters_of (with_characters kind (renumbered numbers (characters_of kind)))
-    ≡ renumbered numbers (characters_of kind)
+    kind_characters (with_characters kind (renumbered_chp numbers (kind_characters kind)))
+    ≡ renumbered_chp numbers (kind_characters kind)
 new_characters numbers (Para pap chp) = refl
 new_characters numbers (Char chp) = refl
 new_characters numbers (Other stk upxes) = renumbered-empty numbers
 
 -- a slot of the first document
-first_kind : (numbers : Renumbering) (slot : Option Style) → kind_in (slot_from_first numbers slot) ≡ kind_in slot
+first_kind : (numbers : Renumbering) (slot : Option Style) → style_kind_in (slot_from_first numbers slot) ≡
+    style_kind_in slot
 first_kind numbers None = refl
-first_kind numbers (Some style) = same_kind style.kind (renumbered numbers (characters_of style.kind))
+first_kind numbers (Some style) = same_kind style.kind (renumbered_chp numbers (kind_characters style.kind))
 
 first_base : (numbers : Renumbering) (slot : Option Style) → base_in (slot_from_first numbers slot) ≡ base_in slot
 first_base numbers None = refl
@@ -72,18 +74,18 @@ first_base numbers (Some style) = refl
 first_paragraphs : (numbers : Renumbering) (slot : Option Style) →
     paragraph_properties (slot_from_first numbers slot) ≡ paragraph_properties slot
 first_paragraphs numbers None = refl
-first_paragraphs numbers (Some style) = same_paragraphs style.kind (renumbered numbers (characters_of style.kind))
+first_paragraphs numbers (Some style) = same_paragraphs style.kind (renumbered_chp numbers (kind_characters style.kind))
 
 first_characters : (numbers : Renumbering) (slot : Option Style) →
-    character_properties (slot_from_first numbers slot) ≡ renumbered numbers (character_properties slot)
+    character_properties (slot_from_first numbers slot) ≡ renumbered_chp numbers (character_properties slot)
 first_characters numbers None = renumbered-empty numbers
 first_characters numbers (Some style) = new_characters numbers style.kind
 
 -- a slot of the second document
 second_kind : (numbers : Renumbering) (istd : ℕ) (slot : Option Style) →
-    kind_in (slot_from_second numbers istd slot) ≡ kind_in slot
+    style_kind_in (slot_from_second numbers istd slot) ≡ style_kind_in slot
 second_kind numbers istd None = refl
-second_kind numbers istd (Some style) = same_kind style.kind (renumbered numbers (characters_of style.kind))
+second_kind numbers istd (Some style) = same_kind style.kind (renumbered_chp numbers (kind_characters style.kind))
 
 second_root : (numbers : Renumbering) (istd : ℕ) (slot : Option Style) → base_in slot ≡ None →
     base_in (slot_from_second numbers istd slot) ≡ None
@@ -101,10 +103,10 @@ second_paragraphs : (numbers : Renumbering) (istd : ℕ) (slot : Option Style) �
     paragraph_properties (slot_from_second numbers istd slot) ≡ paragraph_properties slot
 second_paragraphs numbers istd None = refl
 second_paragraphs numbers istd (Some style) =
-    same_paragraphs style.kind (renumbered numbers (characters_of style.kind))
+    same_paragraphs style.kind (renumbered_chp numbers (kind_characters style.kind))
 
 second_characters : (numbers : Renumbering) (istd : ℕ) (slot : Option Style) →
-    character_properties (slot_from_second numbers istd slot) ≡ renumbered numbers (character_properties slot)
+    character_properties (slot_from_second numbers istd slot) ≡ renumbered_chp numbers (character_properties slot)
 second_characters numbers istd None = renumbered-empty numbers
 second_characters numbers istd (Some style) = new_characters numbers style.kind
 
@@ -161,7 +163,8 @@ first_part first second few =
     record {
       slots = refl;
       few = omega (arith, length-joined first second, few);
-      kinds = λ istd within. ap kind_in (first_at first second istd within) ∙ first_kind first_maps (style_at first
+      kinds = λ istd within. ap style_kind_in (first_at first second istd within) ∙ first_kind first_maps (style_at
+          first
           istd);
       roots = λ istd within none.
           ap base_in (first_at first second istd within) ∙ (first_base first_maps (style_at first istd) ∙ none);
@@ -185,7 +188,7 @@ second_part first second few =
       slots = refl;
       few = omega (arith, length-joined first second, few);
       kinds = λ istd within.
-          ap kind_in (second_at first second istd within) ∙ second_kind second_maps istd (style_at second istd);
+          ap style_kind_in (second_at first second istd within) ∙ second_kind second_maps istd (style_at second istd);
       roots = λ istd within none.
           ap base_in (second_at first second istd within) ∙ second_root second_maps istd (style_at second istd) none;
       bases = λ istd base within base_within some.
@@ -224,8 +227,8 @@ chain_moved numbers sheet joined istd chain part bases =
     chain_there numbers sheet joined istd chain part bases in
     let some = bases.some in
     let kind_moved : (i : ℕ) → i < length chain →
-    kind_at joined (slice_index (map move chain) i) ≡ kind_at sheet (slice_index chain i) =
-    λ i within. ap (kind_at joined) (at i within) ∙ part.kinds (slice_index chain i) (inside i within) in
+    style_kind_at joined (slice_index (map move chain) i) ≡ style_kind_at sheet (slice_index chain i) =
+    λ i within. ap (style_kind_at joined) (at i within) ∙ part.kinds (slice_index chain i) (inside i within) in
     let end : length chain - 1 < length chain = omega (arith, some) in
     let own : istd < numbers.slots =
     subst (λ n. n < numbers.slots) bases.last (inside (length chain - 1) end) in

@@ -7,12 +7,12 @@ use Rattle.std.proofs.lemmas.Bool.{cases_lt}
 use Rattle.std.proofs.lemmas.List.{length-map, length-set, get_or-take, get_or-set_same}
 use Rattle.std.proofs.lemmas.Option.{slice_get_within, slice_get_read, get_or_from_slice_get, same_Some}
 use Rattle.doc_bits.proofs.Public.{get-map, there_is, in_front, in_back}
-use Rattle.plain_doc.specs.declared.item.Item.{Item}
-use Rattle.plain_doc.specs.declared.item.Mark.{Mark}
-use Rattle.plain_doc.specs.Paragraphs.{EndsParagraph}
+use Rattle.doc_model.specs.declared.item.Item.{Item}
+use Rattle.doc_model.specs.declared.item.Mark.{Mark}
+use Rattle.doc_model.specs.Paragraphs.{EndsParagraph}
 use Rattle.doc_join.specs.declared.renumbering.Renumbering.{Renumbering}
 use Rattle.doc_join.specs.Texts.{renumbered_item, renumbered_mark, renumbered_text, renumbered_texts, ending_section}
-use Rattle.doc_join.specs.Texts.{section_ended, joined_main, joined_texts}
+use Rattle.doc_join.specs.Texts.{section_ended, joined_main, texts_of_both}
 use Rattle.doc_join.specs.Effects.{IsMarkFrom}
 use Rattle.doc_join.proofs.TextLemmas.{end_is, moved_some}
 use Rattle.doc_join.proofs.SoundLemmas.{length-ended}
@@ -199,14 +199,14 @@ drop_get (suc n) (x ∷ xs) k =
 
 pub first_text : (from : ℕ) (first_maps second_maps : Renumbering) (first second : List (List Item)) (number : ℕ)
     (text : List Item) → slice_get first number ≡ Some text →
-    slice_get (joined_texts from first_maps first second_maps second) number ≡ Some (renumbered_text first_maps text)
+    slice_get (texts_of_both from first_maps first second_maps second) number ≡ Some (renumbered_text first_maps text)
 first_text from first_maps second_maps first second number text here =
     in_front (renumbered_texts first_maps first) (renumbered_texts second_maps (drop from second)) number
     (renumbered_text first_maps text) (get-map (renumbered_text first_maps) first number text here)
 
 pub second_text : (from : ℕ) (first_maps second_maps : Renumbering) (first second : List (List Item)) (number : ℕ)
     (text : List Item) → slice_get second number ≡ Some text → from ≤ number →
-    slice_get (joined_texts from first_maps first second_maps second) (length first + (number - from))
+    slice_get (texts_of_both from first_maps first second_maps second) (length first + (number - from))
     ≡ Some (renumbered_text second_maps text)
 second_text from first_maps second_maps first second number text here low =
     let at : from + (number - from) ≡ number = omega (arith, low) in

@@ -16,9 +16,9 @@ use Rattle.doc_bits.specs.Places.{rank}
 use Rattle.doc_bits.specs.declared.places.Where.TheVariants.{Main}
 use Rattle.text_codes.specs.Paragraph.{paragraph_mark, cell_mark}
 use Rattle.style_sheet.specs.Sheet.{Sheet}
-use Rattle.plain_doc.specs.declared.item.Item.{Item}
-use Rattle.plain_doc.specs.Nesting.{field_characters, IsField, AreFields, most_open}
-use Rattle.plain_doc.specs.Rows.{paragraph_value, is_on, is_mark_outside, FitsRow, open_cells, cells_after}
+use Rattle.doc_model.specs.declared.item.Item.{Item}
+use Rattle.plain_doc.specs.Nesting.{field_characters, IsField, AreNestedFields, most_open}
+use Rattle.plain_doc.specs.Rows.{paragraph_value, is_byte_one, is_mark_outside, FitsRow, open_cells, cells_after}
 use Rattle.plain_doc.specs.RulesOfItems.{IsPlacedRight, HasShortProperties}
 use Rattle.plain_doc.specs.RulesOfTexts.{last_unit, HasParagraphStyle}
 use Rattle.plain_doc.specs.RightDocument.{IsValidText}
@@ -58,12 +58,12 @@ each_item front item other P before here behind i made is =
 
 -- ---- fields
 
-fields_joined : (depth : ℕ) (one other : List ℕ) → AreFields (suc depth) one → AreFields (suc depth) other →
-    AreFields (suc depth) (one ++ other)
-unfolding AreFields
+fields_joined : (depth : ℕ) (one other : List ℕ) → AreNestedFields (suc depth) one → AreNestedFields (suc depth) other →
+    AreNestedFields (suc depth) (one ++ other)
+unfolding AreNestedFields
 fields_joined depth one other first second = record {
   fields = first.fields ++ second.fields;
-  each = All-append (IsField (AreFields depth)) first.fields second.fields first.each second.each;
+  each = All-append (IsField (AreNestedFields depth)) first.fields second.fields first.each second.each;
   joined =
       ap (λ (units : List ℕ). units ++ other) first.joined
       ∙ (ap (λ (units : List ℕ). flat_map (λ (field : List ℕ). field) first.fields ++ units) second.joined
@@ -130,14 +130,14 @@ no_field item unit right = elim (cases_Bool (is_some item.fld)) [
 outside_ended : (item : Item) → item.unit ≡ paragraph_mark →
     is_mark_outside item ≡ is_mark_outside (ending_section item)
 outside_ended item unit =
-    ap (λ u. is_some item.mark && (not (u == cell_mark) && not (is_on (paragraph_value item 0x2416)))) unit
+    ap (λ u. is_some item.mark && (not (u == cell_mark) && not (is_byte_one (paragraph_value item 0x2416)))) unit
 
 count_ended : (item : Item) (cells : ℕ) → item.unit ≡ paragraph_mark →
     cells_after cells item ≡ cells_after cells (ending_section item)
 count_ended item cells unit =
     ap (λ u.
-    cond (u == cell_mark && is_on (paragraph_value item 0x2417)) 0
-    (cond (u == cell_mark && not (is_on (paragraph_value item 0x2417))) (cells + 1) cells)) unit
+    cond (u == cell_mark && is_byte_one (paragraph_value item 0x2417)) 0
+    (cond (u == cell_mark && not (is_byte_one (paragraph_value item 0x2417))) (cells + 1) cells)) unit
 
 row_ended : (item : Item) (cells : ℕ) → item.unit ≡ paragraph_mark → FitsRow cells item →
     FitsRow cells (ending_section item)
@@ -209,13 +209,13 @@ joined_right sheet front item other one unit two some =
             note = old.note;
           });
       fields =
-          subst (AreFields most_open)
+          subst (AreNestedFields most_open)
           (sym (characters-append ended other
           ∙ ap (λ (units : List ℕ). units ++ field_characters other)
           (characters-append front (made ∷ []) ∙ ap (λ (units : List ℕ). field_characters front ++ units)
           (no_character made none))))
           (fields_joined 127 (field_characters front ++ []) (field_characters other)
-          (subst (AreFields most_open)
+          (subst (AreNestedFields most_open)
           (characters-append front (item ∷ []) ∙ ap (λ (units : List ℕ). field_characters front ++ units)
           (no_character item none))
           one.fields)

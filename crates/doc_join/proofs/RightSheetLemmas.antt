@@ -10,7 +10,7 @@ use Rattle.style_sheet.specs.declared.styles.Kind.{Kind}
 use Rattle.style_sheet.specs.declared.styles.Kind.TheVariants.{Para, Char, Other}
 use Rattle.style_sheet.specs.Sheet.{Sheet, style_at}
 use Rattle.style_sheet.specs.Formed.{IsFormedKind, IsFormedSlot, IsFormedSheet}
-use Rattle.style_sheet.specs.Chain.{kind_at, IsBaseChain, HasSoundBases}
+use Rattle.style_sheet.specs.Chain.{style_kind_at, IsBaseChain, HasSoundBases}
 use Rattle.prop_map.specs.Printing.{printed_list}
 use Rattle.style_sheet.specs.Counted.{even_up, written_counted}
 use Rattle.style_sheet.specs.Written.{written_upxes, written_style, written_slot, IsWritable}
@@ -62,7 +62,8 @@ joined_bases first second few one other =
     record {
       normal = part.kinds 0 root ∙ normal;
       chains =
-          by_sheet first second (λ istd. 0 < kind_at joined istd → (chain : List ℕ) × IsBaseChain joined istd chain)
+          by_sheet first second (λ istd. 0 < style_kind_at joined istd → (chain : List ℕ) × IsBaseChain joined istd
+          chain)
           (λ istd within some.
           let found = one.chains istd (omega (arith, some, part.kinds istd within)) in
           (map (λ n. n + 0) found.0, chain_moved first_maps first joined istd found.0 part found.1))

@@ -12,13 +12,14 @@ use Rattle.doc_bits.specs.declared.places.Where.TheVariants.{Main}
 use Rattle.text_codes.specs.Paragraph.{cell_mark}
 use Rattle.prop_map.specs.Formed.{IsPropertyMap, character_groups}
 use Rattle.style_sheet.specs.Sheet.{Sheet}
-use Rattle.style_sheet.specs.Chain.{kind_at}
+use Rattle.style_sheet.specs.Chain.{style_kind_at}
 use Rattle.style_sheet.proofs.Public.{there}
-use Rattle.plain_doc.specs.declared.item.Item.{Item}
-use Rattle.plain_doc.specs.declared.item.Mark.{Mark}
-use Rattle.plain_doc.specs.Document.{IsFormedText}
-use Rattle.plain_doc.specs.Nesting.{field_characters, AreFields, most_open}
-use Rattle.plain_doc.specs.Rows.{value_in, paragraph_value, is_on, is_row_mark, is_cell_mark, is_mark_outside, HasCells}
+use Rattle.doc_model.specs.declared.item.Item.{Item}
+use Rattle.doc_model.specs.declared.item.Mark.{Mark}
+use Rattle.doc_model.specs.Document.{IsFormedText}
+use Rattle.plain_doc.specs.Nesting.{field_characters, AreNestedFields, most_open}
+use Rattle.plain_doc.specs.Rows.{mark_value_in, paragraph_value, is_byte_one, is_row_mark, is_cell_mark}
+use Rattle.plain_doc.specs.Rows.{is_mark_outside, HasCells}
 use Rattle.plain_doc.specs.Rows.{FitsRow, open_cells, cells_after}
 use Rattle.plain_doc.specs.RulesOfItems.{HasMarkRight, IsPlacedRight, HasShortProperties, IsShortPap}
 use Rattle.plain_doc.specs.RulesOfTexts.{IsHead, last_unit, HasParagraphStyle}
@@ -34,23 +35,23 @@ use Rattle.plain_doc.proofs.Public.{item_map}
 -- ---- what an item says stays
 
 value_same : (numbers : Renumbering) (mark : Option Mark) (code : ℕ) →
-    value_in (option_map (renumbered_mark numbers) mark) code ≡ value_in mark code
+    mark_value_in (option_map (renumbered_mark numbers) mark) code ≡ mark_value_in mark code
 value_same numbers None code = refl
 value_same numbers (Some mark) code = refl
 
 row_same : (numbers : Renumbering) (item : Item) → is_row_mark (renumbered_item numbers item) ≡ is_row_mark item
-row_same numbers item = ap (λ o. item.unit == cell_mark && is_on o) (value_same numbers item.mark 0x2417)
+row_same numbers item = ap (λ o. item.unit == cell_mark && is_byte_one o) (value_same numbers item.mark 0x2417)
 
 cell_same : (numbers : Renumbering) (item : Item) → is_cell_mark (renumbered_item numbers item) ≡ is_cell_mark item
-cell_same numbers item = ap (λ o. item.unit == cell_mark && not (is_on o)) (value_same numbers item.mark 0x2417)
+cell_same numbers item = ap (λ o. item.unit == cell_mark && not (is_byte_one o)) (value_same numbers item.mark 0x2417)
 
 outside_same : (numbers : Renumbering) (item : Item) →
     is_mark_outside (renumbered_item numbers item) ≡ is_mark_outside item
 outside_same numbers item =
     ap (λ o.
-    is_some (option_map (renumbered_mark numbers) item.mark) && (not (item.unit == cell_mark) && not (is_on o)))
+    is_some (option_map (renumbered_mark numbers) item.mark) && (not (item.unit == cell_mark) && not (is_byte_one o)))
     (value_same numbers item.mark 0x2416)
-    ∙ ap (λ b. b && (not (item.unit == cell_mark) && not (is_on (paragraph_value item 0x2416))))
+    ∙ ap (λ b. b && (not (item.unit == cell_mark) && not (is_byte_one (paragraph_value item 0x2416))))
     (moved_some numbers item.mark)
 
 pub row_fits : (numbers : Renumbering) (cells : ℕ) (item : Item) → FitsRow cells item →
@@ -102,7 +103,8 @@ placed_right numbers part other len place item like right = record {
 style_right : (numbers : Renumbering) (sheet joined : Sheet) (item : Item) → IsSheetPart numbers sheet joined →
     HasParagraphStyle sheet item → HasParagraphStyle joined (renumbered_item numbers item)
 style_right numbers sheet joined item part right =
-    mark_keeps (λ mark. kind_at sheet mark.istd ≡ 1) (λ mark. kind_at joined mark.istd ≡ 1) numbers item.mark
+    mark_keeps (λ mark. style_kind_at sheet mark.istd ≡ 1) (λ mark. style_kind_at joined mark.istd ≡ 1) numbers
+    item.mark
     (λ mark para.
     part.kinds mark.istd
     (let here = there sheet mark.istd (omega (arith, para)) in omega (arith, here, part.slots))
@@ -172,7 +174,7 @@ text_stays_right numbers sheet joined part other text within like formed right =
           (sym long)
           (each_right numbers text (IsPlacedRight part (length text)) (IsPlacedRight other (length text))
           (λ i item here. placed_right numbers part other (length text) i item like) right.placed);
-      fields = subst (AreFields most_open) (sym (fields_same numbers text)) right.fields;
+      fields = subst (AreNestedFields most_open) (sym (fields_same numbers text)) right.fields;
       rows =
           each_right numbers text (λ i item. FitsRow (open_cells (take i text)) item)
           (λ i item. FitsRow (open_cells (take i made)) item)

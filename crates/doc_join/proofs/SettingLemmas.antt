@@ -30,26 +30,26 @@ use Rattle.sprm_table.specs.declared.operands.OperandSize.{OperandSize}
 use Rattle.sprm_table.specs.declared.operands.OperandSize.TheVariants.{Fixed, CountedByByte, CountedByWord}
 use Rattle.sprm_table.specs.Operands.{size_of, operand_bytes}
 use Rattle.doc_join.specs.declared.renumbering.Renumbering.{Renumbering}
-use Rattle.doc_join.specs.Numbers.{style_behind}
-use Rattle.doc_join.specs.Settings.{naming, renumbered}
+use Rattle.doc_join.specs.Numbers.{renumbered_style}
+use Rattle.doc_join.specs.Settings.{naming, renumbered_chp}
 
 -- the value of a style number after it
 abbrev pub renamed : Renumbering → List ℕ → List ℕ
-renamed numbers value = number_bytes 2 (style_behind numbers (u16_at value 0))
+renamed numbers value = number_bytes 2 (renumbered_style numbers (u16_at value 0))
 
 -- ---- what is at each code
 
 -- properties that name no style stay
 pub none_named : (numbers : Renumbering) (map : Properties) → get map character_style_code ≡ None →
-    renumbered numbers map ≡ map
+    renumbered_chp numbers map ≡ map
 none_named numbers map none = ap (naming numbers map) none
 
 pub one_named : (numbers : Renumbering) (map : Properties) (value : List ℕ) → get map character_style_code ≡ Some value
     →
-    renumbered numbers map ≡ insert map character_style_code (renamed numbers value)
+    renumbered_chp numbers map ≡ insert map character_style_code (renamed numbers value)
 one_named numbers map value named = ap (naming numbers map) named
 
-pub renumbered-empty : (numbers : Renumbering) → empty ≡ renumbered numbers empty
+pub renumbered-empty : (numbers : Renumbering) → empty ≡ renumbered_chp numbers empty
 renumbered-empty numbers = sym (none_named numbers empty (get-empty nat_cmp character_style_code))
 
 -- what was put at a code, and what is at another one
@@ -73,7 +73,7 @@ other_as numbers map code None apart = refl
 other_as numbers map code (Some value) apart = at_other map character_style_code code (renamed numbers value) apart
 
 pub get-renumbered-other : (numbers : Renumbering) (map : Properties) (code : ℕ) → code ≢ character_style_code →
-    get (renumbered numbers map) code ≡ get map code
+    get (renumbered_chp numbers map) code ≡ get map code
 get-renumbered-other numbers map code apart = other_as numbers map code (get map character_style_code) apart
 
 style_as : (numbers : Renumbering) (map : Properties) (named : Option (List ℕ)) →
@@ -84,7 +84,7 @@ style_as numbers map (Some value) some = at_code map character_style_code (renam
 
 -- the style is renamed
 pub get-renumbered-style : (numbers : Renumbering) (map : Properties) →
-    get (renumbered numbers map) character_style_code
+    get (renumbered_chp numbers map) character_style_code
     ≡ option_map (renamed numbers) (get map character_style_code)
 get-renumbered-style numbers map = style_as numbers map (get map character_style_code) refl
 
@@ -106,8 +106,8 @@ put_again map code value here =
     ])
 
 pub same_style : (numbers : Renumbering) (map : Properties) (value : List ℕ) → IsPropertyMap character_groups map →
-    get map character_style_code ≡ Some value → style_behind numbers (u16_at value 0) ≡ u16_at value 0 →
-    renumbered numbers map ≡ map
+    get map character_style_code ≡ Some value → renumbered_style numbers (u16_at value 0) ≡ u16_at value 0 →
+    renumbered_chp numbers map ≡ map
 same_style numbers map value formed named same =
     one_named numbers map value named
     ∙ (ap (insert map character_style_code) (ap (number_bytes 2) same ∙ two_bytes map value formed named)
@@ -127,16 +127,16 @@ named_formed numbers map (Some value) some formed =
         entry = record {
           some = old.entry.some;
           word = old.entry.word;
-          size = length-number_bytes 2 (style_behind numbers (u16_at value 0));
+          size = length-number_bytes 2 (renumbered_style numbers (u16_at value 0));
         };
         held = old.held;
         sets = old.sets;
       };
-      bytes = number_are_bytes (style_behind numbers (u16_at value 0));
+      bytes = number_are_bytes (renumbered_style numbers (u16_at value 0));
     })
 
 pub renumbered_formed : (numbers : Renumbering) (map : Properties) → IsPropertyMap character_groups map →
-    IsPropertyMap character_groups (renumbered numbers map)
+    IsPropertyMap character_groups (renumbered_chp numbers map)
 renumbered_formed numbers map formed = named_formed numbers map (get map character_style_code) refl formed
 
 -- ---- how long it is printed
@@ -212,12 +212,12 @@ named_length : (numbers : Renumbering) (map : Properties) (named : Option (List 
     length (printed_list (naming numbers map named)) ≡ length (printed_list map)
 named_length numbers map None none formed = refl
 named_length numbers map (Some value) some formed =
-    let size = length-number_bytes 2 (style_behind numbers (u16_at value 0)) in
+    let size = length-number_bytes 2 (renumbered_style numbers (u16_at value 0)) in
     ap spelt_length (entries-insert nat_cmp_total map character_style_code (renamed numbers value))
     ∙ put_length character_style_code (renamed numbers value) value (entries map) (entries_sorted map)
     (sym (get-entries map character_style_code) ∙ some) (size ∙ sym (named_bytes map value formed some))
 
 -- renumbered properties are printed in as many bytes
 pub renumbered_length : (numbers : Renumbering) (map : Properties) → IsPropertyMap character_groups map →
-    length (printed_list (renumbered numbers map)) ≡ length (printed_list map)
+    length (printed_list (renumbered_chp numbers map)) ≡ length (printed_list map)
 renumbered_length numbers map formed = named_length numbers map (get map character_style_code) refl formed

@@ -12,13 +12,13 @@ use Rattle.doc_bits.specs.Places.{rank}
 use Rattle.doc_bits.specs.declared.places.Where.{Where}
 use Rattle.doc_bits.specs.declared.places.Where.TheVariants.{Main, Note, Head}
 use Rattle.style_sheet.proofs.Public.{there}
-use Rattle.plain_doc.specs.declared.item.Item.{Item}
-use Rattle.plain_doc.specs.declared.document.Document.{Document}
-use Rattle.doc_parts.specs.declared.bookmark_order.Bookmark.{Bookmark}
-use Rattle.doc_parts.specs.Bookmarks.{IsFormedBookmark, AreFormedBookmarks}
-use Rattle.plain_doc.specs.Marks.{HasFormedBookmarks}
+use Rattle.doc_model.specs.declared.item.Item.{Item}
+use Rattle.doc_model.specs.declared.document.Document.{Document}
+use Rattle.document_bookmarks.specs.declared.bookmark_order.Bookmark.{Bookmark}
+use Rattle.document_bookmarks.specs.Bookmarks.{IsFormedBookmark, AreFormedBookmarks}
+use Rattle.doc_model.specs.Marks.{HasFormedBookmarks}
 use Rattle.plain_doc.specs.RightDocument.{IsValidDocument}
-use Rattle.plain_doc.specs.RulesOfTexts.{text_of, last_unit}
+use Rattle.plain_doc.specs.RulesOfTexts.{text_of_place, last_unit}
 use Rattle.plain_doc.specs.Sound.{IsSound, NamesFirstRule, document_rules}
 use Rattle.plain_doc.proofs.Public.{sound_is_valid}
 use Rattle.doc_join.specs.declared.renumbering.Renumbering.{Renumbering}
@@ -27,13 +27,13 @@ use Rattle.doc_join.specs.Texts.{HaveOwnStyles, AllHaveOwnStyles}
 use Rattle.doc_join.specs.Join.{document_join, first_numbers, second_numbers, slots_together, most_slots}
 use Rattle.doc_join.specs.declared.fault.JoinFault.{JoinFault}
 use Rattle.doc_join.specs.declared.fault.JoinFault.TheVariants.{Styles, Unsound, Memory}
-use Rattle.doc_join.specs.Faults.{IsJoined, IsJoinFault, IsUnsound}
+use Rattle.doc_join.specs.Faults.{IsJoinedDocument, IsJoinFault, IsUnsoundJoin}
 use Rattle.doc_join.proofs.BookmarkLemmas.{joined_form}
 
 -- ---- marks have styles of the sheet
 
 own_styles : (document : Document) (numbers : Renumbering) (part : Where) (text : List Item) →
-    IsValidDocument document → numbers.slots ≡ length document.sheet.styles → text_of document part ≡ Some text →
+    IsValidDocument document → numbers.slots ≡ length document.sheet.styles → text_of_place document part ≡ Some text →
     HaveOwnStyles numbers text
 own_styles document numbers part text right slots is k d within mark marked =
     let para =
@@ -149,7 +149,7 @@ joined_bookmarks_formed first second sound next_sound =
 -- ---- what the check answers
 
 fault_of : (first second made : Document) (fault : JoinFault) → made ≡ document_join first second →
-    slots_together first second ≤ most_slots → IsUnsound made fault → IsJoinFault first second fault
+    slots_together first second ≤ most_slots → IsUnsoundJoin made fault → IsJoinFault first second fault
 fault_of first second made (Styles slots) is fits unsound = absurd unsound
 fault_of first second made (Unsound rule place at) is fits unsound =
     (fits, subst (λ d. NamesFirstRule (document_rules d) (record { rule = rule; place = place; at = at })) is unsound)
@@ -157,9 +157,9 @@ fault_of first second made Memory is fits unsound = tt
 
 pub outcome : (first second made : Document) (verdict : Result (Unit {0}) JoinFault)
     (answer : Result Document JoinFault) → made ≡ document_join first second →
-    slots_together first second ≤ most_slots → MatchResult verdict (λ _. IsSound made) (IsUnsound made) →
+    slots_together first second ≤ most_slots → MatchResult verdict (λ _. IsSound made) (IsUnsoundJoin made) →
     MatchResult answer (λ given. (given ≡ made) × IsOk verdict) (λ fault. verdict ≡ Err fault) →
-    MatchResult answer (IsJoined first second) (IsJoinFault first second)
+    MatchResult answer (IsJoinedDocument first second) (IsJoinFault first second)
 outcome first second made (Ok done) (Ok given) is fits judged given_is = record {
   is = given_is.0 ∙ is;
   fits = fits;
@@ -168,4 +168,5 @@ outcome first second made (Ok done) (Ok given) is fits judged given_is = record 
 outcome first second made (Err fault) (Ok given) is fits judged given_is = absurd (cc given_is.1)
 outcome first second made verdict (Err fault) is fits judged given_is =
     fault_of first second made fault is fits
-    (subst (λ (v : Result (Unit {0}) JoinFault). MatchResult v (λ _. IsSound made) (IsUnsound made)) given_is judged)
+    (subst (λ (v : Result (Unit {0}) JoinFault). MatchResult v (λ _. IsSound made) (IsUnsoundJoin made)) given_is
+    judged)

@@ -1,10 +1,10 @@
 -- The bookmarks of a joined document.
 use Rattle.std.specs.Prelude.{ℕ, ◌+◌, List, ◌++◌, map, Bool, not}
 use Rattle.std.specs.List.{filter, list_any}
-use Rattle.doc_parts.specs.declared.bookmark_order.Bookmark.{Bookmark}
-use Rattle.doc_parts.specs.Order.{in_order}
-use Rattle.doc_parts.specs.Bookmarks.{bookmark_cmp}
-use Rattle.doc_parts.specs.Names.{is_named}
+use Rattle.document_bookmarks.specs.declared.bookmark_order.Bookmark.{Bookmark}
+use Rattle.document_bookmarks.specs.Order.{in_order}
+use Rattle.document_bookmarks.specs.Bookmarks.{bookmark_cmp}
+use Rattle.document_bookmarks.specs.Names.{is_named}
 
 -- a bookmark of a text that is behind so many items
 abbrev pub bookmark_behind : ℕ → Bookmark → Bookmark

@@ -4,13 +4,13 @@ use Rattle.doc_bits.specs.Places.{Place}
 use Rattle.prop_map.specs.Settings.{Properties}
 use Rattle.effective_props.specs.declared.effective.ParaEffect.{ParaEffect}
 use Rattle.effective_props.specs.Effective.{IsEffectiveCharacter, IsEffectiveParagraph}
-use Rattle.plain_doc.specs.declared.item.Item.{Item}
-use Rattle.plain_doc.specs.declared.item.Mark.{Mark}
-use Rattle.plain_doc.specs.declared.document.Document.{Document}
-use Rattle.plain_doc.specs.Paragraphs.{IsParagraphEnd}
-use Rattle.plain_doc.specs.RulesOfTexts.{text_of}
+use Rattle.doc_model.specs.declared.item.Item.{Item}
+use Rattle.doc_model.specs.declared.item.Mark.{Mark}
+use Rattle.doc_model.specs.declared.document.Document.{Document}
+use Rattle.doc_model.specs.Paragraphs.{IsParagraphEnd}
+use Rattle.plain_doc.specs.RulesOfTexts.{text_of_place}
 use Rattle.doc_join.specs.declared.renumbering.Renumbering.{Renumbering}
-use Rattle.doc_join.specs.Settings.{renumbered}
+use Rattle.doc_join.specs.Settings.{renumbered_chp}
 use Rattle.doc_join.specs.Texts.{renumbered_item, renumbered_mark}
 
 -- the mark is that of the paragraph that holds a place of a text: that of the first item with one from there on
@@ -31,7 +31,7 @@ pub record Effects : Type 0 where
 -- they are those of this place
 pub record AreEffectsAt (document : Document) (place : Place) (found : Effects) : Type 0 where
   pub text : List Item
-  pub there : text_of document place.0 ≡ Some text
+  pub there : text_of_place document place.0 ≡ Some text
   pub item : slice_get text place.1 ≡ Some found.item
   pub mark : IsMarkFrom text place.1 found.mark
   pub characters : IsEffectiveCharacter document.sheet found.mark.istd found.item.chp found.characters
@@ -42,6 +42,6 @@ abbrev pub renumbered_effects : Renumbering → Effects → Effects
 renumbered_effects numbers found = record {
   item = renumbered_item numbers found.item;
   mark = renumbered_mark numbers found.mark;
-  characters = renumbered numbers found.characters;
+  characters = renumbered_chp numbers found.characters;
   paragraph = found.paragraph;
 }

@@ -1,13 +1,13 @@
 -- What a join comes to.
 use Rattle.std.specs.Prelude.{◌≡◌, ◌<◌, ◌≤◌, ⊤}
-use Rattle.plain_doc.specs.declared.document.Document.{Document}
+use Rattle.doc_model.specs.declared.document.Document.{Document}
 use Rattle.plain_doc.specs.Sound.{IsSound, NamesFirstRule, document_rules}
 use Rattle.doc_join.specs.declared.fault.JoinFault.{JoinFault}
 use Rattle.doc_join.specs.declared.fault.JoinFault.TheVariants.{Styles, Unsound, Memory}
 use Rattle.doc_join.specs.Join.{document_join, slots_together, most_slots}
 
 -- the one joined document, whose styles fit a sheet, and which is sound
-pub record IsJoined (first second made : Document) : Type 0 where
+pub record IsJoinedDocument (first second made : Document) : Type 0 where
   pub is : made ≡ document_join first second
   pub fits : slots_together first second ≤ most_slots
   pub sound : IsSound made
@@ -22,8 +22,8 @@ IsJoinFault first second (Unsound rule place at) =
 IsJoinFault first second Memory = ⊤
 
 -- the fault is the first rule that the document breaks; want of memory is free
-abbrev pub IsUnsound : Document → JoinFault → Type 0
-IsUnsound document (Styles slots) = ⊥
-IsUnsound document (Unsound rule place at) =
+abbrev pub IsUnsoundJoin : Document → JoinFault → Type 0
+IsUnsoundJoin document (Styles slots) = ⊥
+IsUnsoundJoin document (Unsound rule place at) =
     NamesFirstRule (document_rules document) (record { rule = rule; place = place; at = at })
-IsUnsound document Memory = ⊤
+IsUnsoundJoin document Memory = ⊤

@@ -1,10 +1,10 @@
 -- One document after another.
 use Rattle.std.specs.Prelude.{ℕ, ◌+◌, length}
-use Rattle.plain_doc.specs.declared.document.Document.{Document}
+use Rattle.doc_model.specs.declared.document.Document.{Document}
 use Rattle.doc_join.specs.declared.renumbering.Renumbering.{Renumbering}
 use Rattle.doc_join.specs.Numbers.{numbers_of_first, numbers_of_second}
 use Rattle.doc_join.specs.Styles.{joined_sheet}
-use Rattle.doc_join.specs.Texts.{joined_main, joined_texts}
+use Rattle.doc_join.specs.Texts.{joined_main, texts_of_both}
 use Rattle.doc_join.specs.Bookmarks.{joined_bookmarks}
 
 -- how the style numbers of the first document go on, and those of the second
@@ -25,8 +25,8 @@ document_join first second =
     let second_maps = second_numbers first second in
     record {
       main = joined_main first_maps first.main second_maps second.main;
-      notes = joined_texts 0 first_maps first.notes second_maps second.notes;
-      heads = joined_texts separators first_maps first.heads second_maps second.heads;
+      notes = texts_of_both 0 first_maps first.notes second_maps second.notes;
+      heads = texts_of_both separators first_maps first.heads second_maps second.heads;
       sheet = joined_sheet first.sheet second.sheet;
       carried = first.carried;
       bookmarks = joined_bookmarks (length first.main) first.bookmarks second.bookmarks;

@@ -9,8 +9,8 @@ no_style = 0xFFFF
 
 -- a style number of a document, whose slots are behind others. Profile: one beyond its own sheet named nothing, and
 -- it names nothing afterwards
-abbrev pub style_behind : Renumbering → ℕ → ℕ
-style_behind numbers istd = if nat_lt istd numbers.slots then istd + numbers.before else no_style
+abbrev pub renumbered_style : Renumbering → ℕ → ℕ
+renumbered_style numbers istd = if nat_lt istd numbers.slots then istd + numbers.before else no_style
 
 -- the base of a style: where it was beyond the sheet there is none
 abbrev pub base_behind : Renumbering → Option ℕ → Option ℕ
@@ -18,8 +18,8 @@ base_behind numbers None = None
 base_behind numbers (Some base) = if nat_lt base numbers.slots then Some (base + numbers.before) else None
 
 -- the style of the next paragraph: where it was beyond the sheet it is the style's own number
-abbrev pub next_behind : Renumbering → ℕ → ℕ → ℕ
-next_behind numbers istd next = (if nat_lt next numbers.slots then next else istd) + numbers.before
+abbrev pub renumbered_next : Renumbering → ℕ → ℕ → ℕ
+renumbered_next numbers istd next = (if nat_lt next numbers.slots then next else istd) + numbers.before
 
 -- nothing is before the slots of the first document
 abbrev pub numbers_of_first : Sheet → Renumbering
@@ -31,7 +31,7 @@ numbers_of_second first second = record { before = length first.styles; slots = 
 
 -- the number that a style of the first document has afterwards, and that of a style of the second
 abbrev pub style_in_first : Sheet → ℕ → ℕ
-style_in_first first = style_behind (numbers_of_first first)
+style_in_first first = renumbered_style (numbers_of_first first)
 
 abbrev pub style_in_second : Sheet → Sheet → ℕ → ℕ
-style_in_second first second = style_behind (numbers_of_second first second)
+style_in_second first second = renumbered_style (numbers_of_second first second)

@@ -4,14 +4,14 @@ use Rattle.std.specs.List.{range_with_len}
 use Rattle.style_sheet.specs.declared.styles.Style.{Style}
 use Rattle.style_sheet.specs.declared.styles.Kind.{Kind}
 use Rattle.style_sheet.specs.Sheet.{Sheet, style_at}
-use Rattle.style_sheet.specs.Changes.{characters_of, with_characters, with_kind}
+use Rattle.style_sheet.specs.Changes.{kind_characters, with_characters, with_kind}
 use Rattle.doc_join.specs.declared.renumbering.Renumbering.{Renumbering}
-use Rattle.doc_join.specs.Numbers.{base_behind, next_behind, numbers_of_first, numbers_of_second}
-use Rattle.doc_join.specs.Settings.{renumbered}
+use Rattle.doc_join.specs.Numbers.{base_behind, renumbered_next, numbers_of_first, numbers_of_second}
+use Rattle.doc_join.specs.Settings.{renumbered_chp}
 
 -- the properties of a style
 abbrev pub renumbered_kind : Renumbering → Kind → Kind
-renumbered_kind numbers kind = with_characters kind (renumbered numbers (characters_of kind))
+renumbered_kind numbers kind = with_characters kind (renumbered_chp numbers (kind_characters kind))
 
 -- a style of the first document. Profile: a base or a next that was beyond its sheet stays as it is
 abbrev pub style_from_first : Renumbering → Style → Style
@@ -21,7 +21,7 @@ style_from_first numbers style = with_kind style (renumbered_kind numbers style.
 abbrev pub style_from_second : Renumbering → ℕ → Style → Style
 style_from_second numbers istd style = record style {
   base = base_behind numbers style.base;
-  next = next_behind numbers istd style.next;
+  next = renumbered_next numbers istd style.next;
   kind = renumbered_kind numbers style.kind;
 }
 

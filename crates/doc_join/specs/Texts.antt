@@ -2,10 +2,10 @@
 use Rattle.std.specs.Prelude.{ℕ, ◌+◌, ◌-◌, ◌<◌, List, ◌++◌, length, map, take, drop, All, option_map}
 use Rattle.std.specs.Option.{ForSome}
 use Rattle.text_codes.specs.Paragraph.{section_mark}
-use Rattle.plain_doc.specs.declared.item.Item.{Item}
-use Rattle.plain_doc.specs.declared.item.Mark.{Mark}
+use Rattle.doc_model.specs.declared.item.Item.{Item}
+use Rattle.doc_model.specs.declared.item.Mark.{Mark}
 use Rattle.doc_join.specs.declared.renumbering.Renumbering.{Renumbering}
-use Rattle.doc_join.specs.Settings.{renumbered}
+use Rattle.doc_join.specs.Settings.{renumbered_chp}
 
 -- a mark with the number that its style has now
 abbrev pub renumbered_mark : Renumbering → Mark → Mark
@@ -14,7 +14,7 @@ renumbered_mark numbers mark = record mark { istd = mark.istd + numbers.before }
 -- an item: the style that it names, and that of its mark
 abbrev pub renumbered_item : Renumbering → Item → Item
 renumbered_item numbers item = record item {
-  chp = renumbered numbers item.chp;
+  chp = renumbered_chp numbers item.chp;
   mark = option_map (renumbered_mark numbers) item.mark;
 }
 
@@ -38,8 +38,8 @@ joined_main first_numbers first second_numbers second =
     section_ended (renumbered_text first_numbers first) ++ renumbered_text second_numbers second
 
 -- the texts of the first document, and then those of the second from a number on
-abbrev pub joined_texts : ℕ → Renumbering → List (List Item) → Renumbering → List (List Item) → List (List Item)
-joined_texts from first_numbers first second_numbers second =
+abbrev pub texts_of_both : ℕ → Renumbering → List (List Item) → Renumbering → List (List Item) → List (List Item)
+texts_of_both from first_numbers first second_numbers second =
     renumbered_texts first_numbers first ++ renumbered_texts second_numbers (drop from second)
 
 -- the style of the mark is within the sheet

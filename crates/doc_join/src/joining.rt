@@ -1,9 +1,9 @@
 // One document after another.
 ghost use Rattle.std.specs.Prelude.{◌≡◌, ◌≤◌, IfOk, MatchResult};
-ghost use Rattle.plain_doc.specs.Marks.{HasFormedBookmarks};
+ghost use Rattle.doc_model.specs.Marks.{HasFormedBookmarks};
 ghost use Rattle.plain_doc.specs.Sound.{IsSound, NamesFirstRule, document_rules};
 ghost use Rattle.doc_join.specs.Join.{document_join, slots_together, most_slots};
-ghost use Rattle.doc_join.specs.Faults.{IsJoined, IsJoinFault, IsUnsound};
+ghost use Rattle.doc_join.specs.Faults.{IsJoinedDocument, IsJoinFault, IsUnsoundJoin};
 
 use crate::JoinFault;
 use crate::kept_maps::KeptMaps;
@@ -24,7 +24,7 @@ const MAX_SLOTS: usize = 4_094;
 pub fn join(alloc: Global, a: &Document, b: &Document) -> Result<Document, JoinFault>
     requires first { IsSound a.now }
     requires second { IsSound b.now }
-    ensures { MatchResult result (IsJoined a.now b.now) (IsJoinFault a.now b.now) }
+    ensures { MatchResult result (IsJoinedDocument a.now b.now) (IsJoinFault a.now b.now) }
 {
     let first = ColumnDocument::from_document(alloc, a)?;
     let made = join_behind(alloc, &first, b);
@@ -36,7 +36,7 @@ pub fn join(alloc: Global, a: &Document, b: &Document) -> Result<Document, JoinF
 fn join_behind(alloc: Global, a: &ColumnDocument, b: &Document) -> Result<Document, JoinFault>
     requires first { IsSound a.now }
     requires second { IsSound b.now }
-    ensures { MatchResult result (IsJoined a.now b.now) (IsJoinFault a.now b.now) }
+    ensures { MatchResult result (IsJoinedDocument a.now b.now) (IsJoinFault a.now b.now) }
 {
     let second = ColumnDocument::from_document(alloc, b)?;
     let made = joined_items(alloc, a, &second);
@@ -52,7 +52,7 @@ fn joined_items(
 ) -> Result<Document, JoinFault>
     requires first { IsSound a.now }
     requires second { IsSound b.now }
-    ensures { MatchResult result (IsJoined a.now b.now) (IsJoinFault a.now b.now) }
+    ensures { MatchResult result (IsJoinedDocument a.now b.now) (IsJoinFault a.now b.now) }
 {
     let made = join_of_columns(alloc, a, b)?;
     let items = made.expand(alloc);
@@ -68,7 +68,7 @@ pub fn join_of_columns(
 ) -> Result<ColumnDocument, JoinFault>
     requires first { IsSound a.now }
     requires second { IsSound b.now }
-    ensures { MatchResult result (IsJoined a.now b.now) (IsJoinFault a.now b.now) }
+    ensures { MatchResult result (IsJoinedDocument a.now b.now) (IsJoinFault a.now b.now) }
 {
     let slots = a.sheet.slots() + b.sheet.slots();
     if slots > MAX_SLOTS {
@@ -134,7 +134,7 @@ fn join_unchecked(
 /// Whether a document is sound, or its first broken rule.
 fn check_joined(alloc: Global, made: &ColumnDocument) -> Result<(), JoinFault>
     requires { HasFormedBookmarks made.now }
-    ensures { MatchResult result (λ _. IsSound made.now) (IsUnsound made.now) }
+    ensures { MatchResult result (λ _. IsSound made.now) (IsUnsoundJoin made.now) }
 {
     match check(alloc, made) {
         Ok(()) => Ok(()),

@@ -4,7 +4,7 @@ ghost use Rattle.std.specs.FinMap.{insert};
 ghost use Rattle.doc_bits.specs.Number.{number_bytes};
 ghost use Rattle.prop_map.specs.Formed.{IsPropertyMap, character_groups};
 ghost use Rattle.effective_props.specs.Layers.{character_style_code};
-ghost use Rattle.doc_join.specs.Settings.{renumbered};
+ghost use Rattle.doc_join.specs.Settings.{renumbered_chp};
 
 use crate::renumbering::Renumbering;
 use doc_bits::{Bytes, Memory, get16};
@@ -22,7 +22,7 @@ pub(crate) struct KeptMaps {
     /// What it became.
     to: PropMap,
     pub ghost few: { numbers.before + numbers.slots ≤ 4094 },
-    pub ghost same: { to ≡ renumbered numbers from },
+    pub ghost same: { to ≡ renumbered_chp numbers from },
 }
 
 impl KeptMaps {
@@ -42,8 +42,9 @@ impl KeptMaps {
     fn other_style(&self, map: &PropMap) -> Option<u16>
         requires { IsPropertyMap character_groups map.now }
         ensures { MatchOption result
-            (renumbered self.now.numbers map.now ≡ map.now)
-            (λ istd. renumbered self.now.numbers map.now ≡ insert map.now character_style_code (number_bytes 2 istd)) }
+            (renumbered_chp self.now.numbers map.now ≡ map.now)
+            (λ istd. renumbered_chp self.now.numbers map.now ≡ insert map.now character_style_code (number_bytes 2
+            istd)) }
     {
         let value = map.get(SPRM_C_ISTD)?;
         let named = get16(value, 0);
@@ -54,7 +55,7 @@ impl KeptMaps {
     /// The properties with the style renumbered. Their entries are shared where they can be.
     pub(crate) fn map(&mut self, map: &PropMap) -> Result<PropMap, Memory>
         requires { IsPropertyMap character_groups map.now }
-        ensures map { IfOk result (λ made. made ≡ renumbered self.old.numbers map.now) }
+        ensures map { IfOk result (λ made. made ≡ renumbered_chp self.old.numbers map.now) }
         ensures numbers { self.new.numbers ≡ self.old.numbers }
     {
         let alloc = self.alloc;

@@ -3,7 +3,7 @@ ghost use Rattle.std.specs.Prelude.{◌≡◌, ◌+◌, ◌^◌, ◌<◌, length
 ghost use Rattle.std.specs.Cmp.Lexicographic.{slice_cmp};
 ghost use Rattle.std.specs.List.Sorted.{IsSorted, IsPermutation};
 ghost use Rattle.std.specs.Ordering.{nat_cmp};
-ghost use Rattle.doc_parts.specs.Names.{name_cmp};
+ghost use Rattle.document_bookmarks.specs.Names.{name_cmp};
 ghost use Rattle.doc_join.specs.Bookmarks.{bookmark_behind, has_name, joined_bookmarks};
 
 use doc_bits::Memory;

@@ -6,7 +6,7 @@ ghost use Rattle.style_sheet.specs.Formed.{IsFormedStyle, IsFormedKind, IsFormed
 ghost use Rattle.style_sheet.specs.Sheet.{Sheet, style_at};
 ghost use Rattle.style_sheet.specs.Changes.{with_kind};
 ghost use Rattle.doc_join.specs.Numbers.{numbers_of_first, numbers_of_second};
-ghost use Rattle.doc_join.specs.Settings.{renumbered};
+ghost use Rattle.doc_join.specs.Settings.{renumbered_chp};
 ghost use Rattle.doc_join.specs.Styles.{renumbered_kind, style_from_first, style_from_second};
 ghost use Rattle.doc_join.specs.Styles.{slot_from_first, slot_from_second, slots_from_first, slots_from_second};
 ghost use Rattle.doc_join.specs.Styles.{joined_sheet};
@@ -146,7 +146,7 @@ impl KeptMaps {
     /// The properties of a style of paragraphs.
     fn paragraph_kind(&mut self, pap: &PropMap, chp: &PropMap) -> Result<Kind, Memory>
         requires { IsPropertyMap character_groups chp.now }
-        ensures made { IfOk result (λ made. made ≡ Para pap.now (renumbered self.old.numbers chp.now)) }
+        ensures made { IfOk result (λ made. made ≡ Para pap.now (renumbered_chp self.old.numbers chp.now)) }
         ensures numbers { self.new.numbers ≡ self.old.numbers }
     {
         let pap = pap.copy(self.alloc)?;
@@ -157,7 +157,7 @@ impl KeptMaps {
     /// The properties of a style of characters.
     fn character_kind(&mut self, chp: &PropMap) -> Result<Kind, Memory>
         requires { IsPropertyMap character_groups chp.now }
-        ensures made { IfOk result (λ made. made ≡ Char (renumbered self.old.numbers chp.now)) }
+        ensures made { IfOk result (λ made. made ≡ Char (renumbered_chp self.old.numbers chp.now)) }
         ensures numbers { self.new.numbers ≡ self.old.numbers }
     {
         let chp = self.map(chp)?;

@@ -1,6 +1,6 @@
 // What style numbers become in a joined document.
 ghost use Rattle.std.specs.Prelude.{◌≡◌, ◌+◌, ◌<◌, ◌≤◌};
-ghost use Rattle.doc_join.specs.Numbers.{style_behind, base_behind, next_behind};
+ghost use Rattle.doc_join.specs.Numbers.{renumbered_style, base_behind, renumbered_next};
 
 use crate::renumbering::Renumbering;
 
@@ -11,7 +11,7 @@ impl Renumbering {
     /// The style that a character names. One beyond the sheet names none.
     pub(crate) fn style(&self, istd: u16) -> u16
         requires { self.now.before + self.now.slots ≤ 4094 }
-        ensures { result ≡ style_behind self.now istd }
+        ensures { result ≡ renumbered_style self.now istd }
     {
         if istd < self.slots {
             istd + self.before
@@ -41,7 +41,7 @@ impl Renumbering {
     pub(crate) fn next(&self, istd: u16, next: u16) -> u16
         requires few { self.now.before + self.now.slots ≤ 4094 }
         requires within { istd < self.now.slots }
-        ensures { result ≡ next_behind self.now istd next }
+        ensures { result ≡ renumbered_next self.now istd next }
     {
         if next < self.slots {
             next + self.before

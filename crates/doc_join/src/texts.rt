@@ -4,9 +4,9 @@ ghost use Rattle.std.specs.Prelude.{IfOk, OnOk};
 ghost use Rattle.std.specs.Option.{ForSome};
 ghost use Rattle.prop_map.specs.Formed.{IsPropertyMap, character_groups};
 ghost use Rattle.run_lists.specs.Spread.{expanded, total_len};
-ghost use Rattle.doc_join.specs.Settings.{renumbered};
+ghost use Rattle.doc_join.specs.Settings.{renumbered_chp};
 ghost use Rattle.doc_join.specs.Texts.{renumbered_mark, renumbered_text, renumbered_texts};
-ghost use Rattle.doc_join.specs.Texts.{section_ended, joined_main, joined_texts, HaveOwnStyles, AllHaveOwnStyles};
+ghost use Rattle.doc_join.specs.Texts.{section_ended, joined_main, texts_of_both, HaveOwnStyles, AllHaveOwnStyles};
 ghost use Rattle.doc_join.specs.JoinedColumns.{renumbered_attached, HasOwnMark};
 
 use crate::kept_maps::KeptMaps;
@@ -70,7 +70,7 @@ pub(crate) fn join_texts(
     requires of_first { AllHaveOwnStyles first_maps.old.numbers first.now }
     requires of_second { AllHaveOwnStyles second_maps.old.numbers second.now }
     ensures made { IfOk result
-        (λ made. made ≡ joined_texts from first_maps.old.numbers first.now second_maps.old.numbers second.now) }
+        (λ made. made ≡ texts_of_both from first_maps.old.numbers first.now second_maps.old.numbers second.now) }
     ensures first_maps { first_maps.new.numbers ≡ first_maps.old.numbers }
     ensures second_maps { second_maps.new.numbers ≡ second_maps.old.numbers }
 {
@@ -119,7 +119,7 @@ impl KeptMaps {
     fn chps(&mut self, runs: &[Run<PropMap>]) -> Result<Runs<PropMap>, Memory>
         requires few { total_len runs.now < 2 ^ 32 }
         requires maps { All (IsPropertyMap character_groups) (expanded runs.now) }
-        ensures made { IfOk result (λ made. made ≡ map (renumbered self.old.numbers) (expanded runs.now)) }
+        ensures made { IfOk result (λ made. made ≡ map (renumbered_chp self.old.numbers) (expanded runs.now)) }
         ensures numbers { self.new.numbers ≡ self.old.numbers }
     {
         let mut made = Runs::new(self.alloc);
@@ -134,7 +134,7 @@ impl KeptMaps {
         requires few { length made.old + run.now.count < 2 ^ 32 }
         requires map { 0 < run.now.count → IsPropertyMap character_groups run.now.value }
         ensures made { OnOk result
-            (made.new ≡ made.old ++ replicate run.now.count (renumbered self.old.numbers run.now.value)) }
+            (made.new ≡ made.old ++ replicate run.now.count (renumbered_chp self.old.numbers run.now.value)) }
         ensures numbers { self.new.numbers ≡ self.old.numbers }
     {
         if run.count == 0 {

@@ -15,17 +15,17 @@ use Rattle.fkp_pages.specs.declared.kind.PageKind.TheVariants.{Chpx, Papx}
 use Rattle.fkp_pages.specs.Bin.{IsBinTable}
 use Rattle.fkp_gaps.specs.Filled.{next_page, with_empty_run}
 use Rattle.fkp_gaps.proofs.Public.{filled_bin_is_one}
-use Rattle.page_copies.specs.Pages.{BinTables, bin_of}
-use Rattle.plain_doc.specs.declared.document.Document.{Document}
+use Rattle.page_copies.specs.Pages.{BinTables, bin_table_of}
+use Rattle.doc_model.specs.declared.document.Document.{Document}
 use Rattle.file_rules.specs.declared.fault.ReadFault.{ReadFault}
 use Rattle.file_rules.specs.declared.fault.ReadFault.TheVariants.{Refused, Memory}
 use Rattle.file_rules.specs.Faults.{IsReadFault}
-use Rattle.file_rules.specs.Source.{DocSource, part_bytes}
+use Rattle.file_rules.specs.Source.{DocSource, table_part_bytes}
 use Rattle.file_rules.specs.PartRules.{layout_rules, part_rules}
-use Rattle.file_rules.specs.FileRules.{FileText, IsFrontOf, source_of, clx_of}
+use Rattle.file_rules.specs.FileRules.{FileText, IsFrontOf, doc_source_of, clx_of}
 use Rattle.file_rules.proofs.Public.{part_single, bin_tables, refused-given}
-use Rattle.doc_read.specs.Opened.{IsReadOf}
-use Rattle.doc_meaning.specs.Skipped.{bins_of}
+use Rattle.doc_read.specs.Opened.{IsReadDocument}
+use Rattle.doc_meaning.specs.Skipped.{bin_tables_of}
 use Rattle.doc_meaning.specs.Meaning.{MeansFrom}
 use Rattle.doc_meaning.specs.Apart.{IsReadTable}
 use Rattle.doc_meaning.specs.Filled.{BreaksAtGap, FillsStreams, HasFilledStreams, IsGapRule, filled_fields}
@@ -42,9 +42,10 @@ use Rattle.doc_lift.proofs.LiftLemmas.{front_meant}
 
 -- the bin tables of streams are tables
 abbrev pub HaveBinTables : (wd table : List ℕ) → Type 0
-HaveBinTables wd table = (kind : PageKind) → IsBinTable (bin_of kind (bins_of wd table))
+HaveBinTables wd table = (kind : PageKind) → IsBinTable (bin_table_of kind (bin_tables_of wd table))
 
-tables_of : (source : DocSource) → IsBinTable (part_bytes source PlcfBteChpx) × IsBinTable (part_bytes source PlcfBtePapx) →
+tables_of : (source : DocSource) → IsBinTable (table_part_bytes source PlcfBteChpx) × IsBinTable (table_part_bytes
+    source PlcfBtePapx) →
     HaveBinTables source.wd source.table
 tables_of source both Chpx = both.0
 tables_of source both Papx = both.1
@@ -57,7 +58,7 @@ pub fills_one : (wd old_wd old_table a_wd a_table b_wd b_table : List ℕ) → H
     FillsStreams wd old_wd old_table a_wd a_table → FillsStreams wd old_wd old_table b_wd b_table →
     AreOneStreams a_wd a_table b_wd b_table
 fills_one wd old_wd old_table a_wd a_table b_wd b_table tables a b =
-    let bin = λ (kind : PageKind). bin_of kind (bins_of old_wd old_table) in
+    let bin = λ (kind : PageKind). bin_table_of kind (bin_tables_of old_wd old_table) in
     let chars : b.bins.characters ≡ a.bins.characters =
     filled_bin_is_one Chpx (bin Chpx) old_wd (next_page old_wd) b.bins.characters a.bins.characters (tables Chpx)
     (b.filled Chpx) (a.filled Chpx) in
@@ -77,20 +78,20 @@ fills_one wd old_wd old_table a_wd a_table b_wd b_table tables a b =
 
 -- the rules 33 to 38 hold of the text that is filled
 pub filled_layout : (wd units : List ℕ) (read filled : FileText) → IsFilledRead wd units read filled →
-    Hold (part_rules (source_of filled)) → Hold (layout_rules (source_of read))
-filled_layout wd units read filled (inl is) hold = layout_holds (source_of read) is.gap
+    Hold (part_rules (doc_source_of filled)) → Hold (layout_rules (doc_source_of read))
+filled_layout wd units read filled (inl is) hold = layout_holds (doc_source_of read) is.gap
 filled_layout wd units read filled (inr plain) hold =
-    (subst (λ (t : FileText). Hold (part_rules (source_of t))) plain.1 hold).0
+    (subst (λ (t : FileText). Hold (part_rules (doc_source_of t))) plain.1 hold).0
 
 pub read_layout : (wd table : List ℕ) (source : DocSource) (is : IsLiftedSource wd table source) →
-    Hold (part_rules source) → Hold (layout_rules (source_of is.read))
+    Hold (part_rules source) → Hold (layout_rules (doc_source_of is.read))
 read_layout wd table source is hold =
     filled_layout wd is.units is.read is.filled is.filled_is
     (subst (λ (s : DocSource). Hold (part_rules s)) is.source_is hold)
 
 -- ---- what a filled text means
 
-filled_streams : (wd units : List ℕ) (read filled : FileText) → IsFilledText wd units (source_of read) filled →
+filled_streams : (wd units : List ℕ) (read filled : FileText) → IsFilledText wd units (doc_source_of read) filled →
     HasFilledStreams wd read filled
 filled_streams wd units read filled is = record {
   gap = is.gap;
@@ -101,7 +102,7 @@ filled_streams wd units read filled is = record {
 
 filled_text_kept : (wd table : List ℕ) (text_len : ℕ) (text : FileText) (units : List ℕ) (read filled : FileText) →
     HasFront wd table text_len → (front : IsFrontOf (lifted_wd wd) table text units) →
-    IsReadFor wd table units text read → IsFilledText wd units (source_of read) filled →
+    IsReadFor wd table units text read → IsFilledText wd units (doc_source_of read) filled →
     KeepsText (whole_text wd table front.all) filled
 filled_text_kept wd table text_len text units read filled has front for is =
     let whole = whole_text wd table front.all in
@@ -119,12 +120,13 @@ filled_text_kept wd table text_len text units read filled has front for is =
 pub filled_meant : (contents : Contents) (wd table : List ℕ) (text_len : ℕ) (text : FileText) (units : List ℕ)
     (read filled : FileText) (document : Document) → IsReadTable contents wd table → HasFront wd table text_len →
     IsFrontOf (lifted_wd wd) table text units → IsReadFor wd table units text read →
-    IsFilledRead wd units read filled → Hold (part_rules (source_of filled)) → IsReadOf contents filled document →
+    IsFilledRead wd units read filled → Hold (part_rules (doc_source_of filled)) → IsReadDocument contents filled
+    document →
     MeansFrom contents document
 filled_meant contents wd table text_len text units read filled document reads has front for (inr plain) hold from =
     front_meant contents wd table text_len text units read document reads has front for
-    (subst (λ (t : FileText). Hold (part_rules (source_of t))) plain.1 hold)
-    (subst (λ (t : FileText). IsReadOf contents t document) plain.1 from)
+    (subst (λ (t : FileText). Hold (part_rules (doc_source_of t))) plain.1 hold)
+    (subst (λ (t : FileText). IsReadDocument contents t document) plain.1 from)
 filled_meant contents wd table text_len text units read filled document reads has front for (inl is) hold from =
     let kept = filled_text_kept wd table text_len text units read filled has front for is in
     filled_is_meant contents (whole_text wd reads.own front.all) table read filled from.lists document
@@ -140,13 +142,13 @@ filled_meant contents wd table text_len text units read filled document reads ha
 
 -- where the rules hold nothing is filled
 pub plain_read : (wd units : List ℕ) (contents : Contents) (read : FileText) (document : Document) →
-    Hold (part_rules (source_of read)) → IsReadOf contents read document →
+    Hold (part_rules (doc_source_of read)) → IsReadDocument contents read document →
     IsReadFilled wd units contents read document
 plain_read wd units contents read document hold from = record {
   filled = read;
   filled_is = inr (
-    λ other is. hold_or_first Upto (part_rules (source_of read)) is.gap.number is.gap.place
-        (part_single (source_of read)) hold is.gap.first,
+    λ other is. hold_or_first Upto (part_rules (doc_source_of read)) is.gap.number is.gap.place
+        (part_single (doc_source_of read)) hold is.gap.first,
     refl,
   );
   rules = hold;
@@ -155,15 +157,18 @@ plain_read wd units contents read document hold from = record {
 
 -- and where another rule is broken first
 pub plain_refused : (wd units : List ℕ) (read : FileText) (fault : ReadFault) →
-    IsReadFault (part_rules (source_of read)) fault → ¬ IsGapFault fault →
+    IsReadFault (part_rules (doc_source_of read)) fault → ¬ IsGapFault fault →
     IsReadFault (filled_rules wd units read) fault
 plain_refused wd units read (Refused number part offset) refused none =
-    refused-given (IsFilledRead wd units read) (λ (t : FileText). part_rules (source_of t)) read
+    refused-given (IsFilledRead wd units read) (λ (t : FileText). part_rules (doc_source_of t)) read
     (Refused number part offset)
     (inr (
       λ other is.
-          let same = first_agrees Upto (part_rules (source_of read)) is.gap.number number is.gap.place (part, offset)
-          (part_single (source_of read)) is.gap.first refused in
+          let same = first_agrees Upto (part_rules (doc_source_of read)) is.gap.number number is.gap.place (
+            part,
+            offset,
+          )
+          (part_single (doc_source_of read)) is.gap.first refused in
           none (subst IsGapRule same.0 is.gap.gap),
       refl,
     )) refused
@@ -188,7 +193,7 @@ to_streams P read wd table wd_is table_is p =
     subst (λ (t : List ℕ). P wd t) table_is (subst (λ (w : List ℕ). P w read.table) wd_is p)
 
 pub gap_read : (wd units old_wd old_table : List ℕ) (contents : Contents) (read : FileText) (document : Document) →
-    read.wd ≡ old_wd → read.table ≡ old_table → BreaksAtGap (source_of read) →
+    read.wd ≡ old_wd → read.table ≡ old_table → BreaksAtGap (doc_source_of read) →
     IsReadAtGaps wd old_wd old_table units contents document → IsReadFilled wd units contents read document
 gap_read wd units old_wd old_table contents read document wd_is table_is gap found = record {
   filled = found.filled;
@@ -202,10 +207,10 @@ gap_read wd units old_wd old_table contents read document wd_is table_is gap fou
 
 -- a filled text that is refused
 pub gap_refused : (wd units old_wd old_table : List ℕ) (read : FileText) (fault : ReadFault) → read.wd ≡ old_wd →
-    read.table ≡ old_table → BreaksAtGap (source_of read) → IsRefusedAtGap wd old_wd old_table units fault →
+    read.table ≡ old_table → BreaksAtGap (doc_source_of read) → IsRefusedAtGap wd old_wd old_table units fault →
     IsReadFault (filled_rules wd units read) fault
 gap_refused wd units old_wd old_table read fault wd_is table_is gap (inl is) =
-    refused-given (IsFilledRead wd units read) (λ (t : FileText). part_rules (source_of t)) is.filled fault
+    refused-given (IsFilledRead wd units read) (λ (t : FileText). part_rules (doc_source_of t)) is.filled fault
     (inl (record {
       gap = gap;
       is = at_streams (λ w t. IsFilledOf wd w t units is.filled) read old_wd old_table wd_is table_is is.is;
@@ -215,10 +220,10 @@ gap_refused wd units old_wd old_table read fault wd_is table_is gap (inr none) =
 
 -- a text of which nothing is filled stays refused
 pub gap_stays : (wd units old_wd old_table : List ℕ) (read : FileText) (fault : ReadFault) → read.wd ≡ old_wd →
-    read.table ≡ old_table → IsReadFault (part_rules (source_of read)) fault →
+    read.table ≡ old_table → IsReadFault (part_rules (doc_source_of read)) fault →
     ((other : FileText) → ¬ IsFilledOf wd old_wd old_table units other) → IsReadFault (filled_rules wd units read) fault
 gap_stays wd units old_wd old_table read fault wd_is table_is refused none =
-    refused-given (IsFilledRead wd units read) (λ (t : FileText). part_rules (source_of t)) read fault
+    refused-given (IsFilledRead wd units read) (λ (t : FileText). part_rules (doc_source_of t)) read fault
     (inr (
       λ other is. at_streams (λ w t. ¬ IsFilledOf wd w t units other) read old_wd old_table wd_is table_is
           (none other) is.is,
@@ -230,7 +235,7 @@ pub lifted_fault : (wd table units : List ℕ) (text read : FileText) (fault : R
     IsFrontOf (lifted_wd wd) table text units → IsReadFor wd table units text read →
     IsReadFault (filled_rules wd units read) fault → IsReadFault (given (IsLiftedSource wd table) part_rules) fault
 lifted_fault wd table units text read (Refused number part offset) front for refused = (
-  source_of refused.0,
+  doc_source_of refused.0,
   (
     record {
       text = text;

@@ -9,7 +9,7 @@ use Rattle.cfb_streams.specs.Container.{HasContents}
 use Rattle.fib_versions.specs.Versions.{all_text_length}
 use Rattle.file_rules.specs.Source.{DocSource}
 use Rattle.file_rules.specs.PartRules.{part_rules}
-use Rattle.file_rules.specs.FileRules.{FileText, HasText, source_of}
+use Rattle.file_rules.specs.FileRules.{FileText, HasFileText, doc_source_of}
 use Rattle.file_rules.proofs.Public.{part_single, text_one}
 use Rattle.doc_meaning.specs.Apart.{IsReadTable}
 use Rattle.doc_meaning.proofs.Public.{HasFront, whole_text, front_text, loaded_holds}
@@ -19,25 +19,26 @@ use Rattle.doc_lift.proofs.SkipLemmas.{read_loaded_for}
 
 -- a text that breaks none has no gap that is filled
 filled_held : (wd units : List ℕ) (read filled : FileText) → IsFilledRead wd units read filled →
-    Hold (part_rules (source_of read)) → Hold (part_rules (source_of filled))
+    Hold (part_rules (doc_source_of read)) → Hold (part_rules (doc_source_of filled))
 filled_held wd units read filled (inl is) hold =
-    absurd (hold_or_first Upto (part_rules (source_of read)) is.gap.number is.gap.place (part_single (source_of read))
+    absurd (hold_or_first Upto (part_rules (doc_source_of read)) is.gap.number is.gap.place (part_single (doc_source_of
+    read))
     hold is.gap.first)
 filled_held wd units read filled (inr stays) hold =
-    subst (λ (t : FileText). Hold (part_rules (source_of t))) (sym stays.1) hold
+    subst (λ (t : FileText). Hold (part_rules (doc_source_of t))) (sym stays.1) hold
 
 pub source_held : (file : List ℕ) (contents : Contents) (wd table : List ℕ) (text : FileText) (source : DocSource) →
     HasContents file contents → IsReadTable contents wd table → HasFront wd table (all_text_length wd) → AreBytes wd →
-    HasText contents text → Hold (part_rules (source_of text)) → IsLiftedSource wd table source →
+    HasFileText contents text → Hold (part_rules (doc_source_of text)) → IsLiftedSource wd table source →
     Hold (part_rules source)
 source_held file contents wd table text source has reads front bytes has_text hold is =
     let whole = whole_text wd reads.own is.front.all in
     let same : text ≡ whole =
     text_one file contents text whole has has_text
     (front_text contents wd table (all_text_length wd) is.text is.units reads front is.front) in
-    let read : Hold (part_rules (source_of is.read)) =
+    let read : Hold (part_rules (doc_source_of is.read)) =
     loaded_holds whole table is.read bytes reads.clx
     (read_loaded_for wd table (all_text_length wd) is.text is.units is.read front is.front is.read_is)
-    (subst (λ (t : FileText). Hold (part_rules (source_of t))) same hold) in
+    (subst (λ (t : FileText). Hold (part_rules (doc_source_of t))) same hold) in
     subst (λ (s : DocSource). Hold (part_rules s)) (sym is.source_is)
     (filled_held wd is.units is.read is.filled is.filled_is read)

@@ -14,16 +14,16 @@ use Rattle.fib_form.proofs.Public.{length-written_fib}
 use Rattle.fib_versions.specs.Early.{early_pairs, early_fields}
 use Rattle.fib_versions.specs.Versions.{all_text_length}
 use Rattle.fib_versions.specs.VersionRules.{version_rules}
-use Rattle.plain_doc.specs.declared.document.Document.{Document}
-use Rattle.plain_doc.specs.Marks.{HasFormedBookmarks}
+use Rattle.doc_model.specs.declared.document.Document.{Document}
+use Rattle.doc_model.specs.Marks.{HasFormedBookmarks}
 use Rattle.file_rules.specs.PartRules.{layout_rules, part_rules}
-use Rattle.file_rules.specs.FileRules.{FileText, IsFrontOf, source_of, rules_of_pieces, table_stream_name}
+use Rattle.file_rules.specs.FileRules.{FileText, IsFrontOf, doc_source_of, rules_of_pieces, table_stream_name}
 use Rattle.cfb_sectors.proofs.Public.{whole_length}
 use Rattle.cfb_directory.specs.Reach.{BreaksName}
 use Rattle.cfb_streams.specs.Container.{outer_rules, HasContents}
 use Rattle.cfb_streams.proofs.Public.{directory_unique}
 use Rattle.doc_read.specs.CarriedParts.{AreWithinBounds, LeavesRoom}
-use Rattle.doc_read.specs.Opened.{IsReadOf}
+use Rattle.doc_read.specs.Opened.{IsReadDocument}
 use Rattle.doc_read.proofs.Public.{bounded, leaves_room, parts-formed}
 use Rattle.doc_meaning.specs.Meaning.{MeansFrom}
 use Rattle.doc_meaning.specs.Apart.{IsReadTable}
@@ -37,7 +37,7 @@ use Rattle.deleted_text.specs.Texts.{AreTextDeletions}
 use Rattle.huge_papx.specs.Offsets.{AreOffsets}
 use Rattle.huge_papx.specs.Texts.{AreTextOffsets}
 use Rattle.fib_form.specs.Fib.{table_part}
-use Rattle.fib_form.specs.TableParts.{pair_of}
+use Rattle.fib_form.specs.TableParts.{pair_number}
 use Rattle.fib_form.specs.declared.stories.StoryKind.{StoryKind}
 use Rattle.fib_form.specs.declared.stories.StoryKind.TheVariants.{Main, Notes, Heads}
 use Rattle.fib_form.specs.declared.table_parts.TablePart.TheVariants.{PlcfBteChpx, PlcfBtePapx}
@@ -105,14 +105,14 @@ front_room contents wd table text_len text units read bounds reads has front is 
 pub front_meant : (contents : Contents) (wd table : List ℕ) (text_len : ℕ) (text : FileText) (units : List ℕ)
     (read : FileText) (document : Document) → IsReadTable contents wd table → HasFront wd table text_len →
     IsFrontOf (lifted_wd wd) table text units → IsReadFor wd table units text read →
-    Hold (part_rules (source_of read)) → IsReadOf contents read document → MeansFrom contents document
+    Hold (part_rules (doc_source_of read)) → IsReadDocument contents read document → MeansFrom contents document
 front_meant contents wd table text_len text units read document reads has front is hold from =
     loaded_is_meant contents (whole_text wd reads.own front.all) table read from.lists document
     (front_text contents wd table text_len text units reads has front) reads.clx
     (read_loaded_for wd table text_len text units read has front is) hold from.has_lists from.document_is
 
 pub read_formed : (contents : Contents) (text : FileText) (document : Document) →
-    Hold (part_rules (source_of text)) → IsReadOf contents text document → HasFormedBookmarks document
+    Hold (part_rules (doc_source_of text)) → IsReadDocument contents text document → HasFormedBookmarks document
 read_formed contents text document hold read =
     parts-formed (record {
       contents = contents;
@@ -174,16 +174,17 @@ outer_bounded file contents holds has =
 -- what is said of the places of the characters, where the bin table is one
 abbrev pub SaysDeletions : (wd table : List ℕ) → FileText → List Bool → Type 0
 SaysDeletions wd table text flags =
-    let bin = table_part wd table (pair_of PlcfBteChpx) in
-    IsBinTable bin → AreDeletions wd bin (judged_places (source_of text)) flags
+    let bin = table_part wd table (pair_number PlcfBteChpx) in
+    IsBinTable bin → AreDeletions wd bin (judged_places (doc_source_of text)) flags
 
 pub deleted_found : (wd table fib : List ℕ) (text : FileText) (flags : List Bool) → fib ≡ wd →
-    (IsBinTable (table_part fib table (pair_of PlcfBteChpx)) →
-    AreDeletions wd (table_part fib table (pair_of PlcfBteChpx)) (judged_places (source_of text)) flags) →
+    (IsBinTable (table_part fib table (pair_number PlcfBteChpx)) →
+    AreDeletions wd (table_part fib table (pair_number PlcfBteChpx)) (judged_places (doc_source_of text)) flags) →
     SaysDeletions wd table text flags
 deleted_found wd table fib text flags same found =
-    subst (λ (f : List ℕ). IsBinTable (table_part f table (pair_of PlcfBteChpx)) →
-    AreDeletions wd (table_part f table (pair_of PlcfBteChpx)) (judged_places (source_of text)) flags) same found
+    subst (λ (f : List ℕ). IsBinTable (table_part f table (pair_number PlcfBteChpx)) →
+    AreDeletions wd (table_part f table (pair_number PlcfBteChpx)) (judged_places (doc_source_of text)) flags) same
+    found
 
 map_front : {A B : Type 0} (f : A → B) (n : ℕ) (xs : List A) → map f (take n xs) ≡ take n (map f xs)
 map_front f zero xs = refl
@@ -194,39 +195,40 @@ map_front {B = B} f (suc n) (x ∷ xs) = ap (λ (l : List B). f x ∷ l) (map_fr
 front_places : (wd own table : List ℕ) (text : FileText) (units : List ℕ) →
     fib_fields (lifted_wd wd) ≡ early_fields wd (early_pairs wd) →
     (front : IsFrontOf (lifted_wd wd) table text units) →
-    judged_places (source_of text) ≡ judged_places (source_of (whole_text wd own front.all))
+    judged_places (doc_source_of text) ≡ judged_places (doc_source_of (whole_text wd own front.all))
 front_places wd own table text units fields front =
     let at : UnitPlace → ℕ = λ place. place.at in
     let flat = flat_pieces front.all in
     let whole = whole_text wd own front.all in
-    let counts : (story : StoryKind) → story_length (source_of text) story ≡ story_length (source_of whole) story =
-    λ story. story_same (source_of whole) (source_of text) story (ap fib_fields front.wd_is ∙ fields) in
-    let count : text_count (source_of text) ≡ text_count (source_of whole) =
+    let counts : (story : StoryKind) → story_length (doc_source_of text) story ≡ story_length (doc_source_of whole)
+    story =
+    λ story. story_same (doc_source_of whole) (doc_source_of text) story (ap fib_fields front.wd_is ∙ fields) in
+    let count : text_count (doc_source_of text) ≡ text_count (doc_source_of whole) =
     λ i. counts Main i + counts Notes i + counts Heads i in
-    let most : text_count (source_of text) ≤ text_length (fib_fields text.wd).ccps = omega arith in
-    let few : text_count (source_of text) ≤ text_length (fib_fields (lifted_wd wd)).ccps =
-    subst (λ (w : List ℕ). text_count (source_of text) ≤ text_length (fib_fields w).ccps) front.wd_is most in
+    let most : text_count (doc_source_of text) ≤ text_length (fib_fields text.wd).ccps = omega arith in
+    let few : text_count (doc_source_of text) ≤ text_length (fib_fields (lifted_wd wd)).ccps =
+    subst (λ (w : List ℕ). text_count (doc_source_of text) ≤ text_length (fib_fields w).ccps) front.wd_is most in
     let n = text_length (fib_fields (lifted_wd wd)).ccps in
-    ap (λ (l : List UnitPlace). take (text_count (source_of text)) (map at l)) front.front
-    ∙ (ap (take (text_count (source_of text))) (map_front at n flat)
-    ∙ (take-take (text_count (source_of text)) n (map at flat) few
+    ap (λ (l : List UnitPlace). take (text_count (doc_source_of text)) (map at l)) front.front
+    ∙ (ap (take (text_count (doc_source_of text))) (map_front at n flat)
+    ∙ (take-take (text_count (doc_source_of text)) n (map at flat) few
     ∙ ap (λ k. take k (map at flat)) count))
 
 pub front_deleted : (contents : Contents) (wd table : List ℕ) (text_len : ℕ) (text : FileText) (units : List ℕ)
     (read : FileText) (flags : List Bool) → (reads : IsReadTable contents wd table) → HasFront wd table text_len →
     (front : IsFrontOf (lifted_wd wd) table text units) → IsReadFor wd table units text read →
-    Hold (layout_rules (source_of read)) → SaysDeletions wd table text flags →
+    Hold (layout_rules (doc_source_of read)) → SaysDeletions wd table text flags →
     AreTextDeletions (whole_text wd reads.own front.all) flags
 front_deleted contents wd table text_len text units read flags reads has front for hold says =
     let whole = whole_text wd reads.own front.all in
     let bytes = (read_part wd table units text read PlcfBteChpx has.fields front for
     (λ e. absurd (omega (arith, e)))).bytes in
-    let bins = (bin_tables (source_of read) hold.1).0 in
-    let own : table_part wd table (pair_of PlcfBteChpx) ≡ table_part wd reads.own (pair_of PlcfBteChpx) =
+    let bins = (bin_tables (doc_source_of read) hold.1).0 in
+    let own : table_part wd table (pair_number PlcfBteChpx) ≡ table_part wd reads.own (pair_number PlcfBteChpx) =
     apart_part wd reads.own table PlcfBteChpx reads.clx (λ e. absurd (omega (arith, e))) in
     let found = says (subst IsBinTable bytes bins) in
-    subst (λ (b : List ℕ). AreDeletions wd b (judged_places (source_of whole)) flags) own
-    (subst (λ (p : List ℕ). AreDeletions wd (table_part wd table (pair_of PlcfBteChpx)) p flags)
+    subst (λ (b : List ℕ). AreDeletions wd b (judged_places (doc_source_of whole)) flags) own
+    (subst (λ (p : List ℕ). AreDeletions wd (table_part wd table (pair_number PlcfBteChpx)) p flags)
     (front_places wd reads.own table text units has.fields front) found)
 
 -- ---- places of Data that paragraphs name
@@ -234,34 +236,37 @@ front_deleted contents wd table text_len text units read flags reads has front f
 -- what is said of the places of the marks, where the bin table is one
 abbrev pub SaysOffsets : (wd table units : List ℕ) → FileText → List (Option ℕ) → Type 0
 SaysOffsets wd table units text offsets =
-    let bin = table_part wd table (pair_of PlcfBtePapx) in
-    IsBinTable bin → AreOffsets wd bin (judged_places (source_of text)) units offsets
+    let bin = table_part wd table (pair_number PlcfBtePapx) in
+    IsBinTable bin → AreOffsets wd bin (judged_places (doc_source_of text)) units offsets
 
 pub offsets_found : (wd table fib units : List ℕ) (text : FileText) (offsets : List (Option ℕ)) → fib ≡ wd →
-    (IsBinTable (table_part fib table (pair_of PlcfBtePapx)) →
-    AreOffsets wd (table_part fib table (pair_of PlcfBtePapx)) (judged_places (source_of text)) units offsets) →
+    (IsBinTable (table_part fib table (pair_number PlcfBtePapx)) →
+    AreOffsets wd (table_part fib table (pair_number PlcfBtePapx)) (judged_places (doc_source_of text)) units offsets) →
     SaysOffsets wd table units text offsets
 offsets_found wd table fib units text offsets same found =
-    subst (λ (f : List ℕ). IsBinTable (table_part f table (pair_of PlcfBtePapx)) →
-    AreOffsets wd (table_part f table (pair_of PlcfBtePapx)) (judged_places (source_of text)) units offsets) same found
+    subst (λ (f : List ℕ). IsBinTable (table_part f table (pair_number PlcfBtePapx)) →
+    AreOffsets wd (table_part f table (pair_number PlcfBtePapx)) (judged_places (doc_source_of text)) units offsets)
+    same found
 
 pub front_offsets : (contents : Contents) (wd table : List ℕ) (text_len : ℕ) (text : FileText) (units : List ℕ)
     (read : FileText) (offsets : List (Option ℕ)) → (reads : IsReadTable contents wd table) → HasFront wd table text_len →
     (front : IsFrontOf (lifted_wd wd) table text units) → IsReadFor wd table units text read →
-    Hold (layout_rules (source_of read)) → SaysOffsets wd table units text offsets →
+    Hold (layout_rules (doc_source_of read)) → SaysOffsets wd table units text offsets →
     AreTextOffsets (whole_text wd reads.own front.all) offsets
 front_offsets contents wd table text_len text units read offsets reads has front for hold says =
     let whole = whole_text wd reads.own front.all in
     let bytes = (read_part wd table units text read PlcfBtePapx has.fields front for
     (λ e. absurd (omega (arith, e)))).bytes in
-    let bins = (bin_tables (source_of read) hold.1).1 in
-    let own : table_part wd table (pair_of PlcfBtePapx) ≡ table_part wd reads.own (pair_of PlcfBtePapx) =
+    let bins = (bin_tables (doc_source_of read) hold.1).1 in
+    let own : table_part wd table (pair_number PlcfBtePapx) ≡ table_part wd reads.own (pair_number PlcfBtePapx) =
     apart_part wd reads.own table PlcfBtePapx reads.clx (λ e. absurd (omega (arith, e))) in
     let found = says (subst IsBinTable bytes bins) in
     let all : units ≡ text_units whole.wd whole.pieces = front_units wd table text_len text units has front in
-    subst (λ (b : List ℕ). AreOffsets wd b (judged_places (source_of whole)) (text_units whole.wd whole.pieces) offsets)
+    subst (λ (b : List ℕ). AreOffsets wd b (judged_places (doc_source_of whole)) (text_units whole.wd whole.pieces)
+    offsets)
     own
-    (subst (λ (u : List ℕ). AreOffsets wd (table_part wd table (pair_of PlcfBtePapx)) (judged_places (source_of whole)) u
+    (subst (λ (u : List ℕ). AreOffsets wd (table_part wd table (pair_number PlcfBtePapx)) (judged_places (doc_source_of
+    whole)) u
     offsets) all
-    (subst (λ (p : List ℕ). AreOffsets wd (table_part wd table (pair_of PlcfBtePapx)) p units offsets)
+    (subst (λ (p : List ℕ). AreOffsets wd (table_part wd table (pair_number PlcfBtePapx)) p units offsets)
     (front_places wd reads.own table text units has.fields front) found))

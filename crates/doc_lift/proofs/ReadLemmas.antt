@@ -10,7 +10,7 @@ use Rattle.fib_versions.specs.VersionRules.{version_rules}
 use Rattle.file_rules.specs.declared.fault.ReadFault.{ReadFault}
 use Rattle.file_rules.specs.Faults.{IsReadFault}
 use Rattle.file_rules.specs.PartRules.{part_rules}
-use Rattle.file_rules.specs.FileRules.{FileText, IsFrontOf, source_of, rules_of_pieces}
+use Rattle.file_rules.specs.FileRules.{FileText, IsFrontOf, doc_source_of, rules_of_pieces}
 use Rattle.file_rules.proofs.Public.{refused-next}
 use Rattle.doc_read.specs.CarriedParts.{AreWithinBounds, LeavesRoom}
 use Rattle.doc_meaning.specs.Apart.{IsReadTable}
@@ -41,7 +41,7 @@ pub lifted_text : (contents : Contents) (wd table units : List ℕ) (text read :
 lifted_text contents wd table units text read lifted is found units_are says named =
     let count = all_text_length wd in
     let filled = found.filled in
-    let source : IsLiftedSource wd table (source_of filled) = record {
+    let source : IsLiftedSource wd table (doc_source_of filled) = record {
       text = text;
       units = units;
       front = is.front;
@@ -52,7 +52,7 @@ lifted_text contents wd table units text read lifted is found units_are says nam
       source_is = refl;
     } in
     record {
-      hold = (is.has.hold, (source_of filled, (source, found.rules)));
+      hold = (is.has.hold, (doc_source_of filled, (source, found.rules)));
       text = whole_text wd is.reads.own is.front.all;
       has_text = front_text contents wd table count text units is.reads is.has is.front;
       fib = is.version;

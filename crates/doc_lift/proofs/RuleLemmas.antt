@@ -14,7 +14,7 @@ use Rattle.fib_versions.proofs.Public.{version_rules-IsSingle, version_rules-Asc
 use Rattle.piece_table.specs.Piece.{UnitPlace, flat_pieces}
 use Rattle.file_rules.specs.Units.{unit_at}
 use Rattle.file_rules.specs.Source.{DocSource}
-use Rattle.file_rules.specs.FileRules.{FileText, IsFrontOf, source_of, clx_of, table_stream_name}
+use Rattle.file_rules.specs.FileRules.{FileText, IsFrontOf, doc_source_of, clx_of, table_stream_name}
 use Rattle.file_rules.proofs.Public.{ascends_in, part_single, part_ascends, pieces_single, pieces_ascend, named_one}
 use Rattle.file_rules.proofs.Public.{single_in}
 use Rattle.doc_lift.specs.LiftedRules.{IsSkippedText, IsReadFor, IsLiftedSource, lifted_wd, lifted_table_rules}
@@ -37,7 +37,7 @@ source_by wd table places = record {
 
 -- that of the front is one
 front_source : (wd table : List ℕ) (text : FileText) (units : List ℕ) (front : IsFrontOf wd table text units) →
-    source_of text ≡ source_by wd table (take (text_length (fib_fields wd).ccps) (flat_pieces front.all))
+    doc_source_of text ≡ source_by wd table (take (text_length (fib_fields wd).ccps) (flat_pieces front.all))
 front_source wd table text units front =
     ap (λ (w : List ℕ). source_by w text.table (flat_pieces text.pieces)) front.wd_is
     ∙ (ap (λ (t : List ℕ). source_by wd t (flat_pieces text.pieces)) front.table_is
@@ -46,7 +46,7 @@ front_source wd table text units front =
 -- of two fronts of the same streams
 front_one : (wd table other_wd other_table units others : List ℕ) (text other : FileText) →
     IsFrontOf wd table text units → IsFrontOf other_wd other_table other others →
-    AreOneStreams wd table other_wd other_table → source_of other ≡ source_of text
+    AreOneStreams wd table other_wd other_table → doc_source_of other ≡ doc_source_of text
 front_one wd table other_wd other_table units others text other one two streams =
     let wd_is : other_wd ≡ wd = streams.wd_is in
     let table_is : other_table ≡ table = streams.table_is in
@@ -62,7 +62,7 @@ front_one wd table other_wd other_table units others text other one two streams 
 read_one : (wd table units others : List ℕ) (text other read other_read : FileText) →
     IsFrontOf (lifted_wd wd) table text units → IsFrontOf (lifted_wd wd) table other others →
     IsReadFor wd table units text read → IsReadFor wd table others other other_read → others ≡ units →
-    source_of other_read ≡ source_of read
+    doc_source_of other_read ≡ doc_source_of read
 read_one wd table units others text other read other_read one two (inl a) (inl b) same =
     front_one read.wd read.table other_read.wd other_read.table units others read other_read a.front b.front
     (streams_one wd table read.wd read.table other_read.wd other_read.table a.streams b.streams)
@@ -72,13 +72,13 @@ read_one wd table units others text other read other_read one two (inr a) (inl b
     absurd (a.0 other_read (subst (λ (us : List ℕ). IsSkippedText wd table us other_read) same b))
 read_one wd table units others text other read other_read one two (inr a) (inr b) same =
     let streams : AreOneStreams (lifted_wd wd) table (lifted_wd wd) table = record { wd_is = refl; table_is = refl } in
-    ap source_of b.1
+    ap doc_source_of b.1
     ∙ (front_one (lifted_wd wd) table (lifted_wd wd) table units others text other one two streams
-    ∙ sym (ap source_of a.1))
+    ∙ sym (ap doc_source_of a.1))
 
 -- the text of filled streams is one
 filled_text_one : (wd units : List ℕ) (read : DocSource) (one other : FileText) → IsFilledText wd units read one →
-    IsFilledText wd units read other → source_of other ≡ source_of one
+    IsFilledText wd units read other → doc_source_of other ≡ doc_source_of one
 filled_text_one wd units read one other a b =
     let streams = fills_one wd read.wd read.table one.wd one.table other.wd other.table (gap_bins read a.gap)
     a.is.streams.fills b.is.streams.fills in
@@ -86,20 +86,20 @@ filled_text_one wd units read one other a b =
 
 -- so is what is read of a text
 filled_one : (wd units others : List ℕ) (read other_read filled other : FileText) →
-    source_of other_read ≡ source_of read → others ≡ units → IsFilledRead wd units read filled →
-    IsFilledRead wd others other_read other → source_of other ≡ source_of filled
+    doc_source_of other_read ≡ doc_source_of read → others ≡ units → IsFilledRead wd units read filled →
+    IsFilledRead wd others other_read other → doc_source_of other ≡ doc_source_of filled
 filled_one wd units others read other_read filled other same all (inl a) (inl b) =
-    filled_text_one wd units (source_of read) filled other a
+    filled_text_one wd units (doc_source_of read) filled other a
     (subst (λ (s : DocSource). IsFilledText wd units s other) same
-    (subst (λ (us : List ℕ). IsFilledText wd us (source_of other_read) other) all b))
+    (subst (λ (us : List ℕ). IsFilledText wd us (doc_source_of other_read) other) all b))
 filled_one wd units others read other_read filled other same all (inl a) (inr b) =
     absurd (b.0 filled (subst (λ (s : DocSource). IsFilledText wd others s filled) (sym same)
-    (subst (λ (us : List ℕ). IsFilledText wd us (source_of read) filled) (sym all) a)))
+    (subst (λ (us : List ℕ). IsFilledText wd us (doc_source_of read) filled) (sym all) a)))
 filled_one wd units others read other_read filled other same all (inr a) (inl b) =
     absurd (a.0 other (subst (λ (s : DocSource). IsFilledText wd units s other) same
-    (subst (λ (us : List ℕ). IsFilledText wd us (source_of other_read) other) all b)))
+    (subst (λ (us : List ℕ). IsFilledText wd us (doc_source_of other_read) other) all b)))
 filled_one wd units others read other_read filled other same all (inr a) (inr b) =
-    ap source_of b.1 ∙ (same ∙ sym (ap source_of a.1))
+    ap doc_source_of b.1 ∙ (same ∙ sym (ap doc_source_of a.1))
 
 source_one : (wd table : List ℕ) (one other : DocSource) → IsLiftedSource wd table one →
     IsLiftedSource wd table other → one ≡ other
@@ -108,7 +108,7 @@ source_one wd table one other a b =
     let streams : AreOneStreams early table early table = record { wd_is = refl; table_is = refl } in
     let units : a.units ≡ b.units =
     units_one early table early table b.units a.units b.text a.text b.front a.front streams in
-    let read : source_of a.read ≡ source_of b.read =
+    let read : doc_source_of a.read ≡ doc_source_of b.read =
     read_one wd table b.units a.units b.text a.text b.read a.read b.front a.front b.read_is a.read_is units in
     a.source_is
     ∙ (filled_one wd b.units a.units b.read a.read b.filled a.filled read units b.filled_is a.filled_is

@@ -11,7 +11,7 @@ use Rattle.prl_skips.proofs.Public.{put_length}
 use Rattle.fib_form.specs.Fib.{form_size, fib_pair, table_part}
 use Rattle.fib_form.specs.FibFields.{FibFields, fib_fields, text_length}
 use Rattle.fib_form.specs.FibBytes.{written_fib}
-use Rattle.fib_form.specs.TableParts.{pair_of}
+use Rattle.fib_form.specs.TableParts.{pair_number}
 use Rattle.fib_form.specs.declared.form.Form.TheVariants.{Early}
 use Rattle.fib_form.specs.declared.table_parts.TablePart.{TablePart}
 use Rattle.fib_form.specs.declared.table_parts.TablePart.TheVariants.{PlcfBteChpx, PlcfBtePapx, Clx}
@@ -28,11 +28,11 @@ use Rattle.file_rules.specs.declared.fault.ReadFault.{ReadFault}
 use Rattle.file_rules.specs.declared.fault.ReadFault.TheVariants.{Refused}
 use Rattle.file_rules.specs.Faults.{IsReadFault}
 use Rattle.file_rules.specs.Units.{unit_at, text_units}
-use Rattle.file_rules.specs.Source.{part_place, part_bytes}
+use Rattle.file_rules.specs.Source.{part_place, table_part_bytes}
 use Rattle.file_rules.specs.FormatRules.{text_count}
-use Rattle.file_rules.specs.FileRules.{FileText, IsFrontOf, source_of, clx_of, rules_of_pieces}
-use Rattle.doc_meaning.specs.Skipped.{SkipsTable, KeepsSepxs, bins_of, sections_of, sheet_from, sheet_to}
-use Rattle.doc_meaning.specs.Lifted.{IsOther, KeepsPlaces, KeepsUnits}
+use Rattle.file_rules.specs.FileRules.{FileText, IsFrontOf, doc_source_of, clx_of, rules_of_pieces}
+use Rattle.doc_meaning.specs.Skipped.{SkipsTable, KeepsSepxs, bin_tables_of, plcf_sed, sheet_from, sheet_to}
+use Rattle.doc_meaning.specs.Lifted.{IsOtherPart, KeepsPlaces, KeepsUnits}
 use Rattle.doc_meaning.specs.Loaded.{KeepsTable, IsLoadedFor}
 use Rattle.doc_meaning.proofs.Public.{pair_same, table_part_kept, HasFront, whole_text, front_get, front_loaded}
 use Rattle.doc_meaning.proofs.Public.{front_units}
@@ -56,7 +56,7 @@ pub record AreOneStreams (wd table other_wd other_table : List ℕ) : Type 0 whe
 pub streams_one : (wd table a_wd a_table b_wd b_table : List ℕ) → SkipsStreams wd table a_wd a_table →
     SkipsStreams wd table b_wd b_table → AreOneStreams a_wd a_table b_wd b_table
 streams_one wd table a_wd a_table b_wd b_table a b =
-    let pages = pages_one (bins_of wd table) wd b.pages a.pages b.skips a.skips in
+    let pages = pages_one (bin_tables_of wd table) wd b.pages a.pages b.skips a.skips in
     let front = written_fib (early_fields wd (early_pairs wd)) in
     record {
       wd_is = b.front ∙ (ap (λ (p : List ℕ). front ++ drop (form_size Early) p) pages ∙ sym a.front);
@@ -97,20 +97,21 @@ kept_table wd table new pieces (inr stays) = inr stays.1
 
 -- a part by the pair of the file, where a FIB has the fields of the early form
 pub skipped_part : (wd table new_wd new_table : List ℕ) (part : TablePart) →
-    fib_fields new_wd ≡ early_fields wd (early_pairs wd) → SkipsTable (early_pairs wd) table new_table → IsOther part →
-    table_part new_wd new_table (pair_of part) ≡ table_part wd table (pair_of part)
+    fib_fields new_wd ≡ early_fields wd (early_pairs wd) → SkipsTable (early_pairs wd) table new_table → IsOtherPart
+    part →
+    table_part new_wd new_table (pair_number part) ≡ table_part wd table (pair_number part)
 skipped_part wd table new_wd new_table part fields skips other =
     ap (λ (p : ℕ × ℕ). slice_range new_table p.0 (p.0 + p.1)) (pair_same wd new_wd part fields)
     ∙ table_part_kept (whole_text wd table []) new_table part (kept_table wd table new_table [] skips) other
 
 -- where a part begins and which bytes it has, in what is read
 pub record ReadsPart (wd table : List ℕ) (read : FileText) (part : TablePart) : Type 0 where
-  pub place : part_place (source_of read) part ≡ (fib_pair wd (pair_of part)).0
-  pub bytes : part_bytes (source_of read) part ≡ table_part wd table (pair_of part)
+  pub place : part_place (doc_source_of read) part ≡ (fib_pair wd (pair_number part)).0
+  pub bytes : table_part_bytes (doc_source_of read) part ≡ table_part wd table (pair_number part)
 
 pub read_part : (wd table units : List ℕ) (text read : FileText) (part : TablePart) →
     fib_fields (lifted_wd wd) ≡ early_fields wd (early_pairs wd) → IsFrontOf (lifted_wd wd) table text units →
-    IsReadFor wd table units text read → IsOther part → ReadsPart wd table read part
+    IsReadFor wd table units text read → IsOtherPart part → ReadsPart wd table read part
 read_part wd table units text read part fields front (inl skips) other = record {
   place = ap (λ (p : ℕ × ℕ). p.0) (pair_same wd read.wd part skips.streams.fields);
   bytes = skipped_part wd table read.wd read.table part skips.streams.fields skips.streams.table_is other;
@@ -118,12 +119,12 @@ read_part wd table units text read part fields front (inl skips) other = record 
 read_part wd table units text read part fields front (inr plain) other =
     let wd_is : read.wd ≡ lifted_wd wd = ap (λ (t : FileText). t.wd) plain.1 ∙ front.wd_is in
     let table_is : read.table ≡ table = ap (λ (t : FileText). t.table) plain.1 ∙ front.table_is in
-    let pair : fib_pair read.wd (pair_of part) ≡ fib_pair wd (pair_of part) =
-    ap (λ (w : List ℕ). fib_pair w (pair_of part)) wd_is ∙ pair_same wd (lifted_wd wd) part fields in
+    let pair : fib_pair read.wd (pair_number part) ≡ fib_pair wd (pair_number part) =
+    ap (λ (w : List ℕ). fib_pair w (pair_number part)) wd_is ∙ pair_same wd (lifted_wd wd) part fields in
     record {
       place = ap (λ (p : ℕ × ℕ). p.0) pair;
       bytes = ap (λ (p : ℕ × ℕ). slice_range read.table p.0 (p.0 + p.1)) pair
-          ∙ ap (λ (t : List ℕ). table_part wd t (pair_of part)) table_is;
+          ∙ ap (λ (t : List ℕ). table_part wd t (pair_number part)) table_is;
     }
 
 -- ---- pieces and units
@@ -151,8 +152,8 @@ some_one x y same = cc same
 
 -- the front of a Clx that is the same has the places and the units of the text that the streams name
 pub record KeepsText (old new : FileText) : Type 0 where
-  pub places : KeepsPlaces old.pieces new.pieces (text_count (source_of new))
-  pub units : KeepsUnits old new (text_count (source_of new))
+  pub places : KeepsPlaces old.pieces new.pieces (text_count (doc_source_of new))
+  pub units : KeepsUnits old new (text_count (doc_source_of new))
 
 pub text_kept : (wd table : List ℕ) (text_len : ℕ) (text : FileText) (units : List ℕ) (read : FileText) →
     HasFront wd table text_len → (front : IsFrontOf (lifted_wd wd) table text units) →
@@ -165,7 +166,7 @@ text_kept wd table text_len text units read has front own clx =
     let count = text_length (fib_fields read.wd).ccps in
     let places_are : flat_pieces read.pieces ≡ take count flat =
     own.front ∙ ap (λ (ps : List TextPiece). take count (flat_pieces ps)) all in
-    let few : text_count (source_of read) ≤ count = omega arith in
+    let few : text_count (doc_source_of read) ≤ count = omega arith in
     let units_are : map (unit_at read.wd) flat ≡ map (unit_at wd) flat =
     sym (ap (text_units read.wd) all) ∙ (sym own.units_are
     ∙ front_units wd table text_len text units has front) in
@@ -232,23 +233,23 @@ at_text P wd table units text front p =
 
 pub skipped_found : (wd table new_wd new_table units : List ℕ) (text : FileText) →
     SkipsStreams wd table new_wd new_table → Hold (rules_of_pieces new_wd new_table (all_text_length wd)) →
-    IsFrontOf new_wd new_table text units → KeepsSepxs (sections_of wd table) wd new_wd →
+    IsFrontOf new_wd new_table text units → KeepsSepxs (plcf_sed wd table) wd new_wd →
     IsSkippedText wd table units text
 skipped_found wd table new_wd new_table units text skips rules front sepxs = record {
   streams = at_text (SkipsStreams wd table) new_wd new_table units text front skips;
   rules = at_text (λ w t. Hold (rules_of_pieces w t (all_text_length wd))) new_wd new_table units text front rules;
   front = at_text (λ w t. IsFrontOf w t text units) new_wd new_table units text front front;
-  sepxs = at_text (λ w t. KeepsSepxs (sections_of wd table) wd w) new_wd new_table units text front sepxs;
+  sepxs = at_text (λ w t. KeepsSepxs (plcf_sed wd table) wd w) new_wd new_table units text front sepxs;
 }
 
 -- a skipped text has the units and the Sepxs that the loaded front of the skipped streams has
 pub skipped_keeps : (wd table new_wd new_table units found_units : List ℕ) (found text : FileText) →
     SkipsStreams wd table new_wd new_table → IsFrontOf new_wd new_table found found_units →
-    IsSkippedText wd table units text → (found_units ≡ units) × KeepsSepxs (sections_of wd table) wd new_wd
+    IsSkippedText wd table units text → (found_units ≡ units) × KeepsSepxs (plcf_sed wd table) wd new_wd
 skipped_keeps wd table new_wd new_table units found_units found text skips front is =
     let one = streams_one wd table text.wd text.table new_wd new_table is.streams skips in (
       units_one text.wd text.table new_wd new_table units found_units text found is.front front one,
-      subst (KeepsSepxs (sections_of wd table) wd) (sym one.wd_is) is.sepxs,
+      subst (KeepsSepxs (plcf_sed wd table) wd) (sym one.wd_is) is.sepxs,
     )
 
 -- and breaks none of the rules 26 to 32
@@ -263,21 +264,22 @@ skipped_holds wd table new_wd new_table units text skips is =
 -- ---- what functions make
 
 pub pages_skipped : (wd table fib old new chars pars : List ℕ) → fib ≡ wd →
-    chars ≡ table_part fib table (pair_of PlcfBteChpx) → pars ≡ table_part fib table (pair_of PlcfBtePapx) → old ≡ wd →
-    SkipsPages (record { characters = chars; paragraphs = pars }) old new → SkipsPages (bins_of wd table) wd new
+    chars ≡ table_part fib table (pair_number PlcfBteChpx) → pars ≡ table_part fib table (pair_number PlcfBtePapx) → old
+    ≡ wd →
+    SkipsPages (record { characters = chars; paragraphs = pars }) old new → SkipsPages (bin_tables_of wd table) wd new
 pages_skipped wd table fib old new chars pars same chars_is pars_is old_is skips =
-    let first : chars ≡ table_part wd table (pair_of PlcfBteChpx) =
-    chars_is ∙ ap (λ (w : List ℕ). table_part w table (pair_of PlcfBteChpx)) same in
-    let second : pars ≡ table_part wd table (pair_of PlcfBtePapx) =
-    pars_is ∙ ap (λ (w : List ℕ). table_part w table (pair_of PlcfBtePapx)) same in
+    let first : chars ≡ table_part wd table (pair_number PlcfBteChpx) =
+    chars_is ∙ ap (λ (w : List ℕ). table_part w table (pair_number PlcfBteChpx)) same in
+    let second : pars ≡ table_part wd table (pair_number PlcfBtePapx) =
+    pars_is ∙ ap (λ (w : List ℕ). table_part w table (pair_number PlcfBtePapx)) same in
     let bins : BinTables = record { characters = chars; paragraphs = pars } in
-    let both : bins ≡ bins_of wd table = λ i. record { characters = first i; paragraphs = second i } in
-    subst (λ (o : List ℕ). SkipsPages (bins_of wd table) o new) old_is
+    let both : bins ≡ bin_tables_of wd table = λ i. record { characters = first i; paragraphs = second i } in
+    subst (λ (o : List ℕ). SkipsPages (bin_tables_of wd table) o new) old_is
     (subst (λ (b : BinTables). SkipsPages b old new) both skips)
 
 -- pages with an early FIB in front
 pub front_skipped : (wd table fib pages front sheet : List ℕ) (early : FibFields) → fib ≡ wd →
-    early ≡ early_fields fib (early_pairs fib) → SkipsPages (bins_of wd table) wd pages →
+    early ≡ early_fields fib (early_pairs fib) → SkipsPages (bin_tables_of wd table) wd pages →
     front ≡ written_fib early ++ drop (form_size early.form) pages → fib_fields front ≡ early →
     SkipsTable early.pairs table sheet → SkipsStreams wd table front sheet
 front_skipped wd table fib pages front sheet early same early_is skips bytes fields table_is =
@@ -330,7 +332,7 @@ rules_loaded wd new_wd new_table w t len are hold =
 
 -- what is compared is that of the file and of the skipped stream
 pub record AreCompared (wd table new_wd found sections nw met : List ℕ) : Type 0 where
-  pub sections_are : sections ≡ sections_of wd table
+  pub sections_are : sections ≡ plcf_sed wd table
   pub wd_is : nw ≡ new_wd
   pub units_are : met ≡ found
 
@@ -343,7 +345,7 @@ text_found wd table new_wd new_table w t len text units found sections nw met sk
     skipped_found wd table new_wd new_table units text skips (loaded_rules wd new_wd new_table w t len are hold)
     (subst (λ (us : List ℕ). IsFrontOf new_wd new_table text us) (sym compared.units_are ∙ keeps.0)
     (loaded_front wd new_wd new_table w t len text found are front))
-    (subst (λ (b : List ℕ). KeepsSepxs (sections_of wd table) wd b) compared.wd_is
+    (subst (λ (b : List ℕ). KeepsSepxs (plcf_sed wd table) wd b) compared.wd_is
     (subst (λ (b : List ℕ). KeepsSepxs b wd nw) compared.sections_are keeps.1))
 
 pub text_keeps : (wd table new_wd new_table w t : List ℕ) (len : ℕ) (text other : FileText)
@@ -355,7 +357,7 @@ text_keeps wd table new_wd new_table w t len text other units found sections nw 
     (loaded_front wd new_wd new_table w t len text found are front) is in (
       compared.units_are ∙ keeps.0,
       subst (λ (b : List ℕ). KeepsSepxs b wd nw) (sym compared.sections_are)
-          (subst (λ (b : List ℕ). KeepsSepxs (sections_of wd table) wd b) (sym compared.wd_is) keeps.1),
+          (subst (λ (b : List ℕ). KeepsSepxs (plcf_sed wd table) wd b) (sym compared.wd_is) keeps.1),
     )
 
 -- a refusal says that the rules do not hold

@@ -7,7 +7,7 @@ use Rattle.std.proofs.lemmas.List.{length-append, length-drop}
 use Rattle.fib_form.specs.Fib.{form_size, table_part}
 use Rattle.fib_form.specs.FibFields.{ArePairs, fib_fields}
 use Rattle.fib_form.specs.FibBytes.{written_fib}
-use Rattle.fib_form.specs.TableParts.{pair_of}
+use Rattle.fib_form.specs.TableParts.{pair_number}
 use Rattle.fib_form.specs.declared.form.Form.TheVariants.{Early}
 use Rattle.fib_form.specs.declared.table_parts.TablePart.{TablePart}
 use Rattle.fib_form.proofs.Public.{length-written_fib}
@@ -17,11 +17,11 @@ use Rattle.fkp_pages.specs.declared.kind.PageKind.TheVariants.{Chpx, Papx}
 use Rattle.fkp_gaps.specs.Gaps.{ArePagesWithin}
 use Rattle.fkp_gaps.specs.Filled.{IsFilledBin, next_page, with_empty_run}
 use Rattle.fkp_gaps.proofs.Public.{filled_bin_is_one, length-with_empty_run}
-use Rattle.page_copies.specs.Pages.{BinTables, bin_of}
-use Rattle.plain_doc.specs.declared.document.Document.{Document}
+use Rattle.page_copies.specs.Pages.{BinTables, bin_table_of}
+use Rattle.doc_model.specs.declared.document.Document.{Document}
 use Rattle.cfb_streams.specs.Contents.{Contents}
 use Rattle.file_rules.specs.FileRules.{FileText}
-use Rattle.doc_meaning.specs.Skipped.{bins_of}
+use Rattle.doc_meaning.specs.Skipped.{bin_tables_of}
 use Rattle.doc_meaning.specs.Filled.{CanFill, FillsStreams, filled_pairs}
 use Rattle.doc_meaning.proofs.Public.{pair_same}
 use Rattle.doc_lift.specs.declared.gap_filling.FilledStreams.{FilledStreams}
@@ -34,34 +34,35 @@ use Rattle.doc_lift.proofs.FillLemmas.{HaveBinTables}
 
 -- a part by the FIB of the file is that by the early FIB
 pub part_is : (wd old_wd table bytes : List ℕ) (part : TablePart) → fib_fields old_wd ≡ early_fields wd (early_pairs wd) →
-    bytes ≡ table_part wd table (pair_of part) → bytes ≡ table_part old_wd table (pair_of part)
+    bytes ≡ table_part wd table (pair_number part) → bytes ≡ table_part old_wd table (pair_number part)
 part_is wd old_wd table bytes part fields is =
     is ∙ sym (ap (λ (p : ℕ × ℕ). slice_range table p.0 (p.0 + p.1)) (pair_same wd old_wd part fields))
 
 pub both_pages : (bins : BinTables) (wd : List ℕ) → ArePagesWithin bins.characters wd →
-    ArePagesWithin bins.paragraphs wd → (kind : PageKind) → ArePagesWithin (bin_of kind bins) wd
+    ArePagesWithin bins.paragraphs wd → (kind : PageKind) → ArePagesWithin (bin_table_of kind bins) wd
 both_pages bins wd chars pars Chpx = chars
 both_pages bins wd chars pars Papx = pars
 
 -- the bin tables of streams, and those that are filled
 pub record AreFilledBins (old_wd old_table chars pars : List ℕ) : Type 0 where
-  pub characters : IsFilledBin Chpx (bin_of Chpx (bins_of old_wd old_table)) old_wd (next_page old_wd) chars
-  pub paragraphs : IsFilledBin Papx (bin_of Papx (bins_of old_wd old_table)) old_wd (next_page old_wd) pars
+  pub characters : IsFilledBin Chpx (bin_table_of Chpx (bin_tables_of old_wd old_table)) old_wd (next_page old_wd) chars
+  pub paragraphs : IsFilledBin Papx (bin_table_of Papx (bin_tables_of old_wd old_table)) old_wd (next_page old_wd) pars
 
 pub filled_bins : (old_wd old_table c p chars pars : List ℕ) (m n : ℕ) →
-    c ≡ bin_of Chpx (bins_of old_wd old_table) → p ≡ bin_of Papx (bins_of old_wd old_table) → m ≡ next_page old_wd →
+    c ≡ bin_table_of Chpx (bin_tables_of old_wd old_table) → p ≡ bin_table_of Papx (bin_tables_of old_wd old_table) → m
+    ≡ next_page old_wd →
     n ≡ next_page old_wd → IsFilledBin Chpx c old_wd m chars → IsFilledBin Papx p old_wd n pars →
     AreFilledBins old_wd old_table chars pars
 filled_bins old_wd old_table c p chars pars m n c_is p_is m_is n_is a b = record {
-  characters = subst (λ k. IsFilledBin Chpx (bin_of Chpx (bins_of old_wd old_table)) old_wd k chars) m_is
+  characters = subst (λ k. IsFilledBin Chpx (bin_table_of Chpx (bin_tables_of old_wd old_table)) old_wd k chars) m_is
       (subst (λ (t : List ℕ). IsFilledBin Chpx t old_wd m chars) c_is a);
-  paragraphs = subst (λ k. IsFilledBin Papx (bin_of Papx (bins_of old_wd old_table)) old_wd k pars) n_is
+  paragraphs = subst (λ k. IsFilledBin Papx (bin_table_of Papx (bin_tables_of old_wd old_table)) old_wd k pars) n_is
       (subst (λ (t : List ℕ). IsFilledBin Papx t old_wd n pars) p_is b);
 }
 
 both_filled : (old_wd old_table chars pars : List ℕ) → AreFilledBins old_wd old_table chars pars → (kind : PageKind) →
-    IsFilledBin kind (bin_of kind (bins_of old_wd old_table)) old_wd (next_page old_wd)
-    (bin_of kind (record { characters = chars; paragraphs = pars }))
+    IsFilledBin kind (bin_table_of kind (bin_tables_of old_wd old_table)) old_wd (next_page old_wd)
+    (bin_table_of kind (record { characters = chars; paragraphs = pars }))
 both_filled old_wd old_table chars pars are Chpx = are.characters
 both_filled old_wd old_table chars pars are Papx = are.paragraphs
 
@@ -72,7 +73,7 @@ pub table_is_one : (wd old_wd old_table chars pars new_wd new_table : List ℕ) 
     AreFilledBins old_wd old_table chars pars → FillsStreams wd old_wd old_table new_wd new_table →
     new_table ≡ old_table ++ (chars ++ pars)
 table_is_one wd old_wd old_table chars pars new_wd new_table tables are fills =
-    let bin = λ (kind : PageKind). bin_of kind (bins_of old_wd old_table) in
+    let bin = λ (kind : PageKind). bin_table_of kind (bin_tables_of old_wd old_table) in
     let first : fills.bins.characters ≡ chars =
     filled_bin_is_one Chpx (bin Chpx) old_wd (next_page old_wd) fills.bins.characters chars (tables Chpx)
     (fills.filled Chpx) are.characters in

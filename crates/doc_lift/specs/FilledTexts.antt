@@ -4,11 +4,11 @@ use Rattle.doc_bits.specs.Rules.{Rules, Hold, given}
 use Rattle.doc_bits.specs.Places.{Place}
 use Rattle.cfb_streams.specs.Contents.{Contents}
 use Rattle.fib_versions.specs.Versions.{all_text_length}
-use Rattle.plain_doc.specs.declared.document.Document.{Document}
+use Rattle.doc_model.specs.declared.document.Document.{Document}
 use Rattle.file_rules.specs.Source.{DocSource}
 use Rattle.file_rules.specs.PartRules.{part_rules}
-use Rattle.file_rules.specs.FileRules.{FileText, IsFrontOf, source_of, rules_of_pieces}
-use Rattle.doc_read.specs.Opened.{IsReadOf}
+use Rattle.file_rules.specs.FileRules.{FileText, IsFrontOf, doc_source_of, rules_of_pieces}
+use Rattle.doc_read.specs.Opened.{IsReadDocument}
 use Rattle.doc_meaning.specs.Filled.{BreaksAtGap, CanFill, FillsStreams}
 
 -- streams that can be filled, and are; the table stream is no longer than the longest file
@@ -36,16 +36,16 @@ pub record IsFilledText (wd units : List ℕ) (read : DocSource) (filled : FileT
 -- what is read of a text: such a text, where there is one
 abbrev pub IsFilledRead : (wd units : List ℕ) → FileText → FileText → Type 0
 IsFilledRead wd units read filled =
-    IsFilledText wd units (source_of read) filled
-    ⊎ (((other : FileText) → ¬ IsFilledText wd units (source_of read) other) × (filled ≡ read))
+    IsFilledText wd units (doc_source_of read) filled
+    ⊎ (((other : FileText) → ¬ IsFilledText wd units (doc_source_of read) other) × (filled ≡ read))
 
 -- the rules 33 to 57, asked of it
 abbrev pub filled_rules : (wd units : List ℕ) → FileText → Rules Place
-filled_rules wd units read = given (IsFilledRead wd units read) (λ filled. part_rules (source_of filled))
+filled_rules wd units read = given (IsFilledRead wd units read) (λ filled. part_rules (doc_source_of filled))
 
 -- it breaks none of them, and its document is this one
 pub record IsReadFilled (wd units : List ℕ) (contents : Contents) (read : FileText) (document : Document) : Type 0 where
   pub filled : FileText
   pub filled_is : IsFilledRead wd units read filled
-  pub rules : Hold (part_rules (source_of filled))
-  pub document_is : IsReadOf contents filled document
+  pub rules : Hold (part_rules (doc_source_of filled))
+  pub document_is : IsReadDocument contents filled document

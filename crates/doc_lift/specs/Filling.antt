@@ -6,8 +6,8 @@ use Rattle.fib_form.specs.declared.form.Form.TheVariants.{Early}
 use Rattle.fib_versions.specs.Early.{early_pairs, early_fields}
 use Rattle.fkp_pages.specs.Bin.{IsBinTable}
 use Rattle.fkp_pages.specs.declared.kind.PageKind.{PageKind}
-use Rattle.page_copies.specs.Pages.{bin_of}
-use Rattle.doc_meaning.specs.Skipped.{bins_of}
+use Rattle.page_copies.specs.Pages.{bin_table_of}
+use Rattle.doc_meaning.specs.Skipped.{bin_tables_of}
 use Rattle.doc_lift.specs.declared.gap_filling.FilledStreams.{FilledStreams}
 use Rattle.doc_lift.specs.FilledTexts.{AreFilledStreams}
 
@@ -18,7 +18,7 @@ pub record AreReadStreams (wd old_wd old_table : List ℕ) : Type 0 where
   pub short : length old_wd ≤ 7143936
   pub table_short : length old_table ≤ 7143936
   pub fields : fib_fields old_wd ≡ early_fields wd (early_pairs wd)
-  pub bins : (kind : PageKind) → IsBinTable (bin_of kind (bins_of old_wd old_table))
+  pub bins : (kind : PageKind) → IsBinTable (bin_table_of kind (bin_tables_of old_wd old_table))
 
 -- they are filled, and the FIB in front has these pairs
 pub record HasFilled (wd old_wd old_table : List ℕ) (filled : FilledStreams) : Type 0 where

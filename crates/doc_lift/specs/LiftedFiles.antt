@@ -6,9 +6,9 @@ use Rattle.doc_bits.specs.Rules.{Rules, ◌then◌, given, Hold, Breaks, IsLeast
 use Rattle.doc_bits.specs.Places.{Place, Upto, IsFirstPlace, rules_in}
 use Rattle.cfb_streams.specs.Container.{outer_rules, HasContents, ListsStorages}
 use Rattle.fib_versions.specs.VersionRules.{version_rules}
-use Rattle.plain_doc.specs.Marks.{HasFormedBookmarks}
+use Rattle.doc_model.specs.Marks.{HasFormedBookmarks}
 use Rattle.file_rules.specs.Units.{text_units}
-use Rattle.file_rules.specs.FileRules.{FileText, HasText}
+use Rattle.file_rules.specs.FileRules.{FileText, HasFileText}
 use Rattle.deleted_text.specs.Texts.{AreTextDeletions}
 use Rattle.huge_papx.specs.Texts.{AreTextOffsets}
 use Rattle.doc_meaning.specs.Meaning.{MeansDocument}
@@ -31,7 +31,7 @@ pub record IsLifted (file : List ℕ) (lifted : Lifted) : Type 0 where
   pub has_contents : HasContents file lifted.outer.container
   pub storages : ListsStorages file lifted.outer.storages
   pub text : FileText
-  pub has_text : HasText lifted.outer.container text
+  pub has_text : HasFileText lifted.outer.container text
   pub fib : Hold (version_rules text.wd)
   pub units : lifted.units.items ≡ text_units text.wd text.pieces
   pub deleted : AreTextDeletions text lifted.deleted.items

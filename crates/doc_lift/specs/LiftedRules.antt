@@ -17,8 +17,9 @@ use Rattle.fib_versions.specs.VersionRules.{version_rules}
 use Rattle.page_copies.specs.Pages.{SkipsPages}
 use Rattle.file_rules.specs.Source.{DocSource}
 use Rattle.file_rules.specs.PartRules.{part_rules}
-use Rattle.file_rules.specs.FileRules.{FileText, HasNoStream, IsFrontOf, source_of, table_stream_name, rules_of_pieces}
-use Rattle.doc_meaning.specs.Skipped.{bins_of, sections_of, SkipsTable, KeepsSepxs}
+use Rattle.file_rules.specs.FileRules.{FileText, HasNoStream, IsFrontOf, doc_source_of, table_stream_name}
+use Rattle.file_rules.specs.FileRules.{rules_of_pieces}
+use Rattle.doc_meaning.specs.Skipped.{bin_tables_of, plcf_sed, SkipsTable, KeepsSepxs}
 use Rattle.doc_meaning.specs.Apart.{ReadsClx}
 use Rattle.doc_lift.specs.FilledTexts.{IsFilledRead}
 
@@ -29,7 +30,7 @@ lifted_wd wd = early_wd wd (early_pairs wd)
 -- the streams in which the codes that are not read are skipped
 pub record SkipsStreams (wd table new_wd new_table : List ℕ) : Type 0 where
   pub pages : List ℕ
-  pub skips : SkipsPages (bins_of wd table) wd pages
+  pub skips : SkipsPages (bin_tables_of wd table) wd pages
   pub front : new_wd ≡ written_fib (early_fields wd (early_pairs wd)) ++ drop (form_size Early) pages
   pub fields : fib_fields new_wd ≡ early_fields wd (early_pairs wd)
   pub table_is : SkipsTable (early_pairs wd) table new_table
@@ -40,7 +41,7 @@ pub record IsSkippedText (wd table units : List ℕ) (text : FileText) : Type 0 
   pub streams : SkipsStreams wd table text.wd text.table
   pub rules : Hold (rules_of_pieces text.wd text.table (all_text_length wd))
   pub front : IsFrontOf text.wd text.table text units
-  pub sepxs : KeepsSepxs (sections_of wd table) wd text.wd
+  pub sepxs : KeepsSepxs (plcf_sed wd table) wd text.wd
 
 -- what is read in place of a text: such a text, where there is one
 abbrev pub IsReadFor : (wd table units : List ℕ) → FileText → FileText → Type 0
@@ -58,7 +59,7 @@ pub record IsLiftedSource (wd table : List ℕ) (source : DocSource) : Type 0 wh
   pub read_is : IsReadFor wd table units text read
   pub filled : FileText
   pub filled_is : IsFilledRead wd units read filled
-  pub source_is : source ≡ source_of filled
+  pub source_is : source ≡ doc_source_of filled
 
 -- rules 26 to 57 of a table stream. The pieces have the CPs of all stories
 abbrev pub read_table_rules : List ℕ → List ℕ → Rules Place

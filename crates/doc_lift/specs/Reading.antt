@@ -6,13 +6,13 @@ use Rattle.fib_form.specs.Fib.{form_size}
 use Rattle.fib_form.specs.FibFields.{fib_fields}
 use Rattle.fib_form.specs.declared.form.Form.TheVariants.{Early}
 use Rattle.fib_versions.specs.Early.{early_pairs, early_fields}
-use Rattle.plain_doc.specs.declared.document.Document.{Document}
+use Rattle.doc_model.specs.declared.document.Document.{Document}
 use Rattle.file_rules.specs.declared.fault.ReadFault.{ReadFault}
 use Rattle.file_rules.specs.declared.fault.ReadFault.TheVariants.{Refused, Memory}
 use Rattle.file_rules.specs.Faults.{IsReadFault}
 use Rattle.file_rules.specs.PartRules.{part_rules}
-use Rattle.file_rules.specs.FileRules.{FileText, source_of}
-use Rattle.doc_read.specs.Opened.{IsReadOf}
+use Rattle.file_rules.specs.FileRules.{FileText, doc_source_of}
+use Rattle.doc_read.specs.Opened.{IsReadDocument}
 use Rattle.doc_meaning.specs.Filled.{IsGapRule}
 use Rattle.doc_lift.specs.declared.gap_reading.ReadText.{ReadText}
 use Rattle.doc_lift.specs.FilledTexts.{IsFilledOf, IsReadFilled}
@@ -35,14 +35,14 @@ pub record IsTextRead (wd : List ℕ) (text : FileText) (old_wd old_table : List
 pub record IsReadAtGaps (wd old_wd old_table units : List ℕ) (contents : Contents) (document : Document) : Type 0 where
   pub filled : FileText
   pub is : IsFilledOf wd old_wd old_table units filled
-  pub rules : Hold (part_rules (source_of filled))
-  pub document_is : IsReadOf contents filled document
+  pub rules : Hold (part_rules (doc_source_of filled))
+  pub document_is : IsReadDocument contents filled document
 
 -- the filled text is refused
 pub record IsRefusedFilled (wd old_wd old_table units : List ℕ) (fault : ReadFault) : Type 0 where
   pub filled : FileText
   pub is : IsFilledOf wd old_wd old_table units filled
-  pub refused : IsReadFault (part_rules (source_of filled)) fault
+  pub refused : IsReadFault (part_rules (doc_source_of filled)) fault
 
 -- or memory runs out
 abbrev pub IsRefusedAtGap : (wd old_wd old_table units : List ℕ) → ReadFault → Type 0

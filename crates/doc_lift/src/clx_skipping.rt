@@ -2,7 +2,7 @@
 // from the other parts and from the levels of lists.
 ghost use Rattle.std.specs.Prelude.{◌≡◌, ◌≢◌, ◌↔◌, ◌+◌, ◌<◌, ◌≤◌, ◌^◌, IsTrue, IfOk, length};
 ghost use Rattle.fib_form.specs.Fib.{kept_pairs};
-ghost use Rattle.doc_meaning.specs.Apart.{ReadsClx, IsClxApart, IsApart, StandsApart, LevelsStandApart, EndBefore};
+ghost use Rattle.doc_meaning.specs.Apart.{ReadsClx, IsClxApart, IsPartApart, StandsApart, LevelsStandApart, EndBefore};
 ghost use Rattle.doc_meaning.specs.Apart.{clx_from, clx_to};
 
 use crate::skipping::copy_stream;
@@ -78,7 +78,7 @@ fn is_clx_apart(early: &Fib, table: &[u8]) -> bool
 /// Whether the part of pair `n` is apart from a range, if it is not the Clx.
 fn is_apart(early: &Fib, from: usize, to: usize, n: usize) -> bool
     requires { n < kept_pairs }
-    ensures { IsTrue result ↔ IsApart from to early.now.pairs n }
+    ensures { IsTrue result ↔ IsPartApart from to early.now.pairs n }
 {
     if n == CLX {
         return true;

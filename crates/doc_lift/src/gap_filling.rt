@@ -25,15 +25,15 @@ use fkp_pages::PageKind;
 use std::alloc::Global;
 
 /// The rules on places that no range of a bin table holds, or no run of a page, or whose list has no bytes.
-const RULE_CHPX_BIN: u8 = 39;
+pub const RULE_CHPX_BIN: u8 = 39;
 
-const RULE_CHPX_RUN: u8 = 41;
+pub const RULE_CHPX_RUN: u8 = 41;
 
-const RULE_PAPX_BIN: u8 = 44;
+pub const RULE_PAPX_BIN: u8 = 44;
 
-const RULE_PAPX_RUN: u8 = 46;
+pub const RULE_PAPX_RUN: u8 = 46;
 
-const RULE_PAPX_LIST: u8 = 47;
+pub const RULE_PAPX_LIST: u8 = 47;
 
 /// The pair of PlfLst.
 const PLF_LST: usize = 73;

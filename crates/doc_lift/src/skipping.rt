@@ -11,7 +11,7 @@ ghost use Rattle.fib_versions.specs.VersionRules.{version_rules};
 ghost use Rattle.doc_parts.specs.Table.{plc_part};
 ghost use Rattle.page_copies.specs.Pages.{SkipsPages};
 ghost use Rattle.doc_meaning.specs.Skipped.{StandsFrom, StandsBehind, IsSheetFirst, SkipsTable, KeepsSepx};
-ghost use Rattle.doc_meaning.specs.Skipped.{KeepsSepxs, bins_of, fc_sepx, sheet_from, sheet_to};
+ghost use Rattle.doc_meaning.specs.Skipped.{KeepsSepxs, bin_tables_of, fc_sepx, sheet_from, sheet_to};
 ghost use Rattle.doc_lift.specs.LiftedRules.{SkipsStreams};
 
 use doc_bits::{Memory, get16, get32};
@@ -102,7 +102,7 @@ fn skipped_pages(
     table: &[u8],
 ) -> Result<Vec<u8>, Memory>
     requires same { fib.now ≡ wd.now }
-    ensures { IfOk result (λ pages. SkipsPages (bins_of wd.now table.now) wd.now pages.items) }
+    ensures { IfOk result (λ pages. SkipsPages (bin_tables_of wd.now table.now) wd.now pages.items) }
 {
     let mut pages = copy_stream(alloc, wd)?;
     let characters = fib.part(table, PLCF_BTE_CHPX);

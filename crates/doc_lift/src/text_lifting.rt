@@ -11,10 +11,10 @@ ghost use Rattle.file_rules.specs.Faults.{IsReadFault};
 ghost use Rattle.deleted_text.specs.Places.{AreDeletions};
 ghost use Rattle.huge_papx.specs.Offsets.{AreOffsets};
 ghost use Rattle.fib_form.specs.Fib.{table_part};
-ghost use Rattle.fib_form.specs.TableParts.{pair_of};
+ghost use Rattle.fib_form.specs.TableParts.{pair_number};
 ghost use Rattle.fib_form.specs.declared.table_parts.TablePart.TheVariants.{PlcfBteChpx, PlcfBtePapx};
 ghost use Rattle.fkp_pages.specs.Bin.{IsBinTable};
-ghost use Rattle.file_rules.specs.FileRules.{FileText, source_of, table_stream_name};
+ghost use Rattle.file_rules.specs.FileRules.{FileText, doc_source_of, table_stream_name};
 ghost use Rattle.file_rules.specs.FormatRules.{judged_places};
 ghost use Rattle.doc_read.specs.CarriedParts.{AreWithinBounds};
 ghost use Rattle.doc_meaning.specs.Skipped.{KeepsSepxs};
@@ -112,8 +112,9 @@ fn deleted_cps(
     table: &[u8],
     text: &LoadedText<'_>,
 ) -> Result<Vec<bool>, Memory>
-    ensures { IfOk result (λ flags. IsBinTable (table_part fib.now table.now (pair_of PlcfBteChpx))
-        → AreDeletions wd.now (table_part fib.now table.now (pair_of PlcfBteChpx)) (judged_places (source_of text.now))
+    ensures { IfOk result (λ flags. IsBinTable (table_part fib.now table.now (pair_number PlcfBteChpx))
+        → AreDeletions wd.now (table_part fib.now table.now (pair_number PlcfBteChpx)) (judged_places (doc_source_of
+        text.now))
         flags.items) }
 {
     let source = text.source();
@@ -129,9 +130,9 @@ fn huge_cps(
     table: &[u8],
     front: &FrontText<'_>,
 ) -> Result<Vec<Option<u32>>, Memory>
-    ensures { IfOk result (λ offsets. IsBinTable (table_part fib.now table.now (pair_of PlcfBtePapx))
-        → AreOffsets wd.now (table_part fib.now table.now (pair_of PlcfBtePapx))
-        (judged_places (source_of front.now.text)) front.now.units.items offsets.items) }
+    ensures { IfOk result (λ offsets. IsBinTable (table_part fib.now table.now (pair_number PlcfBtePapx))
+        → AreOffsets wd.now (table_part fib.now table.now (pair_number PlcfBtePapx))
+        (judged_places (doc_source_of front.now.text)) front.now.units.items offsets.items) }
 {
     let source = front.text.source();
     let places = source.judged_places();

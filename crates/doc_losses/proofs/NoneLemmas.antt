@@ -12,18 +12,19 @@ use Rattle.doc_bits.specs.Rules.{Hold}
 use Rattle.doc_bits.specs.declared.places.Story.{Story}
 use Rattle.doc_bits.specs.declared.places.Story.TheVariants.{Main, Head}
 use Rattle.doc_bits.proofs.Public.{All_at}
-use Rattle.fib_form.specs.Fib.{fib_pair, pair_place, table_part}
+use Rattle.fib_form.specs.Fib.{fib_pair, fib_pair_place, table_part}
 use Rattle.fib_form.specs.FibRules.{fib_rules}
 use Rattle.fib_versions.specs.declared.further.Further.{Further}
 use Rattle.fib_versions.specs.declared.further.Further.TheVariants.{Comments, Endnotes, TextBoxes, HeaderTextBoxes}
 use Rattle.fib_versions.specs.Versions.{further_count}
 use Rattle.doc_parts.specs.Tabulated.{tabulate}
-use Rattle.plain_doc.specs.declared.item.Item.{Item}
-use Rattle.plain_doc.specs.declared.document.Document.{Document}
+use Rattle.doc_model.specs.declared.item.Item.{Item}
+use Rattle.doc_model.specs.declared.document.Document.{Document}
 use Rattle.doc_columns.specs.Attached.{attached_of, has_something}
 use Rattle.text_losses.specs.declared.features.Reference.{Reference}
-use Rattle.doc_losses.specs.References.{Names, names_of, mark_cps, mark_pair, mark_size, table_cps, where_named, mark_of}
-use Rattle.doc_losses.specs.References.{mark_of_unit, mark_at, text_marks, reference_at}
+use Rattle.doc_losses.specs.References.{Names, names_of, mark_cps, mark_pair, mark_size, table_cps, where_named}
+use Rattle.doc_losses.specs.References.{marked_story}
+use Rattle.doc_losses.specs.References.{mark_of_unit, marked_story_at, text_marks, reference_at}
 use Rattle.doc_losses.specs.References.{text_references, head_begin, head_at, head_references, all_head_references}
 use Rattle.doc_losses.specs.References.{references}
 use Rattle.doc_losses.proofs.NothingLemmas.{nothing_listed, nothing_joined}
@@ -39,12 +40,12 @@ no_cps size bytes short =
     no_entries : (size : ℕ) → tabulate (plc_cp bytes) (0 / (4 + size)) ≡ []
     no_entries size = let zeros : 0 / (4 + size) ≡ 0 = omega arith in ap (tabulate (plc_cp bytes)) zeros
 
-short_part : (wd table : List ℕ) (n : ℕ) → ((p : ℕ) → (p ≡ pair_place n) × (4 < (fib_pair wd n).1) → ⊥) →
+short_part : (wd table : List ℕ) (n : ℕ) → ((p : ℕ) → (p ≡ fib_pair_place n) × (4 < (fib_pair wd n).1) → ⊥) →
     length (table_part wd table n) ≤ 4
 short_part wd table n right =
     let pair = fib_pair wd n in
     let few : pair.1 ≤ 4 = elim (cases_lt 4 pair.1) [
-      | inl over ↦ absurd (right (pair_place n) (refl, over))
+      | inl over ↦ absurd (right (fib_pair_place n) (refl, over))
       | inr most ↦ most
     ] in
     let len = length-take (pair.0 + pair.1 - pair.0) (drop pair.0 table) in
@@ -86,7 +87,7 @@ nowhere_named names cp None none = refl
 nowhere_named names cp (Some to) none = if_false (names to cp) to (none to)
 
 by_item : (names : Names) (story : Story) (cp : ℕ) (o : Option Item) →
-    ((to : Further) → names to cp ≡ false) → option_and_then (mark_of names story cp) o ≡ None
+    ((to : Further) → names to cp ≡ false) → option_and_then (marked_story names story cp) o ≡ None
 by_item names story cp None none = refl
 by_item names story cp (Some item) none =
     if_none (has_something (attached_of item)) (where_named names cp (mark_of_unit story item.unit))
@@ -107,7 +108,7 @@ no_text_references : (names : Names) (story : Story) (begin : ℕ) (text : List 
 no_text_references names story begin text none =
     let marks : List (Option Further) = text_marks names story begin text in
     let are : All (λ (o : Option Further). o ≡ None) marks =
-    all_none (mark_at names story begin text) (length text)
+    all_none (marked_story_at names story begin text) (length text)
     (λ k. by_item names story (begin + k) (slice_get text k) (λ to. none to (begin + k))) in
     nothing_listed (λ (at : ℕ). reference_at story at (unwrap_or (slice_get marks at) None)) (length marks)
     (λ at low. ap (reference_at story at) (nothing_at (slice_get marks at)

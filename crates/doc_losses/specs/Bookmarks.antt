@@ -1,9 +1,9 @@
 -- The bookmarks of a file, those among them that this profile drops.
 use Rattle.std.specs.Prelude.{ℕ, List, [], length, map, nat_lt, if◌then◌else◌}
 use Rattle.fib_form.specs.Fib.{table_part}
-use Rattle.fib_form.specs.TableParts.{pair_of}
+use Rattle.fib_form.specs.TableParts.{pair_number}
 use Rattle.fib_form.specs.declared.table_parts.TablePart.TheVariants.{SttbfBkmk, PlcfBkf, PlcfBkl}
-use Rattle.doc_parts.specs.declared.bookmark_order.Bookmark.{Bookmark}
+use Rattle.document_bookmarks.specs.declared.bookmark_order.Bookmark.{Bookmark}
 use Rattle.doc_parts.specs.BookmarkParts.{BookmarkParts, parts_at, bookmark_at, bookmark_count}
 use Rattle.doc_parts.specs.Tabulated.{tabulate}
 use Rattle.text_losses.specs.declared.features.TextFeature.{TextFeature}
@@ -12,8 +12,8 @@ use Rattle.text_losses.specs.declared.features.TextFeature.TheVariants as has
 -- the three parts
 abbrev pub file_bookmark_parts : List ℕ → List ℕ → BookmarkParts
 file_bookmark_parts wd table =
-    parts_at (table_part wd table (pair_of SttbfBkmk)) (table_part wd table (pair_of PlcfBkf))
-    (table_part wd table (pair_of PlcfBkl)) []
+    parts_at (table_part wd table (pair_number SttbfBkmk)) (table_part wd table (pair_number PlcfBkf))
+    (table_part wd table (pair_number PlcfBkl)) []
 
 -- all that they spell, in their order
 abbrev pub all_bookmarks : BookmarkParts → List Bookmark

@@ -2,7 +2,7 @@
 -- meaning for, and no other. References to stories that are left out are cut, and named as mends.
 use Rattle.std.specs.Prelude.{ℕ, Bool, false, ◌&&◌, not, List, ◌++◌, filter, nat_le}
 use Rattle.fib_form.specs.Fib.{fib_ccp_text, table_part}
-use Rattle.fib_form.specs.TableParts.{pair_of}
+use Rattle.fib_form.specs.TableParts.{pair_number}
 use Rattle.fib_form.specs.declared.table_parts.TablePart.TheVariants.{Stshf}
 use Rattle.text_losses.specs.declared.features.TextFeature.{TextFeature}
 use Rattle.text_losses.specs.declared.features.TextFeature.TheVariants as has
@@ -15,21 +15,21 @@ pub record DocInventory : Type 0 where
   pub table : List ℕ
 
 -- the features of a file by them
-abbrev pub features : DocInventory → List TextFeature
-features inventory =
+abbrev pub text_features : DocInventory → List TextFeature
+text_features inventory =
     bookmark_features (file_bookmark_parts inventory.wd inventory.table)
-    ++ sheet_features (table_part inventory.wd inventory.table (pair_of Stshf))
+    ++ sheet_features (table_part inventory.wd inventory.table (pair_number Stshf))
 
 -- this profile has a meaning for it: a bookmark of a main text of this length is read
-abbrev pub is_kept : ℕ → TextFeature → Bool
-is_kept main_len (has.Skipped kind code count) = false
-is_kept main_len (has.Repeated kind code count) = false
-is_kept main_len (has.Deleted story from to) = false
-is_kept main_len (has.Bookmark name from to) = nat_le from to && nat_le to main_len
-is_kept main_len (has.SheetBeyond len) = false
+abbrev pub is_read_feature : ℕ → TextFeature → Bool
+is_read_feature main_len (has.Skipped kind code count) = false
+is_read_feature main_len (has.Repeated kind code count) = false
+is_read_feature main_len (has.Deleted story from to) = false
+is_read_feature main_len (has.Bookmark name from to) = nat_le from to && nat_le to main_len
+is_read_feature main_len (has.SheetBeyond len) = false
 
-abbrev pub left_out : ℕ → List TextFeature → List TextFeature
-left_out main_len all = filter (λ feature. not (is_kept main_len feature)) all
+abbrev pub lost_features : ℕ → List TextFeature → List TextFeature
+lost_features main_len all = filter (λ feature. not (is_read_feature main_len feature)) all
 
 abbrev pub losses : DocInventory → List TextFeature
-losses inventory = left_out (fib_ccp_text inventory.wd) (features inventory)
+losses inventory = lost_features (fib_ccp_text inventory.wd) (text_features inventory)

@@ -13,9 +13,9 @@ cps_in marks Endnotes = marks.endnotes
 cps_in marks TextBoxes = marks.boxes
 cps_in marks HeaderTextBoxes = marks.head_boxes
 
-abbrev pub named_by : Marks → Names
-named_by marks story cp = list_any (λ named. named == cp) (cps_in marks story)
+abbrev pub names_of_marks : Marks → Names
+names_of_marks marks story cp = list_any (λ named. named == cp) (cps_in marks story)
 
 -- they are those of a file
-abbrev pub AreMarksOf : List ℕ → List ℕ → Marks → Type 0
-AreMarksOf wd table marks = (story : Further) (cp : ℕ) → named_by marks story cp ≡ names_of wd table story cp
+abbrev pub AreFileMarks : List ℕ → List ℕ → Marks → Type 0
+AreFileMarks wd table marks = (story : Further) (cp : ℕ) → names_of_marks marks story cp ≡ names_of wd table story cp

@@ -13,8 +13,8 @@ use Rattle.fib_versions.specs.declared.further.Further.TheVariants.{Comments, En
 use Rattle.fib_versions.specs.Versions.{further_count}
 use Rattle.doc_parts.specs.Table.{plc_part}
 use Rattle.doc_parts.specs.Tabulated.{tabulate}
-use Rattle.plain_doc.specs.declared.item.Item.{Item}
-use Rattle.plain_doc.specs.declared.document.Document.{Document}
+use Rattle.doc_model.specs.declared.item.Item.{Item}
+use Rattle.doc_model.specs.declared.document.Document.{Document}
 use Rattle.doc_columns.specs.Attached.{attached_of, has_something}
 use Rattle.text_losses.specs.declared.features.Reference.{Reference}
 
@@ -80,17 +80,17 @@ where_named names cp None = None
 where_named names cp (Some to) = if names to cp then Some to else None
 
 -- the story whose mark an item at a CP is
-abbrev pub mark_of : Names → Story → ℕ → Item → Option Further
-mark_of names story cp item =
+abbrev pub marked_story : Names → Story → ℕ → Item → Option Further
+marked_story names story cp item =
     if has_something (attached_of item) then None else where_named names cp (mark_of_unit story item.unit)
 
 -- the same of an item of a text that begins at a CP
-abbrev pub mark_at : Names → Story → ℕ → List Item → ℕ → Option Further
-mark_at names story begin text at = option_and_then (mark_of names story (begin + at)) (slice_get text at)
+abbrev pub marked_story_at : Names → Story → ℕ → List Item → ℕ → Option Further
+marked_story_at names story begin text at = option_and_then (marked_story names story (begin + at)) (slice_get text at)
 
 -- the same of each item
 abbrev pub text_marks : Names → Story → ℕ → List Item → List (Option Further)
-text_marks names story begin text = tabulate (mark_at names story begin text) (length text)
+text_marks names story begin text = tabulate (marked_story_at names story begin text) (length text)
 
 -- ---- the references
 

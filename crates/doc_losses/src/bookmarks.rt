@@ -3,10 +3,10 @@ ghost use Rattle.std.specs.Prelude.{◌≡◌, ◌+◌, ◌*◌, ◌^◌, ◌<�
 ghost use Rattle.doc_bits.specs.Number.{u16_at};
 ghost use Rattle.doc_bits.specs.Plc.{plc_cp};
 ghost use Rattle.doc_parts.specs.BookmarkParts.{parts_at, bookmark_at, bookmark_count, end_index};
-ghost use Rattle.doc_parts.specs.BookmarkParts.{name_place};
+ghost use Rattle.doc_parts.specs.BookmarkParts.{bookmark_name_place};
 ghost use Rattle.doc_parts.specs.Tabulated.{tabulate};
 ghost use Rattle.doc_losses.specs.Bookmarks.{bookmark_feature, bookmark_features};
-ghost use Rattle.doc_losses.specs.Losses.{left_out};
+ghost use Rattle.doc_losses.specs.Losses.{lost_features};
 
 use crate::bytes::{long_at, word_at};
 use doc_bits::{Memory, Units};
@@ -29,7 +29,7 @@ pub(crate) fn add_bookmarks(
     main_len: u32,
     list: &mut Vec<TextFeature>,
 ) -> Result<(), Memory>
-    ensures { OnOk result (list.new.items ≡ list.old.items ++ left_out main_len
+    ensures { OnOk result (list.new.items ≡ list.old.items ++ lost_features main_len
         (bookmark_features (parts_at parts.entry.names.now parts.entry.starts.now parts.entry.ends.now []))) }
 {
     if parts.names.len() <= STTBF_HEAD_LEN {
@@ -54,9 +54,9 @@ fn add_bookmark(
     list: &mut Vec<TextFeature>,
 ) -> Result<(), Memory>
     requires few { k < 2 ^ 16 }
-    requires place { place ≡ name_place parts.names.now k }
+    requires place { place ≡ bookmark_name_place parts.names.now k }
     requires low { place < 2 ^ 40 }
-    ensures { OnOk result (list.new.items ≡ list.old.items ++ left_out main_len
+    ensures { OnOk result (list.new.items ≡ list.old.items ++ lost_features main_len
         (bookmark_feature (bookmark_at (parts_at parts.entry.names.now parts.entry.starts.now parts.entry.ends.now []) k) ∷ [])) }
 {
     let from = long_at(parts.starts, 4 * k);

@@ -6,7 +6,7 @@ ghost use Rattle.doc_columns.specs.Attached.{has_something};
 ghost use Rattle.doc_losses.specs.References.{table_cps, mark_cps, main_mark as main_mark_of, head_mark as head_mark_of};
 ghost use Rattle.doc_losses.specs.References.{mark_of_unit as mark_by_unit, where_named, mark_pair, mark_size};
 ghost use Rattle.doc_losses.specs.References.{has_no_marks as no_marks_of};
-ghost use Rattle.doc_losses.specs.Marks.{named_by, AreMarksOf};
+ghost use Rattle.doc_losses.specs.Marks.{names_of_marks, AreFileMarks};
 
 use doc_bits::{Memory, Story, get32};
 use doc_columns::Attached;
@@ -15,7 +15,7 @@ use std::alloc::Global;
 use std::marker::Model;
 
 /// The mark of a comment.
-const COMMENT_MARK: u16 = 0x05;
+pub const COMMENT_MARK: u16 = 0x05;
 
 /// The mark of an endnote.
 const ENDNOTE_MARK: u16 = 0x02;
@@ -73,7 +73,7 @@ pub struct Marks {
 impl Marks {
     /// Those of a file.
     pub fn read(alloc: Global, fib: &AnyFib<'_>, table: &[u8]) -> Result<Marks, Memory>
-        ensures { IfOk result (AreMarksOf fib.now table.now) }
+        ensures { IfOk result (AreFileMarks fib.now table.now) }
     {
         let comments = cp_set(alloc, fib, table, Further::Comments)?;
         let endnotes = cp_set(alloc, fib, table, Further::Endnotes)?;
@@ -89,7 +89,7 @@ impl Marks {
 
     /// Whether a mark of the story is said to be at a CP.
     fn names(&self, story: Further, cp: usize) -> bool
-        ensures { result ≡ named_by self.now story cp }
+        ensures { result ≡ names_of_marks self.now story cp }
     {
         match story {
             Further::Comments => self.comments.has(cp),
@@ -108,7 +108,7 @@ impl Marks {
         attached: &Attached,
     ) -> Option<Further>
         ensures { result ≡ (if has_something attached.now then None else
-            where_named (named_by self.now) cp (mark_by_unit story unit)) }
+            where_named (names_of_marks self.now) cp (mark_by_unit story unit)) }
     {
         if attached.is_something() {
             return None;
@@ -121,7 +121,7 @@ impl Marks {
 
     /// The story, where a mark of it is said to be at the CP.
     fn where_named(&self, to: Further, cp: usize) -> Option<Further>
-        ensures { result ≡ where_named (named_by self.now) cp (Some to) }
+        ensures { result ≡ where_named (names_of_marks self.now) cp (Some to) }
     {
         if self.names(to, cp) { Some(to) } else { None }
     }

@@ -3,7 +3,7 @@ ghost use Rattle.std.specs.Prelude.{◌≡◌, ◌+◌, ◌^◌, ◌<◌, [], �
 ghost use Rattle.std.specs.List.{filter_map};
 ghost use Rattle.doc_losses.specs.References.{text_marks as marks_of_text, text_references, references_by as listed_by};
 ghost use Rattle.doc_losses.specs.References.{reference_at, all_head_references, references as references_of};
-ghost use Rattle.doc_losses.specs.Marks.{named_by};
+ghost use Rattle.doc_losses.specs.Marks.{names_of_marks};
 
 use crate::Marks;
 use doc_bits::{Memory, Story};
@@ -22,7 +22,7 @@ pub fn text_marks(
     text: &Columns,
 ) -> Result<Vec<Option<Further>>, Memory>
     requires { begin + length text.now < 2 ^ 64 }
-    ensures { IfOk result (λ list. list.items ≡ marks_of_text (named_by marks.now) story begin text.now) }
+    ensures { IfOk result (λ list. list.items ≡ marks_of_text (names_of_marks marks.now) story begin text.now) }
 {
     let units = text.units();
     let attachments = text.attachments();
@@ -41,7 +41,7 @@ pub fn references(
     marks: &Marks,
     document: &ColumnDocument,
 ) -> Result<Vec<Reference>, Memory>
-    ensures { IfOk result (λ list. list.items ≡ references_of (named_by marks.now) document.now) }
+    ensures { IfOk result (λ list. list.items ≡ references_of (names_of_marks marks.now) document.now) }
 {
     let mut list = Vec::new(alloc);
     let _len = document.main.len();
@@ -61,7 +61,7 @@ fn add_text(
 ) -> Result<(), Memory>
     requires { begin + length text.now < 2 ^ 64 }
     ensures { OnOk result
-        (list.new.items ≡ list.old.items ++ text_references (named_by marks.now) story begin text.now) }
+        (list.new.items ≡ list.old.items ++ text_references (names_of_marks marks.now) story begin text.now) }
 {
     let found = text_marks(alloc, marks, story, begin, text)?;
     add_marks(story, &found, list)
@@ -105,7 +105,7 @@ fn add_heads(
     list: &mut Vec<Reference>,
 ) -> Result<(), Memory>
     ensures { OnOk result
-        (list.new.items ≡ list.old.items ++ all_head_references (named_by marks.now) heads.now) }
+        (list.new.items ≡ list.old.items ++ all_head_references (names_of_marks marks.now) heads.now) }
 {
     let mut begin = 0;
     for number in 0..heads.len() {

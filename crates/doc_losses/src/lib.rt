@@ -9,6 +9,6 @@ mod finding;
 mod losses;
 mod sheet;
 
-pub use cps::Marks;
+pub use cps::{COMMENT_MARK, Marks};
 pub use finding::{references, text_marks};
 pub use losses::doc_losses;

@@ -2,7 +2,7 @@
 ghost use Rattle.std.specs.Prelude.{◌≡◌, ◌++◌, IfOk, OnOk};
 ghost use Rattle.fib_form.specs.Fib.{fib_ccp_text};
 ghost use Rattle.doc_losses.specs.Bookmarks.{bookmark_features, file_bookmark_parts};
-ghost use Rattle.doc_losses.specs.Losses.{left_out, losses};
+ghost use Rattle.doc_losses.specs.Losses.{lost_features, losses};
 
 use crate::bookmarks::{BookmarkBytes, add_bookmarks};
 use crate::sheet::add_sheet;
@@ -38,7 +38,7 @@ fn add_file_bookmarks(
     table: &[u8],
     list: &mut Vec<TextFeature>,
 ) -> Result<(), Memory>
-    ensures { OnOk result (list.new.items ≡ list.old.items ++ left_out (fib_ccp_text fib.now)
+    ensures { OnOk result (list.new.items ≡ list.old.items ++ lost_features (fib_ccp_text fib.now)
         (bookmark_features (file_bookmark_parts fib.now table.now))) }
 {
     let parts = BookmarkBytes {

@@ -1,13 +1,13 @@
 -- What the definitions imply.
 use Rattle.std.specs.Prelude.{◌≡◌, ℕ, List, encode_utf8_all}
 use Rattle.std.specs.List.{All}
-use Rattle.plain_doc.specs.declared.document.Document.{Document}
+use Rattle.doc_model.specs.declared.document.Document.{Document}
 use Rattle.list_numbers.specs.declared.paragraph_values.ParagraphValues.{ParagraphValues}
 use Rattle.list_numbers.specs.ParagraphValues.{AreParagraphValuesOf}
 use Rattle.doc_view.specs.declared.view.Options.{Options}
 use Rattle.doc_view.specs.Page.{AreFormats}
 use Rattle.doc_view.specs.Seen.{Formats}
-use Rattle.doc_places.specs.Places.{places_of}
+use Rattle.doc_places.specs.Places.{document_places}
 use Rattle.markdown_text.specs.declared.line.LineState.TheVariants.{Start}
 use Rattle.markdown_text.specs.Reading.{all_as_read, read}
 use Rattle.markdown_page.specs.Laws.{IsAllowed}
@@ -23,7 +23,7 @@ pub record IsReadBack (options : Options) (document : Document) (bytes : List �
   pub are_values : AreParagraphValuesOf document values
   pub text : List ℕ
   pub bytes_are : bytes ≡ encode_utf8_all text
-  pub reads : read text ≡ all_as_read Start (page_tokens document (places_of formats values options document))
+  pub reads : read text ≡ all_as_read Start (page_tokens document (document_places formats values options document))
   pub links : All IsAllowed (read text)
 
 abbrev pub MarkdownPagesAreReadBack : Type 0

@@ -9,8 +9,8 @@ use Rattle.doc_bits.specs.Places.{Place, rules_in}
 use Rattle.sprm_table.specs.Sprm.{HasSprmFaultAt}
 use Rattle.prop_map.specs.Formed.{section_groups}
 use Rattle.text_codes.specs.Paragraph.{is_paragraph_end}
-use Rattle.fib_form.specs.Fib.{fib_pair, pair_place}
-use Rattle.fib_form.specs.TableParts.{pair_of}
+use Rattle.fib_form.specs.Fib.{fib_pair, fib_pair_place}
+use Rattle.fib_form.specs.TableParts.{pair_number}
 use Rattle.fib_form.specs.declared.stories.StoryKind.{StoryKind}
 use Rattle.fib_form.specs.declared.stories.StoryKind.TheVariants.{Main, Notes, Heads}
 use Rattle.fib_form.specs.declared.table_parts.TablePart.{TablePart}
@@ -20,31 +20,31 @@ use Rattle.fib_form.specs.declared.table_parts.TablePart.TheVariants.{PlcfFldHdr
 use Rattle.fib_form.specs.declared.table_parts.TablePart.TheVariants.{PlcfBkl}
 use Rattle.fkp_pages.specs.declared.kind.PageKind.{PageKind}
 use Rattle.fkp_pages.specs.declared.kind.PageKind.TheVariants.{Chpx, Papx}
-use Rattle.page_copies.specs.Pages.{bin_of}
+use Rattle.page_copies.specs.Pages.{bin_table_of}
 use Rattle.direct_props.specs.PageRules.{IsValidPlace, AreValidPlaces}
 use Rattle.doc_parts.specs.declared.lists.Sed.{Sed}
 use Rattle.doc_parts.specs.Sections.{section_rules, AreSections, HasSepx, place_of_fc_sepx}
 use Rattle.doc_parts.specs.Stories.{ref_form, ref_cps, AreCuts}
 use Rattle.doc_parts.specs.Table.{BreaksTable}
 use Rattle.doc_parts.specs.BookmarkParts.{BookmarkParts, parts_at, BreaksParts}
-use Rattle.file_rules.specs.Source.{DocSource, part_place, part_bytes, story_length, story_begin, story_units}
+use Rattle.file_rules.specs.Source.{DocSource, part_place, table_part_bytes, story_length, story_begin, story_units}
 use Rattle.file_rules.specs.Source.{story_places}
 use Rattle.file_rules.specs.TextCuts.{BreaksCuts}
 use Rattle.file_rules.specs.SectionRules.{LacksSepx, sepx_list, section_fc, HasSections, BreaksSectionMarks}
 use Rattle.file_rules.specs.SectionRules.{sed_rules, rules_of_sections}
 use Rattle.file_rules.specs.BinRules.{BreaksBinTable, rules_of_bins}
-use Rattle.file_rules.specs.FormatRules.{text_count, judged_units, judged_places, ends_section, paragraph_places}
+use Rattle.file_rules.specs.FormatRules.{text_count, judged_units, judged_places, ends_section, paragraph_end_places}
 use Rattle.file_rules.specs.FormatRules.{rules_of_formats}
 use Rattle.file_rules.specs.SheetRules.{rules_of_sheet}
 use Rattle.file_rules.specs.FieldRules.{BreaksFields, BreaksStoryFields, field_part, rules_of_fields}
 use Rattle.file_rules.specs.NoteRules.{ref_count, HasEntries, HasNoteCuts, rules_of_notes}
 use Rattle.file_rules.specs.HeadRules.{IsHeadTable, rules_of_heads}
-use Rattle.file_rules.specs.EndRules.{last_end, HasLooseUnit, rules_of_ends}
+use Rattle.file_rules.specs.EndRules.{last_text_end, HasLooseUnit, rules_of_ends}
 use Rattle.file_rules.specs.ListRules.{rules_of_lists}
 use Rattle.file_rules.specs.BookmarkRules.{bookmark_parts, HasLeavingPair, rules_of_bookmarks}
 use Rattle.file_rules.specs.PartRules.{part_rules}
 use Rattle.file_rules.proofs.Public.{formats_hold, right_characters, right_paragraphs}
-use Rattle.doc_meaning.specs.Skipped.{bins_of}
+use Rattle.doc_meaning.specs.Skipped.{bin_tables_of}
 use Rattle.doc_meaning.specs.Lifted.{IsReadPart}
 use Rattle.doc_meaning.proofs.ApartLemmas.{range_take}
 use Rattle.doc_meaning.proofs.ItemLemmas.{sepx_found}
@@ -53,8 +53,9 @@ use Rattle.doc_meaning.proofs.ListLemmas.{read_of}
 -- the stories are the same by CP, and so are the parts but for the style sheet and the Clx
 pub record ReadsAlike (old new : DocSource) : Type 0 where
   pub count : (story : StoryKind) → story_length new story ≡ story_length old story
-  pub pairs : (part : TablePart) → IsReadPart part → fib_pair new.wd (pair_of part) ≡ fib_pair old.wd (pair_of part)
-  pub bytes : (part : TablePart) → IsReadPart part → part_bytes new part ≡ part_bytes old part
+  pub pairs : (part : TablePart) → IsReadPart part → fib_pair new.wd (pair_number part) ≡ fib_pair old.wd (pair_number
+      part)
+  pub bytes : (part : TablePart) → IsReadPart part → table_part_bytes new part ≡ table_part_bytes old part
   pub len : length new.table ≡ length old.table
   pub units : judged_units new ≡ judged_units old
   pub places : judged_places new ≡ judged_places old
@@ -66,7 +67,7 @@ pub record HasSepxAlike (old new : List ℕ) (fc : ℕ) : Type 0 where
 
 -- the bin table of a source
 abbrev pub bin_in : DocSource → PageKind → List ℕ
-bin_in source kind = bin_of kind (bins_of source.wd source.table)
+bin_in source kind = bin_table_of kind (bin_tables_of source.wd source.table)
 
 -- and the rules on the style sheet, the levels, the Sepxs and the pages hold where they held
 pub record KeepsRules (old new : DocSource) : Type 0 where
@@ -196,9 +197,9 @@ sections_held old new keeps (table, (list, (has, rest))) =
     let count = alike.count Main in (
       held
           (rules_in stands.Table
-          (section_rules (part_bytes new PlcfSed) (part_place new PlcfSed) (story_length new Main)))
+          (section_rules (table_part_bytes new PlcfSed) (part_place new PlcfSed) (story_length new Main)))
           (rules_in stands.Table
-          (section_rules (part_bytes old PlcfSed) (part_place old PlcfSed) (story_length old Main)))
+          (section_rules (table_part_bytes old PlcfSed) (part_place old PlcfSed) (story_length old Main)))
           (λ i. rules_in stands.Table (section_rules (bytes i) (at i) (count i))) table,
       (list, (sections_alike old new list alike has, sed_held old new list keeps has rest)),
     )
@@ -223,7 +224,7 @@ valid_alike kind wd bin new_wd new_bin places new_places same valid are =
     subst (AreValidPlaces kind new_wd new_bin) (sym same) (λ k low. valid (slice_index places k) (are k low))
 
 ends_alike : (old new : DocSource) (list : List Sed) → ReadsAlike old new →
-    paragraph_places new list ≡ paragraph_places old list
+    paragraph_end_places new list ≡ paragraph_end_places old list
 ends_alike old new list alike =
     let units = alike.units in
     let places = alike.places in
@@ -239,10 +240,11 @@ formats_held old new keeps bins hold =
     let list = hold.0 in
     let has : HasSections old list = hold.1.0 in
     formats_hold new list (sections_alike old new list alike has)
-    (valid_alike Chpx old.wd (part_bytes old PlcfBteChpx) new.wd (part_bytes new PlcfBteChpx) (judged_places old)
+    (valid_alike Chpx old.wd (table_part_bytes old PlcfBteChpx) new.wd (table_part_bytes new PlcfBteChpx) (judged_places
+    old)
     (judged_places new) alike.places (keeps.pages bins Chpx) (right_characters old list hold has))
-    (valid_alike Papx old.wd (part_bytes old PlcfBtePapx) new.wd (part_bytes new PlcfBtePapx)
-    (paragraph_places old list) (paragraph_places new list) (ends_alike old new list alike)
+    (valid_alike Papx old.wd (table_part_bytes old PlcfBtePapx) new.wd (table_part_bytes new PlcfBtePapx)
+    (paragraph_end_places old list) (paragraph_end_places new list) (ends_alike old new list alike)
     (keeps.pages bins Papx) (right_paragraphs old list hold has))
 
 -- ---- 52 to 55
@@ -311,8 +313,8 @@ ends_rules_alike old new alike =
     λ i. given (cuts i)
     (λ (first : List ℕ). given (AreCuts (heads i) (count i))
     (λ (next : List ℕ). rules_in stands.Wd
-    (rule 55 (λ place. HasLooseUnit (note_places i) (note_units i) (last_end first) place
-    ⊎ HasLooseUnit (head_places i) (head_units i) (last_end next) place))))
+    (rule 55 (λ place. HasLooseUnit (note_places i) (note_units i) (last_text_end first) place
+    ⊎ HasLooseUnit (head_places i) (head_units i) (last_text_end next) place))))
 
 -- ---- 57
 
@@ -322,9 +324,9 @@ leaving_alike old new alike =
     let starts = alike.pairs PlcfBkf (read_of PlcfBkf refl) in
     let ends = alike.pairs PlcfBkl (read_of PlcfBkl refl) in
     let len = alike.len in
-    λ i place. ((place ≡ pair_place (pair_of SttbfBkmk)) × (len i < (names i).0 + (names i).1))
-    ⊎ (((place ≡ pair_place (pair_of PlcfBkf)) × (len i < (starts i).0 + (starts i).1))
-    ⊎ ((place ≡ pair_place (pair_of PlcfBkl)) × (len i < (ends i).0 + (ends i).1)))
+    λ i place. ((place ≡ fib_pair_place (pair_number SttbfBkmk)) × (len i < (names i).0 + (names i).1))
+    ⊎ (((place ≡ fib_pair_place (pair_number PlcfBkf)) × (len i < (starts i).0 + (starts i).1))
+    ⊎ ((place ≡ fib_pair_place (pair_number PlcfBkl)) × (len i < (ends i).0 + (ends i).1)))
 
 bookmark_parts_alike : (old new : DocSource) → ReadsAlike old new → bookmark_parts new ≡ bookmark_parts old
 bookmark_parts_alike old new alike =

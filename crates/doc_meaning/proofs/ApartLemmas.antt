@@ -7,8 +7,8 @@ use Rattle.std.proofs.lemmas.List.{append_assoc, length-append, length-take-le, 
 use Rattle.doc_bits.specs.Number.{number_at, u16_at}
 use Rattle.doc_bits.proofs.Public.{number_at-take, length-range, range_mid}
 use Rattle.fib_form.specs.Fib.{fib_pair, table_part}
-use Rattle.fib_form.specs.FibFields.{pair_at}
-use Rattle.fib_form.specs.TableParts.{pair_of}
+use Rattle.fib_form.specs.FibFields.{listed_pair}
+use Rattle.fib_form.specs.TableParts.{pair_number}
 use Rattle.fib_form.specs.declared.table_parts.TablePart.{TablePart}
 use Rattle.fib_form.specs.declared.table_parts.TablePart.TheVariants.{Stshf, Clx, PlfLst, PlcfBteChpx, PlcfBtePapx}
 use Rattle.fib_form.proofs.Public.{take_front, drop_front}
@@ -25,12 +25,12 @@ use Rattle.fkp_pages.specs.declared.kind.PageKind.{PageKind}
 use Rattle.fkp_pages.specs.declared.kind.PageKind.TheVariants.{Chpx, Papx}
 use Rattle.fkp_pages.specs.Properties.{bare_list}
 use Rattle.fkp_gaps.specs.Gaps.{IsGap}
-use Rattle.page_copies.specs.Pages.{bin_of}
+use Rattle.page_copies.specs.Pages.{bin_table_of}
 use Rattle.page_copies.specs.Laws.{HasListBefore}
 use Rattle.style_sheet.specs.Stsh.{HasStyleSheet}
 use Rattle.file_rules.specs.Source.{story_length}
-use Rattle.file_rules.specs.FileRules.{FileText, source_of, clx_of}
-use Rattle.doc_meaning.specs.Skipped.{bins_of}
+use Rattle.file_rules.specs.FileRules.{FileText, doc_source_of, clx_of}
+use Rattle.doc_meaning.specs.Skipped.{bin_tables_of}
 use Rattle.doc_meaning.specs.Lifted.{ReadsTheSame}
 use Rattle.doc_meaning.specs.Apart.{clx_from, clx_to, StandsApart, EndBefore, LevelsStandApart, SkipsClx, ReadsClx}
 use Rattle.doc_meaning.proofs.BehindLemmas.{range_behind}
@@ -146,21 +146,22 @@ range_apart old new from to pair before behind (inr (inr high)) =
 
 -- where a part is
 part_apart : (wd old new : List ℕ) (part : TablePart) → SkipsClx (early_pairs wd) old new →
-    pair_of part ≢ pair_of Clx →
-    StandsApart (clx_from (early_pairs wd)) (clx_to (early_pairs wd)) (fib_pair wd (pair_of part))
+    pair_number part ≢ pair_number Clx →
+    StandsApart (clx_from (early_pairs wd)) (clx_to (early_pairs wd)) (fib_pair wd (pair_number part))
 part_apart wd old new part skips other =
     let pairs = early_pairs wd in
     subst (StandsApart (clx_from pairs) (clx_to pairs)) (early_part wd part)
-    (skips.apart.parts (pair_of part) (part_below part) other)
+    (skips.apart.parts (pair_number part) (part_below part) other)
 
 pub apart_part : (wd old new : List ℕ) (part : TablePart) → ReadsClx (early_pairs wd) old new →
-    pair_of part ≢ pair_of Clx → table_part wd new (pair_of part) ≡ table_part wd old (pair_of part)
+    pair_number part ≢ pair_number Clx → table_part wd new (pair_number part) ≡ table_part wd old (pair_number part)
 apart_part wd old new part (inl skips) other =
     let pairs = early_pairs wd in
-    range_apart old new (clx_from pairs) (clx_to pairs) (fib_pair wd (pair_of part)) (before_clx pairs old new skips)
+    range_apart old new (clx_from pairs) (clx_to pairs) (fib_pair wd (pair_number part)) (before_clx pairs old new
+    skips)
     (behind_clx pairs old new skips) (part_apart wd old new part skips other)
 apart_part wd old new part (inr stays) other =
-    ap (λ (t : List ℕ). table_part wd t (pair_of part)) stays.1
+    ap (λ (t : List ℕ). table_part wd t (pair_number part)) stays.1
 
 -- ---- levels
 
@@ -227,16 +228,16 @@ levels_apart old new from to pair len bytes before behind (inr (inr ends)) have 
     levels_end_before old new from pair len bytes before ends have
 
 apart_levels : (wd old new : List ℕ) (len : ℕ) (bytes : List ℕ) → ReadsClx (early_pairs wd) old new →
-    StandBehindPart new (fib_pair wd (pair_of PlfLst)).0 (table_part wd old (pair_of PlfLst)) len bytes →
-    StandBehindPart old (fib_pair wd (pair_of PlfLst)).0 (table_part wd old (pair_of PlfLst)) len bytes
+    StandBehindPart new (fib_pair wd (pair_number PlfLst)).0 (table_part wd old (pair_number PlfLst)) len bytes →
+    StandBehindPart old (fib_pair wd (pair_number PlfLst)).0 (table_part wd old (pair_number PlfLst)) len bytes
 apart_levels wd old new len bytes (inl skips) =
     let pairs = early_pairs wd in
-    levels_apart old new (clx_from pairs) (clx_to pairs) (fib_pair wd (pair_of PlfLst)) len bytes
+    levels_apart old new (clx_from pairs) (clx_to pairs) (fib_pair wd (pair_number PlfLst)) len bytes
     (before_clx pairs old new skips) (behind_clx pairs old new skips)
     (subst (LevelsStandApart (clx_from pairs) (clx_to pairs) old) (early_part wd PlfLst) skips.apart.levels)
 apart_levels wd old new len bytes (inr stays) =
-    let at = (fib_pair wd (pair_of PlfLst)).0 in
-    let part = table_part wd old (pair_of PlfLst) in
+    let at = (fib_pair wd (pair_number PlfLst)).0 in
+    let part = table_part wd old (pair_number PlfLst) in
     subst (λ (t : List ℕ). StandBehindPart t at part len bytes) stays.1
 
 -- ---- pieces
@@ -246,7 +247,7 @@ pub apart_pieces : (wd old new : List ℕ) (pieces : List TextPiece) → ReadsCl
     IsClx (clx_of wd new) pieces → IsClx (clx_of wd old) pieces
 apart_pieces wd old new pieces (inl skips) is =
     let pairs = early_pairs wd in
-    let pair : pair_at pairs (pair_of Clx) ≡ fib_pair wd (pair_of Clx) = early_part wd Clx in
+    let pair : listed_pair pairs (pair_number Clx) ≡ fib_pair wd (pair_number Clx) = early_part wd Clx in
     let there : IsClx (slice_range new (clx_from pairs) (clx_to pairs)) pieces =
     subst (λ (p : ℕ × ℕ). IsClx (slice_range new p.0 (p.0 + p.1)) pieces) (sym pair) is in
     let made : IsClx skips.puts.clx pieces =
@@ -262,13 +263,13 @@ abbrev pub other_table : FileText → List ℕ → FileText
 other_table text table = record text { table = table }
 
 pub count_same : (text : FileText) (table : List ℕ) (story : StoryKind) →
-    story_length (source_of (other_table text table)) story ≡ story_length (source_of text) story
+    story_length (doc_source_of (other_table text table)) story ≡ story_length (doc_source_of text) story
 count_same text table Main = refl
 count_same text table Notes = refl
 count_same text table Heads = refl
 
 pub bin_apart : (kind : PageKind) (wd old new : List ℕ) → ReadsClx (early_pairs wd) old new →
-    bin_of kind (bins_of wd new) ≡ bin_of kind (bins_of wd old)
+    bin_table_of kind (bin_tables_of wd new) ≡ bin_table_of kind (bin_tables_of wd old)
 bin_apart Chpx wd old new clx = apart_part wd old new PlcfBteChpx clx (λ e. absurd (omega (arith, e)))
 bin_apart Papx wd old new clx = apart_part wd old new PlcfBtePapx clx (λ e. absurd (omega (arith, e)))
 
@@ -279,7 +280,7 @@ pub reads_apart : (text : FileText) (table : List ℕ) (read : FileText) →
 reads_apart text table read clx same =
     let wd = text.wd in
     let old = text.table in
-    let pair = fib_pair wd (pair_of PlfLst) in
+    let pair = fib_pair wd (pair_number PlfLst) in
     record {
       counts = λ story. same.counts story ∙ count_same text table story;
       kept = same.kept;

@@ -6,12 +6,12 @@ use Rattle.prop_map.specs.Settings.{Properties}
 use Rattle.cfb_streams.specs.Contents.{Contents}
 use Rattle.fib_form.specs.declared.table_parts.TablePart.TheVariants.{SttbfFfn, Dop, SttbfAssoc, PlfLst, PlfLfo}
 use Rattle.fib_form.specs.declared.stories.StoryKind.TheVariants.{Main, Notes, Heads}
-use Rattle.plain_doc.specs.declared.carried.Carried.{Carried}
-use Rattle.plain_doc.specs.declared.document.Document.{Document}
-use Rattle.plain_doc.specs.declared.item.Item.{Item}
+use Rattle.doc_model.specs.declared.carried.Carried.{Carried}
+use Rattle.doc_model.specs.declared.document.Document.{Document}
+use Rattle.doc_model.specs.declared.item.Item.{Item}
 use Rattle.file_rules.specs.Source.{story_length, story_begin}
 use Rattle.file_rules.specs.FormatRules.{text_count}
-use Rattle.file_rules.specs.FileRules.{FileText, HasText, source_of}
+use Rattle.file_rules.specs.FileRules.{FileText, HasFileText, doc_source_of}
 use Rattle.doc_read.specs.CarriedParts.{HoldsCarried}
 use Rattle.doc_read.specs.Items.{HoldsItems, HoldsTexts}
 use Rattle.doc_read.specs.Texts.{AreCutsWithin}
@@ -25,20 +25,20 @@ use Rattle.doc_meaning.proofs.ItemLemmas.{begin_same, item_same, maps_same}
 
 -- a stretch of the three stories
 items_same : (old : FileText) (r : RightText) (maps : List Properties) (from to : ℕ) (items : List Item) →
-    ReadsTheSame old r.text → from ≤ to → to ≤ text_count (source_of r.text) →
+    ReadsTheSame old r.text → from ≤ to → to ≤ text_count (doc_source_of r.text) →
     HoldsItems (parts_of r.text r.lists maps) from to items → MeansItems (parts_of old r.lists maps) from to items
 items_same old r maps from to items same order within holds = record {
   len = holds.len;
   each = λ i item here.
       let inside = slice_get_within items i item here in
-      let below : from + i < text_count (source_of r.text) = omega (arith, inside, holds.len, order, within) in
+      let below : from + i < text_count (doc_source_of r.text) = omega (arith, inside, holds.len, order, within) in
       item_same old r maps (from + i) item same below (holds.each i item here);
 }
 
 -- texts that are cut out of them
 texts_same : (old : FileText) (r : RightText) (maps : List Properties) (begin : ℕ) (cuts : List ℕ) (count : ℕ)
     (texts : List (List Item)) → ReadsTheSame old r.text →
-    AreCutsWithin begin cuts (text_count (source_of r.text)) →
+    AreCutsWithin begin cuts (text_count (doc_source_of r.text)) →
     HoldsTexts (parts_of r.text r.lists maps) begin cuts count texts →
     MeansTexts (parts_of old r.lists maps) begin cuts count texts
 texts_same old r maps begin cuts count texts same within holds = record {
@@ -52,8 +52,8 @@ texts_same old r maps begin cuts count texts same within holds = record {
 }
 
 carried_same : (contents : Contents) (old new : FileText) (levels : List ℕ) (carried : Carried) →
-    ReadsTheSame old new → HoldsCarried contents (source_of new) levels carried →
-    HoldsCarried contents (source_of old) levels carried
+    ReadsTheSame old new → HoldsCarried contents (doc_source_of new) levels carried →
+    HoldsCarried contents (doc_source_of old) levels carried
 carried_same contents old new levels carried same holds = record {
   fonts = holds.fonts ∙ same.parts SttbfFfn (plain_of SttbfFfn refl refl);
   dop = holds.dop ∙ same.parts Dop (plain_of Dop refl refl);
@@ -77,7 +77,7 @@ document_same contents old r document same from =
     let maps = from.sections in
     let parts = parts_of old lists maps in
     let is = from.document_is in
-    let source = source_of new in
+    let source = doc_source_of new in
     let begin = begin_same old new same in
     let whole : text_count source ≡ text_count source = λ i. text_count source in
     let notes = texts_same old r maps (story_begin source Notes) lists.notes (length lists.notes - 1) document.notes
@@ -100,7 +100,8 @@ document_same contents old r document same from =
     }
 
 -- what a text that reads the same holds the streams mean
-pub means_same : (contents : Contents) (old : FileText) (r : RightText) (document : Document) → HasText contents old →
+pub means_same : (contents : Contents) (old : FileText) (r : RightText) (document : Document) → HasFileText contents old
+    →
     ReadsTheSame old r.text → IsDocumentFrom contents r.text r.lists document → MeansFrom contents document
 means_same contents old r document has_text same from = record {
   text = old;

@@ -8,10 +8,10 @@ use Rattle.fib_form.specs.declared.table_parts.TablePart.TheVariants.{PlcfBteChp
 use Rattle.fib_form.specs.declared.table_parts.TablePart.TheVariants.{PlcfFldHdr, PlcfFldFtn, SttbfBkmk, PlcfBkf}
 use Rattle.fib_form.specs.declared.table_parts.TablePart.TheVariants.{PlcfBkl, Dop, SttbfAssoc, Clx, PlfLst, PlfLfo}
 use Rattle.fib_form.specs.Fib.{kept_pairs, form_size, fib_pair}
-use Rattle.fib_form.specs.FibFields.{FibFields, fib_fields, pair_at}
+use Rattle.fib_form.specs.FibFields.{FibFields, fib_fields, listed_pair}
 use Rattle.fib_form.specs.FibBytes.{written_fib}
 use Rattle.fib_form.specs.Stories.{story_ccp}
-use Rattle.fib_form.specs.TableParts.{pair_of}
+use Rattle.fib_form.specs.TableParts.{pair_number}
 use Rattle.fib_form.proofs.Public.{pair_at-fib_pairs, length-written_fib, drop_front}
 use Rattle.fib_versions.specs.Early.{early_pair, early_pairs, early_fields, early_wd}
 use Rattle.file_rules.specs.Source.{DocSource, story_length}
@@ -24,7 +24,7 @@ early_behind wd =
     drop_front (written_fib fib) (drop (form_size Early) wd) (form_size Early) (length-written_fib fib
     (length-early_pairs wd))
 
-pub part_below : (part : TablePart) → pair_of part < kept_pairs
+pub part_below : (part : TablePart) → pair_number part < kept_pairs
 part_below Stshf = lit< tt
 part_below PlcffndRef = lit< tt
 part_below PlcffndTxt = lit< tt
@@ -45,7 +45,7 @@ part_below Clx = lit< tt
 part_below PlfLst = lit< tt
 part_below PlfLfo = lit< tt
 
-part_stays : (wd : List ℕ) (part : TablePart) → early_pair wd (pair_of part) ≡ fib_pair wd (pair_of part)
+part_stays : (wd : List ℕ) (part : TablePart) → early_pair wd (pair_number part) ≡ fib_pair wd (pair_number part)
 part_stays wd Stshf = refl
 part_stays wd PlcffndRef = refl
 part_stays wd PlcffndTxt = refl
@@ -67,16 +67,17 @@ part_stays wd PlfLst = refl
 part_stays wd PlfLfo = refl
 
 -- so the pair of a part is that of the stream
-pub early_part : (wd : List ℕ) (part : TablePart) → pair_at (early_pairs wd) (pair_of part) ≡ fib_pair wd (pair_of part)
-early_part wd part = pair_at-early_pairs wd (pair_of part) (part_below part) ∙ part_stays wd part
+pub early_part : (wd : List ℕ) (part : TablePart) → listed_pair (early_pairs wd) (pair_number part) ≡ fib_pair wd
+    (pair_number part)
+early_part wd part = pair_at-early_pairs wd (pair_number part) (part_below part) ∙ part_stays wd part
 
 -- the pair of a part, where a FIB has these fields
 pub pair_same : (old new : List ℕ) (part : TablePart) → fib_fields new ≡ early_fields old (early_pairs old) →
-    fib_pair new (pair_of part) ≡ fib_pair old (pair_of part)
+    fib_pair new (pair_number part) ≡ fib_pair old (pair_number part)
 pair_same old new part fields =
-    let n = pair_of part in
+    let n = pair_number part in
     sym (pair_at-fib_pairs new n (part_below part))
-    ∙ (ap (λ (f : FibFields). pair_at f.pairs n) fields ∙ early_part old part)
+    ∙ (ap (λ (f : FibFields). listed_pair f.pairs n) fields ∙ early_part old part)
 
 pub story_same : (old new : DocSource) (story : StoryKind) →
     fib_fields new.wd ≡ early_fields old.wd (early_pairs old.wd) → story_length new story ≡ story_length old story

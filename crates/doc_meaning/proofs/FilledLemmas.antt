@@ -1,19 +1,19 @@
 -- A text whose gaps are filled reads the same as the one that the streams name, so its document is meant.
 use Rattle.std.specs.Prelude.{slice_range, slice_set}
-use Rattle.std.proofs.Common.{◌≡◌, ◌≢◌, ◌∙◌, ◌+◌, ◌-◌, ◌*◌, ◌<◌, ◌≤◌, ◌^◌, lit<, lit≤, refl, sym, ap, subst, inl, inr, ℕ, List, []}
+use Rattle.std.proofs.Common.{◌≡◌, ◌≢◌, ◌∙◌, ◌+◌, ◌-◌, ◌*◌, ◌<◌, ◌≤◌, ◌^◌, refl, sym, ap, subst, inl, inr, ℕ, List, []}
 use Rattle.std.proofs.Common.{length, ◌++◌, take, drop, arith}
 use Rattle.std.proofs.lemmas.Bool.{cases_lt}
 use Rattle.std.proofs.lemmas.List.{append-nil, append_assoc, length-append, length-set, get_or-set_other}
 use Rattle.std.proofs.lemmas.List.{get_or-set_same, drop_all}
 use Rattle.doc_bits.specs.Number.{u16_at}
-use Rattle.doc_bits.specs.Rules.{Hold, Ascends}
+use Rattle.doc_bits.specs.Rules.{Hold}
 use Rattle.doc_bits.specs.Places.{Place, Upto}
 use Rattle.doc_bits.proofs.Public.{first_breaks, breaks_within, range_mid, number_at-before}
 use Rattle.fib_form.specs.Fib.{form_size, kept_pairs, fib_pair, table_part}
-use Rattle.fib_form.specs.FibFields.{FibFields, fib_fields, pair_at}
+use Rattle.fib_form.specs.FibFields.{FibFields, fib_fields, listed_pair}
 use Rattle.fib_form.specs.FibBytes.{written_fib}
 use Rattle.fib_form.specs.Stories.{story_ccp}
-use Rattle.fib_form.specs.TableParts.{pair_of}
+use Rattle.fib_form.specs.TableParts.{pair_number}
 use Rattle.fib_form.specs.declared.form.Form.TheVariants.{Early}
 use Rattle.fib_form.specs.declared.stories.StoryKind.{StoryKind}
 use Rattle.fib_form.specs.declared.stories.StoryKind.TheVariants.{Main}
@@ -29,20 +29,20 @@ use Rattle.fkp_pages.specs.Bin.{IsBinTable, IsBinPage, page_at}
 use Rattle.fkp_pages.specs.Properties.{IsListAnswered, HasListAt}
 use Rattle.fkp_gaps.specs.Filled.{next_page, with_empty_run}
 use Rattle.fkp_gaps.proofs.Public.{named_within, filled_places_have_lists, stream_range, stream_number}
-use Rattle.page_copies.specs.Pages.{BinTables, bin_of}
+use Rattle.page_copies.specs.Pages.{BinTables, bin_table_of}
 use Rattle.style_sheet.specs.Sheet.{Sheet}
 use Rattle.style_sheet.specs.Stsh.{HasStyleSheet}
 use Rattle.doc_parts.specs.declared.lists.Sed.{Sed}
 use Rattle.doc_parts.specs.Sections.{AreSections, HasSepx}
-use Rattle.file_rules.specs.Source.{DocSource, part_place, part_bytes, story_length}
+use Rattle.file_rules.specs.Source.{DocSource, part_place, table_part_bytes, story_length}
 use Rattle.file_rules.specs.SheetRules.{HasSheet}
 use Rattle.file_rules.specs.SectionRules.{HasSections, section_fc, sepx_list}
 use Rattle.file_rules.specs.ListRules.{HasLevels}
 use Rattle.file_rules.specs.PartRules.{layout_rules, part_rules}
-use Rattle.file_rules.specs.FileRules.{FileText, source_of}
-use Rattle.file_rules.proofs.Public.{bin_tables, story_count}
+use Rattle.file_rules.specs.FileRules.{FileText, doc_source_of}
+use Rattle.file_rules.proofs.Public.{bin_tables, story_count, layout_ascends}
 use Rattle.doc_read.proofs.Public.{sepx-there}
-use Rattle.doc_meaning.specs.Skipped.{bins_of}
+use Rattle.doc_meaning.specs.Skipped.{bin_tables_of}
 use Rattle.doc_meaning.specs.Lifted.{IsListFor, KeepsLists, KeepsSections, ReadsTheSame, IsPlainPart}
 use Rattle.doc_meaning.specs.Loaded.{IsLoadedFor}
 use Rattle.doc_meaning.specs.Filled.{BreaksAtGap, IsPartWithin, AreLevelsWithin, HasFilledStreams, IsFilledFor}
@@ -66,40 +66,11 @@ low_rule number (inr (inr (inl is))) = omega (arith, is)
 low_rule number (inr (inr (inr (inl is)))) = omega (arith, is)
 low_rule number (inr (inr (inr (inr is)))) = omega (arith, is)
 
--- the numbers of the rules on sections and bin tables
-layout_numbers : (source : DocSource) → Ascends (layout_rules source) 33 39
-layout_numbers source = (
-  37,
-  (
-    (
-      34,
-      (
-        (lit≤ tt, lit< tt),
-        (
-          lit≤ tt,
-          lit≤ tt,
-          (
-            lit≤ tt,
-            λ list h. (
-              35,
-              (
-                (lit≤ tt, lit< tt),
-                (lit≤ tt, lit≤ tt, (36, ((lit≤ tt, lit< tt), (lit≤ tt, lit≤ tt, (lit≤ tt, lit< tt))))),
-              ),
-            ),
-          ),
-        ),
-      ),
-    ),
-    (lit≤ tt, lit≤ tt, (38, ((lit≤ tt, lit< tt), (lit≤ tt, lit≤ tt, (lit≤ tt, lit< tt))))),
-  ),
-)
-
 -- the rules 33 to 38 hold
 pub layout_holds : (source : DocSource) → BreaksAtGap source → Hold (layout_rules source)
 layout_holds source broken = elim broken.first [
   | inl first ↦
-      let within = breaks_within (layout_rules source) 33 39 broken.number broken.place (layout_numbers source)
+      let within = breaks_within (layout_rules source) 33 39 broken.number broken.place (layout_ascends source)
       (first_breaks Upto (layout_rules source) broken.number broken.place first) in
       absurd (omega (arith, within.1, low_rule broken.number broken.gap))
   | inr behind ↦ behind.0
@@ -109,18 +80,21 @@ layout_holds source broken = elim broken.first [
 
 pairs_len : (wd : List ℕ) (at : ℕ) (bins : BinTables) → length (filled_pairs (early_pairs wd) at bins) ≡ kept_pairs
 pairs_len wd at bins =
-    let first = slice_set (early_pairs wd) (pair_of PlcfBteChpx) (at, length bins.characters) in
-    length-set first (pair_of PlcfBtePapx) (at + length bins.characters, length bins.paragraphs)
-    ∙ (length-set (early_pairs wd) (pair_of PlcfBteChpx) (at, length bins.characters) ∙ length-early_pairs wd)
+    let first = slice_set (early_pairs wd) (pair_number PlcfBteChpx) (at, length bins.characters) in
+    length-set first (pair_number PlcfBtePapx) (at + length bins.characters, length bins.paragraphs)
+    ∙ (length-set (early_pairs wd) (pair_number PlcfBteChpx) (at, length bins.characters) ∙ length-early_pairs wd)
 
-other_pair : (wd : List ℕ) (at : ℕ) (bins : BinTables) (part : TablePart) → pair_of part ≢ pair_of PlcfBteChpx →
-    pair_of part ≢ pair_of PlcfBtePapx →
-    pair_at (filled_pairs (early_pairs wd) at bins) (pair_of part) ≡ fib_pair wd (pair_of part)
+other_pair : (wd : List ℕ) (at : ℕ) (bins : BinTables) (part : TablePart) → pair_number part ≢ pair_number PlcfBteChpx →
+    pair_number part ≢ pair_number PlcfBtePapx →
+    listed_pair (filled_pairs (early_pairs wd) at bins) (pair_number part) ≡ fib_pair wd (pair_number part)
 other_pair wd at bins part no_chpx no_papx =
-    let first = slice_set (early_pairs wd) (pair_of PlcfBteChpx) (at, length bins.characters) in
-    get_or-set_other first (pair_of PlcfBtePapx) (pair_of part)
+    let first = slice_set (early_pairs wd) (pair_number PlcfBteChpx) (at, length bins.characters) in
+    get_or-set_other first (pair_number PlcfBtePapx) (pair_number part)
     (at + length bins.characters, length bins.paragraphs) (0, 0) no_papx
-    ∙ (get_or-set_other (early_pairs wd) (pair_of PlcfBteChpx) (pair_of part) (at, length bins.characters) (0, 0)
+    ∙ (get_or-set_other (early_pairs wd) (pair_number PlcfBteChpx) (pair_number part) (at, length bins.characters) (
+      0,
+      0,
+    )
     no_chpx ∙ early_part wd part)
 
 bin_pair : PageKind → ℕ → BinTables → ℕ × ℕ
@@ -130,10 +104,11 @@ bin_pair Papx at bins = (at + length bins.characters, length bins.paragraphs)
 -- a pair of a stream with these fields
 pair_there : (wd old_table new_wd : List ℕ) (bins : BinTables) (part : TablePart) →
     fib_fields new_wd ≡ filled_fields wd old_table bins →
-    fib_pair new_wd (pair_of part) ≡ pair_at (filled_pairs (early_pairs wd) (length old_table) bins) (pair_of part)
+    fib_pair new_wd (pair_number part) ≡ listed_pair (filled_pairs (early_pairs wd) (length old_table) bins)
+    (pair_number part)
 pair_there wd old_table new_wd bins part fields =
-    sym (pair_at-fib_pairs new_wd (pair_of part) (part_below part))
-    ∙ ap (λ (f : FibFields). pair_at f.pairs (pair_of part)) fields
+    sym (pair_at-fib_pairs new_wd (pair_number part) (part_below part))
+    ∙ ap (λ (f : FibFields). listed_pair f.pairs (pair_number part)) fields
 
 -- ---- a filled text, and the one that was loaded
 
@@ -142,8 +117,8 @@ pub record IsPair (old loaded new : FileText) : Type 0 where
   pub fill : HasFilledStreams old.wd loaded new
 
 pair_kept : (old loaded new : FileText) (part : TablePart) → IsPair old loaded new →
-    pair_of part ≢ pair_of PlcfBteChpx → pair_of part ≢ pair_of PlcfBtePapx →
-    fib_pair new.wd (pair_of part) ≡ fib_pair old.wd (pair_of part)
+    pair_number part ≢ pair_number PlcfBteChpx → pair_number part ≢ pair_number PlcfBtePapx →
+    fib_pair new.wd (pair_number part) ≡ fib_pair old.wd (pair_number part)
 pair_kept old loaded new part is no_chpx no_papx =
     let fills = is.fill.fills in
     pair_there old.wd loaded.table new.wd fills.bins part fills.fields
@@ -169,19 +144,19 @@ range_within old new pair same (inr within) =
 
 -- where a part of the loaded text is
 part_within : (old loaded new : FileText) (part : TablePart) → IsPair old loaded new →
-    IsPartWithin (length loaded.table) (fib_pair old.wd (pair_of part))
+    IsPartWithin (length loaded.table) (fib_pair old.wd (pair_number part))
 part_within old loaded new part is =
     subst (IsPartWithin (length loaded.table)) (early_part old.wd part)
-    (is.fill.can.parts.each (pair_of part) (part_below part))
+    (is.fill.can.parts.each (pair_number part) (part_below part))
 
 -- the bytes of a part that is no bin table
 pub bytes_kept : (old loaded new : FileText) (part : TablePart) → IsPair old loaded new →
-    pair_of part ≢ pair_of PlcfBteChpx → pair_of part ≢ pair_of PlcfBtePapx →
-    part_bytes (source_of new) part ≡ part_bytes (source_of loaded) part
+    pair_number part ≢ pair_number PlcfBteChpx → pair_number part ≢ pair_number PlcfBtePapx →
+    table_part_bytes (doc_source_of new) part ≡ table_part_bytes (doc_source_of loaded) part
 bytes_kept old loaded new part is no_chpx no_papx =
-    let pair = fib_pair old.wd (pair_of part) in
-    let mine : fib_pair new.wd (pair_of part) ≡ pair = pair_kept old loaded new part is no_chpx no_papx in
-    let its : fib_pair loaded.wd (pair_of part) ≡ pair = pair_same old.wd loaded.wd part is.load.fields in
+    let pair = fib_pair old.wd (pair_number part) in
+    let mine : fib_pair new.wd (pair_number part) ≡ pair = pair_kept old loaded new part is no_chpx no_papx in
+    let its : fib_pair loaded.wd (pair_number part) ≡ pair = pair_same old.wd loaded.wd part is.load.fields in
     ap (λ (p : ℕ × ℕ). slice_range new.table p.0 (p.0 + p.1)) mine
     ∙ (range_within loaded.table new.table pair (table_front old loaded new is) (part_within old loaded new part is)
     ∙ sym (ap (λ (p : ℕ × ℕ). slice_range loaded.table p.0 (p.0 + p.1)) its))
@@ -191,17 +166,17 @@ abbrev filled_bins : (old loaded new : FileText) → IsPair old loaded new → B
 filled_bins old loaded new is = let fills = is.fill.fills in fills.bins
 
 bins_are : (old loaded new : FileText) (kind : PageKind) (is : IsPair old loaded new) →
-    bin_of kind (bins_of new.wd new.table) ≡ bin_of kind (filled_bins old loaded new is)
+    bin_table_of kind (bin_tables_of new.wd new.table) ≡ bin_table_of kind (filled_bins old loaded new is)
 bins_are old loaded new Chpx is =
     let fills = is.fill.fills in
     let at = length loaded.table in
     let chars = fills.bins.characters in
-    let first = slice_set (early_pairs old.wd) (pair_of PlcfBteChpx) (at, length chars) in
-    let pair : fib_pair new.wd (pair_of PlcfBteChpx) ≡ (at, length chars) =
+    let first = slice_set (early_pairs old.wd) (pair_number PlcfBteChpx) (at, length chars) in
+    let pair : fib_pair new.wd (pair_number PlcfBteChpx) ≡ (at, length chars) =
     pair_there old.wd loaded.table new.wd fills.bins PlcfBteChpx fills.fields
-    ∙ (get_or-set_other first (pair_of PlcfBtePapx) (pair_of PlcfBteChpx)
+    ∙ (get_or-set_other first (pair_number PlcfBtePapx) (pair_number PlcfBteChpx)
     (at + length chars, length fills.bins.paragraphs) (0, 0) (λ e. absurd (omega (arith, e)))
-    ∙ get_or-set_same (early_pairs old.wd) (pair_of PlcfBteChpx) (at, length chars) (0, 0)
+    ∙ get_or-set_same (early_pairs old.wd) (pair_number PlcfBteChpx) (at, length chars) (0, 0)
     (omega (arith, length-early_pairs old.wd))) in
     ap (λ (p : ℕ × ℕ). slice_range new.table p.0 (p.0 + p.1)) pair
     ∙ range_mid new.table loaded.table chars fills.bins.paragraphs at (at + length chars) fills.table_is refl refl
@@ -210,15 +185,15 @@ bins_are old loaded new Papx is =
     let at = length loaded.table in
     let chars = fills.bins.characters in
     let pars = fills.bins.paragraphs in
-    let first = slice_set (early_pairs old.wd) (pair_of PlcfBteChpx) (at, length chars) in
+    let first = slice_set (early_pairs old.wd) (pair_number PlcfBteChpx) (at, length chars) in
     let from = at + length chars in
-    let pair : fib_pair new.wd (pair_of PlcfBtePapx) ≡ (from, length pars) =
+    let pair : fib_pair new.wd (pair_number PlcfBtePapx) ≡ (from, length pars) =
     pair_there old.wd loaded.table new.wd fills.bins PlcfBtePapx fills.fields
-    ∙ get_or-set_same first (pair_of PlcfBtePapx) (from, length pars) (0, 0)
+    ∙ get_or-set_same first (pair_number PlcfBtePapx) (from, length pars) (0, 0)
     (omega (
       arith,
       length-early_pairs old.wd,
-      length-set (early_pairs old.wd) (pair_of PlcfBteChpx)
+      length-set (early_pairs old.wd) (pair_number PlcfBteChpx)
           (at, length chars),
     )) in
     let front = loaded.table ++ chars in
@@ -257,16 +232,16 @@ number_stays old loaded new at is low within =
 -- ---- lists
 
 bins_right : (old loaded new : FileText) (kind : PageKind) → IsPair old loaded new →
-    IsBinTable (bin_of kind (bins_of loaded.wd loaded.table))
+    IsBinTable (bin_table_of kind (bin_tables_of loaded.wd loaded.table))
 bins_right old loaded new Chpx is =
-    (bin_tables (source_of loaded) (layout_holds (source_of loaded) is.fill.gap).1).0
+    (bin_tables (doc_source_of loaded) (layout_holds (doc_source_of loaded) is.fill.gap).1).0
 bins_right old loaded new Papx is =
-    (bin_tables (source_of loaded) (layout_holds (source_of loaded) is.fill.gap).1).1
+    (bin_tables (doc_source_of loaded) (layout_holds (doc_source_of loaded) is.fill.gap).1).1
 
 -- a list of the filled stream is one of the stream with the page behind it
 list_there : (old loaded new : FileText) (kind : PageKind) (fc : ℕ) (made : List ℕ) (is : IsPair old loaded new) →
-    (has : HasListAt kind (bin_of kind (bins_of new.wd new.table)) new.wd fc made) → 2 ≤ has.number →
-    HasListAt kind (bin_of kind (filled_bins old loaded new is)) (with_empty_run loaded.wd) fc made
+    (has : HasListAt kind (bin_table_of kind (bin_tables_of new.wd new.table)) new.wd fc made) → 2 ≤ has.number →
+    HasListAt kind (bin_table_of kind (filled_bins old loaded new is)) (with_empty_run loaded.wd) fc made
 list_there old loaded new kind fc made is has low =
     let number = has.number in
     let there = has.within in
@@ -286,9 +261,9 @@ list_there old loaded new kind fc made is has low =
 
 filled_lists : (old loaded new : FileText) (kind : PageKind) → IsPair old loaded new → KeepsLists kind old new
 filled_lists old loaded new kind is = λ fc made has low.
-    let bin = bin_of kind (bins_of loaded.wd loaded.table) in
+    let bin = bin_table_of kind (bin_tables_of loaded.wd loaded.table) in
     let pages = is.fill.can.pages kind in
-    elim (filled_places_have_lists kind bin loaded.wd (bin_of kind (filled_bins old loaded new is)) fc made
+    elim (filled_places_have_lists kind bin loaded.wd (bin_table_of kind (filled_bins old loaded new is)) fc made
     (bins_right old loaded new kind is) pages (is.fill.fills.filled kind)
     (list_there old loaded new kind fc made is has low)) [
       | inl own ↦
@@ -305,22 +280,22 @@ ccps_same old new story same =
     sym (story_count new story) ∙ (ap (λ c. story_ccp c story) same ∙ story_count old story)
 
 counts_kept : (old loaded new : FileText) (story : StoryKind) → IsPair old loaded new →
-    story_length (source_of new) story ≡ story_length (source_of old) story
+    story_length (doc_source_of new) story ≡ story_length (doc_source_of old) story
 counts_kept old loaded new story is =
-    ccps_same (source_of old) (source_of new) story (ap (λ (f : FibFields). f.ccps) is.fill.fills.fields)
+    ccps_same (doc_source_of old) (doc_source_of new) story (ap (λ (f : FibFields). f.ccps) is.fill.fills.fields)
 
 -- the Sepx of a section
 sepx_kept : (old loaded new : FileText) (list : List Sed) (k : ℕ) → IsPair old loaded new →
-    HasSections (source_of loaded) list → k < length list → HasSepx new.wd (section_fc list k) →
+    HasSections (doc_source_of loaded) list → k < length list → HasSepx new.wd (section_fc list k) →
     HasSepx loaded.wd (section_fc list k)
     × (sepx_list new.wd (section_fc list k) ≡ sepx_list loaded.wd (section_fc list k))
 sepx_kept old loaded new list k is has below there =
     let fc = section_fc list k in
     let small = is.fill.small in
     let within = there.within in
-    let rules = layout_holds (source_of loaded) is.fill.gap in
+    let rules = layout_holds (doc_source_of loaded) is.fill.gap in
     let own : HasSepx loaded.wd fc =
-    sepx_found loaded.wd fc (sepx-there (source_of loaded) list k rules.0 has below)
+    sepx_found loaded.wd fc (sepx-there (doc_source_of loaded) list k rules.0 has below)
     (λ none. absurd (omega (arith, none, within, small))) in
     let after = own.after_fib in
     let inside = own.within in
@@ -334,21 +309,22 @@ sepx_kept old loaded new list k is has below there =
 
 filled_sections : (old loaded new : FileText) → IsPair old loaded new → KeepsSections old new
 filled_sections old loaded new is = λ list k has below there.
-    let part : part_bytes (source_of new) PlcfSed ≡ part_bytes (source_of loaded) PlcfSed =
+    let part : table_part_bytes (doc_source_of new) PlcfSed ≡ table_part_bytes (doc_source_of loaded) PlcfSed =
     bytes_kept old loaded new PlcfSed is (λ e. absurd (omega (arith, e))) (λ e. absurd (omega (arith, e))) in
     let same = loaded_reads old loaded is.load in
-    let count : story_length (source_of new) Main ≡ story_length (source_of loaded) Main =
+    let count : story_length (doc_source_of new) Main ≡ story_length (doc_source_of loaded) Main =
     counts_kept old loaded new Main is ∙ sym (same.counts Main) in
-    let own : HasSections (source_of loaded) list =
-    subst (λ n. AreSections (part_bytes (source_of loaded) PlcfSed) n list) count
-    (subst (λ b. AreSections b (story_length (source_of new) Main) list) part has) in
+    let own : HasSections (doc_source_of loaded) list =
+    subst (λ n. AreSections (table_part_bytes (doc_source_of loaded) PlcfSed) n list) count
+    (subst (λ b. AreSections b (story_length (doc_source_of new) Main) list) part has) in
     let sepx = sepx_kept old loaded new list k is own below there in
     sepx.1 ∙ same.sections list k own below sepx.0
 
 -- ---- the sheet and the levels
 
-filled_sheet : (old loaded new : FileText) (sheet : Sheet) → IsPair old loaded new → HasSheet (source_of new) sheet →
-    HasSheet (source_of old) sheet
+filled_sheet : (old loaded new : FileText) (sheet : Sheet) → IsPair old loaded new → HasSheet (doc_source_of new) sheet
+    →
+    HasSheet (doc_source_of old) sheet
 filled_sheet old loaded new sheet is has =
     (loaded_reads old loaded is.load).sheet sheet
     (subst (λ b. HasStyleSheet b sheet)
@@ -369,25 +345,25 @@ levels_within old new pair len bytes same (inr ends) have =
     levels_end_before old new (length old) pair len bytes same ends have
 
 filled_levels : (old loaded new : FileText) (bytes : List ℕ) → IsPair old loaded new →
-    HasLevels (source_of new) bytes → HasLevels (source_of old) bytes
+    HasLevels (doc_source_of new) bytes → HasLevels (doc_source_of old) bytes
 filled_levels old loaded new bytes is has =
-    let pair = fib_pair old.wd (pair_of PlfLst) in
-    let no_chpx : pair_of PlfLst ≢ pair_of PlcfBteChpx = λ e. absurd (omega (arith, e)) in
-    let no_papx : pair_of PlfLst ≢ pair_of PlcfBtePapx = λ e. absurd (omega (arith, e)) in
-    let own : fib_pair loaded.wd (pair_of PlfLst) ≡ pair = pair_same old.wd loaded.wd PlfLst is.load.fields in
-    let at : part_place (source_of new) PlfLst ≡ pair.0 =
+    let pair = fib_pair old.wd (pair_number PlfLst) in
+    let no_chpx : pair_number PlfLst ≢ pair_number PlcfBteChpx = λ e. absurd (omega (arith, e)) in
+    let no_papx : pair_number PlfLst ≢ pair_number PlcfBtePapx = λ e. absurd (omega (arith, e)) in
+    let own : fib_pair loaded.wd (pair_number PlfLst) ≡ pair = pair_same old.wd loaded.wd PlfLst is.load.fields in
+    let at : part_place (doc_source_of new) PlfLst ≡ pair.0 =
     ap (λ (p : ℕ × ℕ). p.0) (pair_kept old loaded new PlfLst is no_chpx no_papx) in
-    let part : part_bytes (source_of new) PlfLst ≡ slice_range loaded.table pair.0 (pair.0 + pair.1) =
+    let part : table_part_bytes (doc_source_of new) PlfLst ≡ slice_range loaded.table pair.0 (pair.0 + pair.1) =
     bytes_kept old loaded new PlfLst is no_chpx no_papx
     ∙ ap (λ (p : ℕ × ℕ). slice_range loaded.table p.0 (p.0 + p.1)) own in
-    let here : StandBehindPart new.table pair.0 (part_bytes (source_of new) PlfLst) has.len bytes =
-    subst (λ n. StandBehindPart new.table n (part_bytes (source_of new) PlfLst) has.len bytes) at
+    let here : StandBehindPart new.table pair.0 (table_part_bytes (doc_source_of new) PlfLst) has.len bytes =
+    subst (λ n. StandBehindPart new.table n (table_part_bytes (doc_source_of new) PlfLst) has.len bytes) at
     (has.have, has.bytes_are) in
     let stand = subst (λ b. StandBehindPart new.table pair.0 b has.len bytes) part here in
     let within = subst (AreLevelsWithin loaded.table) (early_part old.wd PlfLst) is.fill.can.parts.levels in
     let mid = levels_within loaded.table new.table pair has.len bytes (table_front old loaded new is) within stand in
-    let back : StandBehindPart loaded.table (fib_pair loaded.wd (pair_of PlfLst)).0
-    (part_bytes (source_of loaded) PlfLst) has.len bytes =
+    let back : StandBehindPart loaded.table (fib_pair loaded.wd (pair_number PlfLst)).0
+    (table_part_bytes (doc_source_of loaded) PlfLst) has.len bytes =
     subst (λ (p : ℕ × ℕ). StandBehindPart loaded.table p.0 (slice_range loaded.table p.0 (p.0 + p.1)) has.len bytes)
     (sym own) mid in
     (loaded_reads old loaded is.load).levels bytes

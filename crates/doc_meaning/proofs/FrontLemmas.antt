@@ -15,15 +15,15 @@ use Rattle.fib_form.specs.FibFields.{FibFields, fib_fields, text_length}
 use Rattle.fib_form.specs.declared.form.Form.TheVariants.{Early}
 use Rattle.fib_form.specs.declared.table_parts.TablePart.TheVariants.{Clx}
 use Rattle.fib_versions.specs.Early.{early_pairs, early_fields, early_wd}
-use Rattle.text_codes.specs.Compressed.{unit_of}
+use Rattle.text_codes.specs.Compressed.{compressed_unit}
 use Rattle.piece_table.specs.Piece.{TextPiece, UnitPlace, flat_pieces, place_of_cp}
 use Rattle.piece_table.specs.Clx.{IsClx}
 use Rattle.piece_table.specs.ClxRules.{text_bounds}
 use Rattle.file_rules.specs.Units.{unit_at, text_units}
 use Rattle.file_rules.specs.FormatRules.{text_count}
-use Rattle.file_rules.specs.FileRules.{FileText, HasText, IsFrontOf, source_of, clx_of, rules_of_pieces}
+use Rattle.file_rules.specs.FileRules.{FileText, HasFileText, IsFrontOf, doc_source_of, clx_of, rules_of_pieces}
 use Rattle.file_rules.proofs.Public.{StandsBy, place_stands, places_stand}
-use Rattle.doc_meaning.specs.Skipped.{sections_of, fc_sepx, KeepsSepx}
+use Rattle.doc_meaning.specs.Skipped.{plcf_sed, fc_sepx, KeepsSepx}
 use Rattle.doc_meaning.specs.Loaded.{IsLoadedFor}
 use Rattle.doc_meaning.specs.Apart.{IsReadTable}
 use Rattle.doc_meaning.proofs.ApartLemmas.{apart_pieces}
@@ -63,7 +63,7 @@ AreSameBehind old new = drop (form_size Early) new ≡ drop (form_size Early) ol
 unit_same : (old new : List ℕ) (place : UnitPlace) (wide : Bool) → AreSameBehind old new →
     form_size Early ≤ place.at → unit_at new (record place { wide = wide }) ≡ unit_at old (record place { wide = wide })
 unit_same old new place true same low = number_behind old new (form_size Early) place.at 2 same low
-unit_same old new place false same low = ap unit_of (byte_behind old new (form_size Early) place.at same low)
+unit_same old new place false same low = ap compressed_unit (byte_behind old new (form_size Early) place.at same low)
 
 sepx_behind : (old new : List ℕ) (fc : ℕ) → AreSameBehind old new → KeepsSepx old new fc
 sepx_behind old new fc same = λ after within.
@@ -81,9 +81,9 @@ front_loaded wd table text_len text units has front =
     let early = early_wd wd (early_pairs wd) in
     let flat = flat_pieces front.all in
     let count = text_length (fib_fields early).ccps in
-    let most : text_count (source_of text) ≤ text_length (fib_fields text.wd).ccps = omega arith in
-    let few : text_count (source_of text) ≤ count =
-    subst (λ (w : List ℕ). text_count (source_of text) ≤ text_length (fib_fields w).ccps) front.wd_is most in
+    let most : text_count (doc_source_of text) ≤ text_length (fib_fields text.wd).ccps = omega arith in
+    let few : text_count (doc_source_of text) ≤ count =
+    subst (λ (w : List ℕ). text_count (doc_source_of text) ≤ text_length (fib_fields w).ccps) front.wd_is most in
     let behind : drop (form_size Early) text.wd ≡ drop (form_size Early) wd =
     ap (drop (form_size Early)) front.wd_is ∙ early_behind wd in
     let place_low : (cp : ℕ) (place : UnitPlace) → place_of_cp text.pieces cp ≡ Some place →
@@ -103,14 +103,14 @@ front_loaded wd table text_len text units has front =
           ap (λ (places : List UnitPlace). slice_get places cp) front.front
           ∙ front_get flat count cp (omega (arith, below, few));
       units = λ cp place below here. unit_same wd text.wd place place.wide behind (place_low cp place here);
-      sepxs = λ k below. sepx_behind wd text.wd (fc_sepx (sections_of wd table) k) behind;
+      sepxs = λ k below. sepx_behind wd text.wd (fc_sepx (plcf_sed wd table) k) behind;
     }
 
 -- the streams have the text of all pieces
 pub front_text : (contents : Contents) (wd table : List ℕ) (text_len : ℕ) (text : FileText) (units : List ℕ) →
     (reads : IsReadTable contents wd table) → HasFront wd table text_len →
     (front : IsFrontOf (early_wd wd (early_pairs wd)) table text units) →
-    HasText contents (whole_text wd reads.own front.all)
+    HasFileText contents (whole_text wd reads.own front.all)
 front_text contents wd table text_len text units reads has front =
     let pair = pair_same wd (early_wd wd (early_pairs wd)) Clx has.fields in
     let same : clx_of (early_wd wd (early_pairs wd)) table ≡ clx_of wd table =

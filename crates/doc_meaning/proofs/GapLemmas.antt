@@ -1,5 +1,4 @@
 -- The gaps of a text that is loaded in place of the one that the streams name are gaps of that text.
-use Rattle.std.specs.Prelude.{slice_index}
 use Rattle.std.proofs.Common.{◌≡◌, ◌∙◌, ◌+◌, ◌*◌, ◌<◌, ◌≤◌, sym, ap, subst, inl, inr, ℕ, List, length, Bool, true, false}
 use Rattle.std.proofs.Common.{arith}
 use Rattle.fib_form.specs.Fib.{form_size}
@@ -8,51 +7,27 @@ use Rattle.fkp_pages.specs.declared.kind.PageKind.{PageKind}
 use Rattle.fkp_pages.specs.declared.kind.PageKind.TheVariants.{Chpx, Papx}
 use Rattle.fkp_pages.specs.declared.kind.RunAnswer.{RunAnswer}
 use Rattle.fkp_pages.specs.declared.kind.RunAnswer.TheVariants.{Found, Empty, NoRun, BadCount, Leaves}
-use Rattle.fkp_pages.specs.Fkp.{entry_size, page_count, page_fc, entry_place, entry_byte, HasRunCount, HoldsFc}
+use Rattle.fkp_pages.specs.Fkp.{page_run_count, HoldsFc}
 use Rattle.fkp_pages.specs.Fkp.{HasNoRun, LeavesPage, HasRunAnswer}
 use Rattle.fkp_pages.specs.Bin.{HasNoBin, IsBinPage, page_at}
 use Rattle.fkp_gaps.specs.Gaps.{IsGapAnswer, IsGap}
 use Rattle.page_copies.specs.Names.{names_page}
 use Rattle.page_copies.specs.Places.{HasListsApart}
 use Rattle.page_copies.specs.Copies.{IsCopyOf}
-use Rattle.page_copies.specs.Pages.{BinTables, bin_of, kind_alone, SkipsPage, SkipsPages}
-use Rattle.page_copies.proofs.Public.{entry_low, page_named, IsKeptPage}
+use Rattle.page_copies.specs.Pages.{BinTables, bin_table_of, kind_alone, SkipsPage, SkipsPages}
+use Rattle.page_copies.proofs.Public.{page_named, IsKeptPage, counted_back, entry_same, fc_same}
 use Rattle.file_rules.specs.FileRules.{FileText}
-use Rattle.doc_meaning.specs.Skipped.{bins_of}
-use Rattle.doc_meaning.specs.Loaded.{KeepsPages, IsLoadedFor}
+use Rattle.doc_meaning.specs.Skipped.{bin_tables_of}
+use Rattle.doc_meaning.specs.Loaded.{MaySkipPages, IsLoadedFor}
 use Rattle.doc_meaning.proofs.BehindLemmas.{range_behind, length_behind}
-use Rattle.doc_meaning.proofs.ApartLemmas.{byte_before, number_before}
 use Rattle.doc_meaning.proofs.LoadedLemmas.{bin_same}
 
 -- ---- a page whose codes are skipped
 
-fcs_before_entries : (kind : PageKind) (page : List ℕ) →
-    4 * (page_count page + 1) ≤ entry_place kind page (page_count page)
-fcs_before_entries Chpx page = omega arith
-fcs_before_entries Papx page = omega arith
-
-fc_kept : (kind : PageKind) (old new : List ℕ) (j : ℕ) → IsCopyOf kind old new → j ≤ page_count old →
-    page_fc new j ≡ page_fc old j
-fc_kept kind old new j copy low =
-    number_before old new (entry_place kind old (page_count old)) (4 * j) 4 copy.front
-    (omega (arith, low, fcs_before_entries kind old))
-
-entry_kept : (kind : PageKind) (old new : List ℕ) (run : ℕ) → IsCopyOf kind old new → run < page_count old →
-    entry_byte kind new run ≡ entry_byte kind old run
-entry_kept kind old new run copy low =
-    ap (λ n. slice_index new (4 * (n + 1) + entry_size kind * run)) copy.count
-    ∙ byte_before old new (entry_place kind old (page_count old)) (entry_place kind old run) copy.front
-    (entry_low kind old run low)
-
-counted_before : (kind : PageKind) (old new : List ℕ) → IsCopyOf kind old new → HasRunCount kind new →
-    HasRunCount kind old
-counted_before kind old new copy count =
-    record { some = omega (arith, copy.count, count.some); most = omega (arith, copy.count, count.most) }
-
 none_before : (kind : PageKind) (old new : List ℕ) (fc : ℕ) → IsCopyOf kind old new → HasNoRun new fc → HasNoRun old fc
 none_before kind old new fc copy none = λ run below holds.
-    let first = fc_kept kind old new run copy (omega (arith, below)) in
-    let next = fc_kept kind old new (run + 1) copy (omega (arith, below)) in
+    let first = fc_same kind old new run copy (omega (arith, below)) in
+    let next = fc_same kind old new (run + 1) copy (omega (arith, below)) in
     none run (omega (arith, below, copy.count)) (record {
       from = omega (arith, holds.from, first);
       to = omega (arith, holds.to, next);
@@ -60,9 +35,9 @@ none_before kind old new fc copy none = λ run below holds.
 
 -- no list of such a page leaves it
 none_leaves : (kind : PageKind) (old new : List ℕ) (run entry : ℕ) → HasListsApart kind old → IsCopyOf kind old new →
-    run < page_count old → LeavesPage kind new run entry → ⊥
+    run < page_run_count old → LeavesPage kind new run entry → ⊥
 none_leaves kind old new run entry apart copy low leaves = elim (apart run low) [
-  | inl none ↦ leaves.some (entry_kept kind old new run copy low ∙ none)
+  | inl none ↦ leaves.some (entry_same kind old new run copy low ∙ none)
   | inr has ↦
       let p = has.place in
       leaves.beyond ((copy.lists run p.from p.to low has.is.list).0.within)
@@ -77,7 +52,7 @@ copy_gap : (kind : PageKind) (old new : List ℕ) (fc : ℕ) (answer : RunAnswer
 copy_gap kind old new fc (Found from to) apart copy is = absurd is.1
 copy_gap kind old new fc Empty apart copy is = absurd is.1
 copy_gap kind old new fc NoRun apart copy is =
-    ((counted_before kind old new copy is.0.0, none_before kind old new fc copy is.0.1), tt)
+    ((counted_back kind old new copy is.0.0, none_before kind old new fc copy is.0.1), tt)
 copy_gap kind old new fc BadCount apart copy is = absurd is.1
 copy_gap kind old new fc (Leaves entry) apart copy is =
     let below = is.0.1.first.below in
@@ -108,33 +83,33 @@ kept_alone Papx false true old new own skips = inl skips
 kept_alone Papx true false old new own skips = absurd (cc own)
 kept_alone Papx false false old new own skips = absurd (cc own)
 
-own_named : (kind : PageKind) (bins : BinTables) (number : ℕ) → names_page (bin_of kind bins) number ≡ true →
+own_named : (kind : PageKind) (bins : BinTables) (number : ℕ) → names_page (bin_table_of kind bins) number ≡ true →
     IsOwn kind (names_page bins.characters number) (names_page bins.paragraphs number)
 own_named Chpx bins number named = named
 own_named Papx bins number named = named
 
 page_gap : (kind : PageKind) (old : FileText) (pages : List ℕ) (fc number : ℕ) (answer : RunAnswer) →
-    KeepsPages old pages → IsBinPage (bin_of kind (bins_of old.wd old.table)) fc number → 2 ≤ number →
+    MaySkipPages old pages → IsBinPage (bin_table_of kind (bin_tables_of old.wd old.table)) fc number → 2 ≤ number →
     512 * number + 512 ≤ length old.wd → AnswersGap kind (page_at pages number) fc answer →
     AnswersGap kind (page_at old.wd number) fc answer
 page_gap kind old pages fc number answer (inr same) named low within is =
     subst (λ (w : List ℕ). AnswersGap kind (page_at w number) fc answer) same is
 page_gap kind old pages fc number answer (inl skips) named low within is =
-    let bins = bins_of old.wd old.table in
-    let own = own_named kind bins number (page_named (bin_of kind bins) fc number named) in
+    let bins = bin_tables_of old.wd old.table in
+    let own = own_named kind bins number (page_named (bin_table_of kind bins) fc number named) in
     kept_gap kind (page_at old.wd number) (page_at pages number) fc answer
     (kept_alone kind (names_page bins.characters number) (names_page bins.paragraphs number) (page_at old.wd number)
     (page_at pages number) own (skips.pages number low within)) is
 
-pages_long : (old : FileText) (pages : List ℕ) → KeepsPages old pages → length pages ≡ length old.wd
+pages_long : (old : FileText) (pages : List ℕ) → MaySkipPages old pages → length pages ≡ length old.wd
 pages_long old pages (inl skips) = skips.len
 pages_long old pages (inr same) = ap length same
 
 -- ---- the text
 
 pub gap_kept : (kind : PageKind) (old new : FileText) (fc : ℕ) → IsLoadedFor old new →
-    IsGap kind (bin_of kind (bins_of new.wd new.table)) new.wd fc →
-    IsGap kind (bin_of kind (bins_of old.wd old.table)) old.wd fc
+    IsGap kind (bin_table_of kind (bin_tables_of new.wd new.table)) new.wd fc →
+    IsGap kind (bin_table_of kind (bin_tables_of old.wd old.table)) old.wd fc
 gap_kept kind old new fc loaded (inl none) =
     inl (subst (λ bin. HasNoBin bin fc) (bin_same kind old new loaded) none)
 gap_kept kind old new fc loaded (inr gap) =

@@ -15,8 +15,8 @@ use Rattle.prop_map.specs.Modifiers.{no_modifier}
 use Rattle.prop_map.proofs.Public.{IsPropertyMap-empty}
 use Rattle.prl_skips.proofs.Public.{put_length, right_skips}
 use Rattle.fib_form.specs.Fib.{form_size, fib_pair, table_part}
-use Rattle.fib_form.specs.FibFields.{pair_at}
-use Rattle.fib_form.specs.TableParts.{pair_of}
+use Rattle.fib_form.specs.FibFields.{listed_pair}
+use Rattle.fib_form.specs.TableParts.{pair_number}
 use Rattle.fib_form.specs.declared.form.Form.TheVariants.{Early}
 use Rattle.fib_form.specs.declared.stories.StoryKind.{StoryKind}
 use Rattle.fib_form.specs.declared.stories.StoryKind.TheVariants.{Main, Notes, Heads}
@@ -31,7 +31,7 @@ use Rattle.fkp_pages.specs.Fkp.{HasRunAnswer, least_list}
 use Rattle.fkp_pages.specs.Bin.{IsBinTable, IsBinPage, page_at}
 use Rattle.fkp_pages.specs.Properties.{IsListAnswered, HasListAt}
 use Rattle.fkp_pages.specs.Runs.{run_groups}
-use Rattle.page_copies.specs.Pages.{bin_of}
+use Rattle.page_copies.specs.Pages.{bin_table_of}
 use Rattle.page_copies.specs.Laws.{IsListCopy}
 use Rattle.page_copies.proofs.Public.{HasListAfter, list_after, same_after}
 use Rattle.part_skips.proofs.Public.{sheet_holds}
@@ -48,19 +48,19 @@ use Rattle.doc_parts.specs.Levels.{HasLists, level_start, level_count, list_part
 use Rattle.doc_parts.specs.Sections.{AreSections, HasSepx}
 use Rattle.doc_parts.proofs.Public.{level_start-up, level_start-zero}
 use Rattle.file_rules.specs.Units.{unit_at, text_units, unit_places_in}
-use Rattle.file_rules.specs.Source.{DocSource, part_place, part_bytes, story_length}
+use Rattle.file_rules.specs.Source.{DocSource, part_place, table_part_bytes, story_length}
 use Rattle.file_rules.specs.SectionRules.{HasSections, section_fc, sepx_list}
 use Rattle.file_rules.specs.BinRules.{rules_of_bins}
 use Rattle.file_rules.specs.FormatRules.{text_count, judged_units, judged_places}
 use Rattle.file_rules.specs.SheetRules.{rules_of_sheet}
 use Rattle.file_rules.specs.ListRules.{rules_of_lists}
 use Rattle.file_rules.specs.PartRules.{part_rules}
-use Rattle.file_rules.specs.FileRules.{FileText, source_of}
+use Rattle.file_rules.specs.FileRules.{FileText, doc_source_of}
 use Rattle.file_rules.proofs.Public.{bin_tables, hold_out, index_of_get, levels_empty}
-use Rattle.doc_meaning.specs.Skipped.{bins_of, sections_of, fc_sepx, sheet_from, sheet_to, StandsFrom, SkipsFirst}
+use Rattle.doc_meaning.specs.Skipped.{bin_tables_of, plcf_sed, fc_sepx, sheet_from, sheet_to, StandsFrom, SkipsFirst}
 use Rattle.doc_meaning.specs.Apart.{clx_from, clx_to, EndBefore, LevelsStandApart, SkipsClx, ReadsClx}
 use Rattle.doc_meaning.specs.Lifted.{IsReadPart}
-use Rattle.doc_meaning.specs.Loaded.{KeepsPages, KeepsTable, IsLoadedFor}
+use Rattle.doc_meaning.specs.Loaded.{MaySkipPages, KeepsTable, IsLoadedFor}
 use Rattle.doc_meaning.proofs.AlikeLemmas.{ReadsAlike, HasSepxAlike, bin_in, KeepsRules, rules_kept}
 use Rattle.doc_meaning.proofs.ApartLemmas.{range_before, levels_before_place, before_clx, behind_clx, clx_table_len}
 use Rattle.doc_meaning.proofs.ApartLemmas.{apart_part, bin_apart, other_table, count_same}
@@ -137,33 +137,36 @@ levels_hold_apart old new from to pair len before behind (inr (inr ends)) =
 
 -- those of two table streams of one FIB hold of one by the part of the other
 levels_by_part : (old new : DocSource) → part_place new PlfLst ≡ part_place old PlfLst →
-    part_bytes new PlfLst ≡ part_bytes old PlfLst →
-    (Hold (level_rules old.table (part_place old PlfLst) (length (part_bytes old PlfLst))) →
-    Hold (level_rules new.table (part_place old PlfLst) (length (part_bytes old PlfLst)))) →
+    table_part_bytes new PlfLst ≡ table_part_bytes old PlfLst →
+    (Hold (level_rules old.table (part_place old PlfLst) (length (table_part_bytes old PlfLst))) →
+    Hold (level_rules new.table (part_place old PlfLst) (length (table_part_bytes old PlfLst)))) →
     Hold (rules_of_lists old) → Hold (rules_of_lists new)
 levels_by_part old new at bytes keeps hold =
-    let own = hold_out Table (level_rules old.table (part_place old PlfLst) (length (part_bytes old PlfLst))) hold in
-    hold_in Table (level_rules new.table (part_place new PlfLst) (length (part_bytes new PlfLst)))
+    let own = hold_out Table (level_rules old.table (part_place old PlfLst) (length (table_part_bytes old PlfLst))) hold
+    in
+    hold_in Table (level_rules new.table (part_place new PlfLst) (length (table_part_bytes new PlfLst)))
     (subst (λ (n : ℕ × ℕ). Hold (level_rules new.table n.0 n.1)) (λ i. (sym at i, length (sym bytes i))) (keeps own))
 
 -- ---- a table stream in which the Prcs are skipped
 
 clx_levels : (text : FileText) (table : List ℕ) → ReadsClx (early_pairs text.wd) text.table table →
-    Hold (level_rules text.table (part_place (source_of text) PlfLst) (length (part_bytes (source_of text) PlfLst))) →
-    Hold (level_rules table (part_place (source_of text) PlfLst) (length (part_bytes (source_of text) PlfLst)))
+    Hold (level_rules text.table (part_place (doc_source_of text) PlfLst) (length (table_part_bytes (doc_source_of text)
+    PlfLst))) →
+    Hold (level_rules table (part_place (doc_source_of text) PlfLst) (length (table_part_bytes (doc_source_of text)
+    PlfLst)))
 clx_levels text table (inl skips) =
     let wd = text.wd in
     let old = text.table in
     let pairs = early_pairs wd in
-    levels_hold_apart old table (clx_from pairs) (clx_to pairs) (fib_pair wd (pair_of PlfLst))
+    levels_hold_apart old table (clx_from pairs) (clx_to pairs) (fib_pair wd (pair_number PlfLst))
     (clx_table_len pairs old table (inl skips)) (before_clx pairs old table skips) (behind_clx pairs old table skips)
     (subst (LevelsStandApart (clx_from pairs) (clx_to pairs) old) (early_part wd PlfLst) skips.apart.levels)
 clx_levels text table (inr stays) =
-    subst (λ (t : List ℕ). Hold (level_rules t (part_place (source_of text) PlfLst)
-    (length (part_bytes (source_of text) PlfLst)))) (sym stays.1)
+    subst (λ (t : List ℕ). Hold (level_rules t (part_place (doc_source_of text) PlfLst)
+    (length (table_part_bytes (doc_source_of text) PlfLst)))) (sym stays.1)
 
 clx_alike : (text : FileText) (table : List ℕ) → ReadsClx (early_pairs text.wd) text.table table →
-    ReadsAlike (source_of text) (source_of (other_table text table))
+    ReadsAlike (doc_source_of text) (doc_source_of (other_table text table))
 clx_alike text table clx = record {
   count = λ story. count_same text table story;
   pairs = λ part reads. refl;
@@ -174,14 +177,14 @@ clx_alike text table clx = record {
 }
 
 clx_keeps : (text : FileText) (table : List ℕ) → ReadsClx (early_pairs text.wd) text.table table →
-    KeepsRules (source_of text) (source_of (other_table text table))
+    KeepsRules (doc_source_of text) (doc_source_of (other_table text table))
 clx_keeps text table clx =
-    let old = source_of text in
-    let new = source_of (other_table text table) in
+    let old = doc_source_of text in
+    let new = doc_source_of (other_table text table) in
     let wd = text.wd in
-    let sheet : part_bytes new Stshf ≡ part_bytes old Stshf =
+    let sheet : table_part_bytes new Stshf ≡ table_part_bytes old Stshf =
     apart_part wd text.table table Stshf clx (λ e. absurd (omega (arith, e))) in
-    let list : part_bytes new PlfLst ≡ part_bytes old PlfLst =
+    let list : table_part_bytes new PlfLst ≡ table_part_bytes old PlfLst =
     apart_part wd text.table table PlfLst clx (λ e. absurd (omega (arith, e))) in
     record {
       alike = clx_alike text table clx;
@@ -222,13 +225,13 @@ front_mapped f g (suc n) (x ∷ xs) (y ∷ ys) same made =
     (λ i place low there. made (suc i) place (omega (arith, low)) there) in
     λ i. first i ∷ rest i
 
-loaded_alike : (old new : FileText) → IsLoadedFor old new → ReadsAlike (source_of old) (source_of new)
+loaded_alike : (old new : FileText) → IsLoadedFor old new → ReadsAlike (doc_source_of old) (doc_source_of new)
 loaded_alike old new loaded =
-    let counts : (story : StoryKind) → story_length (source_of new) story ≡ story_length (source_of old) story =
-    λ story. story_same (source_of old) (source_of new) story loaded.fields in
-    let count : text_count (source_of new) ≡ text_count (source_of old) =
+    let counts : (story : StoryKind) → story_length (doc_source_of new) story ≡ story_length (doc_source_of old) story =
+    λ story. story_same (doc_source_of old) (doc_source_of new) story loaded.fields in
+    let count : text_count (doc_source_of new) ≡ text_count (doc_source_of old) =
     λ i. counts Main i + counts Notes i + counts Heads i in
-    let n = text_count (source_of new) in
+    let n = text_count (doc_source_of new) in
     record {
       count = counts;
       pairs = λ part reads. pair_same old.wd new.wd part loaded.fields;
@@ -247,10 +250,11 @@ loaded_alike old new loaded =
 -- ---- its style sheet and its levels
 
 sheet_after : (wd old new : List ℕ) (at : ℕ) → SkipsFirst (early_pairs wd) old new →
-    Hold (stsh_rules (table_part wd old (pair_of Stshf)) at) → Hold (stsh_rules (table_part wd new (pair_of Stshf)) at)
+    Hold (stsh_rules (table_part wd old (pair_number Stshf)) at) → Hold (stsh_rules (table_part wd new (pair_number
+    Stshf)) at)
 sheet_after wd old new at skips hold =
     let pairs = early_pairs wd in
-    let pair : pair_at pairs (pair_of Stshf) ≡ fib_pair wd (pair_of Stshf) = early_part wd Stshf in
+    let pair : listed_pair pairs (pair_number Stshf) ≡ fib_pair wd (pair_number Stshf) = early_part wd Stshf in
     let own : Hold (stsh_rules (slice_range old (sheet_from pairs) (sheet_to pairs)) at) =
     subst (λ (p : ℕ × ℕ). Hold (stsh_rules (slice_range old p.0 (p.0 + p.1)) at)) (sym pair) hold in
     let made =
@@ -259,42 +263,44 @@ sheet_after wd old new at skips hold =
     (subst (λ (b : List ℕ). Hold (stsh_rules b at)) (sym (sheet_there pairs old new skips)) made)
 
 table_sheet_after : (old : FileText) (table : List ℕ) (at : ℕ) → KeepsTable old table →
-    Hold (stsh_rules (table_part old.wd old.table (pair_of Stshf)) at) →
-    Hold (stsh_rules (table_part old.wd table (pair_of Stshf)) at)
+    Hold (stsh_rules (table_part old.wd old.table (pair_number Stshf)) at) →
+    Hold (stsh_rules (table_part old.wd table (pair_number Stshf)) at)
 table_sheet_after old table at (inl skips) = sheet_after old.wd old.table table at skips
 table_sheet_after old table at (inr same) =
-    subst (λ (t : List ℕ). Hold (stsh_rules (table_part old.wd t (pair_of Stshf)) at)) (sym same)
+    subst (λ (t : List ℕ). Hold (stsh_rules (table_part old.wd t (pair_number Stshf)) at)) (sym same)
 
-loaded_sheet : (old new : FileText) → IsLoadedFor old new → Hold (rules_of_sheet (source_of old)) →
-    Hold (rules_of_sheet (source_of new))
+loaded_sheet : (old new : FileText) → IsLoadedFor old new → Hold (rules_of_sheet (doc_source_of old)) →
+    Hold (rules_of_sheet (doc_source_of new))
 loaded_sheet old new loaded hold =
-    let at = part_place (source_of old) Stshf in
+    let at = part_place (doc_source_of old) Stshf in
     let pair = pair_same old.wd new.wd Stshf loaded.fields in
     let made = table_sheet_after old new.table at loaded.table
-    (hold_out Table (stsh_rules (part_bytes (source_of old) Stshf) at) hold) in
-    hold_in Table (stsh_rules (part_bytes (source_of new) Stshf) (part_place (source_of new) Stshf))
+    (hold_out Table (stsh_rules (table_part_bytes (doc_source_of old) Stshf) at) hold) in
+    hold_in Table (stsh_rules (table_part_bytes (doc_source_of new) Stshf) (part_place (doc_source_of new) Stshf))
     (subst (λ (p : ℕ × ℕ). Hold (stsh_rules (slice_range new.table p.0 (p.0 + p.1)) p.0)) (sym pair) made)
 
 loaded_levels : (old : FileText) (table : List ℕ) → KeepsTable old table →
-    Hold (level_rules old.table (part_place (source_of old) PlfLst) (length (part_bytes (source_of old) PlfLst))) →
-    Hold (level_rules table (part_place (source_of old) PlfLst) (length (part_bytes (source_of old) PlfLst)))
+    Hold (level_rules old.table (part_place (doc_source_of old) PlfLst) (length (table_part_bytes (doc_source_of old)
+    PlfLst))) →
+    Hold (level_rules table (part_place (doc_source_of old) PlfLst) (length (table_part_bytes (doc_source_of old)
+    PlfLst)))
 loaded_levels old table (inl skips) =
     let pairs = early_pairs old.wd in
-    levels_hold_from old.table table (sheet_to pairs) (fib_pair old.wd (pair_of PlfLst))
+    levels_hold_from old.table table (sheet_to pairs) (fib_pair old.wd (pair_number PlfLst))
     (table_kept_len old table (inl skips)) (behind_sheet pairs old.table table skips)
     (other_stands old.wd old.table table PlfLst skips (λ e. absurd (omega (arith, e))))
 loaded_levels old table (inr same) =
-    subst (λ (t : List ℕ). Hold (level_rules t (part_place (source_of old) PlfLst)
-    (length (part_bytes (source_of old) PlfLst)))) (sym same)
+    subst (λ (t : List ℕ). Hold (level_rules t (part_place (doc_source_of old) PlfLst)
+    (length (table_part_bytes (doc_source_of old) PlfLst)))) (sym same)
 
 -- ---- its Sepxs
 
 loaded_sepxs : (old new : FileText) (list : List Sed) (k : ℕ) → IsLoadedFor old new →
-    HasSections (source_of old) list → k < length list → HasSepx old.wd (section_fc list k) →
+    HasSections (doc_source_of old) list → k < length list → HasSepx old.wd (section_fc list k) →
     HasSepxAlike old.wd new.wd (section_fc list k)
 loaded_sepxs old new list k loaded has low there =
-    let bytes = sections_of old.wd old.table in
-    let entries : AreSections bytes (story_length (source_of old) Main) list = has in
+    let bytes = plcf_sed old.wd old.table in
+    let entries : AreSections bytes (story_length (doc_source_of old) Main) list = has in
     let place = section_fc list k in
     let fc : place ≡ fc_sepx bytes k =
     index_of_get (λ (sed : Sed). sed.sepx) list k _ (entries.leading.each k low) in
@@ -368,20 +374,20 @@ answer_right kind old new NoRun list made copy was is right = absurd right
 answer_right kind old new BadCount list made copy was is right = absurd right
 answer_right kind old new (Leaves entry) list made copy was is right = absurd right
 
-pages_after : (kind : PageKind) (old : FileText) (pages : List ℕ) (fc : ℕ) (list : List ℕ) → KeepsPages old pages →
-    (has : HasListAt kind (bin_of kind (bins_of old.wd old.table)) old.wd fc list) → 2 ≤ has.number →
+pages_after : (kind : PageKind) (old : FileText) (pages : List ℕ) (fc : ℕ) (list : List ℕ) → MaySkipPages old pages →
+    (has : HasListAt kind (bin_table_of kind (bin_tables_of old.wd old.table)) old.wd fc list) → 2 ≤ has.number →
     HasListAfter kind (page_at pages has.number) fc has.answer list
 pages_after kind old pages fc list (inl skips) has low =
-    list_after kind (bins_of old.wd old.table) old.wd pages fc list skips has low
+    list_after kind (bin_tables_of old.wd old.table) old.wd pages fc list skips has low
 pages_after kind old pages fc list (inr same) has low =
     same_after kind (page_at old.wd has.number) (page_at pages has.number) fc has.answer list
     (ap (λ (w : List ℕ). page_at w has.number) same) has.answers has.answered
 
 loaded_valid : (kind : PageKind) (old new : FileText) (fc : ℕ) → AreBytes old.wd → IsLoadedFor old new →
-    IsBinTable (bin_in (source_of old) kind) → IsValidPlace kind old.wd (bin_in (source_of old) kind) fc →
-    IsValidPlace kind new.wd (bin_in (source_of new) kind) fc
+    IsBinTable (bin_in (doc_source_of old) kind) → IsValidPlace kind old.wd (bin_in (doc_source_of old) kind) fc →
+    IsValidPlace kind new.wd (bin_in (doc_source_of new) kind) fc
 loaded_valid kind old new fc bytes loaded table valid =
-    let bin = bin_in (source_of old) kind in
+    let bin = bin_in (doc_source_of old) kind in
     let pages = loaded.pages in
     let found = valid_list kind old.wd bin fc bytes valid in
     let list = found.0 in
@@ -424,23 +430,23 @@ bins_are source Papx hold = (bin_tables source hold).1
 -- ---- all rules
 
 loaded_keeps : (old new : FileText) → AreBytes old.wd → IsLoadedFor old new →
-    KeepsRules (source_of old) (source_of new)
+    KeepsRules (doc_source_of old) (doc_source_of new)
 loaded_keeps old new bytes loaded = record {
   alike = loaded_alike old new loaded;
   sheet = loaded_sheet old new loaded;
-  levels = levels_by_part (source_of old) (source_of new)
+  levels = levels_by_part (doc_source_of old) (doc_source_of new)
       (ap (λ (p : ℕ × ℕ). p.0) (pair_same old.wd new.wd PlfLst loaded.fields))
       (part_kept old new PlfLst loaded (λ e. absurd (omega (arith, e)))) (loaded_levels old new.table loaded.table);
   sepxs = λ list k has low there. loaded_sepxs old new list k loaded has low there;
   pages = λ bins kind fc valid.
-      loaded_valid kind old new fc bytes loaded (bins_are (source_of old) kind bins) valid;
+      loaded_valid kind old new fc bytes loaded (bins_are (doc_source_of old) kind bins) valid;
 }
 
 -- of a text of which they hold they hold once the Prcs are skipped, and then of what is loaded of that
 pub loaded_holds : (old : FileText) (table : List ℕ) (new : FileText) → AreBytes old.wd →
     ReadsClx (early_pairs old.wd) old.table table → IsLoadedFor (record old { table = table }) new →
-    Hold (part_rules (source_of old)) → Hold (part_rules (source_of new))
+    Hold (part_rules (doc_source_of old)) → Hold (part_rules (doc_source_of new))
 loaded_holds old table new bytes clx loaded hold =
     let mid = other_table old table in
-    rules_kept (source_of mid) (source_of new) (loaded_keeps mid new bytes loaded)
-    (rules_kept (source_of old) (source_of mid) (clx_keeps old table clx) hold)
+    rules_kept (doc_source_of mid) (doc_source_of new) (loaded_keeps mid new bytes loaded)
+    (rules_kept (doc_source_of old) (doc_source_of mid) (clx_keeps old table clx) hold)

@@ -24,26 +24,26 @@ use Rattle.fkp_pages.specs.declared.kind.PageKind.{PageKind}
 use Rattle.fkp_pages.specs.declared.kind.PageKind.TheVariants.{Chpx, Papx}
 use Rattle.fkp_pages.specs.Properties.{HasListAt, bare_list}
 use Rattle.fkp_gaps.specs.Gaps.{IsGap}
-use Rattle.page_copies.specs.Pages.{bin_of}
+use Rattle.page_copies.specs.Pages.{bin_table_of}
 use Rattle.page_copies.specs.Laws.{IsListCopy}
 use Rattle.page_copies.proofs.Public.{copy_acts}
 use Rattle.direct_props.specs.Direct.{MakesProperties, IsDirectCharacter}
 use Rattle.direct_props.specs.PageRules.{IsValidPlace}
 use Rattle.direct_props.proofs.Public.{right_places_have_lists}
 use Rattle.doc_parts.specs.Sections.{HasSepx}
-use Rattle.plain_doc.specs.declared.item.Item.{Item}
-use Rattle.plain_doc.specs.declared.item.Mark.{Mark}
-use Rattle.plain_doc.specs.Entries.{entry_at}
-use Rattle.file_rules.specs.Source.{part_bytes, story_begin}
+use Rattle.doc_model.specs.declared.item.Item.{Item}
+use Rattle.doc_model.specs.declared.item.Mark.{Mark}
+use Rattle.doc_model.specs.Entries.{entry_at_cp}
+use Rattle.file_rules.specs.Source.{table_part_bytes, story_begin}
 use Rattle.file_rules.specs.SectionRules.{LacksSepx, sepx_list, section_fc}
 use Rattle.file_rules.specs.FormatRules.{text_count}
 use Rattle.file_rules.specs.PartRules.{PartLists}
-use Rattle.file_rules.specs.FileRules.{FileText, source_of}
+use Rattle.file_rules.specs.FileRules.{FileText, doc_source_of}
 use Rattle.doc_read.specs.Sections.{IsSectionProperties, HaveProperties, section_marks}
-use Rattle.doc_read.specs.Items.{IsMarkAt, IsItemAt}
-use Rattle.doc_read.specs.Marked.{story_bytes, field_bytes}
+use Rattle.doc_read.specs.Items.{IsDirectMarkAt, IsItemAt}
+use Rattle.doc_read.specs.Marked.{story_bytes, field_mark_bytes}
 use Rattle.doc_read.proofs.Public.{parts_of, RightText, character_place, mark_place, sepx-there}
-use Rattle.doc_meaning.specs.Skipped.{bins_of}
+use Rattle.doc_meaning.specs.Skipped.{bin_tables_of}
 use Rattle.doc_meaning.specs.Places.{MeansCharacter, MeansMark}
 use Rattle.doc_meaning.specs.Items.{MeansMarkAt, MeansItem}
 use Rattle.doc_meaning.specs.Lifted.{IsListFor, KeepsLists, ReadsTheSame}
@@ -100,11 +100,12 @@ istd_before list made copy =
 
 -- the list of a place whose page is right
 list_right : (kind : PageKind) (old new : FileText) (fc : ℕ) (made : List ℕ) → KeepsLists kind old new →
-    IsValidPlace kind new.wd (bin_of kind (bins_of new.wd new.table)) fc →
-    HasListAt kind (bin_of kind (bins_of new.wd new.table)) new.wd fc made →
+    IsValidPlace kind new.wd (bin_table_of kind (bin_tables_of new.wd new.table)) fc →
+    HasListAt kind (bin_table_of kind (bin_tables_of new.wd new.table)) new.wd fc made →
     IsListFor kind old fc made
 list_right kind old new fc made keeps right has =
-    let is = right_places_have_lists kind new.wd (bin_of kind (bins_of new.wd new.table)) fc made right has in
+    let is = right_places_have_lists kind new.wd (bin_table_of kind (bin_tables_of new.wd new.table)) fc made right has
+    in
     keeps fc made (record {
       number = is.number;
       named = is.named;
@@ -148,9 +149,9 @@ mark_in_gap bin wd list fc modifier istd pap made style gap bare makes style_is 
     )
 
 character_same : (old new : FileText) (fc : ℕ) (modifier : Modifier) (chp : Properties) → KeepsLists Chpx old new →
-    IsValidPlace Chpx new.wd (part_bytes (source_of new) PlcfBteChpx) fc →
-    IsDirectCharacter new.wd (part_bytes (source_of new) PlcfBteChpx) fc modifier chp →
-    MeansCharacter old.wd (part_bytes (source_of old) PlcfBteChpx) fc modifier chp
+    IsValidPlace Chpx new.wd (table_part_bytes (doc_source_of new) PlcfBteChpx) fc →
+    IsDirectCharacter new.wd (table_part_bytes (doc_source_of new) PlcfBteChpx) fc modifier chp →
+    MeansCharacter old.wd (table_part_bytes (doc_source_of old) PlcfBteChpx) fc modifier chp
 character_same old new fc modifier chp keeps right is =
     elim (list_right Chpx old new fc is.list keeps right is.has) [
       | inl before ↦ inl (record {
@@ -162,15 +163,16 @@ character_same old new fc modifier chp keeps right is =
         modified = is.modified;
       })
       | inr gap ↦
-          character_in_gap (part_bytes (source_of old) PlcfBteChpx) old.wd is.list fc modifier chp is.made is.style
+          character_in_gap (table_part_bytes (doc_source_of old) PlcfBteChpx) old.wd is.list fc modifier chp is.made
+          is.style
           gap.0 gap.1 is.makes is.modified
     ]
 
 mark_same : (ends : Bool) (old new : FileText) (fc : ℕ) (modifier : Modifier) (mark : Option Mark) →
     KeepsLists Papx old new →
-    (ends ≡ true → IsValidPlace Papx new.wd (part_bytes (source_of new) PlcfBtePapx) fc) →
-    IsMarkAt ends new.wd (part_bytes (source_of new) PlcfBtePapx) fc modifier mark →
-    MeansMarkAt ends old.wd (part_bytes (source_of old) PlcfBtePapx) fc modifier mark
+    (ends ≡ true → IsValidPlace Papx new.wd (table_part_bytes (doc_source_of new) PlcfBtePapx) fc) →
+    IsDirectMarkAt ends new.wd (table_part_bytes (doc_source_of new) PlcfBtePapx) fc modifier mark →
+    MeansMarkAt ends old.wd (table_part_bytes (doc_source_of old) PlcfBtePapx) fc modifier mark
 mark_same true old new fc modifier None keeps right is = is
 mark_same false old new fc modifier (Some mark) keeps right is = is
 mark_same false old new fc modifier None keeps right is = is
@@ -187,7 +189,8 @@ mark_same true old new fc modifier (Some mark) keeps right is =
         modified = is.modified;
       })
       | inr gap ↦
-          mark_in_gap (part_bytes (source_of old) PlcfBtePapx) old.wd is.list fc modifier mark.istd mark.pap is.made
+          mark_in_gap (table_part_bytes (doc_source_of old) PlcfBtePapx) old.wd is.list fc modifier mark.istd mark.pap
+          is.made
           is.style gap.0 gap.1 is.makes is.style_is is.modified
     ]
 
@@ -195,20 +198,20 @@ mark_same true old new fc modifier (Some mark) keeps right is =
 
 -- where the stories begin
 begin_notes : (old new : FileText) → ReadsTheSame old new →
-    story_begin (source_of new) Notes ≡ story_begin (source_of old) Notes
+    story_begin (doc_source_of new) Notes ≡ story_begin (doc_source_of old) Notes
 begin_notes old new same = same.counts Main
 
 begin_heads : (old new : FileText) → ReadsTheSame old new →
-    story_begin (source_of new) Heads ≡ story_begin (source_of old) Heads
+    story_begin (doc_source_of new) Heads ≡ story_begin (doc_source_of old) Heads
 begin_heads old new same = omega (arith, same.counts Main, same.counts Notes)
 
 pub begin_same : (old new : FileText) → ReadsTheSame old new →
-    (story_begin (source_of new) Notes ≡ story_begin (source_of old) Notes)
-    × (story_begin (source_of new) Heads ≡ story_begin (source_of old) Heads)
+    (story_begin (doc_source_of new) Notes ≡ story_begin (doc_source_of old) Notes)
+    × (story_begin (doc_source_of new) Heads ≡ story_begin (doc_source_of old) Heads)
 begin_same old new same = (begin_notes old new same, begin_heads old new same)
 
 fields_at : (old new : FileText) (lists : PartLists) → ReadsTheSame old new →
-    field_bytes (source_of new) lists ≡ field_bytes (source_of old) lists
+    field_mark_bytes (doc_source_of new) lists ≡ field_mark_bytes (doc_source_of old) lists
 fields_at old new lists same =
     let notes = begin_notes old new same in
     let heads = begin_heads old new same in
@@ -217,7 +220,7 @@ fields_at old new lists same =
 
 -- an item of a CP of the three stories
 pub item_same : (old : FileText) (r : RightText) (maps : List Properties) (cp : ℕ) (item : Item) →
-    ReadsTheSame old r.text → cp < text_count (source_of r.text) → IsItemAt (parts_of r.text r.lists maps) cp item →
+    ReadsTheSame old r.text → cp < text_count (doc_source_of r.text) → IsItemAt (parts_of r.text r.lists maps) cp item →
     MeansItem (parts_of old r.lists maps) cp item
 item_same old r maps cp item same below is =
     let new = r.text in
@@ -229,11 +232,11 @@ item_same old r maps cp item same below is =
       characters =
           character_same old new place.at place.modifier item.chp (same.lists Chpx)
           (character_place r cp place below is.here) is.characters;
-      section = is.section ∙ ap (λ n. entry_at (section_marks r.lists.sections n maps) cp) (same.counts Main);
+      section = is.section ∙ ap (λ n. entry_at_cp (section_marks r.lists.sections n maps) cp) (same.counts Main);
       mark =
           mark_same (is_paragraph_end item.unit (is_some item.sect)) old new place.at place.modifier item.mark
           (same.lists Papx) (mark_place r maps cp place item below is.here is.unit is.section) is.mark;
-      field = is.field ∙ ap (λ entries. entry_at entries cp) (fields_at old new r.lists same);
+      field = is.field ∙ ap (λ entries. entry_at_cp entries cp) (fields_at old new r.lists same);
       note = is.note;
     }
 
@@ -273,7 +276,7 @@ maps_same old r maps same have = record {
       let inside = slice_get_within maps k map here in
       let below : k < length r.lists.sections = omega (arith, inside, have.len) in
       let fc = section_fc r.lists.sections k in
-      let lacks = sepx-there (source_of r.text) r.lists.sections k r.hold.0.0 r.has.has_sections below in
+      let lacks = sepx-there (doc_source_of r.text) r.lists.sections k r.hold.0.0 r.has.has_sections below in
       properties_same old.wd r.text.wd fc map
       (λ some. same.sections r.lists.sections k r.has.has_sections below (sepx_found r.text.wd fc lacks some))
       (have.each k map here);

@@ -5,15 +5,15 @@ use Rattle.prop_map.specs.declared.modifiers.Modifier.{Modifier}
 use Rattle.text_codes.specs.Paragraph.{is_paragraph_end}
 use Rattle.fib_form.specs.declared.stories.StoryKind.TheVariants.{Main, Notes, Heads}
 use Rattle.fib_form.specs.declared.table_parts.TablePart.TheVariants.{PlcfBtePapx}
-use Rattle.plain_doc.specs.declared.item.Item.{Item}
-use Rattle.plain_doc.specs.declared.item.Mark.{Mark}
-use Rattle.file_rules.specs.Source.{part_bytes, story_length, story_begin}
+use Rattle.doc_model.specs.declared.item.Item.{Item}
+use Rattle.doc_model.specs.declared.item.Mark.{Mark}
+use Rattle.file_rules.specs.Source.{table_part_bytes, story_length, story_begin}
 use Rattle.cfb_streams.specs.Contents.{Contents}
 use Rattle.cfb_streams.specs.Container.{HasContents}
-use Rattle.plain_doc.specs.declared.document.Document.{Document}
-use Rattle.file_rules.specs.FileRules.{source_of}
+use Rattle.doc_model.specs.declared.document.Document.{Document}
+use Rattle.file_rules.specs.FileRules.{doc_source_of}
 use Rattle.file_rules.proofs.Public.{bin_tables}
-use Rattle.doc_read.specs.Items.{TextParts, IsMarkAt, IsItemAt, HoldsItems, HoldsTexts}
+use Rattle.doc_read.specs.Items.{TextParts, IsDirectMarkAt, IsItemAt, HoldsItems, HoldsTexts}
 use Rattle.doc_read.specs.Holds.{FileParts, IsDocumentOf, text_parts, head_texts}
 use Rattle.doc_read.proofs.Public.{HaveBins, held_parts, file_parts_one}
 use Rattle.doc_meaning.specs.Items.{MeansMarkAt, MeansItem, MeansItems, MeansTexts}
@@ -23,7 +23,7 @@ use Rattle.doc_meaning.proofs.OneLemmas.{parts_mean_one}
 -- ---- what has a run has no gap
 
 means_mark_at : (ends : Bool) (wd bin : List ℕ) (fc : ℕ) (modifier : Modifier) (mark : Option Mark) →
-    IsMarkAt ends wd bin fc modifier mark → MeansMarkAt ends wd bin fc modifier mark
+    IsDirectMarkAt ends wd bin fc modifier mark → MeansMarkAt ends wd bin fc modifier mark
 means_mark_at true wd bin fc modifier (Some mark) is = inl is
 means_mark_at true wd bin fc modifier None is = is
 means_mark_at false wd bin fc modifier (Some mark) is = is
@@ -37,7 +37,7 @@ means_item parts cp item is = record {
   characters = inl is.characters;
   section = is.section;
   mark = means_mark_at (is_paragraph_end item.unit (is_some item.sect)) parts.source.wd
-      (part_bytes parts.source PlcfBtePapx) is.place.at is.place.modifier item.mark is.mark;
+      (table_part_bytes parts.source PlcfBtePapx) is.place.at is.place.modifier item.mark is.mark;
   field = is.field;
   note = is.note;
 }
@@ -59,7 +59,7 @@ means_texts parts begin cuts count texts holds = record {
 -- the document of parts is what they mean
 pub document_meant : (parts : FileParts) (document : Document) → IsDocumentOf parts document → IsMeantOf parts document
 document_meant parts document is =
-    let source = source_of parts.text in
+    let source = doc_source_of parts.text in
     let of = text_parts parts in
     record {
       main = means_items of 0 (story_length source Main) document.main is.main;
@@ -85,8 +85,8 @@ held_is_meant file document holds =
 pub meaning_is_one : MeaningIsOne
 meaning_is_one file one other a rules b =
     let same : b.parts ≡ a.parts = file_parts_one file b.parts a.parts b.has_parts a.has_parts in
-    let bins = bin_tables (source_of a.parts.text) rules in
-    let have : HaveBins (source_of a.parts.text) = record { characters = bins.0; paragraphs = bins.1 } in
+    let bins = bin_tables (doc_source_of a.parts.text) rules in
+    let have : HaveBins (doc_source_of a.parts.text) = record { characters = bins.0; paragraphs = bins.1 } in
     parts_mean_one a.parts have one other a.document_is (subst (λ (p : FileParts). IsMeantOf p other) same
     b.document_is)
 

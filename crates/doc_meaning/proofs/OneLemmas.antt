@@ -8,7 +8,7 @@ use Rattle.std.specs.FinMap.{empty, get}
 use Rattle.prop_map.specs.declared.modifiers.Modifier.{Modifier}
 use Rattle.prop_map.specs.Settings.{Properties}
 use Rattle.prop_map.proofs.Public.{same_properties}
-use Rattle.cfb_streams.specs.Contents.{Contents, NamedBytes}
+use Rattle.cfb_streams.specs.Contents.{NamedBytes}
 use Rattle.fib_form.specs.FibFields.{IsKeptFlags}
 use Rattle.fib_form.specs.declared.stories.StoryKind.TheVariants.{Main, Notes, Heads}
 use Rattle.fib_form.specs.declared.table_parts.TablePart.TheVariants.{PlcfBteChpx, PlcfBtePapx}
@@ -18,18 +18,17 @@ use Rattle.fkp_gaps.proofs.Public.{gaps_have_no_list}
 use Rattle.direct_props.proofs.Public.{character_one, mark_one}
 use Rattle.piece_table.specs.Piece.{UnitPlace}
 use Rattle.text_codes.specs.Paragraph.{is_paragraph_end}
-use Rattle.plain_doc.specs.declared.carried.Carried.{Carried}
-use Rattle.plain_doc.specs.declared.document.Document.{Document}
-use Rattle.plain_doc.specs.declared.item.Item.{Item}
-use Rattle.plain_doc.specs.declared.item.Mark.{Mark}
-use Rattle.plain_doc.specs.Carried.{ArePartsShort, AreListsWithLevels, AreCarriedStreams}
+use Rattle.doc_model.specs.declared.carried.Carried.{Carried}
+use Rattle.doc_model.specs.declared.document.Document.{Document}
+use Rattle.doc_model.specs.declared.item.Item.{Item}
+use Rattle.doc_model.specs.declared.item.Mark.{Mark}
+use Rattle.doc_model.specs.Carried.{ArePartsShort, AreListsWithLevels, AreCarriedStreams}
 use Rattle.file_rules.specs.Units.{unit_at}
-use Rattle.file_rules.specs.Source.{DocSource, part_bytes, story_length, story_begin}
-use Rattle.file_rules.specs.FileRules.{source_of}
-use Rattle.doc_read.specs.CarriedParts.{HoldsCarried}
+use Rattle.file_rules.specs.Source.{DocSource, table_part_bytes, story_length, story_begin}
+use Rattle.file_rules.specs.FileRules.{doc_source_of}
 use Rattle.doc_read.specs.Items.{TextParts}
 use Rattle.doc_read.specs.Holds.{FileParts, text_parts, head_texts}
-use Rattle.doc_read.proofs.Public.{HaveBins, same_lists}
+use Rattle.doc_read.proofs.Public.{HaveBins, same_lists, carried_one, same_document, same_item}
 use Rattle.doc_meaning.specs.Places.{MeansCharacter, MeansMark}
 use Rattle.doc_meaning.specs.Items.{MeansMarkAt, MeansItem, MeansItems, MeansTexts}
 use Rattle.doc_meaning.specs.Meaning.{IsMeantOf}
@@ -62,10 +61,10 @@ means_mark_one wd bin fc modifier istd number one other table (inr a) (inr b) =
 -- ---- items
 
 mark_at_one : (end : Bool) (source : DocSource) (place : UnitPlace) (a b : Option Mark) → HaveBins source →
-    MeansMarkAt end source.wd (part_bytes source PlcfBtePapx) place.at place.modifier a →
-    MeansMarkAt end source.wd (part_bytes source PlcfBtePapx) place.at place.modifier b → a ≡ b
+    MeansMarkAt end source.wd (table_part_bytes source PlcfBtePapx) place.at place.modifier a →
+    MeansMarkAt end source.wd (table_part_bytes source PlcfBtePapx) place.at place.modifier b → a ≡ b
 mark_at_one true source place (Some a) (Some b) bins ha hb =
-    let one = means_mark_one source.wd (part_bytes source PlcfBtePapx) place.at place.modifier a.istd b.istd a.pap
+    let one = means_mark_one source.wd (table_part_bytes source PlcfBtePapx) place.at place.modifier a.istd b.istd a.pap
     b.pap bins.paragraphs ha hb in
     λ i. Some (record { istd = one.0 i; pap = one.1 i })
 mark_at_one true source place (Some a) None bins ha hb = absurd hb
@@ -74,18 +73,12 @@ mark_at_one false source place None None bins ha hb = refl
 mark_at_one false source place None (Some b) bins ha hb = absurd hb
 mark_at_one false source place (Some a) b bins ha hb = absurd ha
 
--- an item is the same where each part of it is
-same_item : (a b : Item) → a.unit ≡ b.unit → a.chp ≡ b.chp → a.mark ≡ b.mark → a.sect ≡ b.sect → a.fld ≡ b.fld →
-    a.note ≡ b.note → a ≡ b
-same_item a b e0 e1 e2 e3 e4 e5 =
-    λ i. record { unit = e0 i; chp = e1 i; mark = e2 i; sect = e3 i; fld = e4 i; note = e5 i }
-
 means_item_one : (parts : TextParts) → HaveBins parts.source → (cp : ℕ) (a b : Item) → MeansItem parts cp a →
     MeansItem parts cp b → a ≡ b
 means_item_one parts bins cp a b ha hb =
     let source = parts.source in
-    let characters = part_bytes source PlcfBteChpx in
-    let paragraphs = part_bytes source PlcfBtePapx in
+    let characters = table_part_bytes source PlcfBteChpx in
+    let paragraphs = table_part_bytes source PlcfBtePapx in
     let place : ha.place ≡ hb.place = ap (λ o. unwrap_or o ha.place) (sym ha.here ∙ hb.here) in
     let unit : a.unit ≡ b.unit = ha.unit ∙ (ap (unit_at source.wd) place ∙ sym hb.unit) in
     let chp : a.chp ≡ b.chp = means_character_one source.wd characters hb.place.at hb.place.modifier a.chp b.chp
@@ -196,54 +189,13 @@ same_built : (d e : CarriedData) → d ≡ e → (p : CarriedFacts d) (q : Carri
 same_built d e same p =
     subst (λ x. (q : CarriedFacts x) → carried_of d p ≡ carried_of x q) same (λ q. ap (carried_of d) (facts_prop d p q))
 
-carried_one : (contents : Contents) (source : DocSource) (levels : List ℕ) (a b : Carried) →
-    HoldsCarried contents source levels a → HoldsCarried contents source levels b → a ≡ b
-carried_one contents source levels a b ha hb =
-    let fonts : a.fonts ≡ b.fonts = ha.fonts ∙ sym hb.fonts in
-    let dop : a.dop ≡ b.dop = ha.dop ∙ sym hb.dop in
-    let assoc : a.assoc ≡ b.assoc = ha.assoc ∙ sym hb.assoc in
-    let lst : a.lst ≡ b.lst = ha.lst ∙ sym hb.lst in
-    let same_levels : a.levels ≡ b.levels = ha.levels_are ∙ sym hb.levels_are in
-    let lfo : a.lfo ≡ b.lfo = ha.lfo ∙ sym hb.lfo in
-    let clsid : a.clsid ≡ b.clsid = ha.clsid ∙ sym hb.clsid in
-    let lid : a.lid ≡ b.lid = ha.lid ∙ sym hb.lid in
-    let lid_fe : a.lid_fe ≡ b.lid_fe = ha.lid_fe ∙ sym hb.lid_fe in
-    let flags : a.flags ≡ b.flags = ha.flags ∙ sym hb.flags in
-    let streams : a.streams ≡ b.streams = ha.streams ∙ sym hb.streams in
-    let same : data_of a ≡ data_of b = λ i. record {
-      fonts = fonts i;
-      dop = dop i;
-      assoc = assoc i;
-      lst = lst i;
-      levels = same_levels i;
-      lfo = lfo i;
-      clsid = clsid i;
-      lid = lid i;
-      lid_fe = lid_fe i;
-      flags = flags i;
-      streams = streams i;
-    } in
-    same_built (data_of a) (data_of b) same (facts_of a) (facts_of b)
-
 -- ---- the document
 
--- a document is the same where each part of it is
-same_document : (a b : Document) → a.main ≡ b.main → a.notes ≡ b.notes → a.heads ≡ b.heads → a.sheet ≡ b.sheet →
-    a.carried ≡ b.carried → a.bookmarks ≡ b.bookmarks → a ≡ b
-same_document a b e0 e1 e2 e3 e4 e5 = λ i. record {
-  main = e0 i;
-  notes = e1 i;
-  heads = e2 i;
-  sheet = e3 i;
-  carried = e4 i;
-  bookmarks = e5 i;
-}
-
 -- the parts of a file mean one document
-pub parts_mean_one : (parts : FileParts) → HaveBins (source_of parts.text) → (a b : Document) → IsMeantOf parts a →
+pub parts_mean_one : (parts : FileParts) → HaveBins (doc_source_of parts.text) → (a b : Document) → IsMeantOf parts a →
     IsMeantOf parts b → a ≡ b
 parts_mean_one parts bins a b ha hb =
-    let source = source_of parts.text in
+    let source = doc_source_of parts.text in
     let of = text_parts parts in
     same_document a b
     (means_items_one of bins 0 (story_length source Main) a.main b.main ha.main hb.main)

@@ -6,8 +6,8 @@ use Rattle.std.proofs.lemmas.List.{append_assoc, length-append, length-take-le}
 use Rattle.doc_bits.specs.Number.{u16_at}
 use Rattle.doc_bits.proofs.Public.{length-range, range_mid}
 use Rattle.fib_form.specs.Fib.{fib_pair, table_part}
-use Rattle.fib_form.specs.FibFields.{pair_at}
-use Rattle.fib_form.specs.TableParts.{pair_of}
+use Rattle.fib_form.specs.FibFields.{listed_pair}
+use Rattle.fib_form.specs.TableParts.{pair_number}
 use Rattle.fib_form.specs.declared.table_parts.TablePart.{TablePart}
 use Rattle.fib_form.specs.declared.table_parts.TablePart.TheVariants.{Stshf, PlfLst}
 use Rattle.fib_form.proofs.Public.{drop_front}
@@ -18,7 +18,7 @@ use Rattle.part_skips.proofs.Public.{sheet_skips}
 use Rattle.doc_parts.specs.Levels.{level_end, level_start, level_count, list_part, HaveLength}
 use Rattle.file_rules.proofs.Public.{levels_empty}
 use Rattle.doc_meaning.specs.Skipped.{sheet_from, sheet_to, StandsFrom, SkipsFirst}
-use Rattle.doc_meaning.specs.Lifted.{IsOther}
+use Rattle.doc_meaning.specs.Lifted.{IsOtherPart}
 use Rattle.doc_meaning.proofs.BehindLemmas.{drop_behind, range_behind, byte_behind, number_behind}
 use Rattle.doc_meaning.proofs.EarlyLemmas.{early_part, part_below}
 
@@ -76,24 +76,25 @@ range_from old new place pair behind (inl none) =
 range_from old new place pair behind (inr low) = range_behind old new place pair.0 (pair.0 + pair.1) behind low
 
 -- where a part is
-pub other_stands : (wd old new : List ℕ) (part : TablePart) → SkipsFirst (early_pairs wd) old new → IsOther part →
-    StandsFrom (sheet_to (early_pairs wd)) (fib_pair wd (pair_of part))
+pub other_stands : (wd old new : List ℕ) (part : TablePart) → SkipsFirst (early_pairs wd) old new → IsOtherPart part →
+    StandsFrom (sheet_to (early_pairs wd)) (fib_pair wd (pair_number part))
 other_stands wd old new part skips other =
     subst (StandsFrom (sheet_to (early_pairs wd))) (early_part wd part)
-    (skips.first.others (pair_of part) (part_below part) other)
+    (skips.first.others (pair_number part) (part_below part) other)
 
-pub other_part : (wd old new : List ℕ) (part : TablePart) → SkipsFirst (early_pairs wd) old new → IsOther part →
-    table_part wd new (pair_of part) ≡ table_part wd old (pair_of part)
+pub other_part : (wd old new : List ℕ) (part : TablePart) → SkipsFirst (early_pairs wd) old new → IsOtherPart part →
+    table_part wd new (pair_number part) ≡ table_part wd old (pair_number part)
 other_part wd old new part skips other =
-    range_from old new (sheet_to (early_pairs wd)) (fib_pair wd (pair_of part))
+    range_from old new (sheet_to (early_pairs wd)) (fib_pair wd (pair_number part))
     (behind_sheet (early_pairs wd) old new skips) (other_stands wd old new part skips other)
 
 -- the style sheet
 pub sheet_before : (wd old new : List ℕ) (sheet : Sheet) → SkipsFirst (early_pairs wd) old new →
-    HasStyleSheet (table_part wd new (pair_of Stshf)) sheet → HasStyleSheet (table_part wd old (pair_of Stshf)) sheet
+    HasStyleSheet (table_part wd new (pair_number Stshf)) sheet → HasStyleSheet (table_part wd old (pair_number Stshf))
+    sheet
 sheet_before wd old new sheet skips has =
     let pairs = early_pairs wd in
-    let pair : pair_at pairs (pair_of Stshf) ≡ fib_pair wd (pair_of Stshf) = early_part wd Stshf in
+    let pair : listed_pair pairs (pair_number Stshf) ≡ fib_pair wd (pair_number Stshf) = early_part wd Stshf in
     let there : HasStyleSheet (slice_range new (sheet_from pairs) (sheet_to pairs)) sheet =
     subst (λ (p : ℕ × ℕ). HasStyleSheet (slice_range new p.0 (p.0 + p.1)) sheet) (sym pair) has in
     let made : HasStyleSheet skips.puts.sheet sheet =
@@ -166,9 +167,9 @@ levels_from old new place pair len bytes same (inr low) have =
     )
 
 pub levels_stand : (wd old new : List ℕ) (len : ℕ) (bytes : List ℕ) → SkipsFirst (early_pairs wd) old new →
-    StandBehindPart new (fib_pair wd (pair_of PlfLst)).0 (table_part wd old (pair_of PlfLst)) len bytes →
-    StandBehindPart old (fib_pair wd (pair_of PlfLst)).0 (table_part wd old (pair_of PlfLst)) len bytes
+    StandBehindPart new (fib_pair wd (pair_number PlfLst)).0 (table_part wd old (pair_number PlfLst)) len bytes →
+    StandBehindPart old (fib_pair wd (pair_number PlfLst)).0 (table_part wd old (pair_number PlfLst)) len bytes
 levels_stand wd old new len bytes skips =
-    levels_from old new (sheet_to (early_pairs wd)) (fib_pair wd (pair_of PlfLst)) len bytes
+    levels_from old new (sheet_to (early_pairs wd)) (fib_pair wd (pair_number PlfLst)) len bytes
     (behind_sheet (early_pairs wd) old new skips)
     (other_stands wd old new PlfLst skips (λ e. absurd (omega (arith, e))))

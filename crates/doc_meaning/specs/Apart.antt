@@ -3,8 +3,8 @@
 use Rattle.std.specs.Prelude.{◌≡◌, ◌≢◌, ◌⊎◌, ℕ, ◌+◌, ◌<◌, ◌≤◌, List, length}
 use Rattle.doc_bits.specs.Rules.{Hold}
 use Rattle.fib_form.specs.Fib.{kept_pairs}
-use Rattle.fib_form.specs.FibFields.{pair_at}
-use Rattle.fib_form.specs.TableParts.{pair_of}
+use Rattle.fib_form.specs.FibFields.{listed_pair}
+use Rattle.fib_form.specs.TableParts.{pair_number}
 use Rattle.fib_form.specs.declared.table_parts.TablePart.TheVariants.{Clx, PlfLst}
 use Rattle.doc_parts.specs.Levels.{level_rules, level_start, level_count, list_part}
 use Rattle.part_skips.specs.Prcs.{PutsPrcs}
@@ -15,18 +15,18 @@ use Rattle.file_rules.specs.FileRules.{table_stream_name}
 
 -- where the Clx begins and ends, by the pairs of a FIB
 abbrev pub clx_from : List (ℕ × ℕ) → ℕ
-clx_from pairs = (pair_at pairs (pair_of Clx)).0
+clx_from pairs = (listed_pair pairs (pair_number Clx)).0
 
 abbrev pub clx_to : List (ℕ × ℕ) → ℕ
-clx_to pairs = clx_from pairs + (pair_at pairs (pair_of Clx)).1
+clx_to pairs = clx_from pairs + (listed_pair pairs (pair_number Clx)).1
 
 -- a part has no bytes, or ends before a range, or begins behind it
 abbrev pub StandsApart : ℕ → ℕ → ℕ × ℕ → Type 0
 StandsApart from to pair = (pair.1 ≡ 0) ⊎ ((pair.0 + pair.1 ≤ from) ⊎ (to ≤ pair.0))
 
 -- so does part n, if it is not the Clx
-abbrev pub IsApart : ℕ → ℕ → List (ℕ × ℕ) → ℕ → Type 0
-IsApart from to pairs n = n ≢ pair_of Clx → StandsApart from to (pair_at pairs n)
+abbrev pub IsPartApart : ℕ → ℕ → List (ℕ × ℕ) → ℕ → Type 0
+IsPartApart from to pairs n = n ≢ pair_number Clx → StandsApart from to (listed_pair pairs n)
 
 -- [MS-DOC] LVL: the levels behind a PlfLst are whole, and end before a place
 pub record EndBefore (table : List ℕ) (pair : ℕ × ℕ) (place : ℕ) : Type 0 where
@@ -41,8 +41,8 @@ LevelsStandApart from to table pair = (pair.1 ≡ 0) ⊎ ((to ≤ pair.0) ⊎ En
 -- the Clx is in the table stream, and each other part and the levels are apart from it
 pub record IsClxApart (pairs : List (ℕ × ℕ)) (table : List ℕ) : Type 0 where
   pub within : clx_to pairs ≤ length table
-  pub parts : (n : ℕ) → n < kept_pairs → IsApart (clx_from pairs) (clx_to pairs) pairs n
-  pub levels : LevelsStandApart (clx_from pairs) (clx_to pairs) table (pair_at pairs (pair_of PlfLst))
+  pub parts : (n : ℕ) → n < kept_pairs → IsPartApart (clx_from pairs) (clx_to pairs) pairs n
+  pub levels : LevelsStandApart (clx_from pairs) (clx_to pairs) table (listed_pair pairs (pair_number PlfLst))
 
 -- the Prcs of such a Clx are skipped, and the rest of the table stream stays
 pub record SkipsClx (pairs : List (ℕ × ℕ)) (old new : List ℕ) : Type 0 where

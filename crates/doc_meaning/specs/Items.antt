@@ -3,16 +3,16 @@ use Rattle.std.specs.Prelude.{◌≡◌, ℕ, ◌+◌, ◌-◌, ◌<◌, ◌≤�
 use Rattle.std.specs.Prelude.{slice_get, slice_index, Option, Some, None, ⊤}
 use Rattle.prop_map.specs.declared.modifiers.Modifier.{Modifier}
 use Rattle.piece_table.specs.Piece.{UnitPlace, place_of_cp}
-use Rattle.plain_doc.specs.declared.item.Item.{Item}
-use Rattle.plain_doc.specs.declared.item.Mark.{Mark}
-use Rattle.plain_doc.specs.Entries.{entry_at}
+use Rattle.doc_model.specs.declared.item.Item.{Item}
+use Rattle.doc_model.specs.declared.item.Mark.{Mark}
+use Rattle.doc_model.specs.Entries.{entry_at_cp}
 use Rattle.text_codes.specs.Paragraph.{is_paragraph_end}
 use Rattle.fib_form.specs.declared.table_parts.TablePart.TheVariants.{PlcfBteChpx, PlcfBtePapx}
 use Rattle.fib_form.specs.declared.stories.StoryKind.TheVariants.{Main}
 use Rattle.file_rules.specs.Units.{unit_at}
-use Rattle.file_rules.specs.Source.{part_bytes, story_length}
+use Rattle.file_rules.specs.Source.{table_part_bytes, story_length}
 use Rattle.doc_read.specs.Sections.{section_marks}
-use Rattle.doc_read.specs.Marked.{field_bytes, note_kinds}
+use Rattle.doc_read.specs.Marked.{field_mark_bytes, note_kind_entries}
 use Rattle.doc_read.specs.Items.{TextParts}
 use Rattle.doc_meaning.specs.Places.{MeansCharacter, MeansMark}
 
@@ -29,14 +29,15 @@ pub record MeansItem (parts : TextParts) (cp : ℕ) (item : Item) : Type 0 where
   pub here : place_of_cp parts.pieces cp ≡ Some place
   pub unit : item.unit ≡ unit_at parts.source.wd place
   pub characters :
-      MeansCharacter parts.source.wd (part_bytes parts.source PlcfBteChpx) place.at place.modifier item.chp
+      MeansCharacter parts.source.wd (table_part_bytes parts.source PlcfBteChpx) place.at place.modifier item.chp
   pub section :
-      item.sect ≡ entry_at (section_marks parts.lists.sections (story_length parts.source Main) parts.sections) cp
+      item.sect ≡ entry_at_cp (section_marks parts.lists.sections (story_length parts.source Main) parts.sections) cp
   pub mark :
-      MeansMarkAt (is_paragraph_end item.unit (is_some item.sect)) parts.source.wd (part_bytes parts.source PlcfBtePapx)
+      MeansMarkAt (is_paragraph_end item.unit (is_some item.sect)) parts.source.wd (table_part_bytes parts.source
+      PlcfBtePapx)
       place.at place.modifier item.mark
-  pub field : item.fld ≡ entry_at (field_bytes parts.source parts.lists) cp
-  pub note : item.note ≡ entry_at (note_kinds parts.lists.refs) cp
+  pub field : item.fld ≡ entry_at_cp (field_mark_bytes parts.source parts.lists) cp
+  pub note : item.note ≡ entry_at_cp (note_kind_entries parts.lists.refs) cp
 
 -- the items of the CPs from one to before another
 pub record MeansItems (parts : TextParts) (from to : ℕ) (text : List Item) : Type 0 where

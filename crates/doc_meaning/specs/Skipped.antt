@@ -4,8 +4,8 @@ use Rattle.std.specs.Prelude.{◌≡◌, ◌≢◌, ◌⊎◌, ℕ, ◌+◌, ◌
 use Rattle.doc_bits.specs.Number.{u16_at, u32_at}
 use Rattle.doc_bits.specs.Plc.{plc_entry}
 use Rattle.fib_form.specs.Fib.{kept_pairs, table_part}
-use Rattle.fib_form.specs.FibFields.{pair_at}
-use Rattle.fib_form.specs.TableParts.{pair_of}
+use Rattle.fib_form.specs.FibFields.{listed_pair}
+use Rattle.fib_form.specs.TableParts.{pair_number}
 use Rattle.fib_form.specs.declared.table_parts.TablePart.TheVariants.{Stshf, PlcfSed, PlcfBteChpx, PlcfBtePapx}
 use Rattle.page_copies.specs.Pages.{BinTables}
 use Rattle.part_skips.specs.Sheets.{PutsSheet}
@@ -13,18 +13,18 @@ use Rattle.doc_parts.specs.Table.{plc_part}
 use Rattle.file_rules.specs.SectionRules.{sepx_list}
 
 -- the bin tables of a file
-abbrev pub bins_of : (wd table : List ℕ) → BinTables
-bins_of wd table = record {
-  characters = table_part wd table (pair_of PlcfBteChpx);
-  paragraphs = table_part wd table (pair_of PlcfBtePapx);
+abbrev pub bin_tables_of : (wd table : List ℕ) → BinTables
+bin_tables_of wd table = record {
+  characters = table_part wd table (pair_number PlcfBteChpx);
+  paragraphs = table_part wd table (pair_number PlcfBtePapx);
 }
 
 -- where the style sheet begins and ends, by the pairs of a FIB
 abbrev pub sheet_from : List (ℕ × ℕ) → ℕ
-sheet_from pairs = (pair_at pairs (pair_of Stshf)).0
+sheet_from pairs = (listed_pair pairs (pair_number Stshf)).0
 
 abbrev pub sheet_to : List (ℕ × ℕ) → ℕ
-sheet_to pairs = sheet_from pairs + (pair_at pairs (pair_of Stshf)).1
+sheet_to pairs = sheet_from pairs + (listed_pair pairs (pair_number Stshf)).1
 
 -- a part has no bytes, or begins at this place or behind it
 abbrev pub StandsFrom : ℕ → ℕ × ℕ → Type 0
@@ -32,7 +32,7 @@ StandsFrom place pair = (pair.1 ≡ 0) ⊎ (place ≤ pair.0)
 
 -- so does part n, if it is not the style sheet
 abbrev pub StandsBehind : List (ℕ × ℕ) → ℕ → ℕ → Type 0
-StandsBehind pairs place n = n ≢ pair_of Stshf → StandsFrom place (pair_at pairs n)
+StandsBehind pairs place n = n ≢ pair_number Stshf → StandsFrom place (listed_pair pairs n)
 
 -- the style sheet is in the table stream, and each other part is behind it
 pub record IsSheetFirst (pairs : List (ℕ × ℕ)) (table_len : ℕ) : Type 0 where
@@ -61,5 +61,5 @@ abbrev pub KeepsSepxs : (sections old new : List ℕ) → Type 0
 KeepsSepxs sections old new = (k : ℕ) → k < (plc_part 12 sections).count → KeepsSepx old new (fc_sepx sections k)
 
 -- the sections of a file
-abbrev pub sections_of : (wd table : List ℕ) → List ℕ
-sections_of wd table = table_part wd table (pair_of PlcfSed)
+abbrev pub plcf_sed : (wd table : List ℕ) → List ℕ
+plcf_sed wd table = table_part wd table (pair_number PlcfSed)

@@ -15,7 +15,7 @@ use Rattle.std.proofs.lemmas.List.Elements.{All-push, All-weaker}
 use Rattle.std.proofs.lemmas.Option.{get_or_from_slice_get}
 use Rattle.style_sheet.specs.declared.styles.Style.{Style}
 use Rattle.style_sheet.specs.Sheet.{Sheet, style_at}
-use Rattle.style_sheet.specs.Chain.{kind_at, kind_in, HasNoChain}
+use Rattle.style_sheet.specs.Chain.{style_kind_at, style_kind_in, HasNoChain}
 use Rattle.style_sheet.specs.Changes.{as_root, put_as_root, base_dropped, with_style}
 use Rattle.doc_mends.specs.Bases.{has_other_base, bases_dropped, AreEndless}
 use Rattle.doc_bits.proofs.Public.{get_or-behind}
@@ -30,25 +30,27 @@ within styles istd style is = elim (cases_lt istd (length styles)) [
 ]
 
 kind_stays : (sheet : Sheet) (istd other : ℕ) (style : Style) → style_at sheet istd ≡ Some style →
-    kind_at (with_style sheet istd (as_root style)) other ≡ kind_at sheet other
+    style_kind_at (with_style sheet istd (as_root style)) other ≡ style_kind_at sheet other
 kind_stays sheet istd other style is = elim (cases_eq other istd) [
   | inl same ↦
       let low = within sheet.styles istd style is in
-      ap kind_in (ap (λ (n : ℕ). get_or (slice_set sheet.styles istd (Some (as_root style))) n None) same
+      ap style_kind_in (ap (λ (n : ℕ). get_or (slice_set sheet.styles istd (Some (as_root style))) n None) same
       ∙ get_or-set_same sheet.styles istd (Some (as_root style)) None low)
-      ∙ (sym (ap kind_in is) ∙ ap (kind_at sheet) (sym same))
-  | inr apart ↦ ap kind_in (get_or-set_other sheet.styles istd other (Some (as_root style)) None apart)
+      ∙ (sym (ap style_kind_in is) ∙ ap (style_kind_at sheet) (sym same))
+  | inr apart ↦ ap style_kind_in (get_or-set_other sheet.styles istd other (Some (as_root style)) None apart)
 ]
 
 by_style : (sheet : Sheet) (istd other : ℕ) (o : Option Style) → style_at sheet istd ≡ o →
-    kind_at (put_as_root sheet istd o) other ≡ kind_at sheet other
+    style_kind_at (put_as_root sheet istd o) other ≡ style_kind_at sheet other
 by_style sheet istd other None is = refl
 by_style sheet istd other (Some style) is = kind_stays sheet istd other style is
 
-pub kinds_stay : (sheet : Sheet) (istd other : ℕ) → kind_at (base_dropped sheet istd) other ≡ kind_at sheet other
+pub kinds_stay : (sheet : Sheet) (istd other : ℕ) → style_kind_at (base_dropped sheet istd) other ≡ style_kind_at sheet
+    other
 kinds_stay sheet istd other = by_style sheet istd other (style_at sheet istd) refl
 
-pub all_kinds_stay : (istds : List ℕ) (sheet : Sheet) (other : ℕ) → kind_at (bases_dropped istds sheet) other ≡ kind_at
+pub all_kinds_stay : (istds : List ℕ) (sheet : Sheet) (other : ℕ) → style_kind_at (bases_dropped istds sheet) other ≡
+    style_kind_at
     sheet other
 all_kinds_stay [] sheet other = refl
 all_kinds_stay (istd ∷ istds) sheet other =
@@ -76,7 +78,7 @@ pub drops_joined : (one more : List ℕ) (sheet : Sheet) → bases_dropped (one 
     (bases_dropped one sheet)
 drops_joined one more sheet = fold-append base_dropped sheet one more
 
-pub other_kind : (sheet : Sheet) (istd : ℕ) → has_other_base sheet istd ≡ true → 0 < kind_at sheet istd
+pub other_kind : (sheet : Sheet) (istd : ℕ) → has_other_base sheet istd ≡ true → 0 < style_kind_at sheet istd
 other_kind sheet istd is = grind (arith, nat_tests)
 
 -- ---- styles whose bases do not end

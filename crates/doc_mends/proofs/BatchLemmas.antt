@@ -7,33 +7,35 @@ use Rattle.std.proofs.lemmas.List.{length-take-le, take-append-drop}
 use Rattle.std.proofs.lemmas.List.Elements.{All-nil, All-cons, All-drop, All-head, All-tail, All-take}
 use Rattle.doc_bits.specs.declared.places.Story.{Story}
 use Rattle.doc_bits.specs.declared.places.Story.TheVariants.{Main, Note, Head}
-use Rattle.plain_doc.specs.declared.item.Item.{Item}
-use Rattle.plain_doc.specs.declared.document.Document.{Document}
-use Rattle.doc_patch.specs.Changes.{changed_at, put_changed, with_text, changed}
-use Rattle.doc_patch.specs.Places.{text_at, items_at, HasText, HasRange}
+use Rattle.doc_model.specs.declared.item.Item.{Item}
+use Rattle.doc_model.specs.declared.document.Document.{Document}
+use Rattle.doc_patch.specs.Changes.{changed_at, put_changed, text_changed, changed}
+use Rattle.doc_patch.specs.Places.{story_text, items_at, HasText, HasRange}
 use Rattle.doc_patch.proofs.Public.{any_text, put_more, such_text}
 use Rattle.doc_mends.specs.declared.batches.Batch.{Batch}
 use Rattle.doc_mends.specs.declared.mends.DeletedRange.{DeletedRange}
 use Rattle.doc_mends.specs.Mends.{all_struck, strike_of, AreRanges}
-use Rattle.doc_mends.specs.Batches.{Ascend, IsFirstBatch, IsNext, last_end}
-use Rattle.doc_mends.specs.Striking.{items_struck, text_struck, IsWithin}
+use Rattle.doc_mends.specs.Batches.{RangesAscend, IsFirstBatch, IsNext, last_range_end}
+use Rattle.doc_mends.specs.Striking.{items_struck, text_struck, IsRangeWithin}
 use Rattle.doc_mends.proofs.MendLemmas.{all_ranges_stay}
 
 -- ---- one range more
 
-pub ascend_more : (story : Story) (at : ℕ) (ranges : List DeletedRange) (next : DeletedRange) → Ascend story at ranges →
-    IsNext story (last_end at ranges) next → Ascend story at (ranges ++ next ∷ [])
+pub ascend_more : (story : Story) (at : ℕ) (ranges : List DeletedRange) (next : DeletedRange) → RangesAscend story at
+    ranges →
+    IsNext story (last_range_end at ranges) next → RangesAscend story at (ranges ++ next ∷ [])
 ascend_more story at [] next ascend is = (is, tt)
 ascend_more story at (range ∷ ranges) next ascend is =
     (ascend.0, ascend_more story range.to ranges next ascend.1 is)
 
-pub last_more : (at : ℕ) (ranges : List DeletedRange) (next : DeletedRange) → last_end at (ranges ++ next ∷ []) ≡ next.to
+pub last_more : (at : ℕ) (ranges : List DeletedRange) (next : DeletedRange) → last_range_end at (ranges ++ next ∷ []) ≡
+    next.to
 last_more at [] next = refl
 last_more at (range ∷ ranges) next = last_more range.to ranges next
 
 -- the first so many ranges
 pub first_of : (ranges : List DeletedRange) (batch : Batch) (k : ℕ) (story : Story) → 0 < k → k ≤ length ranges →
-    batch.story ≡ story → batch.ranges.now ≡ take k ranges → Ascend story 0 (take k ranges) →
+    batch.story ≡ story → batch.ranges.now ≡ take k ranges → RangesAscend story 0 (take k ranges) →
     IsFirstBatch ranges batch
 first_of ranges batch k story some within story_is are ascend =
     let long : length batch.ranges.now ≡ k = ap length are ∙ length-take-le k ranges within in
@@ -41,8 +43,8 @@ first_of ranges batch k story some within story_is are ascend =
       some = omega (arith, long, some);
       within = omega (arith, long, within);
       front = are ∙ ap (λ (n : ℕ). take n ranges) (sym long);
-      ascend = subst (λ (s : Story). Ascend s 0 batch.ranges.now) (sym story_is)
-          (subst (Ascend story 0) (sym are) ascend);
+      ascend = subst (λ (s : Story). RangesAscend s 0 batch.ranges.now) (sym story_is)
+          (subst (RangesAscend story 0) (sym are) ascend);
     }
 
 -- ---- an entry of a list, changed twice
@@ -68,14 +70,14 @@ changed_same {A = A} (x ∷ xs) (suc k) =
 -- ---- a text of a document
 
 with_twice : (f g : List Item → List Item) (story : Story) (document : Document) →
-    with_text f story (with_text g story document) ≡ with_text (λ text. f (g text)) story document
+    text_changed f story (text_changed g story document) ≡ text_changed (λ text. f (g text)) story document
 with_twice f g Main document = refl
 with_twice f g (Note k) document =
     ap (λ (notes : List (List Item)). record document { notes = notes }) (changed_twice f g document.notes k)
 with_twice f g (Head k) document =
     ap (λ (heads : List (List Item)). record document { heads = heads }) (changed_twice f g document.heads k)
 
-with_same : (story : Story) (document : Document) → with_text (λ text. text) story document ≡ document
+with_same : (story : Story) (document : Document) → text_changed (λ text. text) story document ≡ document
 with_same Main document = refl
 with_same (Note k) document =
     ap (λ (notes : List (List Item)). record document { notes = notes }) (changed_same document.notes k)
@@ -84,12 +86,12 @@ with_same (Head k) document =
 
 -- ranges of one text are struck in it
 pub batch_struck : (story : Story) (at : ℕ) (ranges : List DeletedRange) (document : Document) →
-    Ascend story at ranges → all_struck ranges document ≡ with_text (text_struck ranges) story document
+    RangesAscend story at ranges → all_struck ranges document ≡ text_changed (text_struck ranges) story document
 batch_struck story at [] document ascend = sym (with_same story document)
 batch_struck story at (range ∷ ranges) document ascend =
     let strike : List Item → List Item = λ text. items_struck text range in
-    ap (λ (s : Story). all_struck ranges (with_text strike s document)) ascend.0.story_is
-    ∙ (batch_struck story range.to ranges (with_text strike story document) ascend.1
+    ap (λ (s : Story). all_struck ranges (text_changed strike s document)) ascend.0.story_is
+    ∙ (batch_struck story range.to ranges (text_changed strike story document) ascend.1
     ∙ with_twice (text_struck ranges) strike story document)
 
 entry_put : (f : List Item → List Item) (texts : List (List Item)) (k : ℕ) (made : List Item) (o : Option (List Item)) →
@@ -101,7 +103,7 @@ entry_put f texts k made (Some text) there is = ap (λ (t : List Item). slice_se
 -- what is made of a text is put in its place
 text_put : (f : List Item → List Item) (story : Story) (document : Document) (made : List Item) →
     HasText document story (λ _. ⊤) → made ≡ f (items_at document story) →
-    with_text (λ _. made) story document ≡ with_text f story document
+    text_changed (λ _. made) story document ≡ text_changed f story document
 text_put f Main document made there is = ap (λ (main : List Item). record document { main = main }) is
 text_put f (Note k) document made there is =
     ap (λ (notes : List (List Item)). record document { notes = notes })
@@ -111,8 +113,9 @@ text_put f (Head k) document made there is =
     (entry_put f document.heads k made (slice_get document.heads k) there is)
 
 pub batch_put : (story : Story) (ranges : List DeletedRange) (document put : Document) (made : List Item) →
-    Ascend story 0 ranges → HasText document story (λ _. ⊤) → made ≡ text_struck ranges (items_at document story) →
-    put ≡ with_text (λ _. made) story document → put ≡ all_struck ranges document
+    RangesAscend story 0 ranges → HasText document story (λ _. ⊤) → made ≡ text_struck ranges (items_at document story)
+    →
+    put ≡ text_changed (λ _. made) story document → put ≡ all_struck ranges document
 batch_put story ranges document put made ascend there is back =
     back
     ∙ (text_put (text_struck ranges) story document made there is ∙ sym (batch_struck story 0 ranges document ascend))
@@ -128,7 +131,7 @@ in_story document story range same there =
     subst (λ (s : Story). HasText document s (HasRange range.from range.to)) same there
 
 pub batch_there : (document : Document) (story : Story) (at : ℕ) (ranges : List DeletedRange) →
-    AreRanges document ranges → Ascend story at ranges → 0 < length ranges → HasText document story (λ _. ⊤)
+    AreRanges document ranges → RangesAscend story at ranges → 0 < length ranges → HasText document story (λ _. ⊤)
 batch_there document story at [] are ascend some = absurd (omega (arith, some))
 batch_there document story at (range ∷ ranges) are ascend some =
     any_text document story (HasRange range.from range.to)
@@ -142,7 +145,7 @@ first_are document ranges batch first are =
 
 -- each is a range of it
 pub batch_ranges : (document : Document) (story : Story) (at : ℕ) (ranges : List DeletedRange) (text : List Item) →
-    text_at document story ≡ Some text → AreRanges document ranges → Ascend story at ranges →
+    story_text document story ≡ Some text → AreRanges document ranges → RangesAscend story at ranges →
     All (λ range. HasRange range.from range.to text) ranges
 batch_ranges document story at [] text there are ascend =
     All-nil (λ (range : DeletedRange). HasRange range.from range.to text)
@@ -153,12 +156,12 @@ batch_ranges document story at (range ∷ ranges) text there are ascend =
     (batch_ranges document story range.to ranges text there (All-tail (Is document) range ranges are) ascend.1)
 
 pub all_within : (text : List Item) (len : ℕ) (ranges : List DeletedRange) → length text ≡ len →
-    All (λ range. HasRange range.from range.to text) ranges → All (IsWithin len) ranges
-all_within text len [] long all = All-nil (IsWithin len)
+    All (λ range. HasRange range.from range.to text) ranges → All (IsRangeWithin len) ranges
+all_within text len [] long all = All-nil (IsRangeWithin len)
 all_within text len (range ∷ ranges) long all =
     let Has : DeletedRange → Type 0 = λ r. HasRange r.from r.to text in
     let here = All-head Has range ranges all in
-    All-cons (IsWithin len) range ranges (omega (arith, here.0), omega (arith, here.1, long))
+    All-cons (IsRangeWithin len) range ranges (omega (arith, here.0), omega (arith, here.1, long))
     (all_within text len ranges long (All-tail Has range ranges all))
 
 -- ---- one batch after the other

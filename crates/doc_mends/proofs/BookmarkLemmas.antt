@@ -7,12 +7,12 @@ use Rattle.std.specs.List.{count_by}
 use Rattle.std.proofs.lemmas.List.Elements.{All-map, All-weaker}
 use Rattle.std.proofs.lemmas.List.Sums.{sum_by-take-le}
 use Rattle.doc_bits.specs.declared.places.Story.TheVariants.{Main}
-use Rattle.doc_parts.specs.declared.bookmark_order.Bookmark.{Bookmark}
-use Rattle.doc_parts.specs.Bookmarks.{bookmark_cmp, IsFormedBookmark, AreFormedBookmarks}
-use Rattle.plain_doc.specs.declared.item.Item.{Item}
-use Rattle.plain_doc.specs.declared.document.Document.{Document}
-use Rattle.plain_doc.specs.Marks.{HasFormedBookmarks}
-use Rattle.doc_parts.proofs.Public.{in_order_sorted, all_in_order, bookmark_total}
+use Rattle.document_bookmarks.specs.declared.bookmark_order.Bookmark.{Bookmark}
+use Rattle.document_bookmarks.specs.Bookmarks.{bookmark_cmp, IsFormedBookmark, AreFormedBookmarks}
+use Rattle.doc_model.specs.declared.item.Item.{Item}
+use Rattle.doc_model.specs.declared.document.Document.{Document}
+use Rattle.doc_model.specs.Marks.{HasFormedBookmarks}
+use Rattle.document_bookmarks.proofs.Public.{in_order_sorted, all_in_order, bookmark_total}
 use Rattle.doc_losses.specs.References.{Names}
 use Rattle.doc_mends.specs.Cuts.{end_left, bookmark_left, bookmarks_left, reference_flags, references_cut}
 use Rattle.doc_mends.proofs.CutLemmas.{count_true, count_false, length_left}
@@ -21,7 +21,7 @@ use Rattle.doc_mends.specs.Bases.{DropsBases}
 use Rattle.doc_mends.specs.NormalMarks.{normal_item, normal_text}
 use Rattle.doc_mends.specs.PlainRows.{plain_text}
 use Rattle.doc_mends.proofs.TableLemmas.{plain_length}
-use Rattle.doc_mends.specs.Ends.{is_ended, ended, last_left, last_item, ending_item, with_end, with_ends}
+use Rattle.doc_mends.specs.Ends.{is_ended, ended_text, last_left, last_item, ending_item, with_end, with_ends}
 use Rattle.doc_mends.specs.declared.mends.Mend.{Mend}
 use Rattle.doc_mends.specs.Mending.{mended_in_place, MendsKeepBookmarks}
 
@@ -45,7 +45,7 @@ stay_formed len more list longer formed = record {
   in_order = formed.in_order;
 }
 
-ended_longer : (text : List Item) → length text ≤ length (ended text)
+ended_longer : (text : List Item) → length text ≤ length (ended_text text)
 ended_longer text =
     let front : List Item = take (length text - 1) text in
     let left : List Item = last_left (last_item text) in
@@ -56,7 +56,8 @@ ended_longer text =
     let short : length front ≡ length text - 1 = length-take-le (length text - 1) text (omega arith) in
     omega (arith, all, back, short)
 
-if_longer : (is : Bool) (text : List Item) → length text ≤ length (if◌then◌else◌ {A = List Item} is text (ended text))
+if_longer : (is : Bool) (text : List Item) → length text ≤ length (if◌then◌else◌ {A = List Item} is text (ended_text
+    text))
 if_longer true text = omega arith
 if_longer false text = ended_longer text
 

@@ -7,29 +7,30 @@ use Rattle.std.specs.FinMap.{empty}
 use Rattle.prop_map.specs.Settings.{Properties}
 use Rattle.prop_map.specs.Formed.{IsPropertyMap, character_groups, paragraph_groups, section_groups}
 use Rattle.prop_map.proofs.Public.{IsPropertyMap-empty}
-use Rattle.plain_doc.specs.declared.item.Mark.{Mark}
-use Rattle.plain_doc.specs.Document.{HasPropertyMaps}
+use Rattle.doc_model.specs.declared.item.Mark.{Mark}
+use Rattle.doc_model.specs.Document.{HasPropertyMaps}
 use Rattle.std.specs.List.{splice}
 use Rattle.std.proofs.lemmas.List.{append-nil, drop_all, set-get_or}
 use Rattle.std.proofs.lemmas.Option.{get_or_from_slice_get, same_Some}
-use Rattle.plain_doc.specs.declared.item.Item.{Item}
+use Rattle.doc_model.specs.declared.item.Item.{Item}
 use Rattle.doc_patch.specs.Changes.{changed_at, put_changed}
-use Rattle.doc_mends.specs.Ends.{is_ended, ended, with_end, last_item, last_left, ending_item}
+use Rattle.doc_mends.specs.Ends.{is_ended, ended_text, with_end, last_item, last_left, ending_item}
 
 -- ---- a text that ends right stays
 
-if_ended : (is : Bool) (text : List Item) → is ≡ true → (if is then text else ended text) ≡ text
+if_ended : (is : Bool) (text : List Item) → is ≡ true → (if is then text else ended_text text) ≡ text
 if_ended true text is = refl
 if_ended false text is = absurd (cc is)
 
 pub stays_ended : (is_head : Bool) (text : List Item) → is_ended is_head text ≡ true → with_end is_head text ≡ text
 stays_ended is_head text is = if_ended (is_ended is_head text) text is
 
-if_open : (is : Bool) (text : List Item) → is ≡ false → (if is then text else ended text) ≡ ended text
+if_open : (is : Bool) (text : List Item) → is ≡ false → (if is then text else ended_text text) ≡ ended_text text
 if_open true text is = absurd (cc is)
 if_open false text is = refl
 
-pub gets_end : (is_head : Bool) (text : List Item) → is_ended is_head text ≡ false → with_end is_head text ≡ ended text
+pub gets_end : (is_head : Bool) (text : List Item) → is_ended is_head text ≡ false → with_end is_head text ≡ ended_text
+    text
 gets_end is_head text is = if_open (is_ended is_head text) text is
 
 -- an entry that a function leaves as it is
@@ -41,7 +42,7 @@ stays_at f xs k x is same =
 -- the last item and what is in its place
 pub ended_is : (text made fresh : List Item) (len from : ℕ) → len ≡ length text → from ≡ len - 1 →
     fresh ≡ last_left (last_item text) ++ ending_item (last_item text) ∷ [] → made ≡ splice text from len fresh →
-    made ≡ ended text
+    made ≡ ended_text text
 ended_is text made fresh len from len_is from_is fresh_is is =
     let at : from ≡ length text - 1 = from_is ∙ ap (λ (n : ℕ). n - 1) len_is in
     is

@@ -12,11 +12,11 @@ use Rattle.doc_bits.specs.declared.places.Story.{Story}
 use Rattle.doc_bits.specs.declared.places.Story.TheVariants.{Main}
 use Rattle.doc_bits.specs.declared.places.Where.TheVariants as places
 use Rattle.text_codes.specs.Paragraph.{cell_mark}
-use Rattle.plain_doc.specs.declared.item.Item.{Item}
-use Rattle.plain_doc.specs.declared.document.Document.{Document}
+use Rattle.doc_model.specs.declared.item.Item.{Item}
+use Rattle.doc_model.specs.declared.document.Document.{Document}
 use Rattle.plain_doc.specs.declared.rules_texts.Side.{Side}
 use Rattle.plain_doc.specs.declared.rules_texts.Side.TheVariants.{Notes, Heads}
-use Rattle.plain_doc.specs.Rows.{is_row_mark, is_cell_mark, is_mark_outside, is_on, paragraph_value, open_cells}
+use Rattle.plain_doc.specs.Rows.{is_row_mark, is_cell_mark, is_mark_outside, is_byte_one, paragraph_value, open_cells}
 use Rattle.plain_doc.specs.Rows.{HasCells, FitsRow}
 use Rattle.plain_doc.specs.RightDocument.{HoldsAtItems, IsValidDocument}
 use Rattle.plain_doc.proofs.Public.{open_cells-nil, open_cells_more}
@@ -38,8 +38,8 @@ outside_ends_no_cell some false in_table rest is = refl
 
 pub no_cell : (item : Item) → is_mark_outside item ≡ true → is_cell_mark item ≡ false
 no_cell item is =
-    outside_ends_no_cell (is_some item.mark) (item.unit == cell_mark) (is_on (paragraph_value item 0x2416))
-    (not (is_on (paragraph_value item 0x2417))) is
+    outside_ends_no_cell (is_some item.mark) (item.unit == cell_mark) (is_byte_one (paragraph_value item 0x2416))
+    (not (is_byte_one (paragraph_value item 0x2417))) is
 
 counted : (cells : ℕ) (first : Option ℕ) → first ≡ Some cells → is_count cells first ≡ true
 counted cells None is = absurd (cc is)

@@ -6,7 +6,7 @@ use Rattle.std.proofs.lemmas.List.{length-append, length-drop, append-nil, drop_
 use Rattle.doc_bits.specs.declared.places.Story.TheVariants.{Head}
 use Rattle.doc_parts.specs.Tabulated.{tabulate}
 use Rattle.doc_parts.proofs.Public.{tabulate-next, length-tabulate}
-use Rattle.plain_doc.specs.declared.item.Item.{Item}
+use Rattle.doc_model.specs.declared.item.Item.{Item}
 use Rattle.doc_patch.specs.Changes.{changed_at, put_changed}
 use Rattle.doc_losses.specs.References.{Names, head_begin, head_at}
 use Rattle.doc_mends.specs.Cuts.{cut_text, cut_heads}

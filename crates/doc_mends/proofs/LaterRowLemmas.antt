@@ -18,15 +18,17 @@ use Rattle.doc_parts.specs.Tabulated.{tabulate}
 use Rattle.doc_parts.proofs.Public.{tabulate-next, all_tabulated_below, length-tabulate}
 use Rattle.text_codes.specs.Paragraph.{cell_mark}
 use Rattle.fib_versions.specs.declared.further.Further.{Further}
-use Rattle.plain_doc.specs.declared.item.Item.{Item}
-use Rattle.plain_doc.specs.declared.document.Document.{Document}
-use Rattle.plain_doc.specs.Rows.{is_row_mark, is_cell_mark, is_on, paragraph_value, open_cells, cells_after, FitsRow}
-use Rattle.plain_doc.specs.RulesOfTexts.{text_of}
+use Rattle.doc_model.specs.declared.item.Item.{Item}
+use Rattle.doc_model.specs.declared.document.Document.{Document}
+use Rattle.plain_doc.specs.Rows.{is_row_mark, is_cell_mark, is_byte_one, paragraph_value, open_cells, cells_after}
+use Rattle.plain_doc.specs.Rows.{FitsRow}
+use Rattle.plain_doc.specs.RulesOfTexts.{text_of_place}
 use Rattle.plain_doc.proofs.Public.{open_cells_more}
 use Rattle.doc_columns.specs.Attached.{attached_of, has_something}
-use Rattle.doc_losses.specs.References.{Names, mark_of_unit, where_named, mark_of, mark_at, head_begin, head_at}
+use Rattle.doc_losses.specs.References.{Names, mark_of_unit, where_named, marked_story, marked_story_at, head_begin}
+use Rattle.doc_losses.specs.References.{head_at}
 use Rattle.doc_mends.specs.Cuts.{unflagged, cut_text, cut_heads, references_cut}
-use Rattle.doc_mends.specs.Ends.{is_ended, last_left, without_section, ending_item, ended, with_end}
+use Rattle.doc_mends.specs.Ends.{is_ended, last_left, without_section, ending_item, ended_text, with_end}
 use Rattle.doc_mends.specs.Ends.{with_ends}
 use Rattle.doc_mends.specs.NormalMarks.{with_normal_marks}
 use Rattle.doc_mends.specs.PlainRows.{plain_text, with_plain_rows}
@@ -54,8 +56,8 @@ inert_after item n inert = after_none (is_row_mark item) (is_cell_mark item) n i
 
 inert_unit : (item : Item) → (item.unit == cell_mark) ≡ false → IsInert item
 inert_unit item unit = (
-  and_left (item.unit == cell_mark) (is_on (paragraph_value item 0x2417)) unit,
-  and_left (item.unit == cell_mark) (not (is_on (paragraph_value item 0x2417))) unit,
+  and_left (item.unit == cell_mark) (is_byte_one (paragraph_value item 0x2417)) unit,
+  and_left (item.unit == cell_mark) (not (is_byte_one (paragraph_value item 0x2417))) unit,
 )
 
 no_mark_of : (story : Story) → mark_of_unit story cell_mark ≡ None
@@ -79,7 +81,8 @@ by_something : (some : Bool) (o : Option Further) →
 by_something true o is = absurd (cc is)
 by_something false o is = is
 
-inert_mark : (names : Names) (story : Story) (cp : ℕ) (item : Item) → is_some (mark_of names story cp item) ≡ true →
+inert_mark : (names : Names) (story : Story) (cp : ℕ) (item : Item) → is_some (marked_story names story cp item) ≡ true
+    →
     IsInert item
 inert_mark names story cp item is =
     inert_unit item
@@ -103,15 +106,16 @@ no_items : FitsAndHas [] (open_cells [])
 no_items = (λ i item is. absurd (cc is), refl)
 
 cut_front : (names : Names) (story : Story) (begin : ℕ) (text : List Item) → RowsFit text → (n : ℕ) →
-    n ≤ length text → FitsAndHas (unflagged (map is_some (tabulate (mark_at names story begin text) n)) (take n text))
+    n ≤ length text → FitsAndHas (unflagged (map is_some (tabulate (marked_story_at names story begin text) n)) (take n
+    text))
     (open_cells (take n text))
 cut_front names story begin text fit zero low =
     subst (λ (t : List Item). FitsAndHas t (open_cells (take 0 text)))
-    (sym (unflagged-nil (map is_some (tabulate (mark_at names story begin text) 0)))) no_items
+    (sym (unflagged-nil (map is_some (tabulate (marked_story_at names story begin text) 0)))) no_items
 cut_front names story begin text fit (suc n) low =
     let it = there_is text n (omega (arith, low)) in
     let item = it.0 in
-    let f : ℕ → Option Further = mark_at names story begin text in
+    let f : ℕ → Option Further = marked_story_at names story begin text in
     let front : List Item = take n text in
     let flags : List Bool = map is_some (tabulate f n) in
     let more : List Bool = is_some (f n) ∷ [] in
@@ -131,8 +135,8 @@ cut_front names story begin text fit (suc n) low =
     ∙ ap (λ (t : List Item). unflagged flags front ++ t) (unflagged-one (is_some (f n)) item))) in
     let cells : open_cells (take (n + 1) text) ≡ cells_after (open_cells front) item =
     open_cells_more text n item (omega (arith, low)) (sym (get_or_from_slice_get text n item item it.1)) in
-    let mark : f n ≡ mark_of names story (begin + n) item =
-    ap (option_and_then (mark_of names story (begin + n))) it.1 in
+    let mark : f n ≡ marked_story names story (begin + n) item =
+    ap (option_and_then (marked_story names story (begin + n))) it.1 in
     let one =
     one_kept (is_some (f n)) (unflagged flags front) item (open_cells front)
     (cut_front names story begin text fit n (omega (arith, low))) (fit n item it.1)
@@ -147,7 +151,7 @@ cut_front names story begin text fit (suc n) low =
 cut_fits : (names : Names) (story : Story) (begin : ℕ) (text : List Item) → FitsAndHas text 0 →
     FitsAndHas (cut_text names story begin text) 0
 cut_fits names story begin text is =
-    let flags : List Bool = map is_some (tabulate (mark_at names story begin text) (length text)) in
+    let flags : List Bool = map is_some (tabulate (marked_story_at names story begin text) (length text)) in
     let all = cut_front names story begin text is.0 (length text) (omega arith) in
     let whole : FitsAndHas (unflagged flags text) (open_cells text) =
     subst (λ (t : List Item). FitsAndHas (unflagged flags t) (open_cells t)) (take-length text) all in
@@ -200,7 +204,7 @@ with_ending front last is = (
   cells_onto_last front (ending_item last) ∙ is.1,
 )
 
-ended_fits : (text : List Item) → FitsAndHas text 0 → FitsAndHas (ended text) 0
+ended_fits : (text : List Item) → FitsAndHas text 0 → FitsAndHas (ended_text text) 0
 ended_fits [] is = with_ending [] None is
 ended_fits (first ∷ rest) is =
     let text : List Item = first ∷ rest in
@@ -215,7 +219,7 @@ ended_fits (first ∷ rest) is =
     ∙ (take_more text n last (slice_get_within text n last it.1)
     ∙ ap (λ (x : Item). front ++ x ∷ []) (get_or_from_slice_get text n last last it.1))) in
     let left : List Item = without_section last ∷ [] in
-    let made : ended text ≡ (front ++ left) ++ ending_item (Some last) ∷ [] =
+    let made : ended_text text ≡ (front ++ left) ++ ending_item (Some last) ∷ [] =
     ap (λ (o : Option Item). front ++ (last_left o ++ ending_item o ∷ [])) it.1
     ∙ sym (append_assoc front left (ending_item (Some last) ∷ [])) in
     subst (λ (t : List Item). FitsAndHas t 0) (sym made)
@@ -228,7 +232,7 @@ if_fits true one other a b = a
 if_fits false one other a b = b
 
 end_fits : (is_head : Bool) (text : List Item) → FitsAndHas text 0 → FitsAndHas (with_end is_head text) 0
-end_fits is_head text is = if_fits (is_ended is_head text) text (ended text) is (ended_fits text is)
+end_fits is_head text is = if_fits (is_ended is_head text) text (ended_text text) is (ended_fits text is)
 
 -- ---- a document
 
@@ -262,7 +266,7 @@ abbrev later : Names → Document → Document
 later names document = with_ends (references_cut names (with_plain_rows document))
 
 of_part : (names : Names) (document : Document) (part : Where) (text : List Item) →
-    text_of (later names document) part ≡ Some text → Whole text
+    text_of_place (later names document) part ≡ Some text → Whole text
 of_part names document places.File text is = absurd (cc is)
 of_part names document places.Wd text is = absurd (cc is)
 of_part names document places.Table text is = absurd (cc is)
@@ -279,6 +283,6 @@ of_part names document (places.Head n) text is =
 
 pub mended_whole : MendedRowsAreWhole
 mended_whole names meant mended mends is place broken =
-    let made : text_of (later names (with_normal_marks is.based)) place.0 ≡ Some broken.text =
-    sym (ap (λ (d : Document). text_of d place.0) is.document_is) ∙ broken.there in
+    let made : text_of_place (later names (with_normal_marks is.based)) place.0 ≡ Some broken.text =
+    sym (ap (λ (d : Document). text_of_place d place.0) is.document_is) ∙ broken.there in
     no_row_breaks broken.text place.1 (of_part names (with_normal_marks is.based) place.0 broken.text made) broken.broken

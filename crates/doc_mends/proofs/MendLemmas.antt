@@ -19,11 +19,11 @@ use Rattle.prop_map.specs.Settings.{Properties}
 use Rattle.prop_map.specs.Formed.{IsMapEntry, character_groups, paragraph_groups}
 use Rattle.prop_map.proofs.Public.{IsPropertyMap-empty, stay_formed}
 use Rattle.doc_bits.proofs.Public.{one_byte, set_here, set_other}
-use Rattle.plain_doc.specs.declared.item.Item.{Item}
-use Rattle.plain_doc.specs.declared.document.Document.{Document}
-use Rattle.plain_doc.proofs.Public.{length-splice}
-use Rattle.doc_patch.specs.Changes.{map_range, changed_at, put_changed, modified_item, with_text, changed}
-use Rattle.doc_patch.specs.Places.{text_at, HasText, HasRange}
+use Rattle.doc_model.specs.declared.item.Item.{Item}
+use Rattle.doc_model.specs.declared.document.Document.{Document}
+use Rattle.doc_model.proofs.Public.{length-splice}
+use Rattle.doc_patch.specs.Changes.{map_range, changed_at, put_changed, modified_item, text_changed, changed}
+use Rattle.doc_patch.specs.Places.{story_text, HasText, HasRange}
 use Rattle.doc_mends.specs.declared.mends.DeletedRange.{DeletedRange}
 use Rattle.doc_mends.specs.declared.mends.Mend.TheVariants.{StrikeDeleted}
 use Rattle.doc_mends.specs.declared.judging.Judged.{Judged}
@@ -71,8 +71,8 @@ entries_kept entries number other from to f there =
 
 pub texts_kept : (document : Document) (story other : Story) (from to : ℕ) (f : Item → Item) →
     HasText document story (HasRange from to) →
-    lengths (text_at (with_text (λ text. map_range f text from to) story document) other) ≡ lengths
-    (text_at document other)
+    lengths (story_text (text_changed (λ text. map_range f text from to) story document) other) ≡ lengths
+    (story_text document other)
 texts_kept document Main Main from to f there = ap Some (length-map_range f document.main from to there)
 texts_kept document Main (Note n) from to f there = refl
 texts_kept document Main (Head n) from to f there = refl
@@ -100,8 +100,8 @@ ranges_stay document range [] there are = All-nil
 ranges_stay document range (other ∷ ranges) there are =
     All-cons (λ (r : DeletedRange). HasText (changed (strike_of range) document) r.story (HasRange
     r.from r.to)) other ranges
-    (range_kept (text_at document other.story)
-    (text_at (changed (strike_of range) document) other.story) other.from other.to
+    (range_kept (story_text document other.story)
+    (story_text (changed (strike_of range) document) other.story) other.from other.to
     (texts_kept document range.story other.story range.from range.to (modified_item striking) there)
     (All-head (λ (r : DeletedRange). HasText document r.story (HasRange r.from r.to)) other ranges are))
     (ranges_stay document range ranges there (All-tail (λ (r : DeletedRange). HasText document r.story (HasRange r.from

@@ -6,5 +6,7 @@ pub use Rattle.doc_mends.proofs.BookmarkLemmas.{bookmarks_stay}
 pub use Rattle.doc_mends.proofs.MendLemmas.{filtered, length-map_range, range_kept, ranges_stay, texts_kept}
 -- A document is mended in one way.
 pub use Rattle.doc_mends.proofs.OneLemmas.{one_way}
+-- The rows of a text, one item after the other.
+pub use Rattle.doc_mends.proofs.RowLemmas.{listed_all}
 -- A document that breaks no rule has no mends.
 pub use Rattle.doc_mends.proofs.SoundLemmas.{no_mends}

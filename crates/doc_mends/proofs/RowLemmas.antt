@@ -11,8 +11,8 @@ use Rattle.std.proofs.lemmas.Option.{same_Some, slice_get_within, get_or_from_sl
 use Rattle.doc_bits.proofs.Public.{from_map, get-map, there_is}
 use Rattle.doc_bits.specs.declared.places.Story.{Story}
 use Rattle.doc_parts.specs.Tabulated.{tabulate}
-use Rattle.plain_doc.specs.declared.item.Item.{Item}
-use Rattle.plain_doc.specs.declared.item.Mark.{Mark}
+use Rattle.doc_model.specs.declared.item.Item.{Item}
+use Rattle.doc_model.specs.declared.item.Mark.{Mark}
 use Rattle.plain_doc.specs.Rows.{is_row_mark, is_cell_mark}
 use Rattle.doc_columns.specs.declared.attached.Attached.{Attached}
 use Rattle.doc_columns.specs.Attached.{attached_of}
@@ -21,7 +21,7 @@ use Rattle.doc_mends.specs.declared.rows.OpenRow.{OpenRow}
 use Rattle.doc_mends.specs.BrokenRows.{parts_rows, open_items, open_length, cells_of_row, mark_length, marked_item}
 use Rattle.doc_mends.specs.BrokenRows.{fits_behind, broken_row, broken_row_at, text_broken_rows}
 use Rattle.doc_mends.specs.OpenRows.{IsOpenBefore}
-use Rattle.doc_parts.proofs.Public.{one_at_most}
+use Rattle.document_bookmarks.proofs.Public.{one_at_most}
 use Rattle.plain_doc.proofs.Public.{one_cell_more}
 
 -- ---- the open row after one item more

@@ -13,11 +13,11 @@ use Rattle.doc_bits.specs.declared.places.Story.{Story}
 use Rattle.doc_bits.specs.declared.places.Story.TheVariants.{Main}
 use Rattle.text_codes.specs.Paragraph.{paragraph_mark}
 use Rattle.style_sheet.specs.Sheet.{Sheet}
-use Rattle.style_sheet.specs.Chain.{kind_at, base_at, HasNoChain, HasSoundBases}
+use Rattle.style_sheet.specs.Chain.{style_kind_at, base_at, HasNoChain, HasSoundBases}
 use Rattle.style_sheet.proofs.Public.{climbed_none, next_kind}
-use Rattle.plain_doc.specs.declared.item.Item.{Item}
-use Rattle.plain_doc.specs.declared.item.Mark.{Mark}
-use Rattle.plain_doc.specs.declared.document.Document.{Document}
+use Rattle.doc_model.specs.declared.item.Item.{Item}
+use Rattle.doc_model.specs.declared.item.Mark.{Mark}
+use Rattle.doc_model.specs.declared.document.Document.{Document}
 use Rattle.plain_doc.specs.declared.rules_texts.Side.{Side}
 use Rattle.plain_doc.specs.declared.rules_texts.Side.TheVariants.{Notes, Heads}
 use Rattle.plain_doc.specs.RulesOfTexts.{EndsRight, IsHead, HasParagraphStyle}
@@ -56,24 +56,25 @@ and_not x true is = and_false x
 and_not x false is = absurd (cc is)
 
 -- a base is of the kind of its style
-base_kind : (sheet : Sheet) (istd base : ℕ) → HasSoundBases sheet → 0 < kind_at sheet istd →
-    base_at sheet istd ≡ Some base → kind_at sheet base ≡ kind_at sheet istd
+base_kind : (sheet : Sheet) (istd base : ℕ) → HasSoundBases sheet → 0 < style_kind_at sheet istd →
+    base_at sheet istd ≡ Some base → style_kind_at sheet base ≡ style_kind_at sheet istd
 base_kind sheet istd base sound some is =
     let chain = sound.chains istd some in
     next_kind sheet istd 0 istd base chain.0 (climbed_none sheet istd some) is chain.1
 
 by_base : (sheet : Sheet) (kind : ℕ) (o : Option ℕ) →
-    ((base : ℕ) → o ≡ Some base → 0 < kind → kind_at sheet base ≡ kind) →
+    ((base : ℕ) → o ≡ Some base → 0 < kind → style_kind_at sheet base ≡ kind) →
     (nat_lt 0 kind && is_other_kind sheet kind o) ≡ false
 by_base sheet kind None same = and_false (nat_lt 0 kind)
 by_base sheet zero (Some base) same = refl
 by_base sheet (suc kind) (Some base) same =
-    and_not (nat_lt 0 (suc kind)) (kind_at sheet base == suc kind) (eq-eqb (kind_at sheet base) (suc kind)
+    and_not (nat_lt 0 (suc kind)) (style_kind_at sheet base == suc kind) (eq-eqb (style_kind_at sheet base) (suc kind)
     (same base refl (omega arith)))
 
 no_other_base : (sheet : Sheet) → HasSoundBases sheet → (istd : ℕ) → has_other_base sheet istd ≡ false
 no_other_base sheet sound istd =
-    by_base sheet (kind_at sheet istd) (base_at sheet istd) (λ base is some. base_kind sheet istd base sound some is)
+    by_base sheet (style_kind_at sheet istd) (base_at sheet istd) (λ base is some. base_kind sheet istd base sound some
+    is)
 
 no_endless : (sheet : Sheet) (count : ℕ) (istds : List ℕ) → HasSoundBases sheet → AreEndless sheet count istds →
     istds ≡ []
@@ -109,12 +110,12 @@ if_right true mark is = refl
 if_right false mark is = absurd (cc is)
 
 right_mark : (sheet : Sheet) (story : Story) (at : ℕ) (o : Option Mark) →
-    ((mark : Mark) → o ≡ Some mark → kind_at sheet mark.istd ≡ 1) →
+    ((mark : Mark) → o ≡ Some mark → style_kind_at sheet mark.istd ≡ 1) →
     option_and_then (wrong_mark sheet story at) o ≡ None
 right_mark sheet story at None right = refl
 right_mark sheet story at (Some mark) right =
-    if_right (kind_at sheet mark.istd == 1) (record { story = story; at = at; istd = mark.istd })
-    (eq-eqb (kind_at sheet mark.istd) 1 (right mark refl))
+    if_right (style_kind_at sheet mark.istd == 1) (record { story = story; at = at; istd = mark.istd })
+    (eq-eqb (style_kind_at sheet mark.istd) 1 (right mark refl))
 
 no_marks : (sheet : Sheet) (story : Story) (text : List Item) →
     HoldsAtItems text (λ i item. HasParagraphStyle sheet item) → text_wrong_marks sheet story text ≡ []

@@ -16,9 +16,9 @@ use Rattle.doc_bits.proofs.Public.{range_mid, range_split}
 use Rattle.prop_map.specs.Settings.{Properties}
 use Rattle.prop_map.specs.Formed.{IsPropertyMap, character_groups, paragraph_groups}
 use Rattle.prop_map.proofs.Public.{empty-overlay, overlay_formed}
-use Rattle.plain_doc.specs.declared.item.Item.{Item}
-use Rattle.plain_doc.specs.declared.item.Mark.{Mark}
-use Rattle.plain_doc.specs.Document.{HasPropertyMaps}
+use Rattle.doc_model.specs.declared.item.Item.{Item}
+use Rattle.doc_model.specs.declared.item.Mark.{Mark}
+use Rattle.doc_model.specs.Document.{HasPropertyMaps}
 use Rattle.doc_columns.specs.declared.attached.Attached.{Attached}
 use Rattle.doc_columns.specs.Attached.{attached_of}
 use Rattle.doc_columns.specs.Columns.{items_of}
@@ -26,7 +26,7 @@ use Rattle.doc_columns.proofs.Public.{items_of-maps}
 use Rattle.doc_patch.specs.Changes.{map_range, modified_item, modified_mark}
 use Rattle.doc_mends.specs.declared.mends.DeletedRange.{DeletedRange}
 use Rattle.doc_mends.specs.Mends.{strike, striking}
-use Rattle.doc_mends.specs.Striking.{struck_chp, range_struck, chps_struck, items_struck, text_struck, IsWithin}
+use Rattle.doc_mends.specs.Striking.{struck_chp, range_struck, chps_struck, items_struck, text_struck, IsRangeWithin}
 use Rattle.doc_mends.specs.Striking.{part_value, part_values}
 use Rattle.doc_mends.proofs.MendLemmas.{range_at, striking_formed}
 
@@ -193,13 +193,13 @@ same_map_range {A = A} xs from to ordered =
 
 -- one that no strike changes
 column_stays : {B : Type 0} (h : Item → B) → ((item : Item) → h (modified_item striking item) ≡ h item) → (len : ℕ)
-    (ranges : List DeletedRange) (text : List Item) → All (IsWithin len) ranges →
+    (ranges : List DeletedRange) (text : List Item) → All (IsRangeWithin len) ranges →
     map h (text_struck ranges text) ≡ map h text
 column_stays h same len [] text within = refl
 column_stays {B = B} h same len (range ∷ ranges) text within =
-    column_stays h same len ranges (items_struck text range) (All-tail (IsWithin len) range ranges within)
+    column_stays h same len ranges (items_struck text range) (All-tail (IsRangeWithin len) range ranges within)
     ∙ (map_column h (modified_item striking) (λ (x : B). x) text range.from range.to same
-    ∙ same_map_range (map h text) range.from range.to (All-head (IsWithin len) range ranges within).0)
+    ∙ same_map_range (map h text) range.from range.to (All-head (IsRangeWithin len) range ranges within).0)
 
 chps_are : (ranges : List DeletedRange) (text : List Item) →
     map (λ item. item.chp) (text_struck ranges text) ≡ chps_struck ranges (map (λ item. item.chp) text)
@@ -231,7 +231,7 @@ pub record AreStruckColumns (ranges : List DeletedRange) (text : List Item) (uni
   pub long : length units ≡ length text
 
 pub struck_columns : (len : ℕ) (ranges : List DeletedRange) (text : List Item) (units : List ℕ) (chps : List Properties)
-    (attachments : List Attached) → All (IsWithin len) ranges → units ≡ map (λ item. item.unit) text →
+    (attachments : List Attached) → All (IsRangeWithin len) ranges → units ≡ map (λ item. item.unit) text →
     chps ≡ chps_struck ranges (map (λ item. item.chp) text) → attachments ≡ map attached_of text →
     AreStruckColumns ranges text units chps attachments
 struck_columns len ranges text units chps attachments within a b c = record {

@@ -14,13 +14,13 @@ use Rattle.doc_bits.specs.declared.places.Story.TheVariants.{Main}
 use Rattle.doc_bits.proofs.Public.{from_map, there_is}
 use Rattle.prop_map.specs.Formed.{IsPropertyMap, paragraph_groups}
 use Rattle.prop_map.proofs.Public.{without_formed}
-use Rattle.plain_doc.specs.declared.item.Item.{Item}
-use Rattle.plain_doc.specs.declared.item.Mark.{Mark}
-use Rattle.plain_doc.specs.declared.document.Document.{Document}
+use Rattle.doc_model.specs.declared.item.Item.{Item}
+use Rattle.doc_model.specs.declared.item.Mark.{Mark}
+use Rattle.doc_model.specs.declared.document.Document.{Document}
 use Rattle.plain_doc.specs.declared.rules_texts.Side.{Side}
 use Rattle.plain_doc.specs.declared.rules_texts.Side.TheVariants.{Notes, Heads}
-use Rattle.plain_doc.specs.Document.{HasPropertyMaps}
-use Rattle.plain_doc.proofs.Public.{length-splice}
+use Rattle.doc_model.specs.Document.{HasPropertyMaps}
+use Rattle.doc_model.proofs.Public.{length-splice}
 use Rattle.doc_patch.specs.Changes.{changed_at, put_changed, map_range}
 use Rattle.doc_losses.proofs.Public.{none_listed, none_joined, left_nil, right_nil, nothing_listed}
 use Rattle.doc_mends.specs.declared.mends.BrokenRow.{BrokenRow}

@@ -9,16 +9,18 @@ use Rattle.std.proofs.lemmas.Option.{slice_get_within}
 use Rattle.doc_bits.specs.declared.places.Story.{Story}
 use Rattle.doc_bits.specs.declared.places.Story.TheVariants.{Main, Head}
 use Rattle.doc_bits.proofs.Public.{All_at}
-use Rattle.doc_parts.specs.declared.bookmark_order.Bookmark.{Bookmark}
-use Rattle.doc_parts.specs.Bookmarks.{bookmark_cmp, IsFormedBookmark, AreFormedBookmarks}
-use Rattle.doc_parts.specs.Order.{in_order}
+use Rattle.document_bookmarks.specs.declared.bookmark_order.Bookmark.{Bookmark}
+use Rattle.document_bookmarks.specs.Bookmarks.{bookmark_cmp, IsFormedBookmark, AreFormedBookmarks}
+use Rattle.document_bookmarks.specs.Order.{in_order}
 use Rattle.doc_parts.specs.Tabulated.{tabulate}
-use Rattle.doc_parts.proofs.Public.{tabulate_is, bookmark_total, bookmark_alone, sorted_is_in_order, length-tabulate}
-use Rattle.plain_doc.specs.declared.item.Item.{Item}
-use Rattle.plain_doc.specs.declared.document.Document.{Document}
-use Rattle.plain_doc.specs.Marks.{HasFormedBookmarks}
+use Rattle.doc_parts.proofs.Public.{tabulate_is, length-tabulate}
+use Rattle.document_bookmarks.proofs.Public.{bookmark_total, bookmark_alone, sorted_is_in_order}
+use Rattle.doc_model.specs.declared.item.Item.{Item}
+use Rattle.doc_model.specs.declared.document.Document.{Document}
+use Rattle.doc_model.specs.Marks.{HasFormedBookmarks}
 use Rattle.text_losses.specs.declared.features.Reference.{Reference}
-use Rattle.doc_losses.specs.References.{Names, mark_at, text_marks, text_references, head_begin, head_at, head_references}
+use Rattle.doc_losses.specs.References.{Names, marked_story_at, text_marks, text_references, head_begin, head_at}
+use Rattle.doc_losses.specs.References.{head_references}
 use Rattle.doc_losses.specs.References.{all_head_references, references}
 use Rattle.doc_losses.proofs.Public.{none_joined, left_nil, right_nil}
 use Rattle.doc_mends.specs.Cuts.{reference_flags, unflagged, cut_text, cut_heads, end_left, bookmark_left, bookmarks_left}
@@ -30,7 +32,7 @@ pub length-flags : (names : Names) (story : Story) (begin : ℕ) (text : List It
     length (reference_flags names story begin text) ≡ length text
 length-flags names story begin text =
     length-map (text_marks names story begin text) is_some
-    ∙ length-tabulate (mark_at names story begin text) (length text)
+    ∙ length-tabulate (marked_story_at names story begin text) (length text)
 
 uncut_text : (names : Names) (story : Story) (begin : ℕ) (text : List Item) →
     text_references names story begin text ≡ [] → cut_text names story begin text ≡ text

@@ -12,7 +12,7 @@ use Rattle.std.proofs.lemmas.List.Sums.{fold-append, sum_by-cons, sum_by-append}
 use Rattle.doc_bits.proofs.Public.{range_mid, there_is}
 use Rattle.doc_bits.specs.declared.places.Story.TheVariants.{Main}
 use Rattle.doc_parts.specs.Tabulated.{tabulate}
-use Rattle.plain_doc.specs.declared.item.Item.{Item}
+use Rattle.doc_model.specs.declared.item.Item.{Item}
 use Rattle.plain_doc.specs.Rows.{is_row_mark, is_cell_mark, is_mark_outside, paragraph_value, FitsRow}
 use Rattle.plain_doc.specs.Rows.{BreaksRows}
 use Rattle.plain_doc.proofs.Public.{open_cells-nil}

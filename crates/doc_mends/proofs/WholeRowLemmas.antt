@@ -12,8 +12,9 @@ use Rattle.std.proofs.lemmas.List.Sums.{sum_by-cons}
 use Rattle.std.proofs.lemmas.Option.{same_Some, slice_get_within}
 use Rattle.doc_bits.proofs.Public.{slice_get_push, slice_get_before, first_false}
 use Rattle.text_codes.specs.Paragraph.{paragraph_mark, cell_mark}
-use Rattle.plain_doc.specs.declared.item.Item.{Item}
-use Rattle.plain_doc.specs.Rows.{is_row_mark, is_cell_mark, is_mark_outside, is_on, paragraph_value, HasCells, FitsRow}
+use Rattle.doc_model.specs.declared.item.Item.{Item}
+use Rattle.plain_doc.specs.Rows.{is_row_mark, is_cell_mark, is_mark_outside, is_byte_one, paragraph_value, HasCells}
+use Rattle.plain_doc.specs.Rows.{FitsRow}
 use Rattle.plain_doc.specs.Rows.{open_cells}
 use Rattle.doc_mends.specs.BrokenRows.{parts_rows, is_count, names_cells, fits_row}
 use Rattle.doc_mends.specs.PlainRows.{plain_item}
@@ -95,12 +96,13 @@ no_cell_unit item = other_unit (item.unit == cell_mark) item.unit refl
 
 no_row_mark : (item : Item) → is_row_mark (plain_item item) ≡ false
 no_row_mark item =
-    first_false ((plain_item item).unit == cell_mark) (is_on (paragraph_value (plain_item item) 0x2417)) (no_cell_unit
+    first_false ((plain_item item).unit == cell_mark) (is_byte_one (paragraph_value (plain_item item) 0x2417))
+    (no_cell_unit
     item)
 
 no_cell_mark : (item : Item) → is_cell_mark (plain_item item) ≡ false
 no_cell_mark item =
-    first_false ((plain_item item).unit == cell_mark) (not (is_on (paragraph_value (plain_item item) 0x2417)))
+    first_false ((plain_item item).unit == cell_mark) (not (is_byte_one (paragraph_value (plain_item item) 0x2417)))
     (no_cell_unit item)
 
 none_after : (row cell : Bool) (n : ℕ) → row ≡ false → cell ≡ false → n ≡ 0 →
@@ -157,8 +159,8 @@ row_or_outside some false in_table rest is = refl
 
 no_row_outside : (item : Item) → is_mark_outside item ≡ true → is_row_mark item ≡ false
 no_row_outside item is =
-    row_or_outside (is_some item.mark) (item.unit == cell_mark) (is_on (paragraph_value item 0x2416))
-    (is_on (paragraph_value item 0x2417)) is
+    row_or_outside (is_some item.mark) (item.unit == cell_mark) (is_byte_one (paragraph_value item 0x2416))
+    (is_byte_one (paragraph_value item 0x2417)) is
 
 -- `fits_row` says so
 pub fits_rule : (cells : ℕ) (item : Item) → fits_row cells item ≡ true → FitsRow cells item

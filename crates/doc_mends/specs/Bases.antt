@@ -6,21 +6,21 @@ use Rattle.std.specs.List.{fold, Contains}
 use Rattle.std.specs.List.Sorted.{IsStrictlyIncreasing}
 use Rattle.doc_parts.specs.Tabulated.{tabulate}
 use Rattle.style_sheet.specs.Sheet.{Sheet}
-use Rattle.style_sheet.specs.Chain.{kind_at, base_at, HasNoChain}
+use Rattle.style_sheet.specs.Chain.{style_kind_at, base_at, HasNoChain}
 use Rattle.style_sheet.specs.Changes.{base_dropped}
-use Rattle.plain_doc.specs.declared.document.Document.{Document}
+use Rattle.doc_model.specs.declared.document.Document.{Document}
 use Rattle.doc_mends.specs.declared.mends.Mend.{Mend}
 use Rattle.doc_mends.specs.declared.mends.Mend.TheVariants.{DropBase}
 
 -- a base that is no style of this kind
 abbrev pub is_other_kind : Sheet → ℕ → Option ℕ → Bool
 is_other_kind sheet kind None = false
-is_other_kind sheet kind (Some base) = not (kind_at sheet base == kind)
+is_other_kind sheet kind (Some base) = not (style_kind_at sheet base == kind)
 
 -- a style of paragraphs or characters that has such a base
 abbrev pub has_other_base : Sheet → ℕ → Bool
 has_other_base sheet istd =
-    nat_lt 0 (kind_at sheet istd) && is_other_kind sheet (kind_at sheet istd) (base_at sheet istd)
+    nat_lt 0 (style_kind_at sheet istd) && is_other_kind sheet (style_kind_at sheet istd) (base_at sheet istd)
 
 abbrev pub other_bases : Sheet → List ℕ
 other_bases sheet = filter (has_other_base sheet) (tabulate (λ istd. istd) (length sheet.styles))

@@ -10,18 +10,18 @@ pub record IsNext (story : Story) (at : ℕ) (range : DeletedRange) : Type 0 whe
   pub ahead : at ≤ range.from
 
 -- all are ranges of this text, the first of which begins at this place, or behind
-abbrev pub Ascend : Story → ℕ → List DeletedRange → Type 0
-Ascend story at [] = ⊤
-Ascend story at (range ∷ ranges) = IsNext story at range × Ascend story range.to ranges
+abbrev pub RangesAscend : Story → ℕ → List DeletedRange → Type 0
+RangesAscend story at [] = ⊤
+RangesAscend story at (range ∷ ranges) = IsNext story at range × RangesAscend story range.to ranges
 
 -- where the last of them ends, or this place where there is none
-abbrev pub last_end : ℕ → List DeletedRange → ℕ
-last_end at [] = at
-last_end at (range ∷ ranges) = last_end range.to ranges
+abbrev pub last_range_end : ℕ → List DeletedRange → ℕ
+last_range_end at [] = at
+last_range_end at (range ∷ ranges) = last_range_end range.to ranges
 
 -- the first of the ranges are such, one at least
 pub record IsFirstBatch (ranges : List DeletedRange) (batch : Batch) : Type 0 where
   pub some : 0 < length batch.ranges.now
   pub within : length batch.ranges.now ≤ length ranges
   pub front : batch.ranges.now ≡ take (length batch.ranges.now) ranges
-  pub ascend : Ascend batch.story 0 batch.ranges.now
+  pub ascend : RangesAscend batch.story 0 batch.ranges.now

@@ -4,12 +4,12 @@ use Rattle.std.specs.Prelude.{Some, slice_get}
 use Rattle.std.specs.List.{count_by}
 use Rattle.doc_bits.specs.declared.places.Story.{Story}
 use Rattle.doc_bits.specs.declared.places.Story.TheVariants.{Main, Head}
-use Rattle.doc_parts.specs.declared.bookmark_order.Bookmark.{Bookmark}
-use Rattle.doc_parts.specs.Bookmarks.{bookmark_cmp}
-use Rattle.doc_parts.specs.Order.{in_order}
+use Rattle.document_bookmarks.specs.declared.bookmark_order.Bookmark.{Bookmark}
+use Rattle.document_bookmarks.specs.Bookmarks.{bookmark_cmp}
+use Rattle.document_bookmarks.specs.Order.{in_order}
 use Rattle.doc_parts.specs.Tabulated.{tabulate}
-use Rattle.plain_doc.specs.declared.item.Item.{Item}
-use Rattle.plain_doc.specs.declared.document.Document.{Document}
+use Rattle.doc_model.specs.declared.item.Item.{Item}
+use Rattle.doc_model.specs.declared.document.Document.{Document}
 use Rattle.doc_losses.specs.References.{Names, text_marks, head_begin, head_at}
 
 -- which items of a text are such references
@@ -35,7 +35,7 @@ abbrev pub end_left : List Bool → ℕ → ℕ
 end_left flags end = count_by not (take end flags)
 
 -- that of each place up to the end
-pub record AreCounts (flags : List Bool) (counts : List ℕ) : Type 0 where
+pub record AreEndCounts (flags : List Bool) (counts : List ℕ) : Type 0 where
   pub len : length counts ≡ length flags + 1
   pub each : (k : ℕ) → k ≤ length flags → slice_get counts k ≡ Some (end_left flags k)
 

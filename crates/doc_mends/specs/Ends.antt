@@ -8,8 +8,8 @@ use Rattle.doc_bits.specs.declared.places.Story.{Story}
 use Rattle.doc_bits.specs.declared.places.Story.TheVariants.{Main}
 use Rattle.doc_parts.specs.Tabulated.{tabulate}
 use Rattle.text_codes.specs.Paragraph.{paragraph_mark, cell_mark}
-use Rattle.plain_doc.specs.declared.item.Item.{Item}
-use Rattle.plain_doc.specs.declared.document.Document.{Document}
+use Rattle.doc_model.specs.declared.item.Item.{Item}
+use Rattle.doc_model.specs.declared.document.Document.{Document}
 use Rattle.plain_doc.specs.declared.rules_texts.Side.{Side}
 use Rattle.plain_doc.specs.declared.rules_texts.Side.TheVariants.{Notes, Heads}
 use Rattle.doc_mends.specs.Sides.{side_name}
@@ -49,11 +49,11 @@ abbrev pub last_left : Option Item → List Item
 last_left None = []
 last_left (Some item) = without_section item ∷ []
 
-abbrev pub ended : List Item → List Item
-ended text = take (length text - 1) text ++ (last_left (last_item text) ++ ending_item (last_item text) ∷ [])
+abbrev pub ended_text : List Item → List Item
+ended_text text = take (length text - 1) text ++ (last_left (last_item text) ++ ending_item (last_item text) ∷ [])
 
 abbrev pub with_end : Bool → List Item → List Item
-with_end is_head text = if is_ended is_head text then text else ended text
+with_end is_head text = if is_ended is_head text then text else ended_text text
 
 -- the document whose texts all end so
 abbrev pub with_ends : Document → Document

@@ -2,9 +2,9 @@
 use Rattle.std.specs.Prelude.{◌≡◌, ◌^◌, ◌<◌, Bool, List, [], ◌∷◌, ◌++◌, map, All, if◌then◌else◌}
 use Rattle.prop_map.specs.Formed.{IsPropertyMap, character_groups}
 use Rattle.run_lists.specs.Spread.{expanded, total_len}
-use Rattle.run_lists.specs.Places.{IsAt}
-use Rattle.plain_doc.specs.declared.item.Item.{Item}
-use Rattle.plain_doc.specs.declared.document.Document.{Document}
+use Rattle.run_lists.specs.Places.{IsAtRunBegin}
+use Rattle.doc_model.specs.declared.item.Item.{Item}
+use Rattle.doc_model.specs.declared.document.Document.{Document}
 use Rattle.doc_mends.specs.declared.mends.DeletedRange.{DeletedRange}
 use Rattle.doc_mends.specs.declared.judging.ChpWalk.{ChpWalk}
 use Rattle.doc_mends.specs.declared.judging.Judged.{Judged}
@@ -27,4 +27,4 @@ pub record IsChpWalk (text : List Item) (walk : ChpWalk) : Type 0 where
   pub runs : expanded walk.runs.now ≡ map (λ item. item.chp) text
   pub few : total_len walk.runs.now < 2 ^ 32
   pub maps : All (IsPropertyMap character_groups) (expanded walk.runs.now)
-  pub at : IsAt walk.runs.now walk.cursor
+  pub at : IsAtRunBegin walk.runs.now walk.cursor

@@ -1,6 +1,6 @@
 -- What of a document stays where memory runs out while it is mended.
 use Rattle.std.specs.Prelude.{◌≡◌}
-use Rattle.plain_doc.specs.declared.document.Document.{Document}
+use Rattle.doc_model.specs.declared.document.Document.{Document}
 
 -- what is carried, and the bookmarks
 pub record KeepsCarried (old new : Document) : Type 0 where

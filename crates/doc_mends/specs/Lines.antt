@@ -14,14 +14,14 @@ use Rattle.doc_mends.specs.declared.mends.BrokenRow.{BrokenRow}
 use Rattle.doc_mends.specs.declared.mends.Mend.{Mend}
 use Rattle.doc_mends.specs.declared.mends.Mend.TheVariants as mends
 
-abbrev pub story_word : NoteStory → List ℕ
-story_word Endnotes = codes "endnote"
-story_word Comments = codes "comment"
+abbrev pub note_story_word : NoteStory → List ℕ
+note_story_word Endnotes = codes "endnote"
+note_story_word Comments = codes "comment"
 
 -- the endnote or the comment, and which note it became
 abbrev pub made_line : MadeNote → List ℕ
 made_line made =
-    story_word made.story
+    note_story_word made.story
     ++ (32 ∷ [] ++ (decimal made.number ++ (codes ": note " ++ (decimal made.note ++ 10 ∷ []))))
 
 -- the range, and that it is struck
@@ -48,8 +48,8 @@ abbrev pub base_line : ℕ → List ℕ
 base_line istd = codes "base " ++ (decimal istd ++ 10 ∷ [])
 
 -- the mark, and the style that it had
-abbrev pub mark_line : WrongMark → List ℕ
-mark_line mark =
+abbrev pub wrong_mark_line : WrongMark → List ℕ
+wrong_mark_line mark =
     codes "mark "
     ++ (place_text mark.story
     ++ (32 ∷ [] ++ (decimal mark.at ++ (codes ": style " ++ (decimal mark.istd ++ 10 ∷ [])))))
@@ -75,7 +75,7 @@ mend_line (mends.StrikeDeleted range) = strike_line range
 mend_line (mends.KeepDeleted range) = keep_line range
 mend_line (mends.DefineRow mark) = cells_line mark
 mend_line (mends.DropBase istd) = base_line istd
-mend_line (mends.NormalMark mark) = mark_line mark
+mend_line (mends.NormalMark mark) = wrong_mark_line mark
 mend_line (mends.PlainRow row) = row_line row
 mend_line (mends.CutReference reference) = cut_line reference
 mend_line (mends.EndText story) = end_line story

@@ -1,7 +1,7 @@
 -- All mends of a document, in their order: those that keep each item where it is come first.
 use Rattle.std.specs.Prelude.{◌≡◌, List, [], ◌++◌, map}
-use Rattle.plain_doc.specs.declared.document.Document.{Document}
-use Rattle.plain_doc.specs.Marks.{HasFormedBookmarks}
+use Rattle.doc_model.specs.declared.document.Document.{Document}
+use Rattle.doc_model.specs.Marks.{HasFormedBookmarks}
 use Rattle.plain_doc.specs.Sound.{IsSound}
 use Rattle.doc_losses.specs.References.{Names, references}
 use Rattle.doc_mends.specs.declared.mends.Mend.{Mend}

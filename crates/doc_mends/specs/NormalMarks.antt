@@ -7,10 +7,10 @@ use Rattle.doc_bits.specs.declared.places.Story.{Story}
 use Rattle.doc_bits.specs.declared.places.Story.TheVariants.{Main}
 use Rattle.doc_parts.specs.Tabulated.{tabulate}
 use Rattle.style_sheet.specs.Sheet.{Sheet}
-use Rattle.style_sheet.specs.Chain.{kind_at}
-use Rattle.plain_doc.specs.declared.item.Item.{Item}
-use Rattle.plain_doc.specs.declared.item.Mark.{Mark}
-use Rattle.plain_doc.specs.declared.document.Document.{Document}
+use Rattle.style_sheet.specs.Chain.{style_kind_at}
+use Rattle.doc_model.specs.declared.item.Item.{Item}
+use Rattle.doc_model.specs.declared.item.Mark.{Mark}
+use Rattle.doc_model.specs.declared.document.Document.{Document}
 use Rattle.plain_doc.specs.declared.rules_texts.Side.{Side}
 use Rattle.plain_doc.specs.declared.rules_texts.Side.TheVariants.{Notes, Heads}
 use Rattle.doc_mends.specs.declared.mends.WrongMark.{WrongMark}
@@ -18,7 +18,7 @@ use Rattle.doc_mends.specs.Sides.{side_name}
 
 -- the mark's style is no style of paragraphs
 abbrev pub is_wrong_mark : Sheet → Mark → Bool
-is_wrong_mark sheet mark = not (kind_at sheet mark.istd == 1)
+is_wrong_mark sheet mark = not (style_kind_at sheet mark.istd == 1)
 
 abbrev pub normal_mark : Sheet → Mark → Mark
 normal_mark sheet mark = if is_wrong_mark sheet mark then record mark { istd = 0 } else mark

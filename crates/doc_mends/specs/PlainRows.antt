@@ -5,12 +5,12 @@ use Rattle.std.specs.List.{fold}
 use Rattle.std.specs.FinMap.{entries}
 use Rattle.doc_bits.specs.declared.places.Story.TheVariants.{Main}
 use Rattle.text_codes.specs.Paragraph.{paragraph_mark, cell_mark}
-use Rattle.sprm_table.specs.Codes.{sgc, is_among}
+use Rattle.sprm_table.specs.Codes.{sgc, is_code_among}
 use Rattle.prop_map.specs.Settings.{Properties}
 use Rattle.prop_map.specs.Overlay.{without}
-use Rattle.plain_doc.specs.declared.item.Item.{Item}
-use Rattle.plain_doc.specs.declared.item.Mark.{Mark}
-use Rattle.plain_doc.specs.declared.document.Document.{Document}
+use Rattle.doc_model.specs.declared.item.Item.{Item}
+use Rattle.doc_model.specs.declared.item.Mark.{Mark}
+use Rattle.doc_model.specs.declared.document.Document.{Document}
 use Rattle.doc_patch.specs.Changes.{map_range}
 use Rattle.doc_mends.specs.declared.mends.BrokenRow.{BrokenRow}
 use Rattle.doc_mends.specs.BrokenRows.{text_broken_rows}
@@ -21,7 +21,7 @@ paragraph_codes = 0x2416 ∷ 0x2417 ∷ 0x244B ∷ 0x244C ∷ 0x6649 ∷ 0x664A 
 
 -- these, and all codes of tables
 abbrev pub is_table_code : ℕ → Bool
-is_table_code code = sgc code == 5 || is_among code paragraph_codes
+is_table_code code = sgc code == 5 || is_code_among code paragraph_codes
 
 -- those of a map
 abbrev pub table_codes : Properties → List ℕ

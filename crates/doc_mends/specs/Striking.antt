@@ -3,7 +3,7 @@ use Rattle.std.specs.Prelude.{ℕ, ◌≤◌, Bool, true, false, List, map}
 use Rattle.std.specs.List.{fold}
 use Rattle.prop_map.specs.Settings.{Properties}
 use Rattle.prop_map.specs.Overlay.{modified_characters}
-use Rattle.plain_doc.specs.declared.item.Item.{Item}
+use Rattle.doc_model.specs.declared.item.Item.{Item}
 use Rattle.doc_patch.specs.Changes.{map_range, modified_item}
 use Rattle.doc_mends.specs.declared.mends.DeletedRange.{DeletedRange}
 use Rattle.doc_mends.specs.Mends.{striking}
@@ -27,8 +27,8 @@ abbrev pub text_struck : List DeletedRange → List Item → List Item
 text_struck ranges text = fold items_struck text ranges
 
 -- the range is one of so many items
-abbrev pub IsWithin : ℕ → DeletedRange → Type 0
-IsWithin len range = (range.from ≤ range.to) × (range.to ≤ len)
+abbrev pub IsRangeWithin : ℕ → DeletedRange → Type 0
+IsRangeWithin len range = (range.from ≤ range.to) × (range.to ≤ len)
 
 -- what becomes of properties where their part is struck, and where it stays
 abbrev pub part_value : Bool → Properties → Properties

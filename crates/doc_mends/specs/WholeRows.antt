@@ -1,7 +1,7 @@
 -- No row of a mended document breaks rule 63.
 use Rattle.std.specs.Prelude.{List}
 use Rattle.doc_bits.specs.Rules.{Nowhere}
-use Rattle.plain_doc.specs.declared.document.Document.{Document}
+use Rattle.doc_model.specs.declared.document.Document.{Document}
 use Rattle.plain_doc.specs.Rows.{BreaksRows}
 use Rattle.plain_doc.specs.RulesOfTexts.{InTexts}
 use Rattle.doc_losses.specs.References.{Names}

@@ -1,7 +1,7 @@
 // Bases of styles that are taken away.
 ghost use Rattle.std.specs.Prelude.{◌≡◌, ◌↔◌, ◌<◌, [], ◌∷◌, ◌++◌, if◌then◌else◌, map, length, All, IsTrue};
 ghost use Rattle.std.specs.Prelude.{IfOk, OnOk, OnErr};
-ghost use Rattle.style_sheet.specs.Chain.{kind_at, HasNoChain};
+ghost use Rattle.style_sheet.specs.Chain.{style_kind_at, HasNoChain};
 ghost use Rattle.doc_mends.specs.declared.mends.Mend.TheVariants.{DropBase};
 ghost use Rattle.doc_mends.specs.Bases.{has_other_base as names_other_base, other_bases as other_bases_of};
 ghost use Rattle.doc_mends.specs.Bases.{bases_dropped, AreEndless, IsDropOf, DropsBases};
@@ -50,7 +50,7 @@ fn drop_from(alloc: Global, sheet: &mut StyleSheet) -> Result<Vec<u16>, Memory>
 /// The styles that have bases of other kinds.
 fn other_bases(alloc: Global, sheet: &StyleSheet) -> Result<Vec<u16>, Memory>
     ensures list { IfOk result (λ istds. istds.items ≡ other_bases_of sheet.now) }
-    ensures kinds { IfOk result (λ istds. All (λ istd. 0 < kind_at sheet.now istd) istds.items) }
+    ensures kinds { IfOk result (λ istds. All (λ istd. 0 < style_kind_at sheet.now istd) istds.items) }
 {
     let mut istds = Vec::new(alloc);
     for istd in 0..sheet.slots() as u16 {
@@ -83,7 +83,7 @@ fn has_other_base(sheet: &StyleSheet, istd: u16) -> bool
 /// The styles whose bases do not end.
 fn endless_bases(alloc: Global, sheet: &StyleSheet) -> Result<Vec<u16>, Memory>
     ensures list { IfOk result (λ istds. AreEndless sheet.now (length sheet.now.styles) istds.items) }
-    ensures kinds { IfOk result (λ istds. All (λ istd. 0 < kind_at sheet.now istd) istds.items) }
+    ensures kinds { IfOk result (λ istds. All (λ istd. 0 < style_kind_at sheet.now istd) istds.items) }
 {
     let mut istds = Vec::new(alloc);
     for istd in 0..sheet.slots() as u16 {
@@ -101,7 +101,7 @@ fn is_endless(sheet: &StyleSheet, istd: u16) -> bool
 
 /// Takes the bases of these styles away.
 fn drop_each(sheet: &mut StyleSheet, istds: &[u16]) -> Result<(), Memory>
-    requires { All (λ istd. 0 < kind_at sheet.old istd) istds.now }
+    requires { All (λ istd. 0 < style_kind_at sheet.old istd) istds.now }
     ensures { OnOk result (sheet.new ≡ bases_dropped istds.now sheet.old) }
 {
     for k in 0..istds.len() {

@@ -4,14 +4,14 @@ ghost use Rattle.std.specs.Prelude.{if◌then◌else◌, IfOk, OnOk, OnErr};
 ghost use Rattle.std.specs.List.{count_by};
 ghost use Rattle.run_lists.specs.Spread.{expanded, total_len};
 ghost use Rattle.doc_losses.specs.References.{references as references_of};
-ghost use Rattle.doc_losses.specs.Marks.{named_by};
-ghost use Rattle.plain_doc.specs.Marks.{HasFormedBookmarks};
+ghost use Rattle.doc_losses.specs.Marks.{names_of_marks};
+ghost use Rattle.doc_model.specs.Marks.{HasFormedBookmarks};
 ghost use Rattle.doc_mends.specs.declared.mends.Mend.TheVariants.{CutReference};
 ghost use Rattle.doc_bits.specs.declared.places.Story.TheVariants as stories;
 ghost use Rattle.doc_patch.specs.Changes.{changed_at};
 ghost use Rattle.doc_mends.specs.Cuts.{reference_flags as flags_of, unflagged, cut_text as text_after};
 ghost use Rattle.doc_mends.specs.Cuts.{cut_heads as heads_after, bookmark_left, bookmarks_left, end_left};
-ghost use Rattle.doc_mends.specs.Cuts.{AreCounts, references_cut};
+ghost use Rattle.doc_mends.specs.Cuts.{AreEndCounts, references_cut};
 
 use crate::mends::Mend;
 use doc_bits::{Memory, Story};
@@ -31,9 +31,9 @@ pub fn cut_references(
     marks: &Marks,
 ) -> Result<Vec<Mend>, Memory>
     requires { HasFormedBookmarks document.old }
-    ensures document { OnOk result (document.new ≡ references_cut (named_by marks.now) document.old) }
+    ensures document { OnOk result (document.new ≡ references_cut (names_of_marks marks.now) document.old) }
     ensures mends { IfOk result
-        (λ mends. mends.items ≡ map CutReference (references_of (named_by marks.now) document.old)) }
+        (λ mends. mends.items ≡ map CutReference (references_of (names_of_marks marks.now) document.old)) }
     ensures err { OnErr result (document.new.carried ≡ document.old.carried) }
 {
     let found = references(alloc, marks, document)?;
@@ -50,8 +50,8 @@ fn cut_where_found(
     found: &[Reference],
 ) -> Result<(), Memory>
     requires formed { HasFormedBookmarks document.old }
-    requires found { found.now ≡ references_of (named_by marks.now) document.old }
-    ensures ok { OnOk result (document.new ≡ references_cut (named_by marks.now) document.old) }
+    requires found { found.now ≡ references_of (names_of_marks marks.now) document.old }
+    ensures ok { OnOk result (document.new ≡ references_cut (names_of_marks marks.now) document.old) }
     ensures err { OnErr result (document.new.carried ≡ document.old.carried) }
 {
     if found.is_empty() {
@@ -76,8 +76,9 @@ fn cut_mends(alloc: Global, found: &[Reference]) -> Result<Vec<Mend>, Memory>
 /// Cuts those of the main text.
 fn cut_main(alloc: Global, document: &mut ColumnDocument, marks: &Marks) -> Result<(), Memory>
     ensures ok { OnOk result (document.new ≡ record document.old {
-      main = text_after (named_by marks.now) stories.Main 0 document.old.main;
-      bookmarks = bookmarks_left (flags_of (named_by marks.now) stories.Main 0 document.old.main) document.old.bookmarks;
+      main = text_after (names_of_marks marks.now) stories.Main 0 document.old.main;
+      bookmarks = bookmarks_left (flags_of (names_of_marks marks.now) stories.Main 0 document.old.main)
+          document.old.bookmarks;
     }) }
     ensures err { OnErr result (document.new.carried ≡ document.old.carried) }
 {
@@ -91,7 +92,7 @@ fn cut_main(alloc: Global, document: &mut ColumnDocument, marks: &Marks) -> Resu
 
 /// Cuts those of the header texts.
 fn cut_heads(alloc: Global, heads: &mut ColumnTexts, marks: &Marks) -> Result<(), Memory>
-    ensures { OnOk result (heads.new ≡ heads_after (named_by marks.now) heads.old) }
+    ensures { OnOk result (heads.new ≡ heads_after (names_of_marks marks.now) heads.old) }
 {
     let mut begin = 0;
     for number in 0..heads.len() {
@@ -113,7 +114,7 @@ fn cut_head(
     requires there { number < length heads.old }
     requires room { begin + 2 ^ 32 ≤ 2 ^ 64 }
     ensures { OnOk result (heads.new ≡
-        changed_at heads.old number (text_after (named_by marks.now) (stories.Head number) begin)) }
+        changed_at heads.old number (text_after (names_of_marks marks.now) (stories.Head number) begin)) }
 {
     let _count = heads.len();
     let text = heads.get(number);
@@ -133,7 +134,7 @@ fn reference_flags(
     text: &Columns,
 ) -> Result<Vec<bool>, Memory>
     requires { begin + length text.now < 2 ^ 64 }
-    ensures { IfOk result (λ flags. flags.items ≡ flags_of (named_by marks.now) story begin text.now) }
+    ensures { IfOk result (λ flags. flags.items ≡ flags_of (names_of_marks marks.now) story begin text.now) }
 {
     let found = text_marks(alloc, marks, story, begin, text)?;
     let mut flags = Vec::with_capacity(alloc, found.len())?;
@@ -248,13 +249,13 @@ struct EndsLeft<'a> {
 
 impl<'a> Model for EndsLeft<'a> {
     ghost use Rattle.std.specs.Prelude.{Bool, List};
-    ghost use Rattle.doc_mends.specs.Cuts.{AreCounts};
+    ghost use Rattle.doc_mends.specs.Cuts.{AreEndCounts};
 
     ghost Value = { List Bool };
 
     ghost view = { λ e. e.flags.now };
 
-    ghost invariant = { λ e. AreCounts e.flags.now e.counts.items };
+    ghost invariant = { λ e. AreEndCounts e.flags.now e.counts.items };
 }
 
 impl<'a> EndsLeft<'a> {
@@ -278,7 +279,7 @@ impl<'a> EndsLeft<'a> {
 /// How many have no flag before each place, and in all.
 fn counts_left(alloc: Global, flags: &[bool]) -> Result<Vec<u32>, Memory>
     requires { length flags.now < 2 ^ 32 }
-    ensures { IfOk result (λ counts. AreCounts flags.now counts.items) }
+    ensures { IfOk result (λ counts. AreEndCounts flags.now counts.items) }
 {
     let mut counts = Vec::with_capacity(alloc, flags.len())?;
     let mut left = 0;

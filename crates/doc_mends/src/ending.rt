@@ -4,11 +4,11 @@ ghost use Rattle.std.specs.Prelude.{Some, None, IfOk, OnOk, OnErr};
 ghost use Rattle.std.specs.Option.{ForSome};
 ghost use Rattle.std.specs.FinMap.{empty};
 ghost use Rattle.doc_patch.specs.Changes.{changed_at};
-ghost use Rattle.plain_doc.specs.Document.{HasPropertyMaps};
+ghost use Rattle.doc_model.specs.Document.{HasPropertyMaps};
 ghost use Rattle.doc_mends.specs.declared.mends.Mend.TheVariants.{EndText};
 ghost use Rattle.doc_mends.specs.Ends.{is_ended as is_ended_right, without_section as left_of_section};
 ghost use Rattle.doc_mends.specs.Ends.{ending_item as item_that_ends, last_left as left_of_last, last_item};
-ghost use Rattle.doc_mends.specs.Ends.{ended as text_ended, with_end as text_with_end, with_ends, open_text};
+ghost use Rattle.doc_mends.specs.Ends.{ended_text as text_ended, with_end as text_with_end, with_ends, open_text};
 ghost use Rattle.doc_mends.specs.Ends.{open_texts, open_stories, is_heads as are_heads};
 ghost use Rattle.doc_mends.specs.Kept.{KeepsAllButTexts};
 

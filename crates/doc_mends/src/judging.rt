@@ -2,7 +2,7 @@
 ghost use Rattle.std.specs.Prelude.{◌≡◌, ◌^◌, ◌<◌, ◌≤◌, IfOk, OnOk, All, slice_range, ⊤};
 ghost use Rattle.std.specs.List.{list_all};
 ghost use Rattle.run_lists.specs.Spread.{expanded, total_len};
-ghost use Rattle.run_lists.specs.Places.{IsAt};
+ghost use Rattle.run_lists.specs.Places.{IsAtRunBegin};
 ghost use Rattle.prop_map.specs.Modifiers.{IsFormedModifier};
 ghost use Rattle.prop_map.specs.Formed.{IsPropertyMap, character_groups};
 ghost use Rattle.doc_patch.specs.Places.{HasText, items_at};
@@ -113,7 +113,7 @@ fn range_stays_short(
     range: DeletedRange,
     striking: &Modifier,
 ) -> Result<bool, Memory>
-    requires at { IsAt runs.now cursor.old }
+    requires at { IsAtRunBegin runs.now cursor.old }
     requires ahead { cursor.old.begin ≤ range.from }
     requires ordered { range.from ≤ range.to }
     requires within { range.to ≤ total_len runs.now }
@@ -121,7 +121,7 @@ fn range_stays_short(
     requires maps { All (IsPropertyMap character_groups) (expanded runs.now) }
     requires striking { striking.now ≡ modifier_of_strike }
     requires formed { IsFormedModifier striking.now }
-    ensures at { OnOk result (IsAt runs.now cursor.new) }
+    ensures at { OnOk result (IsAtRunBegin runs.now cursor.new) }
     ensures short { IfOk result (λ short.
         short ≡ list_all is_short (slice_range (expanded runs.now) range.from range.to)) }
 {

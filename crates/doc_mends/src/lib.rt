@@ -26,5 +26,6 @@ pub use lines::push_mends;
 pub use marking::normal_marks;
 pub use mending::mend;
 pub use mends::{BrokenRow, DeletedRange, MadeNote, Mend, Mended, NoteStory, RowMark, WrongMark};
+pub use sides::side_name;
 pub use striking::strike_deleted;
 pub use tables::plain_rows;

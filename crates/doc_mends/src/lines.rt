@@ -2,9 +2,9 @@
 ghost use Rattle.std.specs.Prelude.{◌≡◌, ◌++◌, IfOk, OnOk};
 ghost use Rattle.std.specs.List.{flat_map};
 ghost use Rattle.doc_mends.specs.Lines.{made_line as line_of_made, cells_line as line_of_cells};
-ghost use Rattle.doc_mends.specs.Lines.{story_word as word_of_story};
+ghost use Rattle.doc_mends.specs.Lines.{note_story_word as word_of_story};
 ghost use Rattle.doc_mends.specs.Lines.{mend_line as line_of, strike_line as line_of_strike, keep_line as line_of_keep};
-ghost use Rattle.doc_mends.specs.Lines.{base_line as line_of_base, mark_line as line_of_mark};
+ghost use Rattle.doc_mends.specs.Lines.{base_line as line_of_base, wrong_mark_line as line_of_mark};
 ghost use Rattle.doc_mends.specs.Lines.{row_line as line_of_row, cut_line as line_of_cut, end_line as line_of_end};
 
 use crate::mends::{BrokenRow, DeletedRange, MadeNote, Mend, NoteStory, RowMark, WrongMark};

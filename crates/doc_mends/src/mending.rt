@@ -1,7 +1,7 @@
 // All mends of a document, one kind after the other.
 ghost use Rattle.std.specs.Prelude.{◌≡◌, IfOk, OnOk, OnErr};
-ghost use Rattle.doc_losses.specs.Marks.{named_by};
-ghost use Rattle.plain_doc.specs.Marks.{HasFormedBookmarks};
+ghost use Rattle.doc_losses.specs.Marks.{names_of_marks};
+ghost use Rattle.doc_model.specs.Marks.{HasFormedBookmarks};
 ghost use Rattle.doc_mends.specs.Kept.{KeepsAllButTexts};
 ghost use Rattle.doc_mends.specs.Mending.{IsMended, mended_in_place, mends_in_place};
 
@@ -26,7 +26,7 @@ pub fn mend(
 ) -> Result<Vec<Mend>, Memory>
     requires { HasFormedBookmarks document.old }
     ensures ok { IfOk result (λ mends.
-        IsMended (named_by marks.now) document.old document.new mends.items) }
+        IsMended (names_of_marks marks.now) document.old document.new mends.items) }
     ensures err { OnErr result (document.new.carried ≡ document.old.carried) }
 {
     let mut mends = drop_bases(alloc, document)?;

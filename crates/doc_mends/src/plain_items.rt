@@ -2,7 +2,7 @@
 ghost use Rattle.std.specs.Prelude.{◌≡◌, ◌<◌, [], ◌∷◌, ◌++◌, if◌then◌else◌, length, map, option_map, slice_get};
 ghost use Rattle.std.specs.Prelude.{Some, IfOk, OnOk};
 ghost use Rattle.std.specs.Option.{ForSome};
-ghost use Rattle.plain_doc.specs.Document.{HasPropertyMaps};
+ghost use Rattle.doc_model.specs.Document.{HasPropertyMaps};
 ghost use Rattle.doc_mends.specs.PlainRows.{is_table_code as is_of_tables, table_codes as codes_of_tables};
 ghost use Rattle.doc_mends.specs.PlainRows.{plain_pap as pap_left, plain_mark as mark_left, plain_unit as unit_left};
 ghost use Rattle.doc_mends.specs.PlainRows.{plain_item as item_left};

@@ -2,7 +2,7 @@
 ghost use Rattle.std.specs.Prelude.{◌≡◌, ◌+◌, ◌^◌, ◌<◌, ◌≤◌, [], ◌∷◌, ◌++◌, if◌then◌else◌, length};
 ghost use Rattle.std.specs.Prelude.{Some, None, IfOk, OnOk};
 ghost use Rattle.std.specs.List.{filter_map};
-ghost use Rattle.plain_doc.specs.Rows.{is_row_mark, is_cell_mark, is_mark_outside, is_on, value_in};
+ghost use Rattle.plain_doc.specs.Rows.{is_row_mark, is_cell_mark, is_mark_outside, is_byte_one, mark_value_in};
 ghost use Rattle.doc_mends.specs.BrokenRows.{marked_item, parts_rows, fits_row, names_cells, broken_row as row_broken};
 ghost use Rattle.doc_mends.specs.BrokenRows.{text_broken_rows, texts_broken_rows, broken_rows};
 ghost use Rattle.doc_mends.specs.OpenRows.{IsOpenBefore, FindsBefore};
@@ -204,7 +204,7 @@ fn is_outside(unit: u16, mark: &Option<Mark>) -> bool
 
 /// Whether the mark has a row of this many cells.
 fn has_cells(cells: usize, mark: &Option<Mark>) -> bool
-    ensures { result ≡ names_cells cells (value_in mark.now 0xD608) }
+    ensures { result ≡ names_cells cells (mark_value_in mark.now 0xD608) }
 {
     match value_at(mark, SPRM_T_DEF_TABLE) {
         None => false,
@@ -224,7 +224,7 @@ fn is_first(cells: usize, value: &[u8]) -> bool
 
 /// Whether the mark has the value 01 at the code.
 fn is_set(mark: &Option<Mark>, code: Code) -> bool
-    ensures { result ≡ is_on (value_in mark.now code.0) }
+    ensures { result ≡ is_byte_one (mark_value_in mark.now code.0) }
 {
     match value_at(mark, code) {
         None => false,

@@ -6,7 +6,7 @@ use doc_bits::Story;
 use plain_doc::Side;
 
 /// A note or a header text by its number.
-pub(crate) fn side_name(side: Side, number: usize) -> Story
+pub fn side_name(side: Side, number: usize) -> Story
     requires { number < 2 ^ 32 }
     ensures { result ≡ name_of side number }
 {

@@ -1,22 +1,20 @@
 // Text that a reviser deleted, struck through.
 ghost use Rattle.std.specs.Prelude.{◌≡◌, ◌≤◌, length, drop, Some, IfOk, OnOk, ⊤};
-ghost use Rattle.doc_patch.specs.Changes.{with_text};
-ghost use Rattle.doc_patch.specs.Places.{HasText, items_at, text_at};
+ghost use Rattle.doc_patch.specs.Places.{HasText, items_at};
 ghost use Rattle.doc_mends.specs.Mends.{all_struck, struck_ranges, strikes, kept_ranges, AreRanges};
 ghost use Rattle.doc_mends.specs.Mends.{striking as modifier_of_strike};
-ghost use Rattle.doc_mends.specs.Batches.{Ascend};
+ghost use Rattle.doc_mends.specs.Batches.{RangesAscend};
 ghost use Rattle.doc_mends.specs.Striking.{text_struck};
 
 use crate::batches::{Batch, first_batch};
 use crate::judging::{check, striking};
 use crate::mends::{DeletedRange, Mended};
 use crate::struck_runs::strike_text;
-use doc_bits::{Memory, Story, drop_then};
+use doc_bits::{Memory, drop_then};
 use doc_columns::{ColumnDocument, Columns};
-use doc_patch::find_text;
+use doc_patch::{find_text, put_text};
 use prop_map::Modifier;
 use std::alloc::Global;
-use std::mem;
 
 /// Strikes the ranges of a document that a reviser deleted. A range stays as it is where the properties of one of its
 /// items would be printed in more than 255 bytes then. The ranges are those of the document that is given.
@@ -95,7 +93,7 @@ fn strike_batch(
 ) -> Result<(), Memory>
     requires there { HasText document.old batch.now.story (λ _. ⊤) }
     requires ranges { AreRanges document.old batch.now.ranges.now }
-    requires ascend { Ascend batch.now.story 0 batch.now.ranges.now }
+    requires ascend { RangesAscend batch.now.story 0 batch.now.ranges.now }
     requires striking { striking.now ≡ modifier_of_strike }
     ensures { OnOk result (document.new ≡ all_struck batch.now.ranges.now document.old) }
 {
@@ -113,7 +111,7 @@ fn struck_text(
 ) -> Result<Columns, Memory>
     requires there { HasText document.now batch.now.story (λ _. ⊤) }
     requires ranges { AreRanges document.now batch.now.ranges.now }
-    requires ascend { Ascend batch.now.story 0 batch.now.ranges.now }
+    requires ascend { RangesAscend batch.now.story 0 batch.now.ranges.now }
     requires striking { striking.now ≡ modifier_of_strike }
     ensures { IfOk result (λ made.
         made ≡ text_struck batch.now.ranges.now (items_at document.now batch.now.story)) }
@@ -121,26 +119,5 @@ fn struck_text(
     match find_text(document, batch.story) {
         None => Ok(Columns::new(alloc)),
         Some(text) => Ok(strike_text(alloc, text, batch, striking)?),
-    }
-}
-
-/// Puts a text in place of another.
-fn put_text(document: &mut ColumnDocument, story: Story, text: Columns)
-    requires { HasText document.old story (λ _. ⊤) }
-    ensures { document.new ≡ with_text (λ _. text) story document.old }
-{
-    drop(swap_text(document, story, text));
-}
-
-/// Puts a text in place of another, which it hands out.
-fn swap_text(document: &mut ColumnDocument, story: Story, text: Columns) -> Columns
-    requires { HasText document.old story (λ _. ⊤) }
-    ensures taken { text_at document.old story ≡ Some result }
-    ensures left { document.new ≡ with_text (λ _. text) story document.old }
-{
-    match story {
-        Story::Main => mem::replace(&mut document.main, text),
-        Story::Note(number) => document.notes.replace(number as usize, text),
-        Story::Head(number) => document.heads.replace(number as usize, text),
     }
 }

@@ -1,11 +1,12 @@
 // The runs of a text whose ranges are struck, made in one pass.
 ghost use Rattle.std.specs.Prelude.{◌≡◌, ◌^◌, ◌<◌, ◌≤◌, ◌++◌, length, slice_range, All, IfOk, OnOk};
 ghost use Rattle.run_lists.specs.Spread.{expanded, total_len};
-ghost use Rattle.run_lists.specs.Places.{IsAt};
+ghost use Rattle.run_lists.specs.Places.{IsAtRunBegin};
 ghost use Rattle.doc_patch.specs.Places.{HasRange};
 ghost use Rattle.doc_mends.specs.Mends.{striking as modifier_of_strike};
-ghost use Rattle.doc_mends.specs.Batches.{Ascend};
-ghost use Rattle.doc_mends.specs.Striking.{chps_struck, text_struck, part_value as value_in, part_values, IsWithin};
+ghost use Rattle.doc_mends.specs.Batches.{RangesAscend};
+ghost use Rattle.doc_mends.specs.Striking.{chps_struck, text_struck, part_value as value_in, part_values};
+ghost use Rattle.doc_mends.specs.Striking.{IsRangeWithin};
 
 use crate::batches::{Batch, range_at};
 use doc_bits::Memory;
@@ -30,7 +31,7 @@ pub(crate) fn strike_text(
     striking: &Modifier,
 ) -> Result<Columns, Memory>
     requires ranges { All (λ range. HasRange range.from range.to text.now) batch.now.ranges.now }
-    requires ascend { Ascend batch.now.story 0 batch.now.ranges.now }
+    requires ascend { RangesAscend batch.now.story 0 batch.now.ranges.now }
     requires striking { striking.now ≡ modifier_of_strike }
     ensures { IfOk result (λ made. made ≡ text_struck batch.now.ranges.now text.now) }
 {
@@ -52,8 +53,8 @@ fn strike_chps(
 ) -> Result<Runs<PropMap>, Memory>
     requires len { total_len runs.now ≡ len }
     requires few { len < 2 ^ 32 }
-    requires ranges { All (IsWithin len) batch.now.ranges.now }
-    requires ascend { Ascend batch.now.story 0 batch.now.ranges.now }
+    requires ranges { All (IsRangeWithin len) batch.now.ranges.now }
+    requires ascend { RangesAscend batch.now.story 0 batch.now.ranges.now }
     requires striking { striking.now ≡ modifier_of_strike }
     ensures { IfOk result (λ made. made ≡ chps_struck batch.now.ranges.now (expanded runs.now)) }
 {
@@ -94,14 +95,14 @@ fn add_part(
     striking: &Modifier,
     made: &mut Runs<PropMap>,
 ) -> Result<(), Memory>
-    requires at { IsAt runs.now cursor.old }
+    requires at { IsAtRunBegin runs.now cursor.old }
     requires ahead { cursor.old.begin ≤ part.from }
     requires ordered { part.from ≤ part.to }
     requires within { part.to ≤ total_len runs.now }
     requires few { total_len runs.now < 2 ^ 32 }
     requires long { length made.old ≡ part.from }
     requires striking { striking.now ≡ modifier_of_strike }
-    ensures at { OnOk result (IsAt runs.now cursor.new) }
+    ensures at { OnOk result (IsAtRunBegin runs.now cursor.new) }
     ensures ahead { OnOk result (cursor.new.begin ≤ part.to) }
     ensures long { OnOk result (length made.new ≡ part.to) }
     ensures made { OnOk result (made.new

@@ -2,7 +2,7 @@
 -- and its memory.
 use Rattle.std.specs.Prelude.{ℕ, ◌-◌, ◌==◌, ◌&&◌, not, Bool, false, List, [], ◌++◌, length, take, min, if◌then◌else◌}
 use Rattle.doc_outer.specs.Counts.{raised}
-use Rattle.doc_outer.specs.Plan.{Plan, no_plan, after_call}
+use Rattle.doc_outer.specs.Plan.{FaultPlan, no_plan, after_call}
 
 pub record ByteSink : Type 0 where
   -- the bytes that were taken
@@ -10,7 +10,7 @@ pub record ByteSink : Type 0 where
   -- how many more bytes it can take
   pub room : ℕ
   -- which calls are to fail
-  pub plan : Plan
+  pub plan : FaultPlan
   -- nothing is taken any more
   pub stopped : Bool
   -- how often a call failed, or took nothing of a nonempty piece

@@ -15,6 +15,6 @@ abbrev pub Rose : ℕ → ℕ → Type 0
 Rose before now = raised before ≤ now
 
 -- the count goes on: it did not fall, and it is not beyond its last value
-pub record GoesOn (before now : ℕ) : Type 0 where
+pub record CountGoesOn (before now : ℕ) : Type 0 where
   pub not_fallen : before ≤ now
   pub not_beyond : before ≤ last_count → now ≤ last_count

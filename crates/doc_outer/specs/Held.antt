@@ -45,8 +45,8 @@ abbrev pub IsAbsent : Option (List ℕ) → Type 0
 IsAbsent there = there ≡ None
 
 -- the name holds exactly these bytes
-abbrev pub IsWhole : List ℕ → Option (List ℕ) → Type 0
-IsWhole bytes there = there ≡ Some bytes
+abbrev pub HoldsExactly : List ℕ → Option (List ℕ) → Type 0
+HoldsExactly bytes there = there ≡ Some bytes
 
 -- the name holds more bytes than these many
 abbrev pub IsLonger : ℕ → Option (List ℕ) → Type 0
@@ -54,7 +54,7 @@ IsLonger count None = ⊥
 IsLonger count (Some all) = count < length all
 
 -- the first bytes of the buffer are those that are from a place on; none of them only at the end
-pub record IsPart (at count : ℕ) (buffer all : List ℕ) : Type 0 where
+pub record IsFilePart (at count : ℕ) (buffer all : List ℕ) : Type 0 where
   pub bytes : take count buffer ≡ take count (drop at all)
   pub within : count ≤ length (drop at all)
   pub end : count ≡ 0 → 0 < length buffer → length all ≤ at
@@ -62,4 +62,4 @@ pub record IsPart (at count : ℕ) (buffer all : List ℕ) : Type 0 where
 -- the name is there, and this is a part of what it holds
 abbrev pub ReadsPart : ℕ → ℕ → List ℕ → Option (List ℕ) → Type 0
 ReadsPart at count buffer None = ⊥
-ReadsPart at count buffer (Some all) = IsPart at count buffer all
+ReadsPart at count buffer (Some all) = IsFilePart at count buffer all

@@ -3,7 +3,7 @@ use Rattle.std.specs.Prelude.{ℕ, ◌-◌, List, length, min, Option, Some, Non
 use Rattle.std.specs.Coded.{Coded, code_by, coded×, coded_ℕ, coded_list}
 use Rattle.std.specs.FinMap as map
 use Rattle.doc_outer.specs.Held.{Files, no_files, with_file}
-use Rattle.doc_outer.specs.Plan.{Plan, no_plan, after_call}
+use Rattle.doc_outer.specs.Plan.{FaultPlan, no_plan, after_call}
 use Rattle.doc_outer.specs.Puts.{faults_putting}
 use Rattle.doc_outer.specs.Reads.{faults_after, missed_after}
 use Rattle.doc_outer.specs.declared.shelf.PutFault.{PutFault}
@@ -14,7 +14,7 @@ pub record Store : Type 0 where
   -- what each name holds
   pub files : Files
   -- which calls are to fail
-  pub plan : Plan
+  pub plan : FaultPlan
   -- how often a call failed
   pub faults : ℕ
   -- how often a put failed
@@ -27,8 +27,8 @@ abbrev pub empty_store : Store
 empty_store = record { files = no_files; plan = no_plan; faults = 0; put_faults = 0; missed = 0 }
 
 -- the files of entries, where the first entry of a name counts
-abbrev pub files_of : List (List ℕ × List ℕ) → Files
-files_of entries = map.from_entries entries
+abbrev pub entry_files : List (List ℕ × List ℕ) → Files
+entry_files entries = map.from_entries entries
 
 -- what a read answers where its call is not to fail
 abbrev pub read_answer : Option (List ℕ) → ℕ → ℕ → Result ℕ ShelfFault

@@ -1,6 +1,6 @@
 // Real files. What they hold is known by nobody: this is the trusted edge.
 ghost use Rattle.std.specs.Prelude.{◌≡◌, ◌≤◌, length, None, IfOk, IsErrOf};
-ghost use Rattle.doc_outer.specs.Counts.{Rose, GoesOn};
+ghost use Rattle.doc_outer.specs.Counts.{Rose, CountGoesOn};
 ghost use Rattle.doc_outer.specs.HostCounts.{no_counts};
 ghost use Rattle.doc_outer.specs.Puts.{faults_putting};
 ghost use Rattle.doc_outer.specs.Reads.{faults_after, missed_after};
@@ -174,8 +174,8 @@ impl<R: Files + Drop, E: Eprint + Drop> Shelf for HostShelf<R, E> {
         ensures no_fault { IsErrOf result ShelfFault.Missing → self.new.faults ≡ self.old.faults }
         ensures memory { IsErrOf result ShelfFault.Memory
             → (self.new.faults ≡ self.old.faults) × (self.new.missed ≡ self.old.missed) }
-        ensures faults { GoesOn self.old.faults self.new.faults }
-        ensures missed { GoesOn self.old.missed self.new.missed }
+        ensures faults { CountGoesOn self.old.faults self.new.faults }
+        ensures missed { CountGoesOn self.old.missed self.new.missed }
         ensures put_faults { self.new.put_faults ≡ self.old.put_faults }
 
         // Exactly.
@@ -199,9 +199,9 @@ impl<R: Files + Drop, E: Eprint + Drop> Shelf for HostShelf<R, E> {
         ensures memory { IsErrOf result PutFault.Memory
             → (self.new.faults ≡ self.old.faults)
             × ((self.new.put_faults ≡ self.old.put_faults) × (self.new.missed ≡ self.old.missed)) }
-        ensures faults { GoesOn self.old.faults self.new.faults }
-        ensures put_faults { GoesOn self.old.put_faults self.new.put_faults }
-        ensures missed { GoesOn self.old.missed self.new.missed }
+        ensures faults { CountGoesOn self.old.faults self.new.faults }
+        ensures put_faults { CountGoesOn self.old.put_faults self.new.put_faults }
+        ensures missed { CountGoesOn self.old.missed self.new.missed }
 
         // Exactly.
         ensures faults_exact { self.new.faults ≡ faults_putting result self.old.faults }

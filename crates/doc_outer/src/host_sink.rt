@@ -1,6 +1,6 @@
 // Standard output. What it has taken is known by nobody: this is the trusted edge.
 ghost use Rattle.std.specs.Prelude.{◌≡◌, ◌<◌, ◌≤◌, ℕ, length, None, IfOk, OnErr};
-ghost use Rattle.doc_outer.specs.Counts.{raised, Rose, GoesOn};
+ghost use Rattle.doc_outer.specs.Counts.{raised, Rose, CountGoesOn};
 ghost use Rattle.doc_outer.specs.ByteSink.{faults_taking};
 
 use crate::{Sink, SinkFailed};
@@ -75,7 +75,7 @@ impl<P: Print + Drop, E: Eprint + Drop> Sink for HostSink<P, E> {
         ensures failed { OnErr result (Rose self.old self.new) }
         ensures nothing { IfOk result (λ count.
             count ≡ 0 → 0 < length bytes.now → Rose self.old self.new) }
-        ensures faults { GoesOn self.old self.new }
+        ensures faults { CountGoesOn self.old self.new }
 
         // Exactly.
         ensures raised { OnErr result (self.new ≡ raised self.old) }

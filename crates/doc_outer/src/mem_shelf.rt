@@ -1,9 +1,10 @@
 // Files in memory, to be in for real ones.
 ghost use Rattle.std.specs.Prelude.{◌≡◌, ◌≢◌, ◌-◌, ◌≤◌, length, min, Some, IfOk, OnOk, OnErr, IsErrOf, option_map};
-ghost use Rattle.doc_outer.specs.Counts.{Rose, GoesOn};
-ghost use Rattle.doc_outer.specs.Held.{file_at, with_file, held_with, OthersStay, Told, ReadsPart, IsAbsent, IsPart};
+ghost use Rattle.doc_outer.specs.Counts.{Rose, CountGoesOn};
+ghost use Rattle.doc_outer.specs.Held.{file_at, with_file, held_with, OthersStay, Told, ReadsPart, IsAbsent};
+ghost use Rattle.doc_outer.specs.Held.{IsFilePart};
 ghost use Rattle.doc_outer.specs.Plan.{fails_at, FailsNext};
-ghost use Rattle.doc_outer.specs.Store.{empty_store, files_of, read_answer, store_after, store_putting};
+ghost use Rattle.doc_outer.specs.Store.{empty_store, entry_files, read_answer, store_after, store_putting};
 
 use crate::plan::CallPlan;
 use crate::{PutFault, Shelf, ShelfFault};
@@ -25,14 +26,14 @@ pub struct MemShelf {
 }
 
 impl Model for MemShelf {
-    ghost use Rattle.doc_outer.specs.Store.{Store, store_code, files_of};
+    ghost use Rattle.doc_outer.specs.Store.{Store, store_code, entry_files};
 
     ghost Value = { Store };
 
     ghost coded = { store_code };
 
     ghost view = { λ s. record {
-      files = files_of s.entries.items;
+      files = entry_files s.entries.items;
       plan = s.plan;
       faults = s.faults;
       put_faults = s.put_faults;
@@ -81,7 +82,7 @@ impl MemShelf {
 /// The bytes of the newest entry of a name.
 fn newest<'a>(entries: &'a VecDeque<(Text, Bytes)>, name: &str) -> Option<&'a [u8]>
     ensures { option_map (λ bytes. bytes.now) result
-        ≡ file_at (files_of entries.now.items) name.now }
+        ≡ file_at (entry_files entries.now.items) name.now }
 {
     for (key, content) in entries {
         if name == key.as_str() {
@@ -94,7 +95,7 @@ fn newest<'a>(entries: &'a VecDeque<(Text, Bytes)>, name: &str) -> Option<&'a [u
 /// Copies what is from `at` on, as far as the buffer has room, and answers how many bytes.
 pub fn copy_part(all: &[u8], at: u64, buf: &mut [u8]) -> usize
     ensures count { result ≡ min (length buf.old) (length all.now - at) }
-    ensures part { IsPart at result buf.new all.now }
+    ensures part { IsFilePart at result buf.new all.now }
 {
     let from = (at as usize).min(all.len());
     let rest = &all[from..];
@@ -126,8 +127,8 @@ impl Shelf for MemShelf {
         ensures no_fault { IsErrOf result ShelfFault.Missing → self.new.faults ≡ self.old.faults }
         ensures memory { IsErrOf result ShelfFault.Memory
             → (self.new.faults ≡ self.old.faults) × (self.new.missed ≡ self.old.missed) }
-        ensures faults { GoesOn self.old.faults self.new.faults }
-        ensures missed { GoesOn self.old.missed self.new.missed }
+        ensures faults { CountGoesOn self.old.faults self.new.faults }
+        ensures missed { CountGoesOn self.old.missed self.new.missed }
         ensures put_faults { self.new.put_faults ≡ self.old.put_faults }
 
         // Exactly: the number is looked at first.
@@ -161,9 +162,9 @@ impl Shelf for MemShelf {
             → (Some self.new.files ≡ Some self.old.files)
             × ((self.new.faults ≡ self.old.faults)
             × ((self.new.put_faults ≡ self.old.put_faults) × (self.new.missed ≡ self.old.missed))) }
-        ensures faults { GoesOn self.old.faults self.new.faults }
-        ensures put_faults { GoesOn self.old.put_faults self.new.put_faults }
-        ensures missed { GoesOn self.old.missed self.new.missed }
+        ensures faults { CountGoesOn self.old.faults self.new.faults }
+        ensures put_faults { CountGoesOn self.old.put_faults self.new.put_faults }
+        ensures missed { CountGoesOn self.old.missed self.new.missed }
 
         // Exactly: the number is looked at first.
         ensures failing { FailsNext self.old.plan → result ≡ Err PutFault.Failed }

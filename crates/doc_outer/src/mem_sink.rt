@@ -2,7 +2,7 @@
 ghost use Rattle.std.specs.Prelude.{◌≡◌, ◌+◌, ◌++◌, ◌<◌, ◌≤◌, length, take, true, Some, Ok, IfOk, OnOk, OnErr, IsErr};
 ghost use Rattle.std.specs.Prelude.{MatchResult, vec_len, vec_capacity};
 ghost use Rattle.doc_outer.specs.ByteSink.{empty_sink, taken_count, sink_after, sink_failed};
-ghost use Rattle.doc_outer.specs.Counts.{Rose, GoesOn};
+ghost use Rattle.doc_outer.specs.Counts.{Rose, CountGoesOn};
 ghost use Rattle.doc_outer.specs.Plan.{fails_at, FailsNext};
 ghost use Rattle.doc_outer.specs.Written.{Appends};
 
@@ -109,7 +109,7 @@ impl Sink for MemSink {
         ensures failed { OnErr result (Rose self.old.faults self.new.faults) }
         ensures nothing { IfOk result (λ count.
             count ≡ 0 → 0 < length bytes.now → Rose self.old.faults self.new.faults) }
-        ensures faults { GoesOn self.old.faults self.new.faults }
+        ensures faults { CountGoesOn self.old.faults self.new.faults }
 
         // Exactly: the number is looked at first.
         ensures failing { FailsNext self.old.plan → IsErr result }

@@ -1,6 +1,6 @@
 // A block of bytes on their way to a sink, so that many small pieces are few calls of it.
 ghost use Rattle.std.specs.Prelude.{◌≡◌, ◌+◌, ◌++◌, ◌≤◌, [], length, IfOk, OnOk, OnErr};
-ghost use Rattle.doc_outer.specs.Counts.{Rose, GoesOn};
+ghost use Rattle.doc_outer.specs.Counts.{Rose, CountGoesOn};
 ghost use Rattle.doc_outer.specs.Written.{Appends, AppendsPrefix, Sends};
 
 use crate::{Sink, SinkFailed, write_all};
@@ -42,7 +42,7 @@ impl OutBlock {
         ensures ok { OnOk result (Sends (K.written out.old) (K.written out.new) self.old bytes.now self.new) }
         ensures err { OnErr result (AppendsPrefix (K.written out.old) (K.written out.new) (self.old ++ bytes.now)) }
         ensures failed { OnErr result (Rose (K.faults out.old) (K.faults out.new)) }
-        ensures faults { GoesOn (K.faults out.old) (K.faults out.new) }
+        ensures faults { CountGoesOn (K.faults out.old) (K.faults out.new) }
     {
         if self.bytes.len() + bytes.len() > BLOCK_LEN {
             return self.push_past(out, bytes);
@@ -56,7 +56,7 @@ impl OutBlock {
         ensures ok { OnOk result (Sends (K.written out.old) (K.written out.new) self.old bytes.now self.new) }
         ensures err { OnErr result (AppendsPrefix (K.written out.old) (K.written out.new) (self.old ++ bytes.now)) }
         ensures failed { OnErr result (Rose (K.faults out.old) (K.faults out.new)) }
-        ensures faults { GoesOn (K.faults out.old) (K.faults out.new) }
+        ensures faults { CountGoesOn (K.faults out.old) (K.faults out.new) }
     {
         self.flush(out)?;
         if bytes.len() > BLOCK_LEN {
@@ -73,7 +73,7 @@ impl OutBlock {
         ensures empty { OnOk result (self.new ≡ []) }
         ensures err { OnErr result (AppendsPrefix (K.written out.old) (K.written out.new) self.old) }
         ensures failed { OnErr result (Rose (K.faults out.old) (K.faults out.new)) }
-        ensures faults { GoesOn (K.faults out.old) (K.faults out.new) }
+        ensures faults { CountGoesOn (K.faults out.old) (K.faults out.new) }
     {
         write_all(out, &self.bytes)?;
         self.bytes.clear();

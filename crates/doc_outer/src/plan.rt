@@ -14,9 +14,9 @@ pub(crate) struct CallPlan {
 }
 
 impl Model for CallPlan {
-    ghost use Rattle.doc_outer.specs.Plan.{Plan};
+    ghost use Rattle.doc_outer.specs.Plan.{FaultPlan};
 
-    ghost Value = { Plan };
+    ghost Value = { FaultPlan };
 
     ghost view = { λ p. record { failing = p.failing.items; numbered = p.numbered } };
 }

@@ -1,5 +1,5 @@
 ghost use Rattle.std.specs.Prelude.{◌≡◌, ◌≤◌, ℕ, length, Option, IfOk, OnOk, IsErrOf};
-ghost use Rattle.doc_outer.specs.Counts.{Rose, GoesOn};
+ghost use Rattle.doc_outer.specs.Counts.{Rose, CountGoesOn};
 ghost use Rattle.doc_outer.specs.Held.{Files, held_with, OthersStay, Told, ReadsPart, IsAbsent};
 
 use doc_bits::Memory;
@@ -69,8 +69,8 @@ pub trait Shelf {
             → (faults self.new ≡ faults self.old) × (missed self.new ≡ missed self.old) }
 
         // Counts never fall.
-        ensures faults { GoesOn (faults self.old) (faults self.new) }
-        ensures missed { GoesOn (missed self.old) (missed self.new) }
+        ensures faults { CountGoesOn (faults self.old) (faults self.new) }
+        ensures missed { CountGoesOn (missed self.old) (missed self.new) }
         ensures put_faults { put_faults self.new ≡ put_faults self.old };
 
     /// Lets a name hold exactly these bytes. After `Failed` nothing is said of what it holds.
@@ -87,7 +87,7 @@ pub trait Shelf {
             × ((put_faults self.new ≡ put_faults self.old) × (missed self.new ≡ missed self.old))) }
 
         // Counts never fall.
-        ensures faults { GoesOn (faults self.old) (faults self.new) }
-        ensures put_faults { GoesOn (put_faults self.old) (put_faults self.new) }
-        ensures missed { GoesOn (missed self.old) (missed self.new) };
+        ensures faults { CountGoesOn (faults self.old) (faults self.new) }
+        ensures put_faults { CountGoesOn (put_faults self.old) (put_faults self.new) }
+        ensures missed { CountGoesOn (missed self.old) (missed self.new) };
 }

@@ -1,5 +1,5 @@
 ghost use Rattle.std.specs.Prelude.{◌≡◌, ◌<◌, ◌≤◌, ℕ, List, length, take, Option, IfOk, OnOk, OnErr};
-ghost use Rattle.doc_outer.specs.Counts.{Rose, GoesOn};
+ghost use Rattle.doc_outer.specs.Counts.{Rose, CountGoesOn};
 ghost use Rattle.doc_outer.specs.Written.{Appends, AppendsPrefix};
 
 use thiserror::Error;
@@ -28,7 +28,7 @@ pub trait Sink {
         ensures failed { OnErr result (Rose (faults self.old) (faults self.new)) }
         ensures nothing { IfOk result (λ count.
             count ≡ 0 → 0 < length bytes.now → Rose (faults self.old) (faults self.new)) }
-        ensures faults { GoesOn (faults self.old) (faults self.new) };
+        ensures faults { CountGoesOn (faults self.old) (faults self.new) };
 }
 
 /// Puts all the bytes, piece by piece. It takes no memory.
@@ -36,7 +36,7 @@ pub fn write_all<K: Sink>(sink: &mut K, bytes: &[u8]) -> Result<(), SinkFailed>
     ensures ok { OnOk result (Appends (K.written sink.old) (K.written sink.new) bytes.now) }
     ensures err { OnErr result (AppendsPrefix (K.written sink.old) (K.written sink.new) bytes.now) }
     ensures failed { OnErr result (Rose (K.faults sink.old) (K.faults sink.new)) }
-    ensures faults { GoesOn (K.faults sink.old) (K.faults sink.new) }
+    ensures faults { CountGoesOn (K.faults sink.old) (K.faults sink.new) }
 {
     let mut taken = 0;
     while taken < bytes.len() {

@@ -1,6 +1,6 @@
 ghost use Rattle.std.specs.Prelude.{◌≡◌, ◌≤◌, length, IfOk, IsErrOf};
-ghost use Rattle.doc_outer.specs.Counts.{Rose, GoesOn};
-ghost use Rattle.doc_outer.specs.Held.{Told, IsAbsent, IsWhole, IsLonger};
+ghost use Rattle.doc_outer.specs.Counts.{Rose, CountGoesOn};
+ghost use Rattle.doc_outer.specs.Held.{Told, IsAbsent, HoldsExactly, IsLonger};
 
 use crate::{Shelf, ShelfFault};
 use doc_bits::{Bytes, Memory};
@@ -71,7 +71,7 @@ fn zeros(alloc: Global, len: usize) -> Result<Vec<u8>, AllocError>
 /// All the bytes of a name, taken in order from the first on, each once.
 pub fn read_whole<S: Shelf>(alloc: Global, shelf: &mut S, name: &str) -> Result<Bytes, ReadFail>
     ensures kept { S.held shelf.new ≡ S.held shelf.old }
-    ensures whole { IfOk result (λ bytes. Told (S.held shelf.old) name.now (IsWhole bytes)) }
+    ensures whole { IfOk result (λ bytes. Told (S.held shelf.old) name.now (HoldsExactly bytes)) }
     ensures len { IfOk result (λ bytes. length bytes ≤ MAX_FILE_LEN) }
     ensures absent { IsErrOf result ReadFail.Missing → Told (S.held shelf.old) name.now IsAbsent }
     ensures too_long { IsErrOf result ReadFail.TooLong
@@ -82,8 +82,8 @@ pub fn read_whole<S: Shelf>(alloc: Global, shelf: &mut S, name: &str) -> Result<
         → Rose (S.faults shelf.old) (S.faults shelf.new) }
     ensures missing { IsErrOf result ReadFail.Missing
         → Rose (S.missed shelf.old) (S.missed shelf.new) }
-    ensures faults { GoesOn (S.faults shelf.old) (S.faults shelf.new) }
-    ensures missed { GoesOn (S.missed shelf.old) (S.missed shelf.new) }
+    ensures faults { CountGoesOn (S.faults shelf.old) (S.faults shelf.new) }
+    ensures missed { CountGoesOn (S.missed shelf.old) (S.missed shelf.new) }
     ensures put_faults { S.put_faults shelf.new ≡ S.put_faults shelf.old }
 {
     let mut bytes = Bytes::new(alloc);

@@ -11,14 +11,15 @@ use Rattle.doc_bits.specs.Number.{number_at, u16_at, number_bytes}
 use Rattle.doc_bits.proofs.Public.{length-number_bytes, number_at-number_bytes, number_at-read_back, number_at-after}
 use Rattle.doc_bits.proofs.Public.{number_at-range, All_at, there_is}
 use Rattle.doc_bits.specs.Plc.{PlcPart, plc_entry}
-use Rattle.doc_parts.specs.declared.bookmark_order.Bookmark.{Bookmark}
+use Rattle.document_bookmarks.specs.declared.bookmark_order.Bookmark.{Bookmark}
 use Rattle.doc_parts.specs.Tabulated.{tabulate}
-use Rattle.doc_parts.specs.BookmarkParts.{bookmark_count, name_place, name_of, HasNameFront, IsWholeName}
+use Rattle.doc_parts.specs.BookmarkParts.{bookmark_count, bookmark_name_place, bookmark_name_at, HasNameFront}
+use Rattle.doc_parts.specs.BookmarkParts.{IsWholeName}
 use Rattle.doc_parts.specs.BookmarkParts.{FillNames, start_entry}
 use Rattle.doc_parts.specs.declared.bookmark_print.Start.{Start}
-use Rattle.doc_parts.specs.PrintedBookmarks.{name_bytes, names_front, names_bytes, start_form, start_of}
+use Rattle.doc_parts.specs.PrintedBookmarks.{bookmark_name_bytes, names_front, names_bytes, start_form, bookmark_start}
 use Rattle.doc_parts.specs.PrintedBookmarks.{starts_of}
-use Rattle.doc_parts.proofs.NameLemmas.{there_at}
+use Rattle.document_bookmarks.proofs.Public.{there_at}
 
 -- ---- lists by their places
 
@@ -101,7 +102,7 @@ named_parts : (front : List ℕ) (list : List Bookmark) (k : ℕ) (x : Bookmark)
     ≡ (front ++ names_bytes (take k list)) ++ (number_bytes 2 (length x.name)
     ++ (flat_map (number_bytes 2) x.name ++ names_bytes (drop (suc k) list)))
 named_parts front list k x here =
-    let name : Bookmark → List ℕ = λ b. name_bytes b.name in
+    let name : Bookmark → List ℕ = λ b. bookmark_name_bytes b.name in
     let before : List ℕ = names_bytes (take k list) in
     let behind : List ℕ = names_bytes (drop (suc k) list) in
     let count : List ℕ = number_bytes 2 (length x.name) in
@@ -137,9 +138,9 @@ length-next : (front : List ℕ) (list : List Bookmark) (k : ℕ) (x : Bookmark)
     length (front ++ names_bytes (take (suc k) list))
     ≡ length (front ++ names_bytes (take k list)) + 2 + 2 * length x.name
 length-next front list k x here =
-    let name : Bookmark → List ℕ = λ b. name_bytes b.name in
+    let name : Bookmark → List ℕ = λ b. bookmark_name_bytes b.name in
     let before : List ℕ = names_bytes (take k list) in
-    let next : names_bytes (take (suc k) list) ≡ before ++ (name_bytes x.name ++ []) =
+    let next : names_bytes (take (suc k) list) ≡ before ++ (bookmark_name_bytes x.name ++ []) =
     ap names_bytes (take_next list k x here) ∙ flat_map-append name (take k list) (x ∷ []) in
     let count : List ℕ = number_bytes 2 (length x.name) in
     let units : List ℕ = flat_map (number_bytes 2) x.name in
@@ -148,8 +149,8 @@ length-next front list k x here =
       ap length next,
       length-append front (names_bytes (take (suc k) list)),
       length-append front before,
-      length-append before (name_bytes x.name ++ []),
-      length-append (name_bytes x.name) [],
+      length-append before (bookmark_name_bytes x.name ++ []),
+      length-append (bookmark_name_bytes x.name) [],
       length-append count units,
       length-number_bytes 2 (length x.name),
       length-units x.name,
@@ -159,17 +160,17 @@ abbrev pub IsShort : Bookmark → Type 0
 IsShort b = length b.name < 2 ^ 16
 
 pub place_there : (front : List ℕ) (list : List Bookmark) (k : ℕ) → length front ≡ 6 → All IsShort list →
-    k ≤ length list → name_place (front ++ names_bytes list) k ≡ length (front ++ names_bytes (take k list))
-unfolding name_place
+    k ≤ length list → bookmark_name_place (front ++ names_bytes list) k ≡ length (front ++ names_bytes (take k list))
+unfolding bookmark_name_place
 place_there front list zero six short within = omega (arith, length-append front [], six)
 place_there front list (suc k) six short within =
     let there = there_is list k (omega (arith, within)) in
     let x : Bookmark = there.0 in
     let names : List ℕ = front ++ names_bytes list in
-    let here : name_place names k ≡ length (front ++ names_bytes (take k list)) =
+    let here : bookmark_name_place names k ≡ length (front ++ names_bytes (take k list)) =
     place_there front list k six short (omega (arith, within)) in
     let few : length x.name < 2 ^ 16 = All_at IsShort list k x short there.1 in
-    let count : u16_at names (name_place names k) ≡ length x.name =
+    let count : u16_at names (bookmark_name_place names k) ≡ length x.name =
     ap (λ (n : ℕ). u16_at names n) here ∙ count_there front list k x there.1 few in
     omega (arith, here, count, length-next front list k x there.1)
 
@@ -192,7 +193,7 @@ units_at (y ∷ ys) rest (suc i) unit small here =
 
 pub name_there : (front : List ℕ) (list : List Bookmark) (k : ℕ) (x : Bookmark) → length front ≡ 6 →
     All IsShort list → All (λ b. All (λ u. u < 2 ^ 16) b.name) list → slice_get list k ≡ Some x →
-    name_of (front ++ names_bytes list) k ≡ x.name
+    bookmark_name_at (front ++ names_bytes list) k ≡ x.name
 name_there front list k x six short small here =
     let names : List ℕ = front ++ names_bytes list in
     let before : List ℕ = front ++ names_bytes (take k list) in
@@ -200,23 +201,24 @@ name_there front list k x six short small here =
     let units : List ℕ = flat_map (number_bytes 2) x.name in
     let behind : List ℕ = names_bytes (drop (suc k) list) in
     let below = (there_at list k x here).0 in
-    let place : name_place names k ≡ length before = place_there front list k six short (omega (arith, below)) in
-    let long : u16_at names (name_place names k) ≡ length x.name =
+    let place : bookmark_name_place names k ≡ length before = place_there front list k six short (omega (arith, below))
+    in
+    let long : u16_at names (bookmark_name_place names k) ≡ length x.name =
     ap (λ (n : ℕ). u16_at names n) place
     ∙ count_there front list k x here (All_at IsShort list k x short here) in
     let parts : names ≡ (before ++ count) ++ (units ++ behind) =
     named_parts front list k x here ∙ sym (append_assoc before count (units ++ behind)) in
     let each : (i unit : ℕ) → slice_get x.name i ≡ Some unit →
-    u16_at names (name_place names k + 2 + 2 * i) ≡ unit = λ i unit it.
-    let at : name_place names k + 2 + 2 * i ≡ length (before ++ count) + 2 * i =
+    u16_at names (bookmark_name_place names k + 2 + 2 * i) ≡ unit = λ i unit it.
+    let at : bookmark_name_place names k + 2 + 2 * i ≡ length (before ++ count) + 2 * i =
     omega (arith, place, length-append before count, length-number_bytes 2 (length x.name)) in
     ap (λ (n : ℕ). number_at names n 2) at
     ∙ (ap (λ (xs : List ℕ). number_at xs (length (before ++ count) + 2 * i) 2) parts
     ∙ (number_at-after (before ++ count) (units ++ behind) (2 * i) 2
     ∙ units_at x.name behind i unit (All_at (λ (b : Bookmark). All (λ u. u < 2 ^ 16) b.name) list k x small here) it))
     in
-    ap (λ (n : ℕ). tabulate (λ i. u16_at names (name_place names k + 2 + 2 * i)) n) long
-    ∙ tabulate_is (λ i. u16_at names (name_place names k + 2 + 2 * i)) x.name each
+    ap (λ (n : ℕ). tabulate (λ i. u16_at names (bookmark_name_place names k + 2 + 2 * i)) n) long
+    ∙ tabulate_is (λ i. u16_at names (bookmark_name_place names k + 2 + 2 * i)) x.name each
 
 -- ---- the names break no rule
 
@@ -227,7 +229,7 @@ IsNamed b = (1 ≤ length b.name) × (length b.name ≤ 255)
 upto_all : (front : List ℕ) (list : List Bookmark) (k : ℕ) →
     length (front ++ names_bytes (take k list)) ≤ length (front ++ names_bytes list)
 upto_all front list k =
-    let name : Bookmark → List ℕ = λ b. name_bytes b.name in
+    let name : Bookmark → List ℕ = λ b. bookmark_name_bytes b.name in
     let whole : names_bytes list ≡ names_bytes (take k list) ++ names_bytes (drop k list) =
     ap names_bytes (sym (take-append-drop k list)) ∙ flat_map-append name (take k list) (drop k list) in
     omega (
@@ -244,9 +246,9 @@ name_whole front list k six short named below =
     let there = there_is list k below in
     let x : Bookmark = there.0 in
     let names : List ℕ = front ++ names_bytes list in
-    let place : name_place names k ≡ length (front ++ names_bytes (take k list)) =
+    let place : bookmark_name_place names k ≡ length (front ++ names_bytes (take k list)) =
     place_there front list k six short (omega (arith, below)) in
-    let count : u16_at names (name_place names k) ≡ length x.name =
+    let count : u16_at names (bookmark_name_place names k) ≡ length x.name =
     ap (λ (n : ℕ). u16_at names n) place
     ∙ count_there front list k x there.1 (All_at IsShort list k x short there.1) in
     let right = All_at IsNamed list k x named there.1 in
@@ -257,7 +259,7 @@ name_whole front list k six short named below =
         arith,
         place_there front list (suc k) six short below,
         upto_all front list (suc k),
-        ap (name_place names) (add-one k),
+        ap (bookmark_name_place names) (add-one k),
       );
     }
 
@@ -271,7 +273,7 @@ names_filled list few named =
     All-weaker IsNamed IsShort (λ b h. omega (arith, h.1)) list named in
     let count : bookmark_count names ≡ length list = front_count (length list) (names_bytes list) few in
     let all : take (length list) list ≡ list = take_all (length list) list (omega arith) in
-    let end : name_place names (length list) ≡ length names =
+    let end : bookmark_name_place names (length list) ≡ length names =
     place_there front list (length list) six short (omega arith)
     ∙ ap (λ (xs : List Bookmark). length (front ++ names_bytes xs)) all in (
       record {
@@ -280,7 +282,7 @@ names_filled list few named =
       },
       record {
         whole = λ k low. name_whole front list k six short named (omega (arith, count, low));
-        end = ap (name_place names) count ∙ end;
+        end = ap (bookmark_name_place names) count ∙ end;
       },
     )
 
@@ -290,15 +292,15 @@ abbrev pub StartParts : List ℕ → ℕ → PlcPart
 StartParts bytes count = record { bytes = bytes; size = 4; count = count }
 
 pub start_there : (list before xs : List Bookmark) (k : ℕ) (x : Bookmark) → slice_get xs k ≡ Some x →
-    slice_get (starts_of list before xs) k ≡ Some (start_of list (before ++ take k xs) x)
+    slice_get (starts_of list before xs) k ≡ Some (bookmark_start list (before ++ take k xs) x)
 unfolding starts_of
 start_there list before [] k x here = absurd (cc here)
 start_there list before (y ∷ ys) zero x here =
     let same : y ≡ x = same_Some y x here in
-    rw (append-nil before) (ap (λ (b : Bookmark). Some (start_of list before b)) same)
+    rw (append-nil before) (ap (λ (b : Bookmark). Some (bookmark_start list before b)) same)
 start_there list before (y ∷ ys) (suc k) x here =
     start_there list (before ++ y ∷ []) ys k x here
-    ∙ ap (λ (zs : List Bookmark). Some (start_of list zs x)) (append_assoc before (y ∷ []) (take k ys))
+    ∙ ap (λ (zs : List Bookmark). Some (bookmark_start list zs x)) (append_assoc before (y ∷ []) (take k ys))
 
 pub length-starts : (list before xs : List Bookmark) → length (starts_of list before xs) ≡ length xs
 unfolding starts_of
@@ -350,12 +352,12 @@ map_next f xs k x here =
     rw (add-one k) (ap (map f) (take_next xs k x here) ∙ map-append f (take k xs) (x ∷ []))
 
 pub names_next : (front : List ℕ) (list : List Bookmark) (k : ℕ) (x : Bookmark) → slice_get list k ≡ Some x →
-    front ++ names_bytes (take (k + 1) list) ≡ (front ++ names_bytes (take k list)) ++ name_bytes x.name
+    front ++ names_bytes (take (k + 1) list) ≡ (front ++ names_bytes (take k list)) ++ bookmark_name_bytes x.name
 names_next front list k x here =
-    let name : Bookmark → List ℕ = λ b. name_bytes b.name in
-    let next : names_bytes (take (suc k) list) ≡ names_bytes (take k list) ++ name_bytes x.name =
+    let name : Bookmark → List ℕ = λ b. bookmark_name_bytes b.name in
+    let next : names_bytes (take (suc k) list) ≡ names_bytes (take k list) ++ bookmark_name_bytes x.name =
     ap names_bytes (take_next list k x here)
     ∙ (flat_map-append name (take k list) (x ∷ [])
-    ∙ ap (λ (xs : List ℕ). names_bytes (take k list) ++ xs) (append-nil (name_bytes x.name))) in
+    ∙ ap (λ (xs : List ℕ). names_bytes (take k list) ++ xs) (append-nil (bookmark_name_bytes x.name))) in
     rw (add-one k) (ap (λ (xs : List ℕ). front ++ xs) next
-    ∙ sym (append_assoc front (names_bytes (take k list)) (name_bytes x.name)))
+    ∙ sym (append_assoc front (names_bytes (take k list)) (bookmark_name_bytes x.name)))

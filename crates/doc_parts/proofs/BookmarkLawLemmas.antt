@@ -12,21 +12,21 @@ use Rattle.doc_bits.specs.Number.{u16_at, number_bytes}
 use Rattle.doc_bits.specs.Plc.{IsPlcOf, plc_cp, plc_entry, HasPlc}
 use Rattle.doc_bits.specs.Rules.{Nowhere}
 use Rattle.doc_bits.proofs.Public.{there_is, All_at, printed-HasPlc, length-number_bytes}
-use Rattle.doc_parts.specs.declared.bookmark_order.Bookmark.{Bookmark}
+use Rattle.document_bookmarks.specs.declared.bookmark_order.Bookmark.{Bookmark}
 use Rattle.doc_parts.specs.declared.bookmark_print.Start.{Start}
-use Rattle.doc_parts.specs.Order.{in_order}
+use Rattle.document_bookmarks.specs.Order.{in_order}
 use Rattle.doc_parts.specs.Stories.{cut_form}
 use Rattle.doc_parts.specs.Tabulated.{tabulate}
-use Rattle.doc_parts.specs.Bookmarks.{bookmark_cmp, HasFileNumbers, IsFormedBookmark, AreFormedBookmarks}
-use Rattle.doc_parts.specs.BookmarkParts.{BookmarkParts, bookmark_count, start_entry, end_index, bookmark_at, is_kept}
-use Rattle.doc_parts.specs.BookmarkParts.{kept_bookmarks, bookmarks_of, name_of, BreaksStarts}
+use Rattle.document_bookmarks.specs.Bookmarks.{bookmark_cmp, HasFileNumbers, IsFormedBookmark, AreFormedBookmarks}
+use Rattle.doc_parts.specs.BookmarkParts.{BookmarkParts, bookmark_count, start_entry, end_index, bookmark_at}
+use Rattle.doc_parts.specs.BookmarkParts.{is_kept_bookmark}
+use Rattle.doc_parts.specs.BookmarkParts.{kept_bookmarks, bookmarks_of, bookmark_name_at, BreaksStarts}
 use Rattle.doc_parts.specs.BookmarkParts.{BreaksParts}
-use Rattle.doc_parts.specs.PrintedBookmarks.{names_front, names_bytes, ends_of, end_place, start_form, start_of}
+use Rattle.doc_parts.specs.PrintedBookmarks.{names_front, names_bytes, bookmark_ends, end_place, start_form}
+use Rattle.doc_parts.specs.PrintedBookmarks.{bookmark_start}
 use Rattle.doc_parts.specs.PrintedBookmarks.{starts_of}
 use Rattle.doc_parts.specs.PrintedBookmarks.{printed_starts, printed_ends, BookmarksAreReadBack}
-use Rattle.doc_parts.proofs.OrderLemmas.{sorted_stays, all_in_order}
-use Rattle.doc_parts.proofs.BookmarkLemmas.{bookmark_total, bookmark_alone}
-use Rattle.doc_parts.proofs.NameLemmas.{there_at}
+use Rattle.document_bookmarks.proofs.Public.{sorted_stays, all_in_order, bookmark_total, bookmark_alone, there_at}
 use Rattle.doc_parts.proofs.NumberingLemmas.{end_there, end_within, length-ends}
 use Rattle.doc_parts.proofs.BookmarkPartLemmas.{right_names, right_starts}
 use Rattle.doc_parts.proofs.BookmarkBackLemmas.{IsShort, IsNamed, StartParts, length-front, front_count, name_there}
@@ -73,7 +73,7 @@ start_back list end k x some few last numbers here below =
     let has = starts_plc list end some last numbers in
     let many : length cps ≡ length list = starts_many list in
     let own = All_at HasFileNumbers list k x numbers here in
-    let start : Start = start_of list (take k list) x in
+    let start : Start = bookmark_start list (take k list) x in
     let from : Bookmark → ℕ = λ b. b.from in
     let first : plc_cp bytes k ≡ x.from =
     has.cps k (omega (arith, many, below))
@@ -93,9 +93,10 @@ start_back list end k x some few last numbers here below =
 -- ---- the ends
 
 ends_plc : (list : List Bookmark) (end : ℕ) → 0 < length list → end < 2 ^ 32 → All HasFileNumbers list →
-    HasPlc (printed_ends list end) 0 (map cut_form.cp_of (ends_of list)) end (map cut_form.bytes_of (ends_of list))
+    HasPlc (printed_ends list end) 0 (map cut_form.cp_of (bookmark_ends list)) end (map cut_form.bytes_of (bookmark_ends
+    list))
 ends_plc list end some last numbers =
-    let ends : List ℕ = ends_of list in
+    let ends : List ℕ = bookmark_ends list in
     let to : Bookmark → ℕ = λ b. b.to in
     let small : All (λ cp. cp < 2 ^ 32) ends =
     all_in_order (λ cp. cp < 2 ^ 32) nat_cmp (map to list) (All-map (λ cp. cp < 2 ^ 32) to list
@@ -107,8 +108,8 @@ ends_plc list end some last numbers =
     last
     (All-map (λ part. length part ≡ 0) cut_form.bytes_of ends (λ k d low. refl))
 
-ends_many : (list : List Bookmark) → length (map cut_form.cp_of (ends_of list)) ≡ length list
-ends_many list = length-map (ends_of list) cut_form.cp_of ∙ length-ends list
+ends_many : (list : List Bookmark) → length (map cut_form.cp_of (bookmark_ends list)) ≡ length list
+ends_many list = length-map (bookmark_ends list) cut_form.cp_of ∙ length-ends list
 
 end_back : (list : List Bookmark) (end k : ℕ) (x : Bookmark) → 0 < length list → end < 2 ^ 32 →
     All HasFileNumbers list → slice_get list k ≡ Some x →
@@ -117,7 +118,7 @@ end_back list end k x some last numbers here =
     let place : ℕ = end_place list (take k list) x.to in
     let has = ends_plc list end some last numbers in
     has.cps place (omega (arith, ends_many list, end_within list k x here))
-    ∙ (ap (λ (ns : List ℕ). slice_index ns place) (map-id (ends_of list)) ∙ end_there list k x here)
+    ∙ (ap (λ (ns : List ℕ). slice_index ns place) (map-id (bookmark_ends list)) ∙ end_there list k x here)
 
 -- ---- all of it
 
@@ -139,11 +140,12 @@ pub record AreBack (parts : BookmarkParts) (list : List Bookmark) : Type 0 where
 back_list : (parts : BookmarkParts) (list : List Bookmark) (end : ℕ) → AreBack parts list →
     AreFormedBookmarks end list → kept_bookmarks parts end ≡ list
 back_list parts list end back formed =
-    let all : All (λ b. is_kept end b ≡ true) list =
-    All-weaker (IsFormedBookmark end) (λ b. is_kept end b ≡ true)
+    let all : All (λ b. is_kept_bookmark end b ≡ true) list =
+    All-weaker (IsFormedBookmark end) (λ b. is_kept_bookmark end b ≡ true)
     (λ b h. kept_true b.from b.to end h.ordered h.within) list formed.each in
-    ap (λ (n : ℕ). filter (is_kept end) (tabulate (bookmark_at parts) n)) back.count
-    ∙ (ap (filter (is_kept end)) (tabulate_is (bookmark_at parts) list back.each) ∙ filter_all (is_kept end) list all)
+    ap (λ (n : ℕ). filter (is_kept_bookmark end) (tabulate (bookmark_at parts) n)) back.count
+    ∙ (ap (filter (is_kept_bookmark end)) (tabulate_is (bookmark_at parts) list back.each) ∙ filter_all
+    (is_kept_bookmark end) list all)
 
 -- the parts of a list that is not empty
 some_parts : List Bookmark → ℕ → ℕ → ℕ → ℕ → BookmarkParts
@@ -171,7 +173,8 @@ one_back list end k x names_at starts_at ends_at some few last numbers named her
     All-weaker HasFileNumbers (λ b. All (λ u. u < 2 ^ 16) b.name) (λ b h. h.units) list numbers in
     let below : k < length list = (there_at list k x here).0 in
     let start = start_back list end k x some few last numbers here below in
-    let name : name_of names k ≡ x.name = name_there front list k x (length-front (length list)) short units here in
+    let name : bookmark_name_at names k ≡ x.name = name_there front list k x (length-front (length list)) short units
+    here in
     let to : plc_cp ends (end_index starts (bookmark_count names) k) ≡ x.to =
     ap (λ (n : ℕ). plc_cp ends (end_index starts n k)) count
     ∙ (ap (plc_cp ends) start.index ∙ end_back list end k x some last numbers here) in

@@ -12,16 +12,17 @@ use Rattle.doc_bits.proofs.Public.{number_at-bound, least_same, least_either}
 use Rattle.doc_bits.specs.Plc.{IsPlcOf, plc_cp}
 use Rattle.doc_bits.specs.Rules.{Nowhere, IsLeast, LeastOrNone, lesser_of}
 use Rattle.doc_parts.specs.Tabulated.{tabulate}
-use Rattle.doc_parts.specs.BookmarkParts.{bookmark_count, name_place, HasNameFront, IsWholeName, AreWholeNames}
+use Rattle.doc_parts.specs.BookmarkParts.{bookmark_count, bookmark_name_place, HasNameFront, IsWholeName, AreWholeNames}
 use Rattle.doc_parts.specs.BookmarkParts.{IsWrongCount}
 use Rattle.doc_parts.specs.BookmarkParts.{FillNames, HasWrongCount, AreWrongNames, BreaksNames, end_index, start_entry}
-use Rattle.doc_parts.specs.BookmarkParts.{BreaksStarts, BookmarkParts, bookmark_at, is_kept}
-use Rattle.doc_parts.specs.BookmarkParts.{kept_bookmarks, bookmarks_of, name_of, HasNames, BreaksParts, AreValidParts}
+use Rattle.doc_parts.specs.BookmarkParts.{BreaksStarts, BookmarkParts, bookmark_at, is_kept_bookmark}
+use Rattle.doc_parts.specs.BookmarkParts.{kept_bookmarks, bookmarks_of, bookmark_name_at, HasNames, BreaksParts}
+use Rattle.doc_parts.specs.BookmarkParts.{AreValidParts}
 use Rattle.doc_parts.specs.BookmarkParts.{parts_at}
-use Rattle.doc_parts.specs.declared.bookmark_order.Bookmark.{Bookmark}
-use Rattle.doc_parts.specs.Order.{in_order}
-use Rattle.doc_parts.specs.Table.{IsWrongPart}
-use Rattle.doc_parts.specs.Bookmarks.{bookmark_cmp, HasFileNumbers}
+use Rattle.document_bookmarks.specs.declared.bookmark_order.Bookmark.{Bookmark}
+use Rattle.document_bookmarks.specs.Order.{in_order}
+use Rattle.doc_parts.specs.Table.{IsMalformedPart}
+use Rattle.document_bookmarks.specs.Bookmarks.{bookmark_cmp, HasFileNumbers}
 use Rattle.std.proofs.lemmas.List.{length-append}
 
 -- ---- lists by their places
@@ -38,8 +39,8 @@ kept-next p f n = ap (filter p) (tabulate-next f n) ∙ filter-append p (tabulat
 -- ---- the names
 
 pub name_place-next : (names : List ℕ) (k : ℕ) →
-    name_place names (k + 1) ≡ name_place names k + 2 + 2 * u16_at names (name_place names k)
-unfolding name_place
+    bookmark_name_place names (k + 1) ≡ bookmark_name_place names k + 2 + 2 * u16_at names (bookmark_name_place names k)
+unfolding bookmark_name_place
 name_place-next names k = rw (add-one k) refl
 
 -- a name that is whole has a right count
@@ -77,7 +78,7 @@ part_least names at wrong = record {
 
 -- a count that is not there
 pub no_count : (names : List ℕ) (at k : ℕ) → k < bookmark_count names → AreWholeNames names k →
-    length names < name_place names k + 2 → IsLeast (λ a b. a ≤ b) (BreaksNames names at) at
+    length names < bookmark_name_place names k + 2 → IsLeast (λ a b. a ≤ b) (BreaksNames names at) at
 no_count names at k below whole short =
     let stop : ¬ (IsWholeName names k) = λ w. omega (arith, w.within, name_place-next names k, short) in
     part_least names at (inr (
@@ -87,8 +88,8 @@ no_count names at k below whole short =
 
 -- a name that leaves the part
 pub no_name : (names : List ℕ) (at k : ℕ) → k < bookmark_count names → AreWholeNames names k →
-    0 < u16_at names (name_place names k) → u16_at names (name_place names k) ≤ 255 →
-    length names < name_place names (k + 1) → IsLeast (λ a b. a ≤ b) (BreaksNames names at) at
+    0 < u16_at names (bookmark_name_place names k) → u16_at names (bookmark_name_place names k) ≤ 255 →
+    length names < bookmark_name_place names (k + 1) → IsLeast (λ a b. a ≤ b) (BreaksNames names at) at
 no_name names at k below whole some few long =
     let stop : ¬ (IsWholeName names k) = λ w. omega (arith, w.within, long) in
     part_least names at (inr (
@@ -101,18 +102,18 @@ no_name names at k below whole some few long =
 
 -- a wrong count
 pub wrong_count : (names : List ℕ) (at k : ℕ) → k < bookmark_count names → HasNameFront names →
-    AreWholeNames names k → name_place names k + 2 ≤ length names →
-    (u16_at names (name_place names k) ≡ 0) ⊎ (255 < u16_at names (name_place names k)) →
-    IsLeast (λ a b. a ≤ b) (BreaksNames names at) (at + name_place names k)
+    AreWholeNames names k → bookmark_name_place names k + 2 ≤ length names →
+    (u16_at names (bookmark_name_place names k) ≡ 0) ⊎ (255 < u16_at names (bookmark_name_place names k)) →
+    IsLeast (λ a b. a ≤ b) (BreaksNames names at) (at + bookmark_name_place names k)
 wrong_count names at k below front whole there wrong =
-    let mine : IsWrongCount names at k (at + name_place names k) =
+    let mine : IsWrongCount names at k (at + bookmark_name_place names k) =
     record { before = whole; there = there; wrong = wrong; here = refl } in
     record {
       broken = inr (record { entry = k; below = below; broken = mine });
       least = λ p w. elim w [
         | inl x ↦ elim x.1 [
           | inl bad ↦ absurd (bad front)
-          | inr other ↦ absurd (other.1 (name_place names k) (record {
+          | inr other ↦ absurd (other.1 (bookmark_name_place names k) (record {
             entry = k;
             below = below;
             broken = record { before = whole; there = there; wrong = wrong; here = omega arith };
@@ -122,11 +123,11 @@ wrong_count names at k below front whole there wrong =
           | inl low ↦ absurd (whole_or_wrong names at y.entry p (whole y.entry low) y.broken)
           | inr high ↦ elim (cases_lt k y.entry) [
             | inl over ↦
-                absurd (whole_or_wrong names at k (at + name_place names k) (y.broken.before k over) mine)
+                absurd (whole_or_wrong names at k (at + bookmark_name_place names k) (y.broken.before k over) mine)
             | inr same ↦
                 let e : y.entry ≡ k = omega arith in
-                let here : p ≡ at + name_place names k =
-                subst (λ (i : ℕ). p ≡ at + name_place names i) e y.broken.here in
+                let here : p ≡ at + bookmark_name_place names k =
+                subst (λ (i : ℕ). p ≡ at + bookmark_name_place names i) e y.broken.here in
                 omega (arith, here)
           ]
         ]
@@ -142,7 +143,7 @@ right_names names at front filled p w = elim w [
 
 -- names with bytes behind them
 pub rest_behind : (names : List ℕ) (at : ℕ) → AreWholeNames names (bookmark_count names) →
-    name_place names (bookmark_count names) ≢ length names → IsLeast (λ a b. a ≤ b) (BreaksNames names at) at
+    bookmark_name_place names (bookmark_count names) ≢ length names → IsLeast (λ a b. a ≤ b) (BreaksNames names at) at
 rest_behind names at whole differ =
     part_least names at (inr (λ fill. differ fill.end, none_of_whole names 0 whole))
 
@@ -166,11 +167,11 @@ right_starts starts at count whole each p w = elim w [
 
 -- a name is within the part
 pub name_room : (names : List ℕ) (k : ℕ) → FillNames names → k < bookmark_count names →
-    name_place names k + 2 + 2 * u16_at names (name_place names k) ≤ length names
+    bookmark_name_place names k + 2 + 2 * u16_at names (bookmark_name_place names k) ≤ length names
 name_room names k filled low = omega (arith, (filled.whole k low).within, name_place-next names k)
 
-pub first_place : (names : List ℕ) → name_place names 0 ≡ 6
-unfolding name_place
+pub first_place : (names : List ℕ) → bookmark_name_place names 0 ≡ 6
+unfolding bookmark_name_place
 first_place names = refl
 
 pub none_tabulated : {A : Type 0} (p : A → Bool) (f : ℕ → A) → filter p (tabulate f 0) ≡ []
@@ -186,12 +187,12 @@ all_tabulated P f (suc n) each = All-push P (tabulate f n) (f n) (all_tabulated 
 pub kept_numbers : (parts : BookmarkParts) (main_len : ℕ) → AreBytes parts.names → AreBytes parts.starts →
     AreBytes parts.ends → All HasFileNumbers (kept_bookmarks parts main_len)
 kept_numbers parts main_len names starts ends =
-    All-filter (is_kept main_len) HasFileNumbers (tabulate (bookmark_at parts) (bookmark_count parts.names))
+    All-filter (is_kept_bookmark main_len) HasFileNumbers (tabulate (bookmark_at parts) (bookmark_count parts.names))
     (all_tabulated HasFileNumbers (bookmark_at parts) (bookmark_count parts.names) (λ k. record {
       units = all_tabulated (λ u. u < 2 ^ 16)
-          (λ i. u16_at parts.names (name_place parts.names k + 2 + 2 * i))
-          (u16_at parts.names (name_place parts.names k))
-          (λ i. number_at-bound parts.names (name_place parts.names k + 2 + 2 * i) 2 names);
+          (λ i. u16_at parts.names (bookmark_name_place parts.names k + 2 + 2 * i))
+          (u16_at parts.names (bookmark_name_place parts.names k))
+          (λ i. number_at-bound parts.names (bookmark_name_place parts.names k + 2 + 2 * i) 2 names);
       from = number_at-bound parts.starts (4 * k) 4 starts;
       to = number_at-bound parts.ends (4 * end_index parts.starts (bookmark_count parts.names) k) 4 ends;
       flags = number_at-bound parts.starts (start_entry (bookmark_count parts.names) k + 2) 2 starts;
@@ -199,13 +200,13 @@ kept_numbers parts main_len names starts ends =
 
 -- what was read of a bookmark is that of the parts
 pub same_bookmark : (parts : BookmarkParts) (k count place units from to flags : ℕ) (name : List ℕ) →
-    count ≡ bookmark_count parts.names → place ≡ name_place parts.names k → units ≡ u16_at parts.names place →
+    count ≡ bookmark_count parts.names → place ≡ bookmark_name_place parts.names k → units ≡ u16_at parts.names place →
     name ≡ tabulate (λ i. u16_at parts.names (place + 2 + 2 * i)) units → from ≡ plc_cp parts.starts k →
     to ≡ plc_cp parts.ends (end_index parts.starts count k) → flags ≡ u16_at parts.starts (start_entry count k + 2) →
     let read : Bookmark = record { name = name; from = from; to = to; flags = flags } in read ≡ bookmark_at parts k
 same_bookmark parts k count place units from to flags name many here long spelled begins ends flagged =
     let names : List ℕ = parts.names in
-    let n : name ≡ name_of names k =
+    let n : name ≡ bookmark_name_at names k =
     spelled ∙ (ap (λ (u : ℕ). tabulate (λ i. u16_at names (place + 2 + 2 * i)) u) long
     ∙ ap (λ (p : ℕ). tabulate (λ i. u16_at names (p + 2 + 2 * i)) (u16_at names p)) here) in
     let t : to ≡ plc_cp parts.ends (end_index parts.starts (bookmark_count names) k) =
@@ -228,21 +229,22 @@ pub parts_judged : (parts : BookmarkParts) (count : ℕ) (names starts ends : Op
     6 < length parts.names → count ≡ bookmark_count parts.names →
     LeastOrNone (BreaksNames parts.names parts.names_at) names →
     LeastOrNone (BreaksStarts parts.starts parts.starts_at count) starts →
-    LeastOrNone (IsWrongPart (IsPlcOf parts.ends 0 count) parts.ends_at) ends →
+    LeastOrNone (IsMalformedPart (IsPlcOf parts.ends 0 count) parts.ends_at) ends →
     LeastOrNone (λ place. HasNames parts.names × BreaksParts parts place) (lesser_of names (lesser_of starts ends))
 parts_judged parts count names starts ends some many one two three =
     let here : ℕ = bookmark_count parts.names in
     let begin : LeastOrNone (BreaksStarts parts.starts parts.starts_at here) starts =
     subst (λ (n : ℕ). LeastOrNone (BreaksStarts parts.starts parts.starts_at n) starts) many two in
-    let last : LeastOrNone (IsWrongPart (IsPlcOf parts.ends 0 here) parts.ends_at) ends =
-    subst (λ (n : ℕ). LeastOrNone (IsWrongPart (IsPlcOf parts.ends 0 n) parts.ends_at) ends) many three in
+    let last : LeastOrNone (IsMalformedPart (IsPlcOf parts.ends 0 here) parts.ends_at) ends =
+    subst (λ (n : ℕ). LeastOrNone (IsMalformedPart (IsPlcOf parts.ends 0 n) parts.ends_at) ends) many three in
     least_same (BreaksParts parts) (λ place. HasNames parts.names × BreaksParts parts place)
     (lesser_of names (lesser_of starts ends)) (λ p h. (some, h)) (λ p h. h.1)
     (least_either (BreaksNames parts.names parts.names_at)
-    (λ p. BreaksStarts parts.starts parts.starts_at here p ⊎ IsWrongPart (IsPlcOf parts.ends 0 here) parts.ends_at p)
+    (λ p. BreaksStarts parts.starts parts.starts_at here p ⊎ IsMalformedPart (IsPlcOf parts.ends 0 here) parts.ends_at
+    p)
     names (lesser_of starts ends) one
     (least_either (BreaksStarts parts.starts parts.starts_at here)
-    (IsWrongPart (IsPlcOf parts.ends 0 here) parts.ends_at) starts ends begin last))
+    (IsMalformedPart (IsPlcOf parts.ends 0 here) parts.ends_at) starts ends begin last))
 
 stable_le : (a b : ℕ) → ((a ≤ b → ⊥) → ⊥) → a ≤ b
 stable_le a b h = elim (cases_lt b a) [ inl low ↦ absurd (h (λ le. omega (arith, le, low))) | inr le ↦ le ]
@@ -286,14 +288,14 @@ right_from_none parts some none =
       };
       filled = record {
         whole = λ k low. record {
-          some = stable_le 1 (u16_at parts.names (name_place parts.names k))
+          some = stable_le 1 (u16_at parts.names (bookmark_name_place parts.names k))
               (λ no. filled (λ f. no (f.whole k low).some));
-          short = stable_le (u16_at parts.names (name_place parts.names k)) 255
+          short = stable_le (u16_at parts.names (bookmark_name_place parts.names k)) 255
               (λ no. filled (λ f. no (f.whole k low).short));
-          within = stable_le (name_place parts.names (k + 1)) (length parts.names)
+          within = stable_le (bookmark_name_place parts.names (k + 1)) (length parts.names)
               (λ no. filled (λ f. no (f.whole k low).within));
         };
-        end = stable_eq (name_place parts.names count) (length parts.names) (λ no. filled (λ f. no f.end));
+        end = stable_eq (bookmark_name_place parts.names count) (length parts.names) (λ no. filled (λ f. no f.end));
       };
       starts = starts;
       indexes = λ k low. elim (cases_lt (end_index parts.starts count k) count) [

@@ -10,8 +10,8 @@ use Rattle.doc_bits.proofs.Public.{stable_le, stable_eq}
 use Rattle.doc_parts.specs.declared.cps.CpForm.{CpForm}
 use Rattle.doc_parts.specs.declared.cps.CpOrder.{CpOrder}
 use Rattle.doc_parts.specs.declared.cps.CpOrder.TheVariants.{Ascend, NeverFall}
-use Rattle.doc_parts.specs.Cps.{ComesBefore, IsCpInOrder}
-use Rattle.doc_parts.specs.Table.{EntryForm, KeepsCp, entry_at, IsValidEntry, AreEntries}
+use Rattle.doc_parts.specs.Cps.{MayPrecede, IsCpInOrder}
+use Rattle.doc_parts.specs.Table.{EntryForm, KeepsCp, spelled_entry, IsValidEntry, AreTableEntries}
 use Rattle.doc_parts.proofs.TableLemmas.{slice_get_push, slice_get_before, leading_of_right}
 
 -- ---- a list of what is at each place
@@ -51,7 +51,7 @@ list_of (suc n) Is at =
 
 -- ---- tables
 
-stable_before : (order : CpOrder) (a b : ℕ) → ¬ ¬ (ComesBefore order a b) → ComesBefore order a b
+stable_before : (order : CpOrder) (a b : ℕ) → ¬ ¬ (MayPrecede order a b) → MayPrecede order a b
 stable_before Ascend a b twice = stable_le (suc a) b twice
 stable_before NeverFall a b twice = stable_le a b twice
 
@@ -72,24 +72,25 @@ is_some_of o x e = subst IsSome (sym e) refl
 right_entry : {E : Type 0} (form : EntryForm E) (cps : CpForm) (table : PlcPart) (k : ℕ) →
     ¬ ¬ (IsValidEntry form cps table k) → IsValidEntry form cps table k
 right_entry form cps table k twice =
-    let there = some_or_not (entry_at form table k) (λ no. twice (λ is. no is.spelled)) in
+    let there = some_or_not (spelled_entry form table k) (λ no. twice (λ is. no is.spelled)) in
     record {
       in_order = stable_in_order cps (plc_cp table.bytes) k (λ no. twice (λ is. no is.in_order));
-      spelled = is_some_of (entry_at form table k) there.0 there.1;
+      spelled = is_some_of (spelled_entry form table k) there.0 there.1;
     }
 
 -- a table without a wrong entry has its entries
 pub entries_there : {E : Type 0} (form : EntryForm E) (cps : CpForm) (table : PlcPart) → KeepsCp form →
-    ((k : ℕ) → k < table.count → ¬ ¬ (IsValidEntry form cps table k)) → (list : List E) × AreEntries form cps table list
+    ((k : ℕ) → k < table.count → ¬ ¬ (IsValidEntry form cps table k)) → (list : List E) × AreTableEntries form cps table
+    list
 entries_there {E = E} form cps table keeps right =
-    let found = list_of table.count (λ (k : ℕ) (x : E). entry_at form table k ≡ Some x) (λ k below. some_or_not
-    (entry_at form table k) (λ no. right k below (λ is. no is.spelled))) in
+    let found = list_of table.count (λ (k : ℕ) (x : E). spelled_entry form table k ≡ Some x) (λ k below. some_or_not
+    (spelled_entry form table k) (λ no. right k below (λ is. no is.spelled))) in
     let len = found.len in (
       found.list,
       record {
         leading = leading_of_right form cps table found.list keeps (record {
           within = omega arith;
-          each = λ k below. at_place found.list (entry_at form table) found.each k below;
+          each = λ k below. at_place found.list (spelled_entry form table) found.each k below;
           right = λ k below. right_entry form cps table k (right k (omega arith));
           stop = λ below. absurd (omega arith);
         });

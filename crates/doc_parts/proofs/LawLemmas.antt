@@ -10,7 +10,7 @@ use Rattle.doc_parts.specs.Table.{plc_part}
 use Rattle.doc_parts.specs.Sections.{sed_form, sed_cps, printed_sections, SectionsAreReadBack}
 use Rattle.doc_parts.specs.Fields.{is_field_unit, fld_form, fld_cps, printed_fields, FieldsAreReadBack}
 use Rattle.doc_parts.specs.Stories.{ref_form, ref_cps, printed_refs, RefsAreReadBack, cut_form, cut_cps}
-use Rattle.doc_parts.specs.Stories.{printed_texts, TextsAreReadBack}
+use Rattle.doc_parts.specs.Stories.{printed_texts, CutsAreReadBack}
 use Rattle.doc_parts.proofs.ReadBackLemmas.{IsSpelled, IsPrinted, AreEntries-unique, printed_list, printed_holds}
 use Rattle.doc_parts.proofs.EntryLemmas.{sed-IsSpelled, fld-IsSpelled, ref-IsSpelled, cut-IsSpelled}
 use Rattle.doc_parts.proofs.SectionLemmas.{section_rule}
@@ -59,7 +59,7 @@ refs_back list at main_len last in_order =
       ),
     )
 
-pub texts_back : TextsAreReadBack
+pub texts_back : CutsAreReadBack
 texts_back number list at story_len last in_order =
     let bytes : List ℕ = printed_texts list story_len in
     let cps : AreCpsInOrder (cut_cps story_len) (map cut_form.cp_of list) = subst (AreCpsInOrder (cut_cps story_len))

@@ -6,7 +6,7 @@ use Rattle.std.specs.Prelude.{slice_index, slice_range}
 use Rattle.doc_bits.specs.Number.{number_at, u16_at}
 use Rattle.doc_bits.proofs.Public.{number_at-range}
 use Rattle.std.proofs.lemmas.List.{nil_from_length, get_or-take, get_or-drop}
-use Rattle.doc_bits.specs.Rules.{Hold, IsFirst}
+use Rattle.doc_bits.specs.Rules.{Hold, IsFirstOffset}
 use Rattle.doc_parts.specs.Levels.{levels_before, levels_of_list, level_count, level_end, level_start, AreLevelsFrom}
 use Rattle.doc_parts.specs.Levels.{StopsAtLevel, HasLists, list_part, level_rules}
 
@@ -97,7 +97,7 @@ levels_hold table at lcb end lists levels = λ p w. elim w [
 
 -- a part without its lists
 pub lists_missing : (table : List ℕ) (at lcb : ℕ) → ¬ (HasLists (list_part table at lcb)) →
-    IsFirst (level_rules table at lcb) 56 at
+    IsFirstOffset (level_rules table at lcb) 56 at
 lists_missing table at lcb none = (
   refl,
   record {
@@ -115,7 +115,7 @@ lists_missing table at lcb none = (
 
 -- the first level that leaves the table stream
 pub level_leaves : (table : List ℕ) (at lcb place : ℕ) → HasLists (list_part table at lcb) → StopsAtLevel table
-    (at + lcb) (level_count (list_part table at lcb)) place → IsFirst (level_rules table at lcb) 56 place
+    (at + lcb) (level_count (list_part table at lcb)) place → IsFirstOffset (level_rules table at lcb) 56 place
 level_leaves table at lcb place lists h = (
   refl,
   record {

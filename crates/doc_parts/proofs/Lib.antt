@@ -8,12 +8,7 @@ mod EntryLemmas
 mod LawLemmas
 mod ExistLemmas
 mod CpLemmas
-mod OrderLemmas
-mod BookmarkLemmas
-mod MoveLemmas
-mod NameLemmas
 mod BookmarkPartLemmas
 mod NumberingLemmas
 mod BookmarkBackLemmas
 mod BookmarkLawLemmas
-mod ApartLemmas

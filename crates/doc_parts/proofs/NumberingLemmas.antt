@@ -14,11 +14,11 @@ use Rattle.std.proofs.lemmas.Cmp.{nat_cmp_total}
 use Rattle.std.proofs.lemmas.List.{append-nil, length-map, length-take, length-replicate, get_or-replicate}
 use Rattle.std.proofs.lemmas.List.{get_or-set_same, get_or-set_other, length-set}
 use Rattle.std.proofs.lemmas.List.Sums.{sum_by-cons, sum_by_push, count_by-le-length}
-use Rattle.doc_parts.specs.declared.bookmark_order.Bookmark.{Bookmark}
+use Rattle.document_bookmarks.specs.declared.bookmark_order.Bookmark.{Bookmark}
 use Rattle.doc_parts.specs.declared.bookmark_print.Start.{Start}
-use Rattle.doc_parts.specs.PrintedBookmarks.{ends_of, end_place, start_of, starts_of}
-use Rattle.doc_parts.proofs.OrderLemmas.{NoneBefore, Rises, order_counted, order_rises, in_order_sorted}
-use Rattle.doc_parts.proofs.NameLemmas.{counted_here}
+use Rattle.doc_parts.specs.PrintedBookmarks.{bookmark_ends, end_place, bookmark_start, starts_of}
+use Rattle.document_bookmarks.proofs.Public.{NoneBefore, Rises, order_counted, order_rises, in_order_sorted}
+use Rattle.document_bookmarks.proofs.Public.{counted_here}
 use Rattle.doc_parts.proofs.BookmarkBackLemmas.{take_next}
 
 -- ---- counts
@@ -53,7 +53,7 @@ sum_by-of_map f g (x ∷ xs) =
 
 -- counts of the sorted ends are those of the bookmarks
 pub count_of_ends : (p : ℕ → Bool) (list : List Bookmark) →
-    count_by p (ends_of list) ≡ count_by (λ (bookmark : Bookmark). p bookmark.to) list
+    count_by p (bookmark_ends list) ≡ count_by (λ (bookmark : Bookmark). p bookmark.to) list
 count_of_ends p list =
     order_counted nat_cmp (map (λ (bookmark : Bookmark). bookmark.to) list) (λ end. cond (p end) 1 0)
     ∙ sum_by-of_map (λ end. cond (p end) 1 0) (λ (bookmark : Bookmark). bookmark.to) list
@@ -182,13 +182,13 @@ passed_more list before b passed are some =
 
 -- the starts of one bookmark more
 pub starts_of-push : (list before xs : List Bookmark) (b : Bookmark) →
-    starts_of list before (xs ++ b ∷ []) ≡ starts_of list before xs ++ start_of list (before ++ xs) b ∷ []
+    starts_of list before (xs ++ b ∷ []) ≡ starts_of list before xs ++ bookmark_start list (before ++ xs) b ∷ []
 unfolding starts_of
 starts_of-push list before [] b = rw (append-nil before) refl
 starts_of-push list before (x ∷ xs) b =
-    ap (λ (rest : List Start). start_of list before x ∷ rest)
+    ap (λ (rest : List Start). bookmark_start list before x ∷ rest)
     (starts_of-push list (before ++ x ∷ []) xs b
-    ∙ ap (λ (zs : List Bookmark). starts_of list (before ++ x ∷ []) xs ++ start_of list zs b ∷ [])
+    ∙ ap (λ (zs : List Bookmark). starts_of list (before ++ x ∷ []) xs ++ bookmark_start list zs b ∷ [])
     (append_assoc before (x ∷ []) xs))
 
 -- ---- what is at the place of an end
@@ -285,13 +285,13 @@ place_holds v (y ∷ ys) (suc j) up low high = elim (cases_lt y v) [
 
 -- the end of a bookmark is at its place
 pub end_there : (list : List Bookmark) (k : ℕ) (b : Bookmark) → slice_get list k ≡ Some b →
-    slice_index (ends_of list) (end_place list (take k list) b.to) ≡ b.to
+    slice_index (bookmark_ends list) (end_place list (take k list) b.to) ≡ b.to
 end_there list k b here =
-    let lesser : count_by (lesser_than b.to) (ends_of list) ≡ lesser_ends list b.to =
+    let lesser : count_by (lesser_than b.to) (bookmark_ends list) ≡ lesser_ends list b.to =
     count_of_ends (lesser_than b.to) list in
-    let equal : count_by (equal_to b.to) (ends_of list) ≡ equal_ends list b.to =
+    let equal : count_by (equal_to b.to) (bookmark_ends list) ≡ equal_ends list b.to =
     count_of_ends (equal_to b.to) list in
-    place_holds b.to (ends_of list) (end_place list (take k list) b.to)
+    place_holds b.to (bookmark_ends list) (end_place list (take k list) b.to)
     (order_rises nat_cmp nat_cmp_total (map (λ (bookmark : Bookmark). bookmark.to) list))
     (omega (arith, lesser))
     (omega (arith, lesser, equal, counted_here (one_equal b.to) list k b here, equal_itself b.to))
@@ -310,12 +310,12 @@ all_counted : {A : Type 0} (xs : List A) → sum_by (λ x. 1) xs ≡ length xs
 all_counted [] = refl
 all_counted (x ∷ xs) = omega (arith, sum_by-cons (λ x. 1) x xs, all_counted xs)
 
-pub length-ends : (list : List Bookmark) → length (ends_of list) ≡ length list
+pub length-ends : (list : List Bookmark) → length (bookmark_ends list) ≡ length list
 length-ends list =
     let tos : List ℕ = map (λ (bookmark : Bookmark). bookmark.to) list in
     omega (
       arith,
-      all_counted (ends_of list),
+      all_counted (bookmark_ends list),
       order_counted nat_cmp tos (λ end. 1),
       all_counted tos,
       length-map list (λ (bookmark : Bookmark). bookmark.to),
@@ -373,7 +373,7 @@ start_more list k b passed first index here are e place =
     )
 
 -- the ends of a list are sorted, and count as the bookmarks do
-pub ends_sorted : (list : List Bookmark) → IsSorted nat_cmp (ends_of list)
+pub ends_sorted : (list : List Bookmark) → IsSorted nat_cmp (bookmark_ends list)
 ends_sorted list = in_order_sorted nat_cmp nat_cmp_total (map (λ (bookmark : Bookmark). bookmark.to) list)
 
 pub no_starts : (list : List Bookmark) → starts_of list [] [] ≡ []

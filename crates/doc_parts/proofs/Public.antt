@@ -1,13 +1,9 @@
 -- What other crates may cite of these proofs.
 
--- Names that differ, seen in a list that is in the order of names.
-pub use Rattle.doc_parts.proofs.ApartLemmas.{one_at_most}
 -- Printed bookmarks are read back.
 pub use Rattle.doc_parts.proofs.BookmarkBackLemmas.{length-front, length-starts, map_next, tabulate_is}
 -- Printed bookmarks break no rule, and they alone are read back.
 pub use Rattle.doc_parts.proofs.BookmarkLawLemmas.{bookmarks_back}
--- The order of bookmarks is a total one, in which no two different ones tie.
-pub use Rattle.doc_parts.proofs.BookmarkLemmas.{bookmark_alone, bookmark_total}
 -- Bookmarks as they are read: where their parts break their rule, and what they spell.
 pub use Rattle.doc_parts.proofs.BookmarkPartLemmas.{all_tabulated, all_tabulated_below, first_place, kept-next}
 pub use Rattle.doc_parts.proofs.BookmarkPartLemmas.{kept_numbers, length-tabulate, name_place-next, read_some}
@@ -23,14 +19,8 @@ pub use Rattle.doc_parts.proofs.LawLemmas.{fields_back, refs_back, sections_back
 pub use Rattle.doc_parts.proofs.LevelLemmas.{level_count-empty, level_start-more, level_start-up, level_start-zero}
 pub use Rattle.doc_parts.proofs.LevelLemmas.{levels-none, levels_before-more, levels_before-zero, levels_hold}
 pub use Rattle.doc_parts.proofs.LevelLemmas.{levels_inside}
--- What keeps bookmarks formed: a splice of the main text, a bookmark more, and fewer of them.
-pub use Rattle.doc_parts.proofs.MoveLemmas.{filter_form, moves_form, put_form}
--- The names of bookmarks: what keeps them apart, and where the first one is that is there twice.
-pub use Rattle.doc_parts.proofs.NameLemmas.{apart_less, apart_more, apart_nowhere, named_is, one_named}
 -- The places of ends among the sorted ends.
 pub use Rattle.doc_parts.proofs.NumberingLemmas.{length-ends, sum_by-of_map}
--- A list that a sort left is the one that is put in order.
-pub use Rattle.doc_parts.proofs.OrderLemmas.{all_in_order, in_order_sorted, order_counted, sorted_is_in_order}
 -- What was printed is read back.
 pub use Rattle.doc_parts.proofs.ReadBackLemmas.{AreEntries-unique}
 -- Tables as they are read: the entries before the first wrong one.

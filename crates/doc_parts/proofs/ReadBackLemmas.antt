@@ -12,9 +12,9 @@ use Rattle.doc_bits.specs.Rules.{Nowhere}
 use Rattle.doc_parts.specs.declared.cps.CpForm.{CpForm}
 use Rattle.doc_parts.specs.declared.cps.CpOrder.{CpOrder}
 use Rattle.doc_parts.specs.declared.cps.CpOrder.TheVariants.{Ascend, NeverFall}
-use Rattle.doc_parts.specs.Cps.{ComesBefore, AreCpsInOrder}
-use Rattle.doc_parts.specs.Table.{EntryForm, plc_part, IsEmptyOrWhole, entry_at, IsValidEntry, BreaksTable}
-use Rattle.doc_parts.specs.Table.{AreEntries, HasPlc, printed_entries}
+use Rattle.doc_parts.specs.Cps.{MayPrecede, AreCpsInOrder}
+use Rattle.doc_parts.specs.Table.{EntryForm, plc_part, IsEmptyOrWhole, spelled_entry, IsValidEntry, BreaksTable}
+use Rattle.doc_parts.specs.Table.{AreTableEntries, HasPlc, printed_entries}
 use Rattle.doc_parts.proofs.TableLemmas.{in_order_same, count_of_whole, none_wrong}
 use Rattle.doc_parts.proofs.PrintLemmas.{printed-HasPlc}
 
@@ -27,7 +27,7 @@ pub record IsSpelled {E : Type 0} (form : EntryForm E) (entry : E) : Type 0 wher
 pub record IsPrinted {E : Type 0} (form : EntryForm E) (cps : CpForm) (bytes : List ℕ) (list : List E) : Type 0 where
   pub formed : IsEmptyOrWhole (plc_part form.size bytes)
   pub right : (k : ℕ) → k < (plc_part form.size bytes).count → IsValidEntry form cps (plc_part form.size bytes) k
-  pub entries : AreEntries form cps (plc_part form.size bytes) list
+  pub entries : AreTableEntries form cps (plc_part form.size bytes) list
 
 -- lists with equal elements are equal
 pub same_by_get : {X : Type 0} (xs ys : List X) → length xs ≡ length ys → ((k : ℕ) → k < length xs → slice_get xs k ≡
@@ -38,14 +38,14 @@ same_by_get xs ys len each =
 
 -- a table has one list of entries
 pub AreEntries-unique : {E : Type 0} (form : EntryForm E) (cps : CpForm) (table : PlcPart) (a b : List E) →
-    AreEntries form cps table a → AreEntries form cps table b → a ≡ b
+    AreTableEntries form cps table a → AreTableEntries form cps table b → a ≡ b
 AreEntries-unique form cps table a b first second =
     let len : length a ≡ length b = first.all ∙ sym second.all in
     same_by_get a b len (λ k h. let here : k < length b = omega arith in first.leading.each k h ∙ sym
     (second.leading.each k here))
 
 -- what comes before the end of the story is no greater
-upto_end : (order : CpOrder) (cp end : ℕ) → ComesBefore order cp end → cp ≤ end
+upto_end : (order : CpOrder) (cp end : ℕ) → MayPrecede order cp end → cp ≤ end
 upto_end Ascend cp end h = let low : cp < end = h in omega arith
 upto_end NeverFall cp end h = h
 
@@ -60,7 +60,7 @@ small_cps cps starts last in_order =
 -- an entry of a printed table is that of the list
 printed_entry : {E : Type 0} (form : EntryForm E) (bytes : List ℕ) (end : ℕ) (list : List E) → All (IsSpelled form)
     list → HasPlc bytes form.size (map form.cp_of list) end (map form.bytes_of list) →
-    (plc_part form.size bytes).count ≡ length list → (k : ℕ) → k < length list → slice_get list k ≡ entry_at form
+    (plc_part form.size bytes).count ≡ length list → (k : ℕ) → k < length list → slice_get list k ≡ spelled_entry form
     (plc_part form.size bytes) k
 printed_entry form bytes end list spelled has count k h = elim (slice_get_cases list k).1 [
   | inl w ↦
@@ -97,7 +97,7 @@ printed_some {E = E} form cps list some last in_order spelled =
     (All-map (λ part. length part ≡ form.size) form.bytes_of list (All-weaker (IsSpelled form) (λ entry. length
     (form.bytes_of entry) ≡ form.size) (λ entry h. h.sized) list spelled)) in
     let count : table.count ≡ length list = count_of_whole bytes form.size (length starts) has.whole ∙ len in
-    let each : (k : ℕ) → k < length list → slice_get list k ≡ entry_at form table k = printed_entry form bytes end
+    let each : (k : ℕ) → k < length list → slice_get list k ≡ spelled_entry form table k = printed_entry form bytes end
     list spelled has count in
     record {
       formed = inr (rw (count, ← len) has.whole);

@@ -7,7 +7,7 @@ use Rattle.doc_bits.specs.Plc.{PlcPart, plc_cp, plc_entry}
 use Rattle.doc_bits.proofs.Public.{number_at-bound, AreBytes-range, All-from_slice_get, least_same}
 use Rattle.doc_bits.specs.Rules.{LeastOrNone}
 use Rattle.doc_parts.specs.declared.lists.Sed.{Sed}
-use Rattle.doc_parts.specs.Table.{plc_part, entry_at, AreLeading, IsEmptyOrWhole, IsWrongPart, HasWrongEntry}
+use Rattle.doc_parts.specs.Table.{plc_part, spelled_entry, AreLeading, IsEmptyOrWhole, IsMalformedPart, HasWrongEntry}
 use Rattle.doc_parts.specs.Table.{BreaksTable}
 use Rattle.doc_parts.specs.Sections.{sed_form, sed_cps, IsSedTable, HaveFileNumbers}
 
@@ -21,12 +21,12 @@ some_section bytes h whole = elim whole [
 
 -- there the rule is that of a table that may be empty
 pub section_rule : (bytes : List ℕ) (at main_len : ℕ) (fault : Option ℕ) → 20 ≤ length bytes →
-    LeastOrNone (BreaksTable sed_form (sed_cps main_len) bytes at) fault → LeastOrNone (λ place. IsWrongPart
+    LeastOrNone (BreaksTable sed_form (sed_cps main_len) bytes at) fault → LeastOrNone (λ place. IsMalformedPart
     (IsSedTable (plc_part 12 bytes)) at place ⊎ HasWrongEntry sed_form (sed_cps main_len) (plc_part 12 bytes) at
     place) fault
 section_rule bytes at main_len fault h =
     least_same (BreaksTable sed_form (sed_cps main_len) bytes at)
-    (λ place. IsWrongPart (IsSedTable (plc_part 12 bytes)) at place ⊎ HasWrongEntry sed_form (sed_cps main_len)
+    (λ place. IsMalformedPart (IsSedTable (plc_part 12 bytes)) at place ⊎ HasWrongEntry sed_form (sed_cps main_len)
     (plc_part 12 bytes) at place)
     fault
     (λ p w. elim w [ inl x ↦ inl (x.0, λ formed. x.1 (inr formed.0)) | inr y ↦ inr y ])
@@ -40,7 +40,8 @@ read_numbers bytes main_len list are leading =
     let table : PlcPart = plc_part 12 bytes in
     let entry : List ℕ = plc_entry table k in
     let from : ℕ = 4 * (table.count + 1) + table.size * k in
-    let there : entry_at sed_form table k ≡ Some sed = sym (leading.each k (slice_get_within list k sed here)) ∙ here in
+    let there : spelled_entry sed_form table k ≡ Some sed = sym (leading.each k (slice_get_within list k sed here)) ∙
+    here in
     let same : record { start = plc_cp bytes k; sepx = u32_at entry 2 } ≡ sed = same_Some (record {
       start = plc_cp
           bytes k;

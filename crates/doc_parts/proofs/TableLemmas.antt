@@ -11,9 +11,9 @@ use Rattle.doc_bits.specs.Rules.{Nowhere, IsLeast}
 use Rattle.doc_bits.proofs.Public.{first_among}
 pub use Rattle.doc_bits.proofs.Public.{slice_get_push, slice_get_before}
 use Rattle.doc_parts.specs.declared.cps.CpForm.{CpForm}
-use Rattle.doc_parts.specs.Cps.{ComesBefore, IsCpInOrder}
-use Rattle.doc_parts.specs.Table.{KeepsCp, EntryForm, plc_part, IsWholePlc, IsEmptyOrWhole, entry_at, IsValidEntry}
-use Rattle.doc_parts.specs.Table.{IsWrongEntry, HasWrongEntry, BreaksTable, AreLeading, StopsAtWrong, IsReadOf}
+use Rattle.doc_parts.specs.Cps.{MayPrecede, IsCpInOrder}
+use Rattle.doc_parts.specs.Table.{KeepsCp, EntryForm, plc_part, IsWholePlc, IsEmptyOrWhole, spelled_entry, IsValidEntry}
+use Rattle.doc_parts.specs.Table.{IsWrongEntry, HasWrongEntry, BreaksTable, AreLeading, StopsAtWrong, AreReadEntries}
 
 -- a whole table has as many entries as its length says
 pub count_of_whole : (bytes : List ℕ) (size count : ℕ) → IsPlcOf bytes size count → (length bytes - 4) / (4 + size) ≡
@@ -36,18 +36,18 @@ pub in_order_same : (form : CpForm) (cp other : ℕ → ℕ) (k : ℕ) → ((j :
 in_order_same form cp other k same h = record {
   begin = λ zero_first first. sym (same k (omega arith)) ∙ h.begin zero_first first;
   after = λ j e.
-      subst (λ x. ComesBefore form.order x (other k)) (same j (omega arith))
-      (subst (λ x. ComesBefore form.order (cp j) x) (same k (omega arith)) (h.after j e));
-  within = subst (λ x. ComesBefore form.order x form.story_len) (same k (omega arith)) h.within;
+      subst (λ x. MayPrecede form.order x (other k)) (same j (omega arith))
+      (subst (λ x. MayPrecede form.order (cp j) x) (same k (omega arith)) (h.after j e));
+  within = subst (λ x. MayPrecede form.order x form.story_len) (same k (omega arith)) h.within;
 }
 
 -- the CPs of entries are those of the table
 pub cps_of_entries : {E : Type 0} (form : EntryForm E) (table : PlcPart) (list : List E) → KeepsCp form →
-    ((k : ℕ) → k < length list → slice_get list k ≡ entry_at form table k) → (k : ℕ) → k < length list →
+    ((k : ℕ) → k < length list → slice_get list k ≡ spelled_entry form table k) → (k : ℕ) → k < length list →
     plc_cp table.bytes k ≡ slice_index (map form.cp_of list) k
 cps_of_entries form table list keeps each k h = elim (slice_get_cases list k).1 [
   | inl w ↦
-      let spelled : entry_at form table k ≡ Some w.0 = sym (each k h) ∙ w.2 in
+      let spelled : spelled_entry form table k ≡ Some w.0 = sym (each k h) ∙ w.2 in
       let here : form.cp_of w.0 ≡ plc_cp table.bytes k = keeps (plc_cp table.bytes k) (plc_entry table k) w.0 spelled in
       let mapped : slice_index (map form.cp_of list) k ≡ form.cp_of (get_or list k w.0) = get_or-map form.cp_of list k
       w.0 0 h in
@@ -125,7 +125,7 @@ table_of_plc plc bytes size e whole =
 -- a table is read up to a wrong entry
 pub read_stops : {E : Type 0} (form : EntryForm E) (cps : CpForm) (bytes : List ℕ) (at : ℕ) (list : List E) →
     KeepsCp form → IsWholePlc (plc_part form.size bytes) → StopsAtWrong form cps (plc_part form.size bytes) list →
-    length list < (plc_part form.size bytes).count → IsReadOf form cps bytes at list (Some (at + 4 * length list))
+    length list < (plc_part form.size bytes).count → AreReadEntries form cps bytes at list (Some (at + 4 * length list))
 read_stops form cps bytes at list keeps whole read h = record {
   leading = leading_of_right form cps (plc_part form.size bytes) list keeps read;
   judged = least_wrong form cps bytes at (length list) whole h read.right (read.stop h);
@@ -135,7 +135,7 @@ read_stops form cps bytes at list keeps whole read h = record {
 -- a table is read to its end
 pub read_all : {E : Type 0} (form : EntryForm E) (cps : CpForm) (bytes : List ℕ) (at : ℕ) (list : List E) →
     KeepsCp form → IsWholePlc (plc_part form.size bytes) → StopsAtWrong form cps (plc_part form.size bytes) list →
-    (plc_part form.size bytes).count ≤ length list → IsReadOf form cps bytes at list None
+    (plc_part form.size bytes).count ≤ length list → AreReadEntries form cps bytes at list None
 read_all form cps bytes at list keeps whole read h =
     let within : length list ≤ (plc_part form.size bytes).count = read.within in
     record {

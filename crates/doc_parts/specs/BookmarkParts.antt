@@ -5,11 +5,11 @@ use Rattle.std.specs.List.{filter}
 use Rattle.doc_bits.specs.Number.{u16_at}
 use Rattle.doc_bits.specs.Plc.{IsPlcOf, plc_cp}
 use Rattle.doc_bits.specs.Rules.{Rules, rule, Among}
-use Rattle.doc_parts.specs.declared.bookmark_order.Bookmark.{Bookmark}
-use Rattle.doc_parts.specs.Table.{IsWrongPart}
-use Rattle.doc_parts.specs.Order.{in_order}
+use Rattle.document_bookmarks.specs.declared.bookmark_order.Bookmark.{Bookmark}
+use Rattle.doc_parts.specs.Table.{IsMalformedPart}
+use Rattle.document_bookmarks.specs.Order.{in_order}
 use Rattle.doc_parts.specs.Tabulated.{tabulate}
-use Rattle.doc_parts.specs.Bookmarks.{bookmark_cmp}
+use Rattle.document_bookmarks.specs.Bookmarks.{bookmark_cmp}
 
 -- the three parts, and where they are in the table stream
 pub record BookmarkParts : Type 0 where
@@ -38,13 +38,13 @@ abbrev pub bookmark_count : List ℕ → ℕ
 bookmark_count names = u16_at names 2
 
 -- where a name is: a 16-bit count, and its units
-unfoldable pub name_place : List ℕ → ℕ → ℕ
-name_place names zero = 6
-name_place names (suc k) = name_place names k + 2 + 2 * u16_at names (name_place names k)
+unfoldable pub bookmark_name_place : List ℕ → ℕ → ℕ
+bookmark_name_place names zero = 6
+bookmark_name_place names (suc k) = bookmark_name_place names k + 2 + 2 * u16_at names (bookmark_name_place names k)
 
-abbrev pub name_of : List ℕ → ℕ → List ℕ
-name_of names k =
-    let place = name_place names k in tabulate (λ i. u16_at names (place + 2 + 2 * i)) (u16_at names place)
+abbrev pub bookmark_name_at : List ℕ → ℕ → List ℕ
+bookmark_name_at names k =
+    let place = bookmark_name_place names k in tabulate (λ i. u16_at names (place + 2 + 2 * i)) (u16_at names place)
 
 -- where the entry beside a start is: the 16-bit place of its end among the ends, and 16-bit flags
 abbrev pub start_entry : ℕ → ℕ → ℕ
@@ -55,15 +55,15 @@ end_index starts count k = u16_at starts (start_entry count k)
 
 abbrev pub bookmark_at : BookmarkParts → ℕ → Bookmark
 bookmark_at parts k = record {
-  name = name_of parts.names k;
+  name = bookmark_name_at parts.names k;
   from = plc_cp parts.starts k;
   to = plc_cp parts.ends (end_index parts.starts (bookmark_count parts.names) k);
   flags = u16_at parts.starts (start_entry (bookmark_count parts.names) k + 2);
 }
 
 -- one whose end is before its beginning or outside the main text is dropped
-abbrev pub is_kept : ℕ → Bookmark → Bool
-is_kept main_len bookmark = nat_le bookmark.from bookmark.to && nat_le bookmark.to main_len
+abbrev pub is_kept_bookmark : ℕ → Bookmark → Bool
+is_kept_bookmark main_len bookmark = nat_le bookmark.from bookmark.to && nat_le bookmark.to main_len
 
 -- names of at most six bytes are no bookmarks, whatever the other parts have
 abbrev pub HasNames : List ℕ → Type 0
@@ -72,7 +72,7 @@ HasNames names = 6 < length names
 -- the bookmarks that are kept, as the parts have them
 abbrev pub kept_bookmarks : BookmarkParts → ℕ → List Bookmark
 kept_bookmarks parts main_len =
-    filter (is_kept main_len) (tabulate (bookmark_at parts) (bookmark_count parts.names))
+    filter (is_kept_bookmark main_len) (tabulate (bookmark_at parts) (bookmark_count parts.names))
 
 abbrev pub bookmarks_of : BookmarkParts → ℕ → List Bookmark
 bookmarks_of parts main_len =
@@ -87,9 +87,9 @@ pub record HasNameFront (names : List ℕ) : Type 0 where
 
 -- the names before one of them are whole: each has 1 to 255 units, and ends within the part
 pub record IsWholeName (names : List ℕ) (k : ℕ) : Type 0 where
-  pub some : 1 ≤ u16_at names (name_place names k)
-  pub short : u16_at names (name_place names k) ≤ 255
-  pub within : name_place names (k + 1) ≤ length names
+  pub some : 1 ≤ u16_at names (bookmark_name_place names k)
+  pub short : u16_at names (bookmark_name_place names k) ≤ 255
+  pub within : bookmark_name_place names (k + 1) ≤ length names
 
 abbrev pub AreWholeNames : List ℕ → ℕ → Type 0
 AreWholeNames names count = (k : ℕ) → k < count → IsWholeName names k
@@ -97,14 +97,14 @@ AreWholeNames names count = (k : ℕ) → k < count → IsWholeName names k
 -- a count that is there behind whole names is no number from 1 to 255
 pub record IsWrongCount (names : List ℕ) (at k place : ℕ) : Type 0 where
   pub before : AreWholeNames names k
-  pub there : name_place names k + 2 ≤ length names
-  pub wrong : (u16_at names (name_place names k) ≡ 0) ⊎ (255 < u16_at names (name_place names k))
-  pub here : place ≡ at + name_place names k
+  pub there : bookmark_name_place names k + 2 ≤ length names
+  pub wrong : (u16_at names (bookmark_name_place names k) ≡ 0) ⊎ (255 < u16_at names (bookmark_name_place names k))
+  pub here : place ≡ at + bookmark_name_place names k
 
 -- all names are whole, and the last one ends where the part does
 pub record FillNames (names : List ℕ) : Type 0 where
   pub whole : AreWholeNames names (bookmark_count names)
-  pub end : name_place names (bookmark_count names) ≡ length names
+  pub end : bookmark_name_place names (bookmark_count names) ≡ length names
 
 abbrev pub HasWrongCount : List ℕ → ℕ → ℕ → Type 0
 HasWrongCount names at = Among (bookmark_count names) (IsWrongCount names at)
@@ -123,7 +123,7 @@ pub record IsWrongIndex (starts : List ℕ) (at count k place : ℕ) : Type 0 wh
 
 abbrev pub BreaksStarts : List ℕ → ℕ → ℕ → ℕ → Type 0
 BreaksStarts starts at count place =
-    IsWrongPart (IsPlcOf starts 4 count) at place
+    IsMalformedPart (IsPlcOf starts 4 count) at place
     ⊎ (IsPlcOf starts 4 count × Among count (IsWrongIndex starts at count) place)
 
 -- the parts break their rule at a place in the table stream
@@ -132,7 +132,7 @@ BreaksParts parts place =
     let count = bookmark_count parts.names in
     BreaksNames parts.names parts.names_at place
     ⊎ (BreaksStarts parts.starts parts.starts_at count place
-    ⊎ IsWrongPart (IsPlcOf parts.ends 0 count) parts.ends_at place)
+    ⊎ IsMalformedPart (IsPlcOf parts.ends 0 count) parts.ends_at place)
 
 -- parts with names that break no rule
 pub record AreValidParts (parts : BookmarkParts) : Type 0 where

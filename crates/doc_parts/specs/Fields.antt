@@ -8,13 +8,13 @@ use Rattle.doc_parts.specs.declared.field_part.FieldKind.TheVariants.{Begin, Sep
 use Rattle.doc_parts.specs.declared.cps.CpForm.{CpForm}
 use Rattle.doc_parts.specs.declared.cps.CpOrder.TheVariants.{Ascend}
 use Rattle.doc_parts.specs.Cps.{AreCpsInOrder}
-use Rattle.doc_parts.specs.Table.{EntryForm, plc_part, BreaksTable, AreEntries, IsOnly, printed_entries}
+use Rattle.doc_parts.specs.Table.{EntryForm, plc_part, BreaksTable, AreTableEntries, IsOnly, printed_entries}
 
 -- the unit that marks a field's begin, its separator or its end
-abbrev pub unit_of : FieldKind → ℕ
-unit_of Begin = 0x13
-unit_of Separator = 0x14
-unit_of End = 0x15
+abbrev pub field_kind_unit : FieldKind → ℕ
+field_kind_unit Begin = 0x13
+field_kind_unit Separator = 0x14
+field_kind_unit End = 0x15
 
 -- the unit is one of the three
 abbrev pub is_field_unit : ℕ → Bool
@@ -43,8 +43,8 @@ abbrev pub field_rules : List ℕ → ℕ → ℕ → Rules ℕ
 field_rules plc at story_len = rule 52 (BreaksTable fld_form (fld_cps story_len) plc at)
 
 -- the list has the field characters of the part
-abbrev pub AreFields : List ℕ → ℕ → List Fld → Type 0
-AreFields plc story_len list = AreEntries fld_form (fld_cps story_len) (plc_part 2 plc) list
+abbrev pub AreFieldCharacters : List ℕ → ℕ → List Fld → Type 0
+AreFieldCharacters plc story_len list = AreTableEntries fld_form (fld_cps story_len) (plc_part 2 plc) list
 
 -- the part as it is printed
 abbrev pub printed_fields : List Fld → ℕ → List ℕ
@@ -60,4 +60,4 @@ abbrev pub FieldsAreReadBack : Type 0
 FieldsAreReadBack =
     (list : List Fld) (at story_len : ℕ) → story_len < 2 ^ 32 → ArePrintableFields list story_len →
     let bytes = printed_fields list story_len in
-    Hold (field_rules bytes at story_len) × IsOnly (AreFields bytes story_len) list
+    Hold (field_rules bytes at story_len) × IsOnly (AreFieldCharacters bytes story_len) list

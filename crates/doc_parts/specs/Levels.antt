@@ -3,7 +3,7 @@ use Rattle.std.specs.Prelude.{◌≡◌, ◌⊎◌, ℕ, zero, suc, ◌+◌, ◌
 use Rattle.std.specs.Prelude.{◌==◌, if◌then◌else◌}
 use Rattle.doc_bits.specs.Number.{u16_at}
 use Rattle.doc_bits.specs.Rules.{Rules, rule, Among}
-use Rattle.doc_parts.specs.Table.{IsWrongPart}
+use Rattle.doc_parts.specs.Table.{IsMalformedPart}
 
 -- the part is empty, or has as many LSTFs of 28 bytes as its count says
 abbrev pub HasLists : List ℕ → Type 0
@@ -60,7 +60,7 @@ list_part table at lcb = slice_range table at (at + lcb)
 abbrev pub level_rules : List ℕ → ℕ → ℕ → Rules ℕ
 level_rules table at lcb =
     let part = list_part table at lcb in
-    rule 56 (λ place. IsWrongPart (HasLists part) at place
+    rule 56 (λ place. IsMalformedPart (HasLists part) at place
     ⊎ Among (level_count part) (LeavesTable table (at + lcb)) place)
 
 -- the levels after the part have this number of bytes

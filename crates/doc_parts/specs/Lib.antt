@@ -5,9 +5,6 @@ pub mod Fields
 pub mod Stories
 pub mod Levels
 pub mod EntryLaws
-pub mod Order
-pub mod Bookmarks
 pub mod Tabulated
 pub mod BookmarkParts
-pub mod Names
 pub mod PrintedBookmarks

@@ -7,7 +7,8 @@ use Rattle.doc_parts.specs.declared.lists.Sed.{Sed}
 use Rattle.doc_parts.specs.declared.cps.CpForm.{CpForm}
 use Rattle.doc_parts.specs.declared.cps.CpOrder.TheVariants.{Ascend}
 use Rattle.doc_parts.specs.Cps.{AreCpsInOrder}
-use Rattle.doc_parts.specs.Table.{EntryForm, plc_part, IsWholePlc, IsWrongPart, HasWrongEntry, AreEntries, IsOnly}
+use Rattle.doc_parts.specs.Table.{EntryForm, plc_part, IsWholePlc, IsMalformedPart, HasWrongEntry, AreTableEntries}
+use Rattle.doc_parts.specs.Table.{IsOnly}
 use Rattle.doc_parts.specs.Table.{printed_entries}
 
 -- [MS-DOC] Sed: 12 bytes with fcSepx at 2. Profile: the other bytes are not read, and written 0.
@@ -35,12 +36,12 @@ IsSedTable table = IsWholePlc table × (1 ≤ table.count)
 abbrev pub section_rules : List ℕ → ℕ → ℕ → Rules ℕ
 section_rules plc at main_len =
     let table = plc_part 12 plc in
-    rule 33 (λ place. IsWrongPart (IsSedTable table) at place ⊎ HasWrongEntry sed_form (sed_cps main_len) table at
+    rule 33 (λ place. IsMalformedPart (IsSedTable table) at place ⊎ HasWrongEntry sed_form (sed_cps main_len) table at
     place)
 
 -- the list has the sections of the part
 abbrev pub AreSections : List ℕ → ℕ → List Sed → Type 0
-AreSections plc main_len list = AreEntries sed_form (sed_cps main_len) (plc_part 12 plc) list
+AreSections plc main_len list = AreTableEntries sed_form (sed_cps main_len) (plc_part 12 plc) list
 
 -- the part as it is printed
 abbrev pub printed_sections : List Sed → ℕ → List ℕ

@@ -6,7 +6,7 @@ use Rattle.doc_parts.specs.declared.lists.NoteRef.{NoteRef}
 use Rattle.doc_parts.specs.declared.cps.CpForm.{CpForm}
 use Rattle.doc_parts.specs.declared.cps.CpOrder.TheVariants.{Ascend, NeverFall}
 use Rattle.doc_parts.specs.Cps.{AreCpsInOrder}
-use Rattle.doc_parts.specs.Table.{EntryForm, plc_part, BreaksTable, AreEntries, IsOnly, printed_entries}
+use Rattle.doc_parts.specs.Table.{EntryForm, plc_part, BreaksTable, AreTableEntries, IsOnly, printed_entries}
 
 -- [MS-DOC] FRD: a 16-bit number, 0 where the note has a mark of its own. Profile: another one is written 1.
 abbrev pub ref_form : EntryForm NoteRef
@@ -27,7 +27,7 @@ ref_rules plc at main_len = rule 53 (BreaksTable ref_form (ref_cps main_len) plc
 
 -- the list has the references of the part
 abbrev pub AreRefs : List ℕ → ℕ → List NoteRef → Type 0
-AreRefs plc main_len list = AreEntries ref_form (ref_cps main_len) (plc_part 2 plc) list
+AreRefs plc main_len list = AreTableEntries ref_form (ref_cps main_len) (plc_part 2 plc) list
 
 -- the part as it is printed
 abbrev pub printed_refs : List NoteRef → ℕ → List ℕ
@@ -50,20 +50,20 @@ abbrev pub cut_cps : ℕ → CpForm
 cut_cps story_len = record { order = NeverFall; from_zero = true; story_len = story_len }
 
 -- the part of rule 53 or 54 on the CPs of the texts, but for their number
-abbrev pub text_rules : ℕ → List ℕ → ℕ → ℕ → Rules ℕ
-text_rules number plc at story_len = rule number (BreaksTable cut_form (cut_cps story_len) plc at)
+abbrev pub cut_rules : ℕ → List ℕ → ℕ → ℕ → Rules ℕ
+cut_rules number plc at story_len = rule number (BreaksTable cut_form (cut_cps story_len) plc at)
 
 -- the list has the CPs of the part, all but the last
 abbrev pub AreCuts : List ℕ → ℕ → List ℕ → Type 0
-AreCuts plc story_len list = AreEntries cut_form (cut_cps story_len) (plc_part 0 plc) list
+AreCuts plc story_len list = AreTableEntries cut_form (cut_cps story_len) (plc_part 0 plc) list
 
 -- the part as it is printed
 abbrev pub printed_texts : List ℕ → ℕ → List ℕ
 printed_texts = printed_entries cut_form
 
 -- CPs of texts in order are printed without a broken rule, and they alone are read back
-abbrev pub TextsAreReadBack : Type 0
-TextsAreReadBack =
+abbrev pub CutsAreReadBack : Type 0
+CutsAreReadBack =
     (number : ℕ) (list : List ℕ) (at story_len : ℕ) → story_len < 2 ^ 32 → AreCpsInOrder (cut_cps story_len) list →
     let bytes = printed_texts list story_len in
-    Hold (text_rules number bytes at story_len) × IsOnly (AreCuts bytes story_len) list
+    Hold (cut_rules number bytes at story_len) × IsOnly (AreCuts bytes story_len) list

@@ -3,7 +3,7 @@ use Rattle.std.specs.Prelude.{◌≡◌, ◌⊎◌, ℕ, ◌+◌, ◌-◌, ◌*�
 use Rattle.std.specs.Prelude.{IsSome, slice_get}
 use Rattle.doc_bits.specs.Plc.{PlcPart, IsPlcOf, plc_cp, plc_entry}
 pub use Rattle.doc_bits.specs.Plc.{printed_plc, HasPlc}
-use Rattle.doc_bits.specs.Rules.{Rules, Among, LeastOrNone, IsFirst}
+use Rattle.doc_bits.specs.Rules.{Rules, Among, LeastOrNone, IsFirstOffset}
 use Rattle.doc_parts.specs.declared.cps.CpForm.{CpForm}
 use Rattle.doc_parts.specs.declared.fault.PartFault.{PartFault}
 use Rattle.doc_parts.specs.declared.fault.PartFault.TheVariants.{Rule, Memory}
@@ -34,13 +34,13 @@ abbrev pub IsEmptyOrWhole : PlcPart → Type 0
 IsEmptyOrWhole table = (length table.bytes ≡ 0) ⊎ IsWholePlc table
 
 -- what an entry spells with its CP
-abbrev pub entry_at : {E : Type 0} → EntryForm E → PlcPart → ℕ → Option E
-entry_at form table k = form.read_from (plc_cp table.bytes k) (plc_entry table k)
+abbrev pub spelled_entry : {E : Type 0} → EntryForm E → PlcPart → ℕ → Option E
+spelled_entry form table k = form.read_from (plc_cp table.bytes k) (plc_entry table k)
 
 -- an entry has its CP in order, and spells something
 pub record IsValidEntry {E : Type 0} (form : EntryForm E) (cps : CpForm) (table : PlcPart) (k : ℕ) : Type 0 where
   pub in_order : IsCpInOrder cps (plc_cp table.bytes) k
-  pub spelled : IsSome (entry_at form table k)
+  pub spelled : IsSome (spelled_entry form table k)
 
 -- a wrong entry, at the place of its CP
 pub record IsWrongEntry {E : Type 0} (form : EntryForm E) (cps : CpForm) (table : PlcPart) (at k place : ℕ) : Type 0
@@ -49,8 +49,8 @@ pub record IsWrongEntry {E : Type 0} (form : EntryForm E) (cps : CpForm) (table 
     pub broken : ¬ (IsValidEntry form cps table k)
 
 -- the part has not the length that it has to have
-abbrev pub IsWrongPart : Type 0 → ℕ → ℕ → Type 0
-IsWrongPart IsFormed at place = (place ≡ at) × ¬ IsFormed
+abbrev pub IsMalformedPart : Type 0 → ℕ → ℕ → Type 0
+IsMalformedPart IsFormed at place = (place ≡ at) × ¬ IsFormed
 
 -- one of the entries is wrong
 abbrev pub HasWrongEntry : {E : Type 0} → EntryForm E → CpForm → PlcPart → ℕ → ℕ → Type 0
@@ -60,29 +60,30 @@ HasWrongEntry form cps table at = Among table.count (IsWrongEntry form cps table
 abbrev pub BreaksTable : {E : Type 0} → EntryForm E → CpForm → List ℕ → ℕ → ℕ → Type 0
 BreaksTable form cps bytes at place =
     let table = plc_part form.size bytes in
-    IsWrongPart (IsEmptyOrWhole table) at place ⊎ HasWrongEntry form cps table at place
+    IsMalformedPart (IsEmptyOrWhole table) at place ⊎ HasWrongEntry form cps table at place
 
 -- the list has the entries of a table from the first on, and their CPs are in order
 pub record AreLeading {E : Type 0} (form : EntryForm E) (cps : CpForm) (table : PlcPart) (list : List E) : Type 0 where
   pub within : length list ≤ table.count
-  pub each : (k : ℕ) → k < length list → slice_get list k ≡ entry_at form table k
+  pub each : (k : ℕ) → k < length list → slice_get list k ≡ spelled_entry form table k
   pub in_order : AreCpsInOrder cps (map form.cp_of list)
 
 -- the list has the entries of a table before the first wrong one
 pub record StopsAtWrong {E : Type 0} (form : EntryForm E) (cps : CpForm) (table : PlcPart) (list : List E) : Type 0
   where
     pub within : length list ≤ table.count
-    pub each : (k : ℕ) → k < length list → slice_get list k ≡ entry_at form table k
+    pub each : (k : ℕ) → k < length list → slice_get list k ≡ spelled_entry form table k
     pub right : (k : ℕ) → k < length list → IsValidEntry form cps table k
     pub stop : length list < table.count → ¬ (IsValidEntry form cps table (length list))
 
 -- the list has all entries of a table
-pub record AreEntries {E : Type 0} (form : EntryForm E) (cps : CpForm) (table : PlcPart) (list : List E) : Type 0 where
-  pub leading : AreLeading form cps table list
-  pub all : length list ≡ table.count
+pub record AreTableEntries {E : Type 0} (form : EntryForm E) (cps : CpForm) (table : PlcPart) (list : List E) : Type 0
+  where
+    pub leading : AreLeading form cps table list
+    pub all : length list ≡ table.count
 
 -- the entries before the first wrong one, and the place of that one
-pub record IsReadOf {E : Type 0} (form : EntryForm E) (cps : CpForm) (bytes : List ℕ) (at : ℕ) (list : List E)
+pub record AreReadEntries {E : Type 0} (form : EntryForm E) (cps : CpForm) (bytes : List ℕ) (at : ℕ) (list : List E)
     (fault : Option ℕ) : Type 0 where
   pub leading : AreLeading form cps (plc_part form.size bytes) list
   pub judged : LeastOrNone (BreaksTable form cps bytes at) fault
@@ -90,7 +91,7 @@ pub record IsReadOf {E : Type 0} (form : EntryForm E) (cps : CpForm) (bytes : Li
 
 -- a part is refused by its first broken rule, or for want of memory
 abbrev pub IsPartFault : Rules ℕ → PartFault → Type 0
-IsPartFault rules (Rule r place) = IsFirst rules r place
+IsPartFault rules (Rule r place) = IsFirstOffset rules r place
 IsPartFault rules Memory = Unit {0}
 
 -- the same of a list of entries

@@ -5,17 +5,16 @@ ghost use Rattle.std.specs.List.{filter};
 ghost use Rattle.doc_bits.specs.Number.{u16_at, u32_at};
 ghost use Rattle.doc_bits.specs.Plc.{IsPlcOf, plc_cp};
 ghost use Rattle.doc_bits.specs.Rules.{Hold, LeastOrNone};
-ghost use Rattle.doc_parts.specs.Table.{IsPartFault, IsWrongPart};
+ghost use Rattle.doc_parts.specs.Table.{IsPartFault, IsMalformedPart};
 ghost use Rattle.doc_parts.specs.Tabulated.{tabulate};
 ghost use Rattle.doc_parts.specs.BookmarkParts.{BookmarkParts, parts_at, bookmark_count, start_entry, end_index};
-ghost use Rattle.doc_parts.specs.BookmarkParts.{is_kept, kept_bookmarks, bookmarks_of, BreaksNames, BreaksStarts};
+ghost use Rattle.doc_parts.specs.BookmarkParts.{is_kept_bookmark, kept_bookmarks, bookmarks_of, BreaksNames};
+ghost use Rattle.doc_parts.specs.BookmarkParts.{BreaksStarts};
 ghost use Rattle.doc_parts.specs.BookmarkParts.{AreValidParts, bookmark_rules};
 
 use crate::PartFault;
-use crate::bookmark_list::Bookmarks;
-use crate::bookmark_order::Bookmark;
-use crate::names::Name;
 use doc_bits::{Memory, get16, get32, lesser};
+use document_bookmarks::{Bookmark, Bookmarks, Name};
 use std::alloc::Global;
 
 pub const RULE_BOOKMARKS: u8 = 57;
@@ -112,7 +111,7 @@ fn starts_fault(starts: &[u8], at: u32, count: usize) -> Option<u32>
 /// Where the ends of so many bookmarks break their rule: the part.
 fn ends_fault(ends: &[u8], at: u32, count: usize) -> Option<u32>
     requires few { count < 2 ^ 16 }
-    ensures { LeastOrNone (IsWrongPart (IsPlcOf ends.now 0 count) at) result }
+    ensures { LeastOrNone (IsMalformedPart (IsPlcOf ends.now 0 count) at) result }
 {
     if ends.len() == 4 + 4 * count {
         None
@@ -205,7 +204,7 @@ fn range_at(starts: &[u8], ends: &[u8], count: usize, k: usize) -> Range
 
 /// Puts a bookmark last, unless it is dropped.
 fn push_kept(list: &mut Vec<Bookmark>, bookmark: Bookmark, main_len: u32) -> Result<(), Memory>
-    ensures ok { OnOk result (list.new.items ≡ list.old.items ++ filter (is_kept main_len) (bookmark ∷ [])) }
+    ensures ok { OnOk result (list.new.items ≡ list.old.items ++ filter (is_kept_bookmark main_len) (bookmark ∷ [])) }
 {
     if bookmark.from <= bookmark.to && bookmark.to <= main_len {
         list.push(bookmark)?;

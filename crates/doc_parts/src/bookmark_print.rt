@@ -4,14 +4,15 @@ ghost use Rattle.std.specs.Prelude.{OnOk, slice_index, slice_set};
 ghost use Rattle.std.specs.List.{count_by};
 ghost use Rattle.std.specs.List.Sorted.{IsSorted};
 ghost use Rattle.std.specs.Ordering.{nat_cmp};
-ghost use Rattle.doc_parts.specs.Order.{in_order};
-ghost use Rattle.doc_parts.specs.PrintedBookmarks.{name_bytes, printed_names, ends_of, end_place, starts_of};
+ghost use Rattle.document_bookmarks.specs.Order.{in_order};
+ghost use Rattle.doc_parts.specs.PrintedBookmarks.{bookmark_name_bytes, printed_names, bookmark_ends, end_place};
+ghost use Rattle.doc_parts.specs.PrintedBookmarks.{starts_of};
 ghost use Rattle.doc_parts.specs.PrintedBookmarks.{start_form, printed_starts, printed_ends};
 
-use crate::bookmark_list::Bookmarks;
 use crate::bookmark_parts::WIDE;
 use crate::tables::{TableEntry, print_table};
 use doc_bits::{Bytes, Memory, get16, put16};
+use document_bookmarks::Bookmarks;
 use std::alloc::Global;
 
 /// A start with what is beside it: the place of the end among the ends, and the flags.
@@ -78,7 +79,7 @@ pub fn print_names(alloc: Global, list: &Bookmarks) -> Result<Bytes, Memory>
 /// Appends a name: its count, and its units.
 fn print_name(bytes: &mut Bytes, name: &[u16]) -> Result<(), Memory>
     requires { length name.now < 2 ^ 16 }
-    ensures ok { OnOk result (bytes.new ≡ bytes.old ++ name_bytes name.now) }
+    ensures ok { OnOk result (bytes.new ≡ bytes.old ++ bookmark_name_bytes name.now) }
 {
     bytes.push16(name.len() as u16)?;
     for unit in name {
@@ -107,7 +108,7 @@ pub fn print_ends(alloc: Global, list: &Bookmarks, end: u32) -> Result<Bytes, Me
 
 /// The ends in ascending order.
 fn sorted_ends(alloc: Global, list: &Bookmarks) -> Result<Vec<u32>, Memory>
-    ensures { IfOk result (λ ends. ends.items ≡ ends_of list.now) }
+    ensures { IfOk result (λ ends. ends.items ≡ bookmark_ends list.now) }
 {
     let mut ends = ends_in_list(alloc, list)?;
     sort_numbers(&mut ends);
@@ -135,7 +136,7 @@ fn sort_numbers(numbers: &mut Vec<u32>)
 /// The starts with the places of their ends.
 fn numbered_starts(alloc: Global, list: &Bookmarks, ends: &[u32]) -> Result<Vec<Start>, Memory>
     requires few { length list.now ≤ 16000 }
-    requires ends { ends.now ≡ ends_of list.now }
+    requires ends { ends.now ≡ bookmark_ends list.now }
     ensures { IfOk result (λ starts. starts.items ≡ starts_of list.now [] list.now) }
 {
     let mut passed = vec![in alloc; 0u16; list.len()]?;

@@ -1,7 +1,7 @@
 // The order of the CPs of a table. The last CP of a table is checked by nobody.
 ghost use Rattle.std.specs.Prelude.{◌≡◌, ◌<◌, ◌↔◌, IsTrue};
 ghost use Rattle.doc_bits.specs.Plc.{plc_cp};
-ghost use Rattle.doc_parts.specs.Cps.{ComesBefore, IsCpInOrder};
+ghost use Rattle.doc_parts.specs.Cps.{MayPrecede, IsCpInOrder};
 
 use doc_bits::Plc;
 
@@ -17,7 +17,7 @@ pub enum CpOrder {
 impl CpOrder {
     /// Whether a CP may be before another one.
     fn allows(self, first: u32, second: u32) -> bool
-        ensures { IsTrue result ↔ ComesBefore self first second }
+        ensures { IsTrue result ↔ MayPrecede self first second }
     {
         match self {
             CpOrder::Ascend => first < second,

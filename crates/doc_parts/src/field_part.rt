@@ -2,8 +2,9 @@
 ghost use Rattle.std.specs.Prelude.{◌≡◌, ◌+◌, ◌%◌, ◌<◌, ◌^◌};
 ghost use Rattle.std.specs.Prelude.{length, IfOk, MatchOption, MatchResult, IsTrue};
 ghost use Rattle.doc_bits.specs.Rules.{Hold};
-ghost use Rattle.doc_parts.specs.Table.{IsPartFault, IsReadOf};
-ghost use Rattle.doc_parts.specs.Fields.{unit_of, is_field_unit, fld_form, fld_cps, field_rules, AreFields};
+ghost use Rattle.doc_parts.specs.Table.{IsPartFault, AreReadEntries};
+ghost use Rattle.doc_parts.specs.Fields.{field_kind_unit, is_field_unit, fld_form, fld_cps, field_rules};
+ghost use Rattle.doc_parts.specs.Fields.{AreFieldCharacters};
 ghost use Rattle.doc_parts.specs.Fields.{printed_fields};
 
 use crate::PartFault;
@@ -28,7 +29,7 @@ impl FieldKind {
     fn of(first: u8) -> Option<FieldKind>
         ensures { MatchOption result
             (¬ (IsTrue (is_field_unit (first % 32))))
-            (λ kind. (unit_of kind ≡ first % 32) × IsTrue (is_field_unit (first % 32))) }
+            (λ kind. (field_kind_unit kind ≡ first % 32) × IsTrue (is_field_unit (first % 32))) }
     {
         match first % 32 {
             0x13 => Some(FieldKind::Begin),
@@ -40,7 +41,7 @@ impl FieldKind {
 
     /// The unit in the text.
     fn unit(self) -> u16
-        ensures { result ≡ unit_of self }
+        ensures { result ≡ field_kind_unit self }
     {
         match self {
             FieldKind::Begin => 0x13,
@@ -98,7 +99,7 @@ pub fn leading_fields(
     story_len: u32,
 ) -> Result<LeadingFields, Memory>
     requires { at + length plc.now < 2 ^ 32 }
-    ensures { IfOk result (λ read. IsReadOf fld_form (fld_cps story_len) plc.now at read.list read.fault) }
+    ensures { IfOk result (λ read. AreReadEntries fld_form (fld_cps story_len) plc.now at read.list read.fault) }
 {
     let cps = CpForm {
         order: CpOrder::Ascend,
@@ -119,7 +120,7 @@ pub fn leading_fields(
 pub fn fields(alloc: Global, plc: &[u8], at: u32, story_len: u32) -> Result<Flds, PartFault>
     requires { at + length plc.now < 2 ^ 32 }
     ensures { MatchResult result
-        (λ list. Hold (field_rules plc.now at story_len) × AreFields plc.now story_len list)
+        (λ list. Hold (field_rules plc.now at story_len) × AreFieldCharacters plc.now story_len list)
         (IsPartFault (field_rules plc.now at story_len)) }
 {
     let read = leading_fields(alloc, plc, at, story_len)?;

@@ -1,8 +1,7 @@
 // Laws over the definitions alone: what a printer wrote is read back.
 ghost use Rattle.doc_parts.specs.Sections.{SectionsAreReadBack};
 ghost use Rattle.doc_parts.specs.Fields.{FieldsAreReadBack};
-ghost use Rattle.doc_parts.specs.Stories.{RefsAreReadBack, TextsAreReadBack};
-ghost use Rattle.doc_parts.specs.Bookmarks.{MovesKeepForm};
+ghost use Rattle.doc_parts.specs.Stories.{RefsAreReadBack, CutsAreReadBack};
 ghost use Rattle.doc_parts.specs.PrintedBookmarks.{BookmarksAreReadBack};
 
 /// Printed sections break no rule, and they alone are read back.
@@ -22,15 +21,10 @@ pub fn refs_are_read_back()
 
 /// Printed CPs of texts break no rule, and they alone are read back.
 pub fn texts_are_read_back()
-    ensures { TextsAreReadBack }
+    ensures { CutsAreReadBack }
 {}
 
 /// Printed bookmarks break no rule, and they alone are read back.
 pub fn bookmarks_are_read_back()
     ensures { BookmarksAreReadBack }
-{}
-
-/// A splice of a main text leaves its bookmarks in order and within it.
-pub fn moves_keep_form()
-    ensures { MovesKeepForm }
 {}

@@ -2,7 +2,7 @@
 ghost use Rattle.std.specs.Prelude.{◌≡◌, ℕ, ◌+◌, ◌*◌, ◌<◌, ◌≤◌, ◌^◌};
 ghost use Rattle.std.specs.Prelude.{◌↔◌, length, IsTrue, MatchOption, MatchResult};
 ghost use Rattle.doc_bits.specs.Number.{u16_at};
-ghost use Rattle.doc_bits.specs.Rules.{Hold, IsFirst};
+ghost use Rattle.doc_bits.specs.Rules.{Hold, IsFirstOffset};
 ghost use Rattle.doc_parts.specs.Levels.{level_count, level_end, AreLevelsFrom, StopsAtLevel, HasLists, level_rules};
 ghost use Rattle.doc_parts.specs.Levels.{HaveLength};
 
@@ -36,7 +36,7 @@ pub fn list_levels(table: &[u8], at: u32, lcb: u32) -> Result<u32, LevelFault>
     requires addressed { length table.now < 2 ^ 32 }
     ensures { MatchResult result
         (λ len. Hold (level_rules table.now at lcb) × HaveLength table.now at lcb len)
-        (λ fault. IsFirst (level_rules table.now at lcb) 56 fault.offset) }
+        (λ fault. IsFirstOffset (level_rules table.now at lcb) 56 fault.offset) }
 {
     let from = (at + lcb) as usize;
     let part = &table[at as usize..from];
@@ -56,7 +56,7 @@ pub fn levels_len(table: &[u8], at: u32, lcb: u32) -> Option<u32>
     requires within { at + lcb ≤ length table.now }
     requires addressed { length table.now < 2 ^ 32 }
     ensures { MatchOption result
-        ((place : ℕ) × IsFirst (level_rules table.now at lcb) 56 place)
+        ((place : ℕ) × IsFirstOffset (level_rules table.now at lcb) 56 place)
         (λ len. Hold (level_rules table.now at lcb) × HaveLength table.now at lcb len) }
 {
     match list_levels(table, at, lcb) {

@@ -2,7 +2,7 @@
 ghost use Rattle.std.specs.Prelude.{◌≡◌, ◌+◌, ◌<◌, ◌^◌, length, IfOk, MatchResult};
 ghost use Rattle.doc_bits.specs.Rules.{Hold};
 ghost use Rattle.doc_parts.specs.Table.{IsPartFault};
-ghost use Rattle.doc_parts.specs.Stories.{ref_form, cut_form, ref_rules, text_rules, AreRefs, AreCuts, printed_refs};
+ghost use Rattle.doc_parts.specs.Stories.{ref_form, cut_form, ref_rules, cut_rules, AreRefs, AreCuts, printed_refs};
 ghost use Rattle.doc_parts.specs.Stories.{printed_texts};
 
 use crate::PartFault;
@@ -106,8 +106,8 @@ pub fn texts(
 ) -> Result<Cuts, PartFault>
     requires { at + length plc.now < 2 ^ 32 }
     ensures { MatchResult result
-        (λ list. Hold (text_rules rule plc.now at story_len) × AreCuts plc.now story_len list)
-        (IsPartFault (text_rules rule plc.now at story_len)) }
+        (λ list. Hold (cut_rules rule plc.now at story_len) × AreCuts plc.now story_len list)
+        (IsPartFault (cut_rules rule plc.now at story_len)) }
 {
     let cps = CpForm {
         order: CpOrder::NeverFall,

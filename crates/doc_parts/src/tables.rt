@@ -1,7 +1,7 @@
 // [MS-DOC] Plc: what is the same for each part that is a table of CPs and entries.
 ghost use Rattle.std.specs.Prelude.{◌≡◌, ◌+◌, ◌<◌, ◌++◌, ◌^◌};
 ghost use Rattle.std.specs.Prelude.{ℕ, List, length, IfOk, OnOk, OnErr};
-ghost use Rattle.doc_parts.specs.Table.{EntryForm, KeepsCp, IsWholePlc, IsReadOf, StopsAtWrong, printed_entries};
+ghost use Rattle.doc_parts.specs.Table.{EntryForm, KeepsCp, IsWholePlc, AreReadEntries, StopsAtWrong, printed_entries};
 
 use crate::cps::CpForm;
 use doc_bits::{Bytes, Memory, Plc, plc_of};
@@ -50,7 +50,7 @@ pub(crate) fn read_table<E: TableEntry>(
     cps: CpForm,
 ) -> Result<Leading<E>, Memory>
     requires { at + length part.now < 2 ^ 32 }
-    ensures { IfOk result (λ read. IsReadOf E.form cps part.now at read.entries.items read.fault) }
+    ensures { IfOk result (λ read. AreReadEntries E.form cps part.now at read.entries.items read.fault) }
 {
     if part.is_empty() {
         return Ok(Leading {

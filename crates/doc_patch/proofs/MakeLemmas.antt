@@ -8,7 +8,7 @@ use Rattle.prop_map.specs.Settings.{Properties}
 use Rattle.prop_map.specs.Overlay.{overlay}
 use Rattle.prop_map.proofs.Public.{is_overlay}
 use Rattle.style_sheet.specs.Sheet.{Sheet}
-use Rattle.style_sheet.specs.Changes.{SetsCharacters, SetsParagraphs, characters_of, with_characters, paragraphs_of}
+use Rattle.style_sheet.specs.Changes.{SetsCharacters, SetsParagraphs, kind_characters, with_characters, pap_of_style}
 use Rattle.style_sheet.specs.Changes.{with_paragraphs, with_kind, with_style}
 use Rattle.doc_patch.specs.Changes.{changed_at, put_changed, with_kind_at, put_style}
 use Rattle.doc_patch.specs.Changes.{characters_set, paragraphs_set}
@@ -41,7 +41,7 @@ changed_back change entries at hole entry made there is =
 pub characters_are_set : (istd : ℕ) (put : Properties) (old new : Sheet) → SetsCharacters istd put old new →
     new ≡ with_kind_at old istd (characters_set put)
 characters_are_set istd put old new sets =
-    let map : sets.changed.map ≡ overlay put (characters_of sets.style.kind) = is_overlay put (characters_of
+    let map : sets.changed.map ≡ overlay put (kind_characters sets.style.kind) = is_overlay put (kind_characters
     sets.style.kind) sets.changed.map sets.changed.over in
     let kind : sets.kind ≡ characters_set put sets.style.kind = sets.changed.kind ∙ ap (with_characters
     sets.style.kind) map in
@@ -51,7 +51,7 @@ characters_are_set istd put old new sets =
 pub paragraphs_are_set : (istd : ℕ) (put : Properties) (old new : Sheet) → SetsParagraphs istd put old new →
     new ≡ with_kind_at old istd (paragraphs_set put)
 paragraphs_are_set istd put old new sets =
-    let map : sets.changed.map ≡ overlay put (paragraphs_of sets.style.kind) = is_overlay put (paragraphs_of
+    let map : sets.changed.map ≡ overlay put (pap_of_style sets.style.kind) = is_overlay put (pap_of_style
     sets.style.kind) sets.changed.map sets.changed.over in
     let kind : sets.kind ≡ paragraphs_set put sets.style.kind = sets.changed.kind ∙ ap (with_paragraphs
     sets.style.kind) map in

@@ -10,7 +10,7 @@ use Rattle.prop_map.specs.Modifiers.{IsFormedModifier}
 use Rattle.prop_map.specs.Overlay.{overlay, modified_characters}
 use Rattle.prop_map.proofs.Public.{overlay_formed}
 use Rattle.run_lists.specs.Changed.{IsChanged}
-use Rattle.plain_doc.specs.declared.item.Item.{Item}
+use Rattle.doc_model.specs.declared.item.Item.{Item}
 use Rattle.doc_columns.specs.declared.attached.Attached.{Attached}
 use Rattle.doc_columns.specs.Attached.{attached_of}
 use Rattle.doc_columns.specs.Columns.{item_of}

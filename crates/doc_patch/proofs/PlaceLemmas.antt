@@ -15,17 +15,17 @@ use Rattle.std.proofs.lemmas.Option.{same_Some, slice_get-map, slice_get_within,
 use Rattle.std.proofs.lemmas.Option.{get_or_from_slice_get}
 use Rattle.run_lists.specs.declared.runs.Run.{Run}
 use Rattle.run_lists.specs.declared.cut.Spot.{Spot}
-use Rattle.run_lists.specs.Places.{IsFound}
+use Rattle.run_lists.specs.Places.{IsFoundSpot}
 use Rattle.run_lists.specs.Spread.{expanded, total_len}
 use Rattle.run_lists.proofs.Public.{length-spread, extent-nil, extent_more, extent_all, value_in_run, part_range}
-use Rattle.plain_doc.specs.declared.item.Item.{Item}
+use Rattle.doc_model.specs.declared.item.Item.{Item}
 use Rattle.doc_columns.specs.declared.attached.Attached.{Attached}
 use Rattle.doc_columns.specs.Attached.{attached_of}
 use Rattle.doc_patch.specs.Places.{mark_place, section_place}
 use Rattle.doc_patch.proofs.FirstLemmas.{first_is}
 use Rattle.doc_patch.specs.declared.places.Part.{Part}
 use Rattle.doc_patch.specs.declared.places.Part.TheVariants as part_is
-use Rattle.doc_patch.specs.Parts.{has_part, IsFirst}
+use Rattle.doc_patch.specs.Parts.{has_part, IsFirstWithPart}
 
 -- a default for reads of items
 pub nothing : Item
@@ -60,7 +60,7 @@ pub record IsWalkedTo (at end count : ℕ) : Type 0 where
   pub before : 0 < count → at < end
 
 pub reached : (runs : List (Run Attached)) (number at begin : ℕ) (spot : Spot) (run : Run Attached) →
-    IsFound runs 0 at spot → slice_get runs number ≡ Some run → begin ≡ total_len (take number runs)
+    IsFoundSpot runs 0 at spot → slice_get runs number ≡ Some run → begin ≡ total_len (take number runs)
     → (number ≡ spot.run) ⊎ (at ≤ begin) → IsWalkedTo at (begin + run.count) run.count
 reached runs number at begin spot run found is begins (inl e) =
     let spot_is : slice_get runs spot.run ≡ Some run = subst (λ (n : ℕ). slice_get runs n ≡ Some run) e is in
@@ -77,7 +77,7 @@ reached runs number at begin spot run found is begins (inr le) =
     record { upto = omega (arith, le); before = λ some. omega (arith, le, some) }
 
 -- behind all runs, the place is the end or before it
-pub reached_end : (runs : List (Run Attached)) (number at begin : ℕ) (spot : Spot) → IsFound runs 0 at spot →
+pub reached_end : (runs : List (Run Attached)) (number at begin : ℕ) (spot : Spot) → IsFoundSpot runs 0 at spot →
     length runs ≤ number → begin ≡ total_len (take number runs) → (number ≡ spot.run) ⊎ (at ≤ begin) → at ≤ begin
 reached_end runs number at begin spot found all begins (inl e) =
     let last : spot.run ≡ length runs = omega (arith, found.there, all, e) in
@@ -91,7 +91,7 @@ reached_end runs number at begin spot found all begins (inr le) = le
 pub shown_first : (part : Part) (runs : List (Run Attached)) (number at begin place : ℕ) (run : Run Attached) →
     slice_get runs number ≡ Some run → begin ≡ total_len (take number runs) → has_part part run.value ≡ true
     → begin ≤ place → place < begin + run.count → at ≤ place → (begin < place → place ≡ at)
-    → HasNone part (expanded runs) at begin → IsFirst part (expanded runs) at place
+    → HasNone part (expanded runs) at begin → IsFirstWithPart part (expanded runs) at place
 shown_first part runs number at begin place run is begins shows from until after first none = record {
   after = after;
   within =
@@ -126,7 +126,7 @@ none_more part runs number at begin run is begins shows none k attached low high
 
 -- no run shows it
 pub none_first : (part : Part) (runs : List (Run Attached)) (at begin : ℕ) → begin ≡ total_len runs → at ≤ begin →
-    HasNone part (expanded runs) at begin → IsFirst part (expanded runs) at begin
+    HasNone part (expanded runs) at begin → IsFirstWithPart part (expanded runs) at begin
 none_first part runs at begin end after none = record {
   after = after;
   within = omega (arith, end, length-spread runs);
@@ -140,7 +140,7 @@ none_first part runs at begin end after none = record {
 -- the first place of a text that has a part
 first_of : (part : Part) (p : Item → Bool) (text : List Item) (attachments : List Attached) (at place : ℕ) →
     ((item : Item) → has_part part (attached_of item) ≡ p item) → attachments ≡ map attached_of text
-    → IsFirst part attachments at place → place ≡ at + position_or_len p (drop at text)
+    → IsFirstWithPart part attachments at place → place ≡ at + position_or_len p (drop at text)
 first_of part p text attachments at place says are first =
     let long : length attachments ≡ length text = ap length are ∙ length-map text attached_of in
     let attached_there : (k : ℕ) → k < length text → slice_get attachments k ≡ Some (attached_of (get_or text k
@@ -159,13 +159,13 @@ first_of part p text attachments at place says are first =
     ∙ first.here (attached_of (get_or text place nothing)) (attached_there place within))
 
 pub mark_first : (text : List Item) (attachments : List Attached) (at place : ℕ) → attachments ≡ map attached_of text →
-    IsFirst part_is.Mark attachments at place → place ≡ mark_place text at
+    IsFirstWithPart part_is.Mark attachments at place → place ≡ mark_place text at
 mark_first text attachments at place are first =
     first_of part_is.Mark (λ item. is_some item.mark) text attachments at place (λ item. refl) are first
 
 pub section_first : (text : List Item) (attachments : List Attached) (at place : ℕ) → attachments ≡ map attached_of text
     →
-    IsFirst part_is.Section attachments at place → place ≡ section_place text at
+    IsFirstWithPart part_is.Section attachments at place → place ≡ section_place text at
 section_first text attachments at place are first =
     first_of part_is.Section (λ item. is_some item.sect) text attachments at place (λ item. refl) are first
 

@@ -9,7 +9,7 @@ use Rattle.std.proofs.Math.Seq.{drop-append_seam, take-append_seam}
 use Rattle.doc_bits.specs.Together.{AreTogether}
 use Rattle.doc_bits.proofs.Public.{map-map, range_mid}
 use Rattle.run_lists.specs.Changed.{IsChanged}
-use Rattle.plain_doc.proofs.Public.{length-splice}
+use Rattle.doc_model.proofs.Public.{length-splice}
 use Rattle.doc_patch.specs.Changes.{map_range, changed_at, put_changed}
 
 -- values each of which became what a function makes of it

@@ -6,7 +6,7 @@ use Rattle.prop_map.specs.Settings.{Properties}
 use Rattle.prop_map.specs.Formed.{IsPropertyMap, StaysFormed, character_groups, paragraph_groups}
 use Rattle.prop_map.specs.Modifiers.{IsFormedModifier}
 use Rattle.prop_map.specs.Overlay.{overlay, modified_characters}
-use Rattle.plain_doc.specs.declared.item.Mark.{Mark}
+use Rattle.doc_model.specs.declared.item.Mark.{Mark}
 use Rattle.doc_columns.specs.declared.attached.Attached.{Attached}
 use Rattle.doc_patch.specs.Changes.{modified_mark}
 

@@ -10,12 +10,12 @@ use Rattle.prop_map.specs.Overlay.{overlay, modified_characters, modified_paragr
 use Rattle.style_sheet.specs.declared.styles.Style.{Style}
 use Rattle.style_sheet.specs.declared.styles.Kind.{Kind}
 use Rattle.style_sheet.specs.Sheet.{Sheet, style_at}
-use Rattle.style_sheet.specs.Changes.{characters_of, with_characters, paragraphs_of, with_paragraphs, with_kind}
+use Rattle.style_sheet.specs.Changes.{kind_characters, with_characters, pap_of_style, with_paragraphs, with_kind}
 use Rattle.style_sheet.specs.Changes.{with_style}
-use Rattle.plain_doc.specs.declared.item.Item.{Item}
-use Rattle.plain_doc.specs.declared.item.Mark.{Mark}
-use Rattle.plain_doc.specs.declared.document.Document.{Document}
-use Rattle.plain_doc.specs.Marks.{main_spliced}
+use Rattle.doc_model.specs.declared.item.Item.{Item}
+use Rattle.doc_model.specs.declared.item.Mark.{Mark}
+use Rattle.doc_model.specs.declared.document.Document.{Document}
+use Rattle.doc_model.specs.Marks.{main_spliced}
 use Rattle.doc_patch.specs.declared.changes.Change.{Change}
 use Rattle.doc_patch.specs.declared.changes.Change.TheVariants.{SpliceText, ModifyItems, SetSection, SpliceNotes}
 use Rattle.doc_patch.specs.declared.changes.Change.TheVariants.{SpliceHeads, SetStyleCharacters, SetStyleParagraphs}
@@ -34,18 +34,18 @@ abbrev pub map_range : {A : Type 0} → (A → A) → List A → ℕ → ℕ →
 map_range change entries from to = splice entries from to (map change (slice_range entries from to))
 
 -- the document with a text changed
-abbrev pub with_text : (List Item → List Item) → Story → Document → Document
-with_text change Main document = record document { main = change document.main }
-with_text change (Note number) document = record document { notes = changed_at document.notes number change }
-with_text change (Head number) document = record document { heads = changed_at document.heads number change }
+abbrev pub text_changed : (List Item → List Item) → Story → Document → Document
+text_changed change Main document = record document { main = change document.main }
+text_changed change (Note number) document = record document { notes = changed_at document.notes number change }
+text_changed change (Head number) document = record document { heads = changed_at document.heads number change }
 
 -- the document with items in place of some of a text; the ends of its bookmarks go with the main text
 abbrev pub text_spliced : Story → ℕ → ℕ → List Item → Document → Document
 text_spliced Main from to fresh document = main_spliced from to fresh document
 text_spliced (Note number) from to fresh document =
-    with_text (λ text. splice text from to fresh) (Note number) document
+    text_changed (λ text. splice text from to fresh) (Note number) document
 text_spliced (Head number) from to fresh document =
-    with_text (λ text. splice text from to fresh) (Head number) document
+    text_changed (λ text. splice text from to fresh) (Head number) document
 
 -- a mark and an item after a modifier
 abbrev pub modified_mark : Modifier → Mark → Mark
@@ -67,10 +67,10 @@ with_section set item = record item { sect = option_map (overlay set) item.sect 
 
 -- the kind of a style with properties put over its own
 abbrev pub characters_set : Properties → Kind → Kind
-characters_set set kind = with_characters kind (overlay set (characters_of kind))
+characters_set set kind = with_characters kind (overlay set (kind_characters kind))
 
 abbrev pub paragraphs_set : Properties → Kind → Kind
-paragraphs_set set kind = with_paragraphs kind (overlay set (paragraphs_of kind))
+paragraphs_set set kind = with_paragraphs kind (overlay set (pap_of_style kind))
 
 abbrev pub put_style : Sheet → ℕ → (Kind → Kind) → Option Style → Sheet
 put_style sheet istd change None = sheet
@@ -84,7 +84,7 @@ with_kind_at sheet istd change = put_style sheet istd change (style_at sheet ist
 abbrev pub changed : Change → Document → Document
 changed (SpliceText story from to fresh) document = text_spliced story from to fresh document
 changed (ModifyItems story from to modifier) document =
-    with_text (λ text. map_range (modified_item modifier) text from to) story document
+    text_changed (λ text. map_range (modified_item modifier) text from to) story document
 changed (SetSection at set) document = record document { main = changed_at document.main at (with_section set) }
 changed (SpliceNotes from to fresh) document = record document { notes = splice document.notes from to fresh }
 changed (SpliceHeads from to fresh) document = record document { heads = splice document.heads from to fresh }

@@ -4,9 +4,9 @@ use Rattle.doc_bits.specs.declared.places.Story.{Story}
 use Rattle.doc_bits.specs.declared.places.Story.TheVariants.{Main, Note, Head}
 use Rattle.prop_map.specs.Formed.{IsPropertyMap, character_groups, paragraph_groups, section_groups}
 use Rattle.prop_map.specs.Modifiers.{IsFormedModifier}
-use Rattle.style_sheet.specs.Chain.{kind_at}
-use Rattle.doc_parts.specs.declared.bookmark_order.Bookmark.{Bookmark}
-use Rattle.plain_doc.specs.declared.document.Document.{Document}
+use Rattle.style_sheet.specs.Chain.{style_kind_at}
+use Rattle.document_bookmarks.specs.declared.bookmark_order.Bookmark.{Bookmark}
+use Rattle.doc_model.specs.declared.document.Document.{Document}
 use Rattle.doc_patch.specs.declared.changes.Change.{Change}
 use Rattle.doc_patch.specs.declared.changes.Change.TheVariants.{SpliceText, ModifyItems, SetSection, SpliceNotes}
 use Rattle.doc_patch.specs.declared.changes.Change.TheVariants.{SpliceHeads, SetStyleCharacters, SetStyleParagraphs}
@@ -40,8 +40,10 @@ CanMake document (ModifyItems story from to modifier) = HasText document story (
 CanMake document (SetSection at set) = (at < length document.main) × IsPropertyMap section_groups set
 CanMake document (SpliceNotes from to fresh) = CanSplice from to fresh document.notes
 CanMake document (SpliceHeads from to fresh) = CanSplice from to fresh document.heads
-CanMake document (SetStyleCharacters istd set) = (0 < kind_at document.sheet istd) × IsPropertyMap character_groups set
-CanMake document (SetStyleParagraphs istd set) = (kind_at document.sheet istd ≡ 1) × IsPropertyMap paragraph_groups set
+CanMake document (SetStyleCharacters istd set) = (0 < style_kind_at document.sheet istd) × IsPropertyMap
+    character_groups set
+CanMake document (SetStyleParagraphs istd set) = (style_kind_at document.sheet istd ≡ 1) × IsPropertyMap
+    paragraph_groups set
 CanMake document (SetBookmarks list) = ⊤
 
 -- each of the changes can be made after those before it

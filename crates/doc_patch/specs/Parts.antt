@@ -11,7 +11,7 @@ has_part Mark attached = is_some attached.mark
 has_part Section attached = is_some attached.sect
 
 -- the first place from a place on beside which the part is there, or the end
-pub record IsFirst (part : Part) (attachments : List Attached) (at place : ℕ) : Type 0 where
+pub record IsFirstWithPart (part : Part) (attachments : List Attached) (at place : ℕ) : Type 0 where
   pub after : at ≤ place
   pub within : place ≤ length attachments
   pub before : (k : ℕ) (attached : Attached) → at ≤ k → k < place → slice_get attachments k ≡ Some attached →

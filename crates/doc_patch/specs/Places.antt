@@ -7,20 +7,20 @@ use Rattle.std.specs.List.{position_or_len}
 use Rattle.doc_bits.specs.declared.places.Story.{Story}
 use Rattle.doc_bits.specs.declared.places.Story.TheVariants.{Main, Note, Head}
 use Rattle.prop_map.specs.Settings.{Properties}
-use Rattle.plain_doc.specs.declared.item.Item.{Item}
-use Rattle.plain_doc.specs.declared.item.Mark.{Mark}
-use Rattle.plain_doc.specs.declared.document.Document.{Document}
+use Rattle.doc_model.specs.declared.item.Item.{Item}
+use Rattle.doc_model.specs.declared.item.Mark.{Mark}
+use Rattle.doc_model.specs.declared.document.Document.{Document}
 use Rattle.plain_doc.specs.RulesOfSheet.{note_count, section_count, heads_of_sections}
 
 -- the text of this name, where it is there
-abbrev pub text_at : Document → Story → Option (List Item)
-text_at document Main = Some document.main
-text_at document (Note number) = slice_get document.notes number
-text_at document (Head number) = slice_get document.heads number
+abbrev pub story_text : Document → Story → Option (List Item)
+story_text document Main = Some document.main
+story_text document (Note number) = slice_get document.notes number
+story_text document (Head number) = slice_get document.heads number
 
 -- the text is there, and it is such
 abbrev pub HasText : Document → Story → (List Item → Type 0) → Type 0
-HasText document story such = MatchOption (text_at document story) ⊥ such
+HasText document story such = MatchOption (story_text document story) ⊥ such
 
 -- there is an item at the range's begin, and its end is no further than the text's
 abbrev pub HasRange : ℕ → ℕ → List Item → Type 0
@@ -28,15 +28,15 @@ HasRange from to text = (from < to) × (to ≤ length text)
 
 -- its items; none where there is no such text
 abbrev pub items_at : Document → Story → List Item
-items_at document story = unwrap_or (text_at document story) []
+items_at document story = unwrap_or (story_text document story) []
 
 -- the place of the first item with a mark, from a place on, or the end of the text
 abbrev pub mark_place : List Item → ℕ → ℕ
 mark_place text at = at + position_or_len (λ item. is_some item.mark) (drop at text)
 
 -- the mark of the paragraph that holds the place
-abbrev pub mark_at : List Item → ℕ → Option Mark
-mark_at text at = option_and_then (λ item. item.mark) (slice_get text (mark_place text at))
+abbrev pub paragraph_mark_at : List Item → ℕ → Option Mark
+paragraph_mark_at text at = option_and_then (λ item. item.mark) (slice_get text (mark_place text at))
 
 -- the unit that the mark is on
 abbrev pub mark_unit : List Item → ℕ → Option ℕ
@@ -47,8 +47,8 @@ abbrev pub section_place : List Item → ℕ → ℕ
 section_place main at = at + position_or_len (λ item. is_some item.sect) (drop at main)
 
 -- the properties of the section that holds the place
-abbrev pub section_at : List Item → ℕ → Option Properties
-section_at main at = option_and_then (λ item. item.sect) (slice_get main (section_place main at))
+abbrev pub section_around : List Item → ℕ → Option Properties
+section_around main at = option_and_then (λ item. item.sect) (slice_get main (section_place main at))
 
 -- the number of the first note that is referred to from a place on
 abbrev pub note_number : List Item → ℕ → ℕ

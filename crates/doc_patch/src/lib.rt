@@ -8,7 +8,7 @@ mod modify;
 mod places;
 
 pub use changes::{Change, Changes};
-pub use making::make_all;
+pub use making::{make_all, put_text, swap_text};
 pub use modifiers::{clearing, naming_style, property_characters, property_paragraphs};
 pub use modify::properties_over;
 pub use places::{

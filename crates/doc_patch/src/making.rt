@@ -3,14 +3,14 @@ ghost use Rattle.std.specs.Prelude.{◌≡◌, ◌<◌, [], length, Some, Err, I
 ghost use Rattle.std.specs.List.{splice};
 ghost use Rattle.prop_map.specs.Formed.{IsPropertyMap, character_groups, paragraph_groups, section_groups};
 ghost use Rattle.prop_map.specs.Modifiers.{IsFormedModifier};
-ghost use Rattle.doc_patch.specs.Places.{text_at};
+ghost use Rattle.doc_patch.specs.Places.{story_text};
 ghost use Rattle.doc_patch.specs.Places.{HasText, HasRange};
-ghost use Rattle.style_sheet.specs.Chain.{kind_at};
+ghost use Rattle.style_sheet.specs.Chain.{style_kind_at};
 ghost use Rattle.doc_patch.specs.Changes.{all_changed, changed, changed_at, map_range, modified_item, with_section};
-ghost use Rattle.doc_patch.specs.Changes.{with_text, text_spliced};
+ghost use Rattle.doc_patch.specs.Changes.{text_changed, text_spliced};
 ghost use Rattle.doc_patch.specs.Changes.{with_kind_at, characters_set, paragraphs_set};
 ghost use Rattle.doc_patch.specs.Makes.{CanMake, CanMakeAll, CanSplice, CanFollow, EndWithin};
-ghost use Rattle.plain_doc.specs.Marks.{main_spliced};
+ghost use Rattle.doc_model.specs.Marks.{main_spliced};
 
 use crate::modify::{modify_text, section_over};
 use crate::{Change, Changes};
@@ -153,7 +153,7 @@ fn splice_items(
     fresh: &Columns,
 ) -> Result<(), Memory>
     requires { HasText document.old story (CanSplice from to fresh.now) }
-    ensures { OnOk result (document.new ≡ with_text (λ text. splice text from to fresh.now) story document.old) }
+    ensures { OnOk result (document.new ≡ text_changed (λ text. splice text from to fresh.now) story document.old) }
 {
     let copy = fresh.copy(alloc, 0, fresh.len())?;
     let text = take_text(alloc, document, story);
@@ -174,7 +174,7 @@ fn modify_items(
     requires range { HasText document.old story (HasRange from to) }
     requires modifier { IsFormedModifier modifier.now }
     ensures { OnOk result
-        (document.new ≡ with_text (λ text. map_range (modified_item modifier.now) text from to) story document.old) }
+        (document.new ≡ text_changed (λ text. map_range (modified_item modifier.now) text from to) story document.old) }
 {
     let text = take_text(alloc, document, story);
     let modified = modify_text(alloc, text, from, to, modifier)?;
@@ -201,7 +201,7 @@ fn set_section(
 
 /// Sets character codes of a style.
 fn set_characters(document: &mut ColumnDocument, istd: u16, set: &PropMap) -> Result<(), Memory>
-    requires style { 0 < kind_at document.old.sheet istd }
+    requires style { 0 < style_kind_at document.old.sheet istd }
     requires set { IsPropertyMap character_groups set.now }
     ensures { OnOk result
         (document.new ≡ record document.old { sheet = with_kind_at document.old.sheet istd (characters_set set.now) }) }
@@ -212,7 +212,7 @@ fn set_characters(document: &mut ColumnDocument, istd: u16, set: &PropMap) -> Re
 
 /// Sets paragraph codes of a style.
 fn set_paragraphs(document: &mut ColumnDocument, istd: u16, set: &PropMap) -> Result<(), Memory>
-    requires style { kind_at document.old.sheet istd ≡ 1 }
+    requires style { style_kind_at document.old.sheet istd ≡ 1 }
     requires set { IsPropertyMap paragraph_groups set.now }
     ensures { OnOk result
         (document.new ≡ record document.old { sheet = with_kind_at document.old.sheet istd (paragraphs_set set.now) }) }
@@ -236,25 +236,25 @@ fn set_bookmarks(
 /// Takes a text out and leaves an empty one. It takes no memory.
 fn take_text(alloc: Global, document: &mut ColumnDocument, story: Story) -> Columns
     requires { HasText document.old story (λ _. ⊤) }
-    ensures taken { text_at document.old story ≡ Some result }
-    ensures left { document.new ≡ with_text (λ _. []) story document.old }
+    ensures taken { story_text document.old story ≡ Some result }
+    ensures left { document.new ≡ text_changed (λ _. []) story document.old }
 {
     swap_text(document, story, Columns::new(alloc))
 }
 
 /// Puts a text in place of another. It takes no memory.
-fn put_text(document: &mut ColumnDocument, story: Story, text: Columns)
+pub fn put_text(document: &mut ColumnDocument, story: Story, text: Columns)
     requires { HasText document.old story (λ _. ⊤) }
-    ensures { document.new ≡ with_text (λ _. text) story document.old }
+    ensures { document.new ≡ text_changed (λ _. text) story document.old }
 {
     drop(swap_text(document, story, text));
 }
 
 /// Puts a text in place of another, which it hands out.
-fn swap_text(document: &mut ColumnDocument, story: Story, text: Columns) -> Columns
+pub fn swap_text(document: &mut ColumnDocument, story: Story, text: Columns) -> Columns
     requires { HasText document.old story (λ _. ⊤) }
-    ensures taken { text_at document.old story ≡ Some result }
-    ensures left { document.new ≡ with_text (λ _. text) story document.old }
+    ensures taken { story_text document.old story ≡ Some result }
+    ensures left { document.new ≡ text_changed (λ _. text) story document.old }
 {
     match story {
         Story::Main => mem::replace(&mut document.main, text),

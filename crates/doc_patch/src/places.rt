@@ -7,10 +7,10 @@ ghost use Rattle.run_lists.specs.Spread.{expanded, total_len};
 ghost use Rattle.doc_columns.specs.Attached.{attached_of};
 ghost use Rattle.plain_doc.specs.RulesOfSheet.{section_count};
 ghost use Rattle.doc_patch.specs.Places.{HasText};
-ghost use Rattle.doc_patch.specs.Places.{text_at, mark_place as place_of_mark, mark_at as mark_there};
-ghost use Rattle.doc_patch.specs.Places.{section_place as place_of_section, section_at as section_there};
+ghost use Rattle.doc_patch.specs.Places.{story_text, mark_place as place_of_mark, paragraph_mark_at as mark_there};
+ghost use Rattle.doc_patch.specs.Places.{section_place as place_of_section, section_around as section_there};
 ghost use Rattle.doc_patch.specs.Places.{note_number as number_of_note, head_number as number_of_head};
-ghost use Rattle.doc_patch.specs.Parts.{has_part as is_there, IsFirst};
+ghost use Rattle.doc_patch.specs.Parts.{has_part as is_there, IsFirstWithPart};
 
 use doc_bits::Story;
 use doc_columns::{Attached, ColumnDocument, ColumnTexts, Columns};
@@ -51,7 +51,7 @@ fn shows(run: &Run<Attached>, part: Part) -> bool
 fn first_place(runs: &[Run<Attached>], at: usize, part: Part) -> usize
     requires within { at ≤ total_len runs.now }
     requires few { total_len runs.now < 2 ^ 32 }
-    ensures { IsFirst part (expanded runs.now) at result }
+    ensures { IsFirstWithPart part (expanded runs.now) at result }
 {
     let spot = find(runs, 0, at);
     let mut begin = at - spot.left;
@@ -138,8 +138,8 @@ pub fn chp_at(text: &Columns, place: usize) -> Option<&PropMap>
 /// The text of this name, where it is there.
 pub fn find_text(document: &ColumnDocument, story: Story) -> Option<&Columns>
     ensures { MatchOption result
-        (text_at document.now story ≡ None)
-        (λ text. text_at document.now story ≡ Some text.now) }
+        (story_text document.now story ≡ None)
+        (λ text. story_text document.now story ≡ Some text.now) }
 {
     match story {
         Story::Main => Some(&document.main),
@@ -164,7 +164,7 @@ fn entry_of(texts: &ColumnTexts, number: u32) -> Option<&Columns>
 /// The text of this name, which is there.
 pub fn text_of(document: &ColumnDocument, story: Story) -> &Columns
     requires { HasText document.now story (λ _. ⊤) }
-    ensures { text_at document.now story ≡ Some result.now }
+    ensures { story_text document.now story ≡ Some result.now }
 {
     match story {
         Story::Main => &document.main,

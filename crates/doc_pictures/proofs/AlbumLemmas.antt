@@ -9,8 +9,9 @@ use Rattle.doc_outer.specs.Held.{Files, OthersStay, StaysAt, held_with}
 use Rattle.doc_outer.proofs.Public.{StaysAt-refl}
 use Rattle.doc_pictures.specs.declared.pictures.Picture.{Picture}
 use Rattle.doc_pictures.specs.Names.{picture_path}
-use Rattle.doc_pictures.specs.Pictures.{AreInOrder, ArePictures}
-use Rattle.doc_pictures.specs.Album.{AreWithin, IsPicturePath, IsWithinStream, IsWritten, Writes, file_bytes}
+use Rattle.doc_pictures.specs.Pictures.{ArePicturesInOrder, ArePictures}
+use Rattle.doc_pictures.specs.Album.{AreWithinStream, IsPicturePath, IsWithinStream, IsWritten, WritesPictures}
+use Rattle.doc_pictures.specs.Album.{file_bytes}
 use Rattle.doc_pictures.proofs.RangeLemmas.{picture-lies}
 use Rattle.doc_bits.proofs.Public.{take_step}
 
@@ -37,9 +38,9 @@ within-length pictures k picture here = slice_get_within pictures k picture here
 -- ---- one file more
 
 writes-push : (force : Bool) (folder stream : List ℕ) (number : ℕ) (pictures : List Picture) (picture : Picture)
-    (before mid after : Option Files) → Writes force folder stream number pictures before mid →
+    (before mid after : Option Files) → WritesPictures force folder stream number pictures before mid →
     IsWritten force (picture_path folder (number + length pictures) picture.file.kind) (file_bytes stream picture) mid after →
-    Writes force folder stream number (pictures ++ picture ∷ []) before after
+    WritesPictures force folder stream number (pictures ++ picture ∷ []) before after
 writes-push force folder stream number [] picture before mid after same is =
     let place : number + 0 ≡ number = omega arith in
     let here = subst (λ (n : ℕ). IsWritten force (picture_path folder n picture.file.kind) (file_bytes stream picture) mid
@@ -59,20 +60,21 @@ writes-push force folder stream number (first ∷ more) picture before mid after
 -- the next picture of a list
 pub writes-on : (force : Bool) (folder stream : List ℕ) (pictures : List Picture) (k : ℕ) (picture : Picture)
     (before mid after : Option Files) → slice_get pictures k ≡ Some picture → k < length pictures →
-    Writes force folder stream 1 (take k pictures) before mid →
+    WritesPictures force folder stream 1 (take k pictures) before mid →
     IsWritten force (picture_path folder (k + 1) picture.file.kind) (file_bytes stream picture) mid after →
-    Writes force folder stream 1 (take (k + 1) pictures) before after
+    WritesPictures force folder stream 1 (take (k + 1) pictures) before after
 writes-on force folder stream pictures k picture before mid after here within are is =
     let long = length-take k pictures in
     let number : k + 1 ≡ 1 + length (take k pictures) = omega (arith, long, within) in
-    subst (λ (front : List Picture). Writes force folder stream 1 front before after) (sym (take_step pictures k picture
+    subst (λ (front : List Picture). WritesPictures force folder stream 1 front before after) (sym (take_step pictures k
+    picture
     here))
     (writes-push force folder stream 1 (take k pictures) picture before mid after are
     (subst (λ (n : ℕ). IsWritten force (picture_path folder n picture.file.kind) (file_bytes stream picture) mid after)
     number is))
 
 pub none-written : (force : Bool) (folder stream : List ℕ) (number : ℕ) (held : Option Files) →
-    Writes force folder stream number [] held held
+    WritesPictures force folder stream number [] held held
 none-written force folder stream number held = refl
 
 -- a name that is that of no picture stays
@@ -85,8 +87,9 @@ stays-by folder pictures k picture first mid now name here other stays others =
 
 -- ---- files in the stream
 
-within-order : (stream places : List ℕ) (ended : ℕ) (pictures : List Picture) → AreInOrder stream places ended pictures →
-    AreWithin stream pictures
+within-order : (stream places : List ℕ) (ended : ℕ) (pictures : List Picture) → ArePicturesInOrder stream places ended
+    pictures →
+    AreWithinStream stream pictures
 within-order stream places ended [] are = All-nil (IsWithinStream stream)
 within-order stream places ended (picture ∷ more) are =
     let lies = picture-lies stream picture.place picture.file are.0.has.picture in
@@ -95,5 +98,5 @@ within-order stream places ended (picture ∷ more) are =
     (within-order stream places picture.file.to more are.1)
 
 pub pictures-within : (stream places : List ℕ) (pictures : List Picture) → ArePictures stream places pictures →
-    AreWithin stream pictures
+    AreWithinStream stream pictures
 pictures-within stream places pictures are = within-order stream places 0 pictures are.in_order

@@ -8,14 +8,15 @@ use Rattle.std.proofs.lemmas.List.{get_or_default}
 use Rattle.doc_pictures.specs.declared.names.PictureName.{PictureName}
 use Rattle.doc_pictures.specs.declared.pictures.Picture.{Picture}
 use Rattle.doc_pictures.specs.Files.{name_from}
-use Rattle.doc_pictures.specs.Order.{AreAscending, IsCountBefore}
-use Rattle.doc_pictures.specs.Pictures.{AreInOrder}
+use Rattle.doc_pictures.specs.Order.{ArePlacesAscending, IsCountBefore}
+use Rattle.doc_pictures.specs.Pictures.{ArePicturesInOrder}
 use Rattle.doc_pictures.proofs.RangeLemmas.{picture-lies}
 
 -- ---- pictures in their order
 
 -- each is behind where the one before them ended
-all-behind : (stream places : List ℕ) (ended : ℕ) (pictures : List Picture) → AreInOrder stream places ended pictures →
+all-behind : (stream places : List ℕ) (ended : ℕ) (pictures : List Picture) → ArePicturesInOrder stream places ended
+    pictures →
     (k : ℕ) (d : Picture) → k < length pictures → ended ≤ (slice_index_or pictures k d).place
 all-behind stream places ended [] are k d within = absurd (omega (arith, within))
 all-behind stream places ended (picture ∷ more) are zero d within = are.0.behind
@@ -28,7 +29,7 @@ all-behind stream places ended (picture ∷ more) are (suc k) d within =
     omega (arith, begins, some, behind, rest)
 
 pub in_order-ascends : (stream places : List ℕ) (ended : ℕ) (pictures : List Picture) →
-    AreInOrder stream places ended pictures → AreAscending pictures
+    ArePicturesInOrder stream places ended pictures → ArePlacesAscending pictures
 in_order-ascends stream places ended [] are i j d less within = absurd (omega (arith, within))
 in_order-ascends stream places ended (picture ∷ more) are i zero d less within = absurd (omega (arith, less))
 in_order-ascends stream places ended (picture ∷ more) are zero (suc j) d less within =
@@ -40,12 +41,12 @@ in_order-ascends stream places ended (picture ∷ more) are zero (suc j) d less 
 in_order-ascends stream places ended (picture ∷ more) are (suc i) (suc j) d less within =
     in_order-ascends stream places picture.file.to more are.1 i j d (omega (arith, less)) (omega (arith, within))
 
-pub none-ascend : AreAscending []
+pub none-ascend : ArePlacesAscending []
 none-ascend i j d less within = absurd (omega (arith, within))
 
 -- ---- halves of them
 
-pub lower-half : (pictures : List Picture) (place middle : ℕ) (here : Picture) → AreAscending pictures →
+pub lower-half : (pictures : List Picture) (place middle : ℕ) (here : Picture) → ArePlacesAscending pictures →
     middle < length pictures → (slice_index_or pictures middle here).place < place → (k : ℕ) (d : Picture) →
     k < middle + 1 → (slice_index_or pictures k d).place < place
 lower-half pictures place middle here are within less k d below =
@@ -58,7 +59,7 @@ lower-half pictures place middle here are within less k d below =
           omega arith
     ]
 
-pub upper-half : (pictures : List Picture) (place middle : ℕ) (here : Picture) → AreAscending pictures →
+pub upper-half : (pictures : List Picture) (place middle : ℕ) (here : Picture) → ArePlacesAscending pictures →
     middle < length pictures → place ≤ (slice_index_or pictures middle here).place → (k : ℕ) (d : Picture) →
     middle ≤ k → k < length pictures → place ≤ (slice_index_or pictures k d).place
 upper-half pictures place middle here are within least k d above inner =
@@ -120,7 +121,7 @@ none-left pictures place count is all =
     let low = is.below k d (omega (arith, within, all)) in absurd (omega (arith, low, same)))
 
 -- the first one behind lesser places is at another one
-pub none-here : (pictures : List Picture) (place count : ℕ) (d : Picture) → AreAscending pictures →
+pub none-here : (pictures : List Picture) (place count : ℕ) (d : Picture) → ArePlacesAscending pictures →
     IsCountBefore pictures place count → count < length pictures →
     (slice_index_or pictures count d).place ≢ place → name_from 1 pictures place ≡ None
 none-here pictures place count d are is inside other =

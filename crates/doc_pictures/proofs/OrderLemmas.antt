@@ -7,13 +7,14 @@ use Rattle.inline_pictures.specs.InlinePictures.{IsInlinePicture}
 use Rattle.inline_pictures.specs.declared.picture.PictureFile.{PictureFile}
 use Rattle.inline_pictures.proofs.Public.{picture-unique}
 use Rattle.doc_pictures.specs.declared.pictures.Picture.{Picture}
-use Rattle.doc_pictures.specs.Pictures.{AreInOrder, ArePictures, HasFile, IsCovered, IsPictureOf}
+use Rattle.doc_pictures.specs.Pictures.{ArePicturesInOrder, ArePictures, HasFile, IsCovered, IsPictureOf}
 use Rattle.doc_pictures.specs.Laws.{PicturesAreOne, PicturesAreShort, byte_count}
 use Rattle.doc_pictures.proofs.RangeLemmas.{picture-lies}
 
 -- ---- the bytes of all files
 
-short : (stream places : List ℕ) (ended : ℕ) (pictures : List Picture) → AreInOrder stream places ended pictures →
+short : (stream places : List ℕ) (ended : ℕ) (pictures : List Picture) → ArePicturesInOrder stream places ended pictures
+    →
     ended ≤ length stream → byte_count pictures + ended ≤ length stream
 unfolding byte_count
 short stream places ended [] are low = omega (arith, low)
@@ -33,7 +34,7 @@ pictures-short stream places pictures are =
 
 -- what is covered lies behind where the picture before them ended
 covered-behind : (stream places : List ℕ) (ended : ℕ) (pictures : List Picture) (place : ℕ) →
-    AreInOrder stream places ended pictures → IsCovered place pictures → ended ≤ place
+    ArePicturesInOrder stream places ended pictures → IsCovered place pictures → ended ≤ place
 covered-behind stream places ended [] place are none = absurd none
 covered-behind stream places ended (picture ∷ more) place are (inl here) =
     let behind = are.0.behind in
@@ -49,7 +50,7 @@ covered-behind stream places ended (picture ∷ more) place are (inr later) =
 
 -- and not in front of the first one
 first-begun : (stream places : List ℕ) (ended : ℕ) (picture : Picture) (more : List Picture) (place : ℕ) →
-    AreInOrder stream places ended (picture ∷ more) → IsCovered place (picture ∷ more) → picture.place ≤ place
+    ArePicturesInOrder stream places ended (picture ∷ more) → IsCovered place (picture ∷ more) → picture.place ≤ place
 first-begun stream places ended picture more place are (inl here) = here.begun
 first-begun stream places ended picture more place are (inr later) =
     let lies = picture-lies stream picture.place picture.file are.0.has.picture in
@@ -74,12 +75,13 @@ AllFrom stream places ended pictures =
     IsCovered place pictures
 
 first-is : (stream places : List ℕ) (ended : ℕ) (pictures : List Picture) (picture : Picture) (more : List Picture) →
-    pictures ≡ picture ∷ more → AreInOrder stream places ended pictures → IsPictureOf stream places ended picture
+    pictures ≡ picture ∷ more → ArePicturesInOrder stream places ended pictures → IsPictureOf stream places ended
+    picture
 first-is stream places ended pictures picture more is are =
-    (subst (λ (all : List Picture). AreInOrder stream places ended all) is are).0
+    (subst (λ (all : List Picture). ArePicturesInOrder stream places ended all) is are).0
 
 rest-is : (stream places : List ℕ) (ended : ℕ) (picture : Picture) (more : List Picture) →
-    AreInOrder stream places ended (picture ∷ more) → AreInOrder stream places picture.file.to more
+    ArePicturesInOrder stream places ended (picture ∷ more) → ArePicturesInOrder stream places picture.file.to more
 rest-is stream places ended picture more are = are.1
 
 same-picture : (one other : Picture) → one.place ≡ other.place → one.file ≡ other.file → one ≡ other
@@ -89,7 +91,7 @@ same-picture one other place file =
 
 -- the first ones are the same
 heads-alike : (stream places : List ℕ) (ended : ℕ) (x : Picture) (xs : List Picture) (y : Picture) (ys : List Picture) →
-    AreInOrder stream places ended (x ∷ xs) → AreInOrder stream places ended (y ∷ ys) →
+    ArePicturesInOrder stream places ended (x ∷ xs) → ArePicturesInOrder stream places ended (y ∷ ys) →
     AllFrom stream places ended (x ∷ xs) → AllFrom stream places ended (y ∷ ys) → x ≡ y
 heads-alike stream places ended x xs y ys one other all_one all_other =
     let a = first-is stream places ended (x ∷ xs) x xs refl one in
@@ -105,7 +107,8 @@ heads-alike stream places ended x xs y ys one other all_one all_other =
 
 -- what is covered behind the first one
 all-later : (stream places : List ℕ) (ended : ℕ) (x : Picture) (xs : List Picture) →
-    AreInOrder stream places ended (x ∷ xs) → AllFrom stream places ended (x ∷ xs) → AllFrom stream places x.file.to xs
+    ArePicturesInOrder stream places ended (x ∷ xs) → AllFrom stream places ended (x ∷ xs) → AllFrom stream places
+    x.file.to xs
 all-later stream places ended x xs are all = λ place file after named has.
     let a = first-is stream places ended (x ∷ xs) x xs refl are in
     let lies = picture-lies stream x.place x.file a.has.picture in
@@ -114,8 +117,9 @@ all-later stream places ended x xs are all = λ place file after named has.
     let behind = a.behind in
     covered-later x xs place after (all place file (omega (arith, begins, some, behind, after)) named has)
 
-alike : (stream places : List ℕ) (ended : ℕ) (one other : List Picture) → AreInOrder stream places ended one →
-    AreInOrder stream places ended other → AllFrom stream places ended one → AllFrom stream places ended other → one ≡ other
+alike : (stream places : List ℕ) (ended : ℕ) (one other : List Picture) → ArePicturesInOrder stream places ended one →
+    ArePicturesInOrder stream places ended other → AllFrom stream places ended one → AllFrom stream places ended other →
+    one ≡ other
 alike stream places ended [] [] one other all_one all_other = refl
 alike stream places ended [] (y ∷ ys) one other all_one all_other =
     let b = first-is stream places ended (y ∷ ys) y ys refl other in
@@ -129,7 +133,7 @@ alike stream places ended (x ∷ xs) (y ∷ ys) one other all_one all_other =
     ap (λ (p : Picture). p ∷ xs) same
     ∙ ap (λ (more : List Picture). y ∷ more)
     (alike stream places x.file.to xs ys (rest-is stream places ended x xs one)
-    (subst (λ (n : ℕ). AreInOrder stream places n ys) to (rest-is stream places ended y ys other))
+    (subst (λ (n : ℕ). ArePicturesInOrder stream places n ys) to (rest-is stream places ended y ys other))
     (all-later stream places ended x xs one all_one)
     (subst (λ (n : ℕ). AllFrom stream places n ys) to (all-later stream places ended y ys other all_other)))
 
@@ -141,7 +145,7 @@ pictures-one stream places one other a b =
 -- ---- places in another order
 
 in_order-permuted : (stream places others : List ℕ) → IsPermutation places others → (ended : ℕ) (pictures : List Picture) →
-    AreInOrder stream places ended pictures → AreInOrder stream others ended pictures
+    ArePicturesInOrder stream places ended pictures → ArePicturesInOrder stream others ended pictures
 in_order-permuted stream places others moved ended [] are = tt
 in_order-permuted stream places others moved ended (picture ∷ more) are = (
   record {

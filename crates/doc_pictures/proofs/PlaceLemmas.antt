@@ -8,15 +8,16 @@ use Rattle.std.proofs.lemmas.Option.{get_or_from_slice_get}
 use Rattle.std.proofs.lemmas.List.{flat_map_more}
 use Rattle.std.proofs.lemmas.List.Elements.{filter_map-append}
 use Rattle.doc_bits.proofs.Public.{get-map, take_step}
-use Rattle.plain_doc.specs.declared.item.Item.{Item}
+use Rattle.doc_model.specs.declared.item.Item.{Item}
 use Rattle.doc_columns.specs.declared.walk.Parts.{Parts}
-use Rattle.doc_columns.specs.Walks.{items_in, AreParts}
+use Rattle.doc_columns.specs.Walks.{items_in, AreFullParts}
 use Rattle.doc_columns.proofs.Public.{units_are}
 use Rattle.char_formats.specs.Locations.{location_in}
-use Rattle.doc_pictures.specs.Places.{place_of, places_in}
+use Rattle.doc_pictures.specs.Places.{picture_place, places_in}
 
 -- the unit of an item is in the column
-pub unit-there : (parts : Parts) → AreParts parts → (i : ℕ) (item : Item) → slice_get (items_in parts) i ≡ Some item →
+pub unit-there : (parts : Parts) → AreFullParts parts → (i : ℕ) (item : Item) → slice_get (items_in parts) i ≡ Some item
+    →
     item.unit ≡ slice_index parts.units.now i
 unit-there parts are i item here =
     let got : slice_get parts.units.now i ≡ Some item.unit =
@@ -31,26 +32,26 @@ not-one unit other = grind (arith, nat_tests)
 is-one : (unit : ℕ) → unit ≡ 0x01 → (unit == 0x01) ≡ true
 is-one unit one = grind (arith, nat_tests)
 
-pub no-place : (item : Item) (unit : ℕ) → item.unit ≡ unit → unit ≢ 0x01 → None ≡ place_of item
+pub no-place : (item : Item) (unit : ℕ) → item.unit ≡ unit → unit ≢ 0x01 → None ≡ picture_place item
 no-place item unit is other =
     sym (ap (λ (b : Bool). if b then location_in item.chp else None) (ap (λ (n : ℕ). n == 0x01) is ∙ not-one unit other))
 
 -- the character of a picture names that of its properties
-pub its-place : (item : Item) (unit : ℕ) → item.unit ≡ unit → unit ≡ 0x01 → location_in item.chp ≡ place_of item
+pub its-place : (item : Item) (unit : ℕ) → item.unit ≡ unit → unit ≡ 0x01 → location_in item.chp ≡ picture_place item
 its-place item unit is one =
     sym (ap (λ (b : Bool). if b then location_in item.chp else None) (ap (λ (n : ℕ). n == 0x01) is ∙ is-one unit one))
 
 -- one item more
 pub text-on : (first now after : List ℕ) (items : List Item) (i : ℕ) (item : Item) (place : Option ℕ) →
-    slice_get items i ≡ Some item → now ≡ first ++ places_in (take i items) → place ≡ place_of item →
+    slice_get items i ≡ Some item → now ≡ first ++ places_in (take i items) → place ≡ picture_place item →
     after ≡ now ++ cons_option place [] → after ≡ first ++ places_in (take (i + 1) items)
 text-on first now after items i item place here is names put =
     put
     ∙ ap (λ (p : Option ℕ). now ++ cons_option p []) names
-    ∙ ap (λ (front : List ℕ). front ++ cons_option (place_of item) []) is
-    ∙ append_assoc first (places_in (take i items)) (cons_option (place_of item) [])
+    ∙ ap (λ (front : List ℕ). front ++ cons_option (picture_place item) []) is
+    ∙ append_assoc first (places_in (take i items)) (cons_option (picture_place item) [])
     ∙ ap (λ (rest : List ℕ). first ++ rest)
-    (sym (filter_map-append place_of (take i items) (item ∷ []))
+    (sym (filter_map-append picture_place (take i items) (item ∷ []))
     ∙ ap places_in (sym (take_step items i item here)))
 
 -- one text more

@@ -10,7 +10,7 @@ use Rattle.inline_pictures.specs.Picf.{art_at, picf_end}
 use Rattle.inline_pictures.specs.Records.{record_end, record_instance, record_type}
 use Rattle.inline_pictures.specs.declared.picture.PictureFile.{PictureFile}
 use Rattle.inline_pictures.proofs.Public.{picture-unique}
-use Rattle.doc_pictures.specs.Names.{is_whole}
+use Rattle.doc_pictures.specs.Names.{is_whole_file}
 use Rattle.doc_pictures.specs.Pictures.{HasFile}
 
 -- the file is some bytes from a place on, and before another one
@@ -68,7 +68,7 @@ picture-lies stream place file is =
 
 -- a picture that is no whole file has none
 pub no-file : (stream : List ℕ) (place : ℕ) (file : PictureFile) → IsInlinePicture stream place file →
-    is_whole file.kind ≡ false → (other : PictureFile) → ¬ (HasFile stream place other)
+    is_whole_file file.kind ≡ false → (other : PictureFile) → ¬ (HasFile stream place other)
 no-file stream place file is part other has =
     let same : other ≡ file = picture-unique stream place other file has.picture is in
-    true≢false (sym has.whole ∙ (ap (λ (f : PictureFile). is_whole f.kind) same ∙ part))
+    true≢false (sym has.whole ∙ (ap (λ (f : PictureFile). is_whole_file f.kind) same ∙ part))

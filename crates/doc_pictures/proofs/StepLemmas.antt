@@ -8,8 +8,8 @@ use Rattle.std.proofs.lemmas.Grind.{get_or_default_zero}
 use Rattle.std.proofs.lemmas.List.Elements.{Contains-get_or}
 use Rattle.inline_pictures.specs.declared.picture.PictureFile.{PictureFile}
 use Rattle.doc_pictures.specs.declared.pictures.Picture.{Picture}
-use Rattle.doc_pictures.specs.Pictures.{AreInOrder, ArePictures, HasFile, IsCovered, IsPictureOf, IsWithin}
-use Rattle.doc_pictures.specs.Steps.{IsPassed, IsPut, IsStep}
+use Rattle.doc_pictures.specs.Pictures.{ArePicturesInOrder, ArePictures, HasFile, IsCovered, IsPictureOf, IsInPicture}
+use Rattle.doc_pictures.specs.Steps.{IsPlacePassed, IsPictureAdded, IsPictureStep}
 use Rattle.doc_pictures.proofs.RangeLemmas.{picture-lies}
 
 -- where the last picture ends, behind one that ended there
@@ -24,7 +24,7 @@ AllBegun place (picture ∷ more) = (picture.place ≤ place) × AllBegun place 
 
 -- the pictures of the first places
 pub record AreUpTo (stream places : List ℕ) (k ended : ℕ) (pictures : List Picture) : Type 0 where
-  pub in_order : AreInOrder stream places 0 pictures
+  pub in_order : ArePicturesInOrder stream places 0 pictures
   pub ends : end_of 0 pictures ≡ ended
   pub begun : (j : ℕ) → k ≤ j → j < length places → AllBegun (slice_index places j) pictures
   pub all :
@@ -43,8 +43,8 @@ none-yet stream places = record {
 -- ---- one picture more
 
 in_order-push : (stream places : List ℕ) (ended : ℕ) (pictures : List Picture) (picture : Picture) →
-    AreInOrder stream places ended pictures → IsPictureOf stream places (end_of ended pictures) picture →
-    AreInOrder stream places ended (pictures ++ picture ∷ [])
+    ArePicturesInOrder stream places ended pictures → IsPictureOf stream places (end_of ended pictures) picture →
+    ArePicturesInOrder stream places ended (pictures ++ picture ∷ [])
 unfolding end_of
 in_order-push stream places ended [] picture are is = (is, tt)
 in_order-push stream places ended (first ∷ more) picture are is =
@@ -67,7 +67,7 @@ covered-before place [] picture none = absurd none
 covered-before place (first ∷ more) picture (inl here) = inl here
 covered-before place (first ∷ more) picture (inr later) = inr (covered-before place more picture later)
 
-covered-push : (place : ℕ) (pictures : List Picture) (picture : Picture) → IsWithin place picture →
+covered-push : (place : ℕ) (pictures : List Picture) (picture : Picture) → IsInPicture place picture →
     IsCovered place (pictures ++ picture ∷ [])
 covered-push place [] picture is = inl is
 covered-push place (first ∷ more) picture is = inr (covered-push place more picture is)
@@ -87,7 +87,7 @@ covered-by_end ended place (picture ∷ more) low high are =
 -- ---- a step
 
 passed : (stream places : List ℕ) (k ended behind : ℕ) (old new : List Picture) → k < length places →
-    AreUpTo stream places k ended old → IsPassed stream (slice_index places k) ended behind old new →
+    AreUpTo stream places k ended old → IsPlacePassed stream (slice_index places k) ended behind old new →
     AreUpTo stream places (k + 1) ended old
 passed stream places k ended behind old new within are step = record {
   in_order = are.in_order;
@@ -111,7 +111,7 @@ passed stream places k ended behind old new within are step = record {
 }
 
 put : (stream places : List ℕ) (k ended behind : ℕ) (old new : List Picture) → IsNonDecreasing places → k < length places →
-    AreUpTo stream places k ended old → (step : IsPut stream (slice_index places k) ended behind old new) →
+    AreUpTo stream places k ended old → (step : IsPictureAdded stream (slice_index places k) ended behind old new) →
     AreUpTo stream places (k + 1) step.file.to (old ++ record { place = slice_index places k; file = step.file } ∷ [])
 put stream places k ended behind old new sorted within are step =
     let place = slice_index places k in
@@ -144,7 +144,8 @@ put stream places k ended behind old new sorted within are step =
 
 -- one place more
 pub one-more : (stream places : List ℕ) (k ended behind : ℕ) (old new : List Picture) → IsNonDecreasing places →
-    k < length places → AreUpTo stream places k ended old → IsStep stream (slice_index places k) ended behind old new →
+    k < length places → AreUpTo stream places k ended old → IsPictureStep stream (slice_index places k) ended behind old
+    new →
     AreUpTo stream places (k + 1) behind new
 one-more stream places k ended behind old new sorted within are (inl step) =
     subst (λ (all : List Picture). AreUpTo stream places (k + 1) behind all) (sym step.same)

@@ -15,8 +15,8 @@ pub record IsWithinStream (stream : List ℕ) (picture : Picture) : Type 0 where
   pub ordered : picture.file.from ≤ picture.file.to
   pub within : picture.file.to ≤ length stream
 
-abbrev pub AreWithin : List ℕ → List Picture → Type 0
-AreWithin stream pictures = All (IsWithinStream stream) pictures
+abbrev pub AreWithinStream : List ℕ → List Picture → Type 0
+AreWithinStream stream pictures = All (IsWithinStream stream) pictures
 
 -- a name is not there, or files are written over
 abbrev pub MayWrite : (force : Bool) → List ℕ → Option Files → Type 0
@@ -39,11 +39,12 @@ pub record IsWritten (force : Bool) (name bytes : List ℕ) (before after : Opti
   pub held : after ≡ held_with before name bytes
 
 -- the files of pictures were written, the first of which has this number
-abbrev pub Writes : (force : Bool) → (folder stream : List ℕ) → ℕ → List Picture → (before after : Option Files) → Type 0
-Writes force folder stream number [] before after = after ≡ before
-Writes force folder stream number (picture ∷ more) before after =
+abbrev pub WritesPictures : (force : Bool) → (folder stream : List ℕ) → ℕ → List Picture → (before after : Option Files)
+    → Type 0
+WritesPictures force folder stream number [] before after = after ≡ before
+WritesPictures force folder stream number (picture ∷ more) before after =
     MayWrite force (picture_path folder number picture.file.kind) before
-    × Writes force folder stream (number + 1) more
+    × WritesPictures force folder stream (number + 1) more
     (held_with before (picture_path folder number picture.file.kind) (file_bytes stream picture)) after
 
 -- the path of one of the pictures
@@ -54,7 +55,7 @@ pub record IsPicturePath (folder : List ℕ) (pictures : List Picture) (name : L
   pub path : name ≡ picture_path folder (k + 1) picture.file.kind
 
 -- the path of one of the pictures holds a file that is not to be written over
-pub record IsTaken (force : Bool) (folder : List ℕ) (pictures : List Picture) (held : Option Files) : Type 0 where
+pub record IsPathTaken (force : Bool) (folder : List ℕ) (pictures : List Picture) (held : Option Files) : Type 0 where
   pub name : List ℕ
   pub path : IsPicturePath folder pictures name
   pub holds : IsHeld force name held
@@ -66,5 +67,5 @@ pub record IsCutShort (force : Bool) (folder stream : List ℕ) (pictures : List
   pub picture : Picture
   pub there : slice_get pictures k ≡ Some picture
   pub mid : Option Files
-  pub written : Writes force folder stream 1 (take k pictures) before mid
+  pub written : WritesPictures force folder stream 1 (take k pictures) before mid
   pub others : OthersStay (picture_path folder (k + 1) picture.file.kind) mid after

@@ -9,12 +9,12 @@ pub record ImageFiles : Type 0 where
   pub folder : List ℕ
   pub pictures : List Picture
 
-abbrev pub files_of : Images → ImageFiles
-files_of images = record { folder = images.folder.now; pictures = images.pictures.now }
+abbrev pub image_files : Images → ImageFiles
+image_files images = record { folder = images.folder.now; pictures = images.pictures.now }
 
 -- no file
-abbrev pub no_files : ImageFiles
-no_files = record { folder = []; pictures = [] }
+abbrev pub no_image_files : ImageFiles
+no_image_files = record { folder = []; pictures = [] }
 
 -- the name of the file of the picture at a place, of pictures of which the first one has this number
 abbrev pub name_from : ℕ → List Picture → ℕ → Option PictureName
@@ -24,6 +24,6 @@ name_from number (picture ∷ more) place =
     name_from (number + 1) more place
 
 -- a character that names no place has none
-abbrev pub name_at : List Picture → Option ℕ → Option PictureName
-name_at pictures None = None
-name_at pictures (Some place) = name_from 1 pictures place
+abbrev pub picture_name_at : List Picture → Option ℕ → Option PictureName
+picture_name_at pictures None = None
+picture_name_at pictures (Some place) = name_from 1 pictures place

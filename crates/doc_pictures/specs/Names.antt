@@ -6,14 +6,14 @@ use Rattle.inline_pictures.specs.declared.kind.PictureKind.TheVariants.{Png, Jpe
 use Rattle.inline_pictures.specs.declared.kind.PictureKind.TheVariants.{CompressedEmf, CompressedWmf}
 
 -- Profile: the bytes of a compressed metafile are no file by themselves
-abbrev pub is_whole : PictureKind → Bool
-is_whole Png = true
-is_whole Jpeg = true
-is_whole Tiff = true
-is_whole Emf = true
-is_whole Wmf = true
-is_whole CompressedEmf = false
-is_whole CompressedWmf = false
+abbrev pub is_whole_file : PictureKind → Bool
+is_whole_file Png = true
+is_whole_file Jpeg = true
+is_whole_file Tiff = true
+is_whole_file Emf = true
+is_whole_file Wmf = true
+is_whole_file CompressedEmf = false
+is_whole_file CompressedWmf = false
 
 abbrev pub suffix_of : PictureKind → List ℕ
 suffix_of Png = codes "png"

@@ -3,8 +3,8 @@ use Rattle.std.specs.Prelude.{ℕ, ◌<◌, ◌≤◌, List, length, slice_index
 use Rattle.doc_pictures.specs.declared.pictures.Picture.{Picture}
 
 -- each is at a lesser place than those behind it
-abbrev pub AreAscending : List Picture → Type 0
-AreAscending pictures =
+abbrev pub ArePlacesAscending : List Picture → Type 0
+ArePlacesAscending pictures =
     (i j : ℕ) (d : Picture) → i < j → j < length pictures →
     (slice_index_or pictures i d).place < (slice_index_or pictures j d).place
 

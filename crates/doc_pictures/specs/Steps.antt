@@ -5,7 +5,7 @@ use Rattle.doc_pictures.specs.declared.pictures.Picture.{Picture}
 use Rattle.doc_pictures.specs.Pictures.{HasFile}
 
 -- it has a picture behind the end of the last one, which is put last
-pub record IsPut (stream : List ℕ) (place ended behind : ℕ) (old new : List Picture) : Type 0 where
+pub record IsPictureAdded (stream : List ℕ) (place ended behind : ℕ) (old new : List Picture) : Type 0 where
   pub file : PictureFile
   pub after : ended ≤ place
   pub has : HasFile stream place file
@@ -13,10 +13,11 @@ pub record IsPut (stream : List ℕ) (place ended behind : ℕ) (old new : List 
   pub ends : behind ≡ file.to
 
 -- it has none, or lies in front of that end
-pub record IsPassed (stream : List ℕ) (place ended behind : ℕ) (old new : List Picture) : Type 0 where
+pub record IsPlacePassed (stream : List ℕ) (place ended behind : ℕ) (old new : List Picture) : Type 0 where
   pub none : (place < ended) ⊎ ((file : PictureFile) → ¬ (HasFile stream place file))
   pub same : new ≡ old
   pub ends : behind ≡ ended
 
-abbrev pub IsStep : (stream : List ℕ) → (place ended behind : ℕ) → (old new : List Picture) → Type 0
-IsStep stream place ended behind old new = IsPassed stream place ended behind old new ⊎ IsPut stream place ended behind old new
+abbrev pub IsPictureStep : (stream : List ℕ) → (place ended behind : ℕ) → (old new : List Picture) → Type 0
+IsPictureStep stream place ended behind old new = IsPlacePassed stream place ended behind old new ⊎ IsPictureAdded
+    stream place ended behind old new

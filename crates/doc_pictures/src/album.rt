@@ -1,9 +1,10 @@
 // Picture files in a folder.
 ghost use Rattle.std.specs.Prelude.{◌≡◌, ◌<◌, ◌+◌, ◌^◌, ℕ, List, length, slice_get, Some, OnOk, OnErr, IsErrOf};
-ghost use Rattle.doc_outer.specs.Counts.{GoesOn, Rose};
+ghost use Rattle.doc_outer.specs.Counts.{CountGoesOn, Rose};
 ghost use Rattle.doc_outer.specs.Held.{OthersStay, StaysAt, held_with};
-ghost use Rattle.doc_pictures.specs.Album.{AreWithin, IsCutShort, IsHeld, IsPicturePath, IsTaken, IsWithinStream};
-ghost use Rattle.doc_pictures.specs.Album.{IsWritten, MayWrite, Writes, file_bytes};
+ghost use Rattle.doc_pictures.specs.Album.{AreWithinStream, IsCutShort, IsHeld, IsPicturePath, IsPathTaken};
+ghost use Rattle.doc_pictures.specs.Album.{IsWithinStream};
+ghost use Rattle.doc_pictures.specs.Album.{IsWritten, MayWrite, WritesPictures, file_bytes};
 ghost use Rattle.doc_pictures.specs.Names.{picture_path as path_of};
 
 use crate::names::picture_path;
@@ -49,9 +50,10 @@ pub fn write_pictures<S: Shelf>(
     stream: &[u8],
     pictures: &[Picture],
 ) -> Result<(), AlbumFault>
-    requires { AreWithin stream.now pictures.now }
+    requires { AreWithinStream stream.now pictures.now }
     ensures written { OnOk result
-        (Writes album.now.force album.now.folder.now stream.now 1 pictures.now (S.held shelf.old) (S.held shelf.new)) }
+        (WritesPictures album.now.force album.now.folder.now stream.now 1 pictures.now (S.held shelf.old) (S.held
+        shelf.new)) }
 
     // Where one is not written those before it stay.
     ensures cut { OnErr result
@@ -64,12 +66,12 @@ pub fn write_pictures<S: Shelf>(
 
     // Each fault has its cause: a name of a picture held a file before, or the file system failed.
     ensures there { IsErrOf result AlbumFault.There
-        → IsTaken album.now.force album.now.folder.now pictures.now (S.held shelf.old) }
+        → IsPathTaken album.now.force album.now.folder.now pictures.now (S.held shelf.old) }
     ensures failed { IsErrOf result AlbumFault.Failed → Rose (S.faults shelf.old) (S.faults shelf.new) }
 
     // Counts never fall.
-    ensures faults { GoesOn (S.faults shelf.old) (S.faults shelf.new) }
-    ensures missed { GoesOn (S.missed shelf.old) (S.missed shelf.new) }
+    ensures faults { CountGoesOn (S.faults shelf.old) (S.faults shelf.new) }
+    ensures missed { CountGoesOn (S.missed shelf.old) (S.missed shelf.new) }
 {
     for k in 0..pictures.len() {
         let picture = nth(pictures, k);
@@ -106,8 +108,8 @@ fn write_picture<S: Shelf>(
     ensures there { IsErrOf result AlbumFault.There → IsHeld album.now.force
         (path_of album.now.folder.now number picture.file.kind) (S.held shelf.old) }
     ensures failed { IsErrOf result AlbumFault.Failed → Rose (S.faults shelf.old) (S.faults shelf.new) }
-    ensures faults { GoesOn (S.faults shelf.old) (S.faults shelf.new) }
-    ensures missed { GoesOn (S.missed shelf.old) (S.missed shelf.new) }
+    ensures faults { CountGoesOn (S.faults shelf.old) (S.faults shelf.new) }
+    ensures missed { CountGoesOn (S.missed shelf.old) (S.missed shelf.new) }
 {
     let bytes = &stream[picture.file.from..picture.file.to];
     match picture_path(alloc, album.folder, number, picture.file.kind) {
@@ -127,8 +129,8 @@ fn write_file<S: Shelf>(
     ensures others { OthersStay path.now (S.held shelf.old) (S.held shelf.new) }
     ensures there { IsErrOf result AlbumFault.There → IsHeld force path.now (S.held shelf.old) }
     ensures failed { IsErrOf result AlbumFault.Failed → Rose (S.faults shelf.old) (S.faults shelf.new) }
-    ensures faults { GoesOn (S.faults shelf.old) (S.faults shelf.new) }
-    ensures missed { GoesOn (S.missed shelf.old) (S.missed shelf.new) }
+    ensures faults { CountGoesOn (S.faults shelf.old) (S.faults shelf.new) }
+    ensures missed { CountGoesOn (S.missed shelf.old) (S.missed shelf.new) }
 {
     match find_free(shelf, path, force) {
         Ok(()) => put_file(shelf, path, bytes),
@@ -142,8 +144,8 @@ fn put_file<S: Shelf>(shelf: &mut S, path: &str, bytes: &[u8]) -> Result<(), Alb
     ensures others { OthersStay path.now (S.held shelf.old) (S.held shelf.new) }
     ensures there { IsErrOf result AlbumFault.There → ⊥ }
     ensures failed { IsErrOf result AlbumFault.Failed → Rose (S.faults shelf.old) (S.faults shelf.new) }
-    ensures faults { GoesOn (S.faults shelf.old) (S.faults shelf.new) }
-    ensures missed { GoesOn (S.missed shelf.old) (S.missed shelf.new) }
+    ensures faults { CountGoesOn (S.faults shelf.old) (S.faults shelf.new) }
+    ensures missed { CountGoesOn (S.missed shelf.old) (S.missed shelf.new) }
 {
     match shelf.put(path, bytes) {
         Ok(()) => Ok(()),
@@ -158,8 +160,8 @@ fn find_free<S: Shelf>(shelf: &mut S, path: &str, force: bool) -> Result<(), Alb
     ensures free { OnOk result (MayWrite force path.now (S.held shelf.old)) }
     ensures there { IsErrOf result AlbumFault.There → IsHeld force path.now (S.held shelf.old) }
     ensures failed { IsErrOf result AlbumFault.Failed → Rose (S.faults shelf.old) (S.faults shelf.new) }
-    ensures faults { GoesOn (S.faults shelf.old) (S.faults shelf.new) }
-    ensures missed { GoesOn (S.missed shelf.old) (S.missed shelf.new) }
+    ensures faults { CountGoesOn (S.faults shelf.old) (S.faults shelf.new) }
+    ensures missed { CountGoesOn (S.missed shelf.old) (S.missed shelf.new) }
 {
     if force {
         return Ok(());

@@ -1,7 +1,7 @@
 // The files of pictures, by the places that characters name.
 ghost use Rattle.std.specs.Prelude.{◌≡◌};
-ghost use Rattle.doc_pictures.specs.Files.{name_at, name_from};
-ghost use Rattle.doc_pictures.specs.Order.{AreAscending, IsCountBefore};
+ghost use Rattle.doc_pictures.specs.Files.{picture_name_at, name_from};
+ghost use Rattle.doc_pictures.specs.Order.{ArePlacesAscending, IsCountBefore};
 
 use crate::names::PictureName;
 use crate::pictures::{Picture, Pictures};
@@ -15,7 +15,7 @@ pub struct Images<'a> {
 
 /// The name of the file of the picture at a place. The pictures are halved until it is found.
 pub fn name_at(pictures: &Pictures, place: Option<u32>) -> Option<PictureName>
-    ensures { result ≡ name_at pictures.now place }
+    ensures { result ≡ picture_name_at pictures.now place }
 {
     match place {
         None => None,
@@ -25,7 +25,7 @@ pub fn name_at(pictures: &Pictures, place: Option<u32>) -> Option<PictureName>
 
 /// The same of pictures in their order.
 fn name_in(pictures: &[Picture], place: u32) -> Option<PictureName>
-    requires { AreAscending pictures.now }
+    requires { ArePlacesAscending pictures.now }
     ensures { result ≡ name_from 1 pictures.now place }
 {
     let at = count_before(pictures, place);
@@ -44,7 +44,7 @@ fn name_in(pictures: &[Picture], place: u32) -> Option<PictureName>
 
 /// How many of the pictures are at lesser places.
 fn count_before(pictures: &[Picture], place: u32) -> usize
-    requires { AreAscending pictures.now }
+    requires { ArePlacesAscending pictures.now }
     ensures { IsCountBefore pictures.now place result }
 {
     let mut low = 0;

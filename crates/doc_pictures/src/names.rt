@@ -1,7 +1,7 @@
 // The names of picture files.
 ghost use Rattle.std.specs.Prelude.{◌≡◌, IfOk};
 ghost use Rattle.std.specs.Str.{IsAscii};
-ghost use Rattle.doc_pictures.specs.Names.{is_whole, picture_path, suffix_of};
+ghost use Rattle.doc_pictures.specs.Names.{is_whole_file, picture_path, suffix_of};
 
 use doc_bits::{Memory, Text};
 use inline_pictures::PictureKind;
@@ -46,7 +46,7 @@ pub fn suffix_of(kind: PictureKind) -> &'static str
 
 /// Whether the bytes of this kind are a file by themselves.
 pub(crate) fn is_whole(kind: PictureKind) -> bool
-    ensures { result ≡ is_whole kind }
+    ensures { result ≡ is_whole_file kind }
 {
     match kind {
         PictureKind::Png => true,

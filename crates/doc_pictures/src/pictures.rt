@@ -3,9 +3,9 @@ ghost use Rattle.std.specs.Prelude.{◌≡◌, [], MatchOption, IfOk, OnOk};
 ghost use Rattle.std.specs.List.Sorted.{IsNonDecreasing};
 ghost use Rattle.inline_pictures.specs.declared.picture.PictureFile.{PictureFile as AFile};
 ghost use Rattle.doc_pictures.specs.Pictures.{ArePictures, HasFile};
-ghost use Rattle.doc_pictures.specs.Steps.{IsStep};
-ghost use Rattle.doc_pictures.specs.Places.{places_of};
-ghost use Rattle.doc_pictures.specs.Order.{AreAscending};
+ghost use Rattle.doc_pictures.specs.Steps.{IsPictureStep};
+ghost use Rattle.doc_pictures.specs.Places.{picture_places};
+ghost use Rattle.doc_pictures.specs.Order.{ArePlacesAscending};
 
 use crate::names::is_whole;
 use crate::places::places_of;
@@ -33,7 +33,7 @@ impl Model for Pictures {
     ghost use Rattle.std.specs.Coded.{coded_list};
     ghost use Rattle.doc_pictures.specs.declared.pictures.Picture.{Picture};
     ghost use Rattle.doc_pictures.specs.contracts.pictures.Picture as row;
-    ghost use Rattle.doc_pictures.specs.Order.{AreAscending};
+    ghost use Rattle.doc_pictures.specs.Order.{ArePlacesAscending};
 
     ghost Value = { List Picture };
 
@@ -41,7 +41,7 @@ impl Model for Pictures {
 
     ghost view = { λ p. p.list.items };
 
-    ghost invariant = { λ p. AreAscending p.list.items };
+    ghost invariant = { λ p. ArePlacesAscending p.list.items };
 }
 
 impl Pictures {
@@ -54,7 +54,7 @@ impl Pictures {
 
     /// Those of a list, in their order.
     fn of(list: Vec<Picture>) -> Pictures
-        requires { AreAscending list.items }
+        requires { ArePlacesAscending list.items }
         ensures { result ≡ list.items }
     {
         Pictures { list }
@@ -62,7 +62,7 @@ impl Pictures {
 
     pub fn as_slice(&self) -> &[Picture]
         ensures is { result.now ≡ self.now }
-        ensures order { AreAscending result.now }
+        ensures order { ArePlacesAscending result.now }
     {
         &self.list
     }
@@ -76,7 +76,7 @@ pub fn pictures_of(
     document: &ColumnDocument,
     stream: &[u8],
 ) -> Result<Pictures, Memory>
-    ensures { IfOk result (λ pictures. ArePictures stream.now (places_of document.now) pictures) }
+    ensures { IfOk result (λ pictures. ArePictures stream.now (picture_places document.now) pictures) }
 {
     let mut places = places_of(alloc, document)?;
     places.sort_unstable();
@@ -106,7 +106,7 @@ fn push_picture(
     place: u32,
     end: usize,
 ) -> Result<usize, Memory>
-    ensures { IfOk result (λ behind. IsStep stream.now place end behind pictures.old.items pictures.new.items) }
+    ensures { IfOk result (λ behind. IsPictureStep stream.now place end behind pictures.old.items pictures.new.items) }
 {
     if (place as usize) < end {
         return Ok(end);

@@ -1,9 +1,9 @@
 // The places in the stream `Data` that the characters of a document name.
 ghost use Rattle.std.specs.Prelude.{◌≡◌, ◌<◌, ◌++◌, [], length, slice_get, Some, IfOk, OnOk};
 ghost use Rattle.std.specs.List.{cons_option, flat_map};
-ghost use Rattle.plain_doc.specs.declared.item.Item.{Item};
-ghost use Rattle.doc_columns.specs.Walks.{items_in, AreParts, IsWalk};
-ghost use Rattle.doc_pictures.specs.Places.{place_of, places_in, places_of};
+ghost use Rattle.doc_model.specs.declared.item.Item.{Item};
+ghost use Rattle.doc_columns.specs.Walks.{items_in, AreFullParts, IsColumnWalk};
+ghost use Rattle.doc_pictures.specs.Places.{picture_place, places_in, picture_places};
 
 use char_formats::location_in;
 use doc_bits::Memory;
@@ -13,7 +13,7 @@ use text_codes::PICTURE;
 
 /// The places that the characters of a document name: those of its main text, its notes and its header texts.
 pub(crate) fn places_of(alloc: Global, document: &ColumnDocument) -> Result<Vec<u32>, Memory>
-    ensures { IfOk result (λ places. places.items ≡ places_of document.now) }
+    ensures { IfOk result (λ places. places.items ≡ picture_places document.now) }
 {
     let mut places = Vec::new(alloc);
     push_text(&mut places, &document.main)?;
@@ -58,11 +58,11 @@ fn push_some(places: &mut Vec<u32>, place: Option<u32>) -> Result<(), Memory>
 
 /// The place that an item names. Only for the character of a picture the walk goes to the item.
 fn place_at(parts: &Parts<'_>, walk: &mut Walk, i: usize) -> Option<u32>
-    requires parts { AreParts parts.now }
-    requires walk { IsWalk parts.now walk.old i }
+    requires parts { AreFullParts parts.now }
+    requires walk { IsColumnWalk parts.now walk.old i }
     requires within { i < length parts.now.units.now }
-    ensures walk { IsWalk parts.now walk.new i }
-    ensures place { (item : Item) → slice_get (items_in parts.now) i ≡ Some item → result ≡ place_of item }
+    ensures walk { IsColumnWalk parts.now walk.new i }
+    ensures place { (item : Item) → slice_get (items_in parts.now) i ≡ Some item → result ≡ picture_place item }
 {
     if parts.units[i] != PICTURE {
         return None;

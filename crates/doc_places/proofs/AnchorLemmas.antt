@@ -3,11 +3,11 @@ use Rattle.std.proofs.Common.{◌≡◌, ℕ, zero, suc, ◌+◌, ◌<◌, ◌�
 use Rattle.std.proofs.Common.{ap, sym, subst, ◌∙◌, length, arith}
 use Rattle.std.specs.Prelude.{if◌then◌else◌, nat_lt, slice_get}
 use Rattle.std.proofs.lemmas.Bool.{cases_lt, le-ltb, ltb-true, lt-ltb}
-use Rattle.doc_parts.specs.declared.bookmark_order.Bookmark.{Bookmark}
+use Rattle.document_bookmarks.specs.declared.bookmark_order.Bookmark.{Bookmark}
 use Rattle.std.proofs.lemmas.List.{map-append}
 use Rattle.view_places.specs.declared.element.Element.{Element}
 use Rattle.view_places.specs.declared.element.Element.TheVariants.{Anchor}
-use Rattle.doc_places.specs.Places.{anchor_places, bare, lead, numbers}
+use Rattle.doc_places.specs.Places.{anchor_places, bare_place, lead, consecutive}
 
 -- there are no more than in the list
 pub lead_few : (bookmarks : List Bookmark) (place : ℕ) → lead bookmarks place ≤ length bookmarks
@@ -62,21 +62,24 @@ lead_more (bookmark ∷ bookmarks) place later low =
     ] refl
 
 -- one number more
-pub numbers_more : (first count : ℕ) → numbers first (count + 1) ≡ numbers first count ++ (first + count) ∷ []
+pub numbers_more : (first count : ℕ) → consecutive first (count + 1) ≡ consecutive first count ++ (first + count) ∷ []
 numbers_more first count =
     let is : suc count ≡ count + 1 = omega arith in
-    subst (λ (n : ℕ). numbers first n ≡ numbers first count ++ (first + count) ∷ []) is (numbers_suc first count)
+    subst (λ (n : ℕ). consecutive first n ≡ consecutive first count ++ (first + count) ∷ []) is (numbers_suc first
+    count)
   where
-    numbers_suc : (first count : ℕ) → numbers first (suc count) ≡ numbers first count ++ (first + count) ∷ []
+    numbers_suc : (first count : ℕ) → consecutive first (suc count) ≡ consecutive first count ++ (first + count) ∷ []
     numbers_suc first zero = ap (λ (n : ℕ). n ∷ []) (omega arith)
     numbers_suc first (suc count) =
         let is : (first + 1) + count ≡ first + suc count = omega arith in
-        ap (λ (more : List ℕ). first ∷ more) (numbers_suc (first + 1) count ∙ ap (λ (n : ℕ). numbers (first + 1) count
+        ap (λ (more : List ℕ). first ∷ more) (numbers_suc (first + 1) count ∙ ap (λ (n : ℕ). consecutive (first + 1)
+        count
         ++ n ∷ []) is)
 
 -- one anchor more
-pub anchors_more : (block : List Element) (first count : ℕ) → anchor_places block (numbers first (count + 1)) ≡
-    anchor_places block (numbers first count) ++ (bare (block ++ Anchor (first + count) ∷ []) ∷ [])
+pub anchors_more : (block : List Element) (first count : ℕ) → anchor_places block (consecutive first (count + 1)) ≡
+    anchor_places block (consecutive first count) ++ (bare_place (block ++ Anchor (first + count) ∷ []) ∷ [])
 anchors_more block first count =
-    ap (anchor_places block) (numbers_more first count) ∙ map-append (λ (number : ℕ). bare (block ++ Anchor number ∷
-    [])) (numbers first count) ((first + count) ∷ [])
+    ap (anchor_places block) (numbers_more first count) ∙ map-append (λ (number : ℕ). bare_place (block ++ Anchor number
+    ∷
+    [])) (consecutive first count) ((first + count) ∷ [])

@@ -7,11 +7,11 @@ use Rattle.std.proofs.lemmas.Bool.{ltb-true}
 use Rattle.char_formats.specs.declared.format.CharFormat.{CharFormat}
 use Rattle.char_formats.specs.declared.format.Position.{Position}
 use Rattle.char_formats.specs.declared.format.Position.TheVariants.{Normal, Raised as IsRaised, Lowered as IsLowered}
-use Rattle.plain_doc.specs.declared.item.Item.{Item}
-use Rattle.plain_doc.specs.Settings.{is_inside}
-use Rattle.plain_doc.specs.Stretches.{stretches}
+use Rattle.doc_model.specs.declared.item.Item.{Item}
+use Rattle.doc_model.specs.Settings.{is_inside}
+use Rattle.doc_model.specs.Stretches.{stretches}
 use Rattle.list_numbers.specs.declared.paragraph_values.ParagraphValues.{ParagraphValues}
-use Rattle.doc_parts.specs.declared.bookmark_order.Bookmark.{Bookmark}
+use Rattle.document_bookmarks.specs.declared.bookmark_order.Bookmark.{Bookmark}
 use Rattle.view_places.specs.declared.element.Element.{Element}
 use Rattle.view_places.specs.declared.element.Element.TheVariants.{Notes, Note, Table, TableHead, TableBody, Row, Cell}
 use Rattle.view_places.specs.declared.element.Element.TheVariants.{Paragraph as AParagraph, Reference as AReference}
@@ -31,7 +31,7 @@ use Rattle.cell_spans.proofs.Public.{small_no_tables, small_outside, small_singl
 use Rattle.doc_view.specs.declared.standing.Standing.{Standing}
 use Rattle.doc_view.specs.declared.standing.Standing.TheVariants.{Outside, Inside, Cell as InACell, Row as InARow, HeadRow}
 use Rattle.doc_view.specs.declared.references.Reference.{Reference}
-use Rattle.doc_view.specs.Layout.{is_in_table, keeps_row}
+use Rattle.doc_view.specs.Layout.{is_in_table, row_goes_on}
 use Rattle.doc_view.specs.Seen.{Paragraph, standing_of}
 use Rattle.doc_places.specs.declared.grid.Grid.{Grid}
 use Rattle.doc_places.specs.declared.grid.InCell.{InCell}
@@ -41,15 +41,17 @@ use Rattle.doc_places.specs.declared.lists.Lists.{Lists}
 use Rattle.doc_places.specs.declared.looks.Look.{Look}
 use Rattle.doc_places.specs.Cells.{cells_in, definition_in, tables_behind, tables_by, tables_from}
 use Rattle.doc_places.specs.Grid.{grid_of}
-use Rattle.doc_places.specs.Lists.{frame_at, frame_elements, level_elements, list_elements, lists_of, with_item}
-use Rattle.doc_places.specs.Looks.{heading_level, level_of, look_in, look_of}
-use Rattle.doc_places.specs.Places.{Cells, cell_form, nested_cell, nested_elements, outer_cell, around_of, block_at, block_of, cell_at, cell_of, cells_of, format_elements}
-use Rattle.doc_places.specs.Places.{given, in_head, inline_elements, is_bare, is_mark_alone, item_elements, link_elements}
+use Rattle.doc_places.specs.Lists.{frame_at, frame_elements, level_elements, list_elements, open_lists_of, with_item}
+use Rattle.doc_places.specs.Looks.{heading_level, level_of_outline, look_in, look_of}
+use Rattle.doc_places.specs.Places.{Cells, cell_form, nested_cell, nested_elements, outer_cell, around_of}
+use Rattle.doc_places.specs.Places.{paragraph_block, block_of, cell_at, cell_of, table_cells_of, format_elements}
+use Rattle.doc_places.specs.Places.{element_if, in_head, inline_elements, is_bare_in_cell, is_mark_alone, item_elements}
+use Rattle.doc_places.specs.Places.{link_elements}
 use Rattle.doc_places.specs.Places.{note_elements, note_path, own_elements, own_span, paragraph_form, position_elements}
 
 -- ---- within a paragraph
 
-few_given : (there : Bool) (e : Element) → heavy e ≤ 0 → IsSmall e → AreFew IsSmall 1 0 (given there e)
+few_given : (there : Bool) (e : Element) → heavy e ≤ 0 → IsSmall e → AreFew IsSmall 1 0 (element_if there e)
 few_given true e light small = few_one IsSmall 0 e light small
 few_given false e light small = few_within IsSmall 0 1 0 0 [] (omega arith) (omega arith) (few_none IsSmall)
 
@@ -61,12 +63,12 @@ few_position IsLowered = few_one IsSmall 0 Lowered (omega arith) tt
 pub few_format : (format : CharFormat) → AreFew IsSmall 7 0 (format_elements format)
 few_format format =
     let position = position_elements format.position in
-    let caps = given format.caps Caps in
-    let small = given format.small_caps SmallCaps in
-    let strike = given format.strike Strike in
-    let under = given format.underline Underline in
-    let italic = given format.italic Italic in
-    let bold = given format.bold Bold in
+    let caps = element_if format.caps Caps in
+    let small = element_if format.small_caps SmallCaps in
+    let strike = element_if format.strike Strike in
+    let under = element_if format.underline Underline in
+    let italic = element_if format.italic Italic in
+    let bold = element_if format.bold Bold in
     few_joined IsSmall 1 6 0 0 bold (italic ++ (under ++ (strike ++ (small ++ (caps ++ position)))))
     (few_given format.bold Bold (omega arith) tt)
     (few_joined IsSmall 1 5 0 0 italic (under ++ (strike ++ (small ++ (caps ++ position))))
@@ -174,16 +176,16 @@ small_cell : (cells : Cells) → ((number : ℕ) → IsSmallSpanIn (cells.spans 
 small_cell cells small grid standing in_head =
     elim (not (is_in_table standing)) as (λ (b : Bool). IsSmallCell (if b then None else Some (record {
       in_head = in_head;
-      span = own_span cells grid.ended (keeps_row standing);
+      span = own_span cells grid.ended (row_goes_on standing);
       nested = cells.nested grid.number;
-    }))) [ true ↦ tt | false ↦ small_own cells small grid.ended (keeps_row standing) ]
+    }))) [ true ↦ tt | false ↦ small_own cells small grid.ended (row_goes_on standing) ]
 
 few_around : (grid : Grid) (cell : Option InCell) (item : Option ListItem) (lists : Lists) → IsSmallCell cell → AreFew IsOuter 12 6
     (around_of grid cell item lists)
 few_around grid None item lists small = few_item lists item grid.number
 few_around grid (Some cell) item lists small = few_cell grid cell small
 
-low_level : (outline : Option ℕ) → level_of outline < 10
+low_level : (outline : Option ℕ) → level_of_outline outline < 10
 low_level None = omega arith
 low_level (Some outline) =
     elim (nat_lt outline 9) as (λ (b : Bool). nat_lt outline 9 ≡ b → (if b then outline + 1 else 0) < 10) [
@@ -193,7 +195,7 @@ low_level (Some outline) =
 
 low_heading : (outline : Option ℕ) (in_table is_text : Bool) → heading_level outline in_table is_text < 10
 low_heading outline in_table is_text =
-    elim (is_text && not in_table) as (λ (b : Bool). (if b then level_of outline else 0) < 10)
+    elim (is_text && not in_table) as (λ (b : Bool). (if b then level_of_outline outline else 0) < 10)
     [ true ↦ low_level outline | false ↦ omega arith ]
 
 low_look : (values : Option ParagraphValues) (in_table is_text : Bool) → (look_of values in_table is_text).level < 10
@@ -206,15 +208,17 @@ few_own false number look low = few_one IsOuter 0 (AParagraph (paragraph_form nu
 
 -- a paragraph and what is around it
 pub few_block : (cells : Cells) → ((number : ℕ) → IsSmallSpanIn (cells.spans number)) → (before : List Paragraph)
-    (paragraph : Paragraph) (more : List Paragraph) → AreFew IsOuter 13 6 (block_at cells before paragraph more)
+    (paragraph : Paragraph) (more : List Paragraph) → AreFew IsOuter 13 6 (paragraph_block cells before paragraph more)
 few_block cells small before paragraph more =
     let grid = grid_of before in
     let head = in_head before (paragraph ∷ more) in
     let cell = cell_at cells grid paragraph.standing head in
     let look = look_in paragraph in
-    few_joined IsOuter 12 1 6 0 (around_of grid cell look.item (lists_of before)) (own_elements (is_bare cell) grid.number look)
-    (few_around grid cell look.item (lists_of before) (small_cell cells small grid paragraph.standing head))
-    (few_own (is_bare cell) grid.number look (low_look paragraph.values (is_in_table paragraph.standing) (nat_le 2 (length
+    few_joined IsOuter 12 1 6 0 (around_of grid cell look.item (open_lists_of before)) (own_elements (is_bare_in_cell
+    cell) grid.number look)
+    (few_around grid cell look.item (open_lists_of before) (small_cell cells small grid paragraph.standing head))
+    (few_own (is_bare_in_cell cell) grid.number look (low_look paragraph.values (is_in_table paragraph.standing) (nat_le
+    2 (length
     paragraph.items))))
 
 -- what is around a note
@@ -251,7 +255,7 @@ small_from is_mark number place tables (items ∷ more) small =
 
 -- no cell of a text reaches far
 pub small_cells : (bookmarks : List Bookmark) (values : List ParagraphValues) (text : List Item) → All IsSmallSpanIn
-    (cells_of bookmarks values text).spans
+    (table_cells_of bookmarks values text).spans
 small_cells bookmarks values text =
     let tables = tables_from (is_mark_alone bookmarks values) 0 0 no_tables (stretches is_inside text) in
     small_outside tables (small_from (is_mark_alone bookmarks values) 0 0 no_tables (stretches is_inside text)

@@ -1,7 +1,7 @@
 -- The last reference to a note.
 use Rattle.std.proofs.Common.{◌≡◌, ◌∙◌, ℕ, zero, suc, Bool, true, false, List, [], ◌∷◌, ◌++◌, length, refl, ap}
 use Rattle.std.specs.Prelude.{if◌then◌else◌, is_some}
-use Rattle.plain_doc.specs.declared.item.Item.{Item}
+use Rattle.doc_model.specs.declared.item.Item.{Item}
 use Rattle.doc_places.specs.Places.{count_up_to, up_to_reference}
 
 last_one : (is_reference : Bool) → count_up_to is_reference 0 ≡ (if is_reference then suc zero else 0)

@@ -10,11 +10,11 @@ use Rattle.cell_spans.specs.Tables.{behind_cell, behind_inside, behind_outside, 
 use Rattle.nested_tables.specs.declared.depths.Depth.{Depth}
 use Rattle.nested_tables.specs.declared.tables.NestedTables.{NestedTables}
 use Rattle.nested_tables.specs.Tables.{tables_of}
-use Rattle.plain_doc.specs.declared.item.Item.{Item}
-use Rattle.plain_doc.specs.declared.item.Mark.{Mark}
-use Rattle.plain_doc.specs.Rows.{is_on, value_in}
-use Rattle.plain_doc.specs.Settings.{is_inside}
-use Rattle.plain_doc.specs.Stretches.{stretches}
+use Rattle.doc_model.specs.declared.item.Item.{Item}
+use Rattle.doc_model.specs.declared.item.Mark.{Mark}
+use Rattle.plain_doc.specs.Rows.{is_byte_one, mark_value_in}
+use Rattle.doc_model.specs.Settings.{is_inside}
+use Rattle.doc_model.specs.Stretches.{stretches}
 use Rattle.doc_view.specs.declared.standing.Standing.{Standing}
 use Rattle.doc_view.specs.declared.standing.Standing.TheVariants.{Outside, Inside, Cell, Row, HeadRow}
 use Rattle.doc_view.specs.Seen.{standing_of}
@@ -25,7 +25,7 @@ known_bytes (Some bytes) = bytes
 
 -- [MS-DOC] sprmTDefTable, D608, of the mark of a row
 abbrev pub definition_in : Option Mark → List ℕ
-definition_in mark = known_bytes (value_in mark 0xD608)
+definition_in mark = known_bytes (mark_value_in mark 0xD608)
 
 -- behind a paragraph that is so, has its mark alone or not, and is the end of a row of this definition or of none
 abbrev pub tables_by : Tables → Standing → Bool → List ℕ → Tables
@@ -66,9 +66,9 @@ outer_depth is_mark = record { depth = 1; ends_cell = false; ends_row = false; i
 -- [MS-DOC] sprmPItap, sprmPFInnerTableCell and sprmPFInnerTtp: 6649, 244B and 244C
 abbrev pub inner_depth : Option Mark → Bool → Depth
 inner_depth mark is_mark = record {
-  depth = depth_of (value_in mark 0x6649);
-  ends_cell = is_on (value_in mark 0x244B);
-  ends_row = is_on (value_in mark 0x244C);
+  depth = depth_of (mark_value_in mark 0x6649);
+  ends_cell = is_byte_one (mark_value_in mark 0x244B);
+  ends_row = is_byte_one (mark_value_in mark 0x244C);
   is_mark = is_mark;
 }
 

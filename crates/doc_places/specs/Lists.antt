@@ -15,8 +15,8 @@ use Rattle.doc_places.specs.Looks.{item_in}
 abbrev pub six : (ℕ → Option Frame) → Lists
 six at = record { frames = at 0 ∷ at 1 ∷ at 2 ∷ at 3 ∷ at 4 ∷ at 5 ∷ [] }
 
-abbrev pub no_lists : Lists
-no_lists = six (λ level. None)
+abbrev pub no_open_lists : Lists
+no_open_lists = six (λ level. None)
 
 -- the list that is open at a level
 abbrev pub open_frame : Option (Option Frame) → Option Frame
@@ -31,8 +31,8 @@ abbrev pub first_of_list : Option Frame → Bool → ℕ → ℕ
 first_of_list None is_ordered number = number
 first_of_list (Some frame) is_ordered number = if equal frame.is_ordered is_ordered then frame.first else number
 
-abbrev pub item_of : Option Frame → Bool → ℕ → Frame
-item_of frame is_ordered number = record {
+abbrev pub item_frame : Option Frame → Bool → ℕ → Frame
+item_frame frame is_ordered number = record {
   first = first_of_list frame is_ordered number;
   is_ordered = is_ordered;
   item = number;
@@ -42,20 +42,22 @@ item_of frame is_ordered number = record {
 abbrev pub level_frame : Lists → ℕ → ListItem → ℕ → Option Frame
 level_frame lists level item number =
     if nat_lt item.level level then None else
-    if nat_lt level item.level then frame_at lists level else Some (item_of (frame_at lists level) item.is_ordered number)
+    if nat_lt level item.level then frame_at lists level else Some (item_frame (frame_at lists level) item.is_ordered
+    number)
 
 abbrev pub with_item : Lists → ListItem → ℕ → Lists
 with_item lists item number = six (λ level. level_frame lists level item number)
 
 -- behind a paragraph that is an item or not: one that is here and no item ends all lists
 abbrev pub lists_after : Lists → Option ListItem → ℕ → Bool → Lists
-lists_after lists None number here = if here then no_lists else lists
+lists_after lists None number here = if here then no_open_lists else lists
 lists_after lists (Some item) number here = with_item lists item number
 
 -- the paragraphs, the nearest first
-abbrev pub lists_of : List Paragraph → Lists
-lists_of [] = no_lists
-lists_of (paragraph ∷ before) = lists_after (lists_of before) (item_in paragraph) (length before) (is_here paragraph)
+abbrev pub open_lists_of : List Paragraph → Lists
+open_lists_of [] = no_open_lists
+open_lists_of (paragraph ∷ before) = lists_after (open_lists_of before) (item_in paragraph) (length before) (is_here
+    paragraph)
 
 -- a list that is open, and its item
 abbrev pub frame_elements : Option Frame → List Element

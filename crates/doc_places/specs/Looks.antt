@@ -9,13 +9,13 @@ use Rattle.doc_places.specs.declared.lists.ListItem.{ListItem}
 use Rattle.doc_places.specs.declared.looks.Look.{Look}
 
 -- [MS-DOC] sprmPOutLvl: 0 to 8 are the levels of headings
-abbrev pub level_of : Option ℕ → ℕ
-level_of None = 0
-level_of (Some outline) = if nat_lt outline 9 then outline + 1 else 0
+abbrev pub level_of_outline : Option ℕ → ℕ
+level_of_outline None = 0
+level_of_outline (Some outline) = if nat_lt outline 9 then outline + 1 else 0
 
 -- a heading is outside of tables and has more than its mark
 abbrev pub heading_level : Option ℕ → Bool → Bool → ℕ
-heading_level outline in_table is_text = if is_text && not in_table then level_of outline else 0
+heading_level outline in_table is_text = if is_text && not in_table then level_of_outline outline else 0
 
 -- the item that a paragraph with this label is. Profile: one of a level behind the sixth is at the sixth
 abbrev pub labelled_item : Option ListLabel → Option ListItem
@@ -44,13 +44,13 @@ abbrev pub item_in : Paragraph → Option ListItem
 item_in paragraph = (look_in paragraph).item
 
 -- the units of a label that are shown: a bullet is that of the list itself where the paragraph is an item
-abbrev pub shown_units : Option ListItem → Option ListLabel → List ℕ
-shown_units item None = []
-shown_units item (Some label) = if is_some item && label.is_bullet then [] else label.units
+abbrev pub shown_label_units : Option ListItem → Option ListLabel → List ℕ
+shown_label_units item None = []
+shown_label_units item (Some label) = if is_some item && label.is_bullet then [] else label.units
 
 abbrev pub label_units : Option ListItem → Option ParagraphValues → List ℕ
 label_units item None = []
-label_units item (Some values) = shown_units item values.label
+label_units item (Some values) = shown_label_units item values.label
 
 abbrev pub units_of_label : Paragraph → List ℕ
 units_of_label paragraph = label_units (item_in paragraph) paragraph.values

@@ -2,13 +2,13 @@
 use Rattle.std.specs.Prelude.{zero, suc, ◌-◌, ◌==◌, nat_le, nat_lt, false, not, is_some, map, slice_get, take}
 use Rattle.std.specs.Prelude.{ℕ, ◌+◌, Bool, ◌&&◌, ◌||◌, List, [], ◌∷◌, ◌++◌, length, Option, Some, None, if◌then◌else◌}
 use Rattle.std.specs.List.{cons_option}
-use Rattle.plain_doc.specs.declared.item.Item.{Item}
-use Rattle.plain_doc.specs.declared.document.Document.{Document}
+use Rattle.doc_model.specs.declared.item.Item.{Item}
+use Rattle.doc_model.specs.declared.document.Document.{Document}
 use Rattle.list_numbers.specs.declared.paragraph_values.ParagraphValues.{ParagraphValues}
 use Rattle.char_formats.specs.declared.format.CharFormat.{CharFormat}
 use Rattle.char_formats.specs.declared.format.Position.{Position}
 use Rattle.char_formats.specs.declared.format.Position.TheVariants.{Normal, Raised as IsRaised, Lowered as IsLowered}
-use Rattle.view_paths.specs.Paths.{Place}
+use Rattle.view_paths.specs.Paths.{PathPlace}
 use Rattle.view_places.specs.declared.element.Element.{Element}
 use Rattle.view_places.specs.declared.element.Element.TheVariants.{Notes, Note, Table, TableHead, TableBody, Row, Cell}
 use Rattle.view_places.specs.declared.element.Element.TheVariants.{Paragraph as AParagraph, Reference as AReference}
@@ -20,10 +20,10 @@ use Rattle.view_places.specs.declared.element.Span.{Span}
 use Rattle.cell_spans.specs.Spans.{single, span_at}
 use Rattle.nested_tables.specs.declared.tables.NestedPlaces.{NestedPlaces}
 use Rattle.nested_tables.specs.declared.walk.NestedPlace.{NestedPlace}
-use Rattle.nested_tables.specs.Tables.{no_tables, places_at}
+use Rattle.nested_tables.specs.Tables.{no_nested_tables, places_at}
 use Rattle.view_places.specs.declared.element.Element.TheVariants.{Bold, Italic, Underline, Strike, SmallCaps, Caps}
 use Rattle.view_places.specs.declared.element.Element.TheVariants.{Raised, Lowered, Link as ALink, Anchor}
-use Rattle.doc_parts.specs.declared.bookmark_order.Bookmark.{Bookmark}
+use Rattle.document_bookmarks.specs.declared.bookmark_order.Bookmark.{Bookmark}
 use Rattle.view_places.specs.declared.element.Link.{Link}
 use Rattle.field_links.specs.declared.places.OpenField.{OpenField}
 use Rattle.field_links.specs.OpenFields.{hyperlink_in, open_fields}
@@ -33,7 +33,7 @@ use Rattle.doc_view.specs.declared.references.Reference.{Reference}
 use Rattle.doc_view.specs.declared.reading.Manner.{Manner}
 use Rattle.doc_view.specs.declared.reading.Seen.{Seen}
 use Rattle.doc_view.specs.declared.view.Options.{Options}
-use Rattle.doc_view.specs.Layout.{is_in_table, keeps_row}
+use Rattle.doc_view.specs.Layout.{is_in_table, row_goes_on}
 use Rattle.doc_view.specs.declared.standing.Standing.{Standing}
 use Rattle.doc_view.specs.Page.{main_manner, note_manner}
 use Rattle.doc_view.specs.Labels.{label_glyphs}
@@ -47,10 +47,10 @@ use Rattle.doc_places.specs.declared.lists.ListItem.{ListItem}
 use Rattle.doc_places.specs.declared.lists.Lists.{Lists}
 use Rattle.doc_places.specs.declared.looks.Look.{Look}
 use Rattle.doc_places.specs.Looks.{look_in, units_of_label}
-use Rattle.doc_places.specs.Lists.{list_elements, lists_of, with_item}
+use Rattle.doc_places.specs.Lists.{list_elements, open_lists_of, with_item}
 
 abbrev pub Places : Type 0
-Places = List (Place Element Glyph)
+Places = List (PathPlace Element Glyph)
 
 -- how far the cell with a number in its text reaches, where it is no part of another one; and where the paragraph with
 -- a number is in tables inside of cells
@@ -62,12 +62,12 @@ abbrev pub cells_by : TableCells → Cells
 cells_by cells = record { spans = span_at cells.spans; nested = places_at cells.nested }
 
 abbrev pub no_cells : TableCells
-no_cells = record { spans = []; nested = no_tables }
+no_cells = record { spans = []; nested = no_nested_tables }
 
 -- ---- what a glyph is in within its paragraph
 
-abbrev pub given : Bool → Element → List Element
-given there element = if there then element ∷ [] else []
+abbrev pub element_if : Bool → Element → List Element
+element_if there element = if there then element ∷ [] else []
 
 abbrev pub position_elements : Position → List Element
 position_elements Normal = []
@@ -76,11 +76,11 @@ position_elements IsLowered = Lowered ∷ []
 
 abbrev pub format_elements : CharFormat → List Element
 format_elements format =
-    given format.bold Bold
-    ++ (given format.italic Italic
-    ++ (given format.underline Underline
-    ++ (given format.strike Strike
-    ++ (given format.small_caps SmallCaps ++ (given format.caps Caps ++ position_elements format.position)))))
+    element_if format.bold Bold
+    ++ (element_if format.italic Italic
+    ++ (element_if format.underline Underline
+    ++ (element_if format.strike Strike
+    ++ (element_if format.small_caps SmallCaps ++ (element_if format.caps Caps ++ position_elements format.position)))))
 
 -- a reference to a note, behind so many others: a number is raised, and a mark of the document's own has its format
 abbrev pub note_elements : ℕ → CharFormat → Option ℕ → List Element
@@ -98,20 +98,21 @@ inline_elements link count format (Some reference) = note_elements count format 
 
 -- ---- the places of items
 
-abbrev pub bare : List Element → Place Element Glyph
-bare path = record { path = path; glyph = None }
+abbrev pub bare_place : List Element → PathPlace Element Glyph
+bare_place path = record { path = path; glyph = None }
 
-abbrev pub shown : List Element → Glyph → Place Element Glyph
-shown path glyph = record { path = path; glyph = Some glyph }
+abbrev pub shown_place : List Element → Glyph → PathPlace Element Glyph
+shown_place path glyph = record { path = path; glyph = Some glyph }
 
 -- what is shown without a glyph is in no format, so that a link goes on behind it
-abbrev pub place_of : List Element → Option Link → ℕ → Seen → Option Glyph → Place Element Glyph
-place_of block link count seen None = bare (block ++ link_elements link)
-place_of block link count seen (Some glyph) = shown (block ++ inline_elements link count seen.format seen.reference)
+abbrev pub glyph_place : List Element → Option Link → ℕ → Seen → Option Glyph → PathPlace Element Glyph
+glyph_place block link count seen None = bare_place (block ++ link_elements link)
+glyph_place block link count seen (Some glyph) = shown_place (block ++ inline_elements link count seen.format
+    seen.reference)
     glyph
 
 abbrev pub item_places : List Element → Option Link → ℕ → Seen → Places
-item_places block link count seen = if seen.is_shown then place_of block link count seen seen.glyph ∷ [] else []
+item_places block link count seen = if seen.is_shown then glyph_place block link count seen seen.glyph ∷ [] else []
 
 -- how many references there are
 abbrev pub count_of : Option Reference → ℕ
@@ -196,7 +197,7 @@ abbrev pub cell_at : Cells → Grid → Standing → Bool → Option InCell
 cell_at cells grid standing in_head =
     if not (is_in_table standing) then None else Some (record {
       in_head = in_head;
-      span = own_span cells grid.ended (keeps_row standing);
+      span = own_span cells grid.ended (row_goes_on standing);
       nested = cells.nested grid.number;
     })
 
@@ -225,41 +226,41 @@ abbrev pub is_row_end : Option NestedPlace → Bool
 is_row_end None = false
 is_row_end (Some place) = not (is_some place.cell)
 
-abbrev pub is_row_mark : NestedPlaces → Bool
-is_row_mark nested = is_row_end nested.second || is_row_end nested.third
+abbrev pub is_nested_row_end : NestedPlaces → Bool
+is_nested_row_end nested = is_row_end nested.second || is_row_end nested.third
 
-abbrev pub is_bare : Option InCell → Bool
-is_bare None = false
-is_bare (Some cell) = not (is_some cell.span) || is_row_mark cell.nested
+abbrev pub is_bare_in_cell : Option InCell → Bool
+is_bare_in_cell None = false
+is_bare_in_cell (Some cell) = not (is_some cell.span) || is_nested_row_end cell.nested
 
 abbrev pub own_elements : Bool → ℕ → Look → List Element
-own_elements bare number look = if bare then [] else AParagraph (paragraph_form number look) ∷ []
+own_elements bare_place number look = if bare_place then [] else AParagraph (paragraph_form number look) ∷ []
 
 -- what a paragraph is in, in a cell or not, and the paragraph
 abbrev pub block_of : Grid → Option InCell → Look → Lists → List Element
 block_of grid cell look lists =
-    around_of grid cell look.item lists ++ own_elements (is_bare cell) grid.number look
+    around_of grid cell look.item lists ++ own_elements (is_bare_in_cell cell) grid.number look
 
 -- the first of some paragraphs behind others: the first rows of a table that are heads are its head
 abbrev pub in_head : List Paragraph → List Paragraph → Bool
 in_head before here = (grid_of before).heads && is_head_row here
 
-abbrev pub block_at : Cells → List Paragraph → Paragraph → List Paragraph → List Element
-block_at cells before paragraph more =
+abbrev pub paragraph_block : Cells → List Paragraph → Paragraph → List Paragraph → List Element
+paragraph_block cells before paragraph more =
     block_of (grid_of before) (cell_at cells (grid_of before) paragraph.standing (in_head before (paragraph ∷ more)))
-    (look_in paragraph) (lists_of before)
+    (look_in paragraph) (open_lists_of before)
 
 -- a label, where it has units
 abbrev pub label_places : List Element → List ℕ → Places
 label_places block [] = []
-label_places block (unit ∷ units) = map (shown (block ++ Label ∷ [])) (label_glyphs (unit ∷ units))
+label_places block (unit ∷ units) = map (shown_place (block ++ Label ∷ [])) (label_glyphs (unit ∷ units))
 
 -- ---- the anchors of a text
 
 -- so many numbers from one on
-abbrev pub numbers : ℕ → ℕ → List ℕ
-numbers first zero = []
-numbers first (suc more) = first ∷ numbers (first + 1) more
+abbrev pub consecutive : ℕ → ℕ → List ℕ
+consecutive first zero = []
+consecutive first (suc more) = first ∷ consecutive (first + 1) more
 
 -- how many bookmarks at the front of a list, which are in the order of their places, begin before a place
 abbrev pub lead : List Bookmark → ℕ → ℕ
@@ -268,11 +269,11 @@ lead (bookmark ∷ bookmarks) place = if nat_lt bookmark.from place then suc (le
 
 -- the bookmarks that begin at the first place or behind it, and before the second, by their numbers
 abbrev pub anchors_of : List Bookmark → ℕ → ℕ → List ℕ
-anchors_of bookmarks begin end = numbers (lead bookmarks begin) (lead bookmarks end - lead bookmarks begin)
+anchors_of bookmarks begin end = consecutive (lead bookmarks begin) (lead bookmarks end - lead bookmarks begin)
 
 -- their places are in front of what is shown of the paragraph
 abbrev pub anchor_places : List Element → List ℕ → Places
-anchor_places block numbers = map (λ number. bare (block ++ Anchor number ∷ [])) numbers
+anchor_places block consecutive = map (λ number. bare_place (block ++ Anchor number ∷ [])) consecutive
 
 -- the links, the anchors and the cells of a text
 pub record Hypertext : Type 0 where
@@ -296,16 +297,16 @@ is_mark_alone bookmarks values number place count =
     count == 1
     && (not (has_label (slice_get values number)) && lead bookmarks place == lead bookmarks (place + count))
 
-abbrev pub cells_of : List Bookmark → List ParagraphValues → List Item → TableCells
-cells_of bookmarks values text = record {
+abbrev pub table_cells_of : List Bookmark → List ParagraphValues → List Item → TableCells
+table_cells_of bookmarks values text = record {
   spans = cells_in (is_mark_alone bookmarks values) text;
   nested = nested_in (is_mark_alone bookmarks values) text;
 }
 
 -- how many items paragraphs have
-abbrev pub item_count : List Paragraph → ℕ
-item_count [] = 0
-item_count (paragraph ∷ paragraphs) = item_count paragraphs + length paragraph.items
+abbrev pub paragraphs_len : List Paragraph → ℕ
+paragraphs_len [] = 0
+paragraphs_len (paragraph ∷ paragraphs) = paragraphs_len paragraphs + length paragraph.items
 
 -- the places of a paragraph in a block, from a place on: its anchors, its label where it is here, and its items
 abbrev pub paragraph_places : Hypertext → List Element → ℕ → ℕ → Paragraph → Places
@@ -318,7 +319,8 @@ paragraph_places hypertext block count begin paragraph =
 unfoldable pub paragraphs_places : Hypertext → List Element → List Paragraph → ℕ → List Paragraph → Places
 paragraphs_places hypertext outer before count [] = []
 paragraphs_places hypertext outer before count (paragraph ∷ more) =
-    paragraph_places hypertext (outer ++ block_at hypertext.cells before paragraph more) count (item_count before) paragraph
+    paragraph_places hypertext (outer ++ paragraph_block hypertext.cells before paragraph more) count (paragraphs_len
+    before) paragraph
     ++ paragraphs_places hypertext outer (paragraph ∷ before) (count + length (references_in paragraph.items)) more
 
 abbrev pub text_places : Hypertext → List Element → List Paragraph → Places
@@ -336,7 +338,7 @@ note_path number = Notes ∷ Note number ∷ []
 
 abbrev pub note_places : Formats → Manner → ℕ → Reference → List Item → Places
 note_places formats manner number reference note =
-    if reference.is_shown then shown (note_path number ++ BackLink number ∷ []) (label_of reference.number) ∷
+    if reference.is_shown then shown_place (note_path number ++ BackLink number ∷ []) (label_of reference.number) ∷
     text_places (hypertext_of [] number note no_cells) (note_path number) (paragraphs_of formats manner note) else []
 
 -- the notes of references, the first of which has this number
@@ -348,9 +350,9 @@ notes_places formats manner number (reference ∷ references) (note ∷ notes) =
 
 -- ---- the places of a document: its main text, and then the notes that it refers to
 
-abbrev pub places_of : Formats → List ParagraphValues → Options → Document → Places
-places_of formats values options document =
+abbrev pub document_places : Formats → List ParagraphValues → Options → Document → Places
+document_places formats values options document =
     let paragraphs = with_values values (paragraphs_of formats (main_manner options document) document.main) in
-    let cells = cells_of document.bookmarks values document.main in
+    let cells = table_cells_of document.bookmarks values document.main in
     text_places (hypertext_of document.bookmarks 0 document.main cells) [] paragraphs
     ++ notes_places formats (note_manner options document) 1 (references_of paragraphs) document.notes

@@ -1,10 +1,10 @@
 // Where a paragraph is.
 ghost use Rattle.std.specs.Prelude.{◌≡◌, ◌+◌, ◌^◌, ◌<◌, ◌≤◌, ◌++◌, ◌&&◌, [], ◌∷◌, length, true, if◌then◌else◌};
 ghost use Rattle.doc_places.specs.Grid.{grid_after};
-ghost use Rattle.doc_places.specs.Places.{around_of, block_of, cell_at, cell_of, cells_by, is_bare, is_row_end};
-ghost use Rattle.doc_places.specs.Places.{is_row_mark, item_elements, nested_cell, nested_elements, outer_cell};
+ghost use Rattle.doc_places.specs.Places.{around_of, block_of, cell_at, cell_of, cells_by, is_bare_in_cell, is_row_end};
+ghost use Rattle.doc_places.specs.Places.{is_nested_row_end, item_elements, nested_cell, nested_elements, outer_cell};
 ghost use Rattle.doc_places.specs.Places.{own_elements};
-ghost use Rattle.doc_view.specs.Layout.{ends_cell};
+ghost use Rattle.doc_view.specs.Layout.{closes_cell};
 ghost use Rattle.view_places.specs.declared.element.Element.TheVariants.{Table, TableBody, TableHead, Row, Cell};
 ghost use Rattle.view_places.specs.declared.element.Element.TheVariants.{HeadCell};
 ghost use Rattle.view_places.specs.declared.element.Element.TheVariants.{NestedTable, NestedRow};
@@ -93,7 +93,7 @@ impl Grid {
 
 /// How many cells end.
 fn count_ended(standing: Standing) -> usize
-    ensures is { result ≡ (if ends_cell standing then 1 else 0) }
+    ensures is { result ≡ (if closes_cell standing then 1 else 0) }
     ensures few { result ≤ 1 }
 {
     if standing.ends_cell() { 1 } else { 0 }
@@ -155,7 +155,7 @@ fn push_around(
 
 /// Whether a paragraph is in a cell that is a part of another one, or is the mark of a row inside of a cell.
 fn is_bare(cell: Option<InCell>) -> bool
-    ensures { result ≡ is_bare cell }
+    ensures { result ≡ is_bare_in_cell cell }
 {
     match cell {
         None => false,
@@ -165,7 +165,7 @@ fn is_bare(cell: Option<InCell>) -> bool
 
 /// Whether a paragraph is the mark of a row of a table inside of a cell.
 fn is_row_mark(nested: NestedPlaces) -> bool
-    ensures { result ≡ is_row_mark nested }
+    ensures { result ≡ is_nested_row_end nested }
 {
     is_row_end(nested.second) || is_row_end(nested.third)
 }
@@ -183,7 +183,7 @@ fn is_row_end(place: Option<NestedPlace>) -> bool
 /// Puts a paragraph with this number, where it is seen.
 fn push_own(path: &mut Path<Element>, is_bare: bool, number: usize, look: &Look)
     requires { length path.old < MAX_DEPTH }
-    ensures { path.new ≡ path.old ++ own_elements is_bare number look.now }
+    ensures { path.new ≡ path.old ++ own_elements is_bare_in_cell number look.now }
 {
     if is_bare {
         return;

@@ -1,6 +1,6 @@
 // What a glyph is in within its paragraph.
 ghost use Rattle.std.specs.Prelude.{◌≡◌, ◌+◌, ◌^◌, ◌<◌, ◌≤◌, ◌++◌, [], ◌∷◌, length};
-ghost use Rattle.doc_places.specs.Places.{format_elements, given, inline_elements, link_elements};
+ghost use Rattle.doc_places.specs.Places.{format_elements, element_if, inline_elements, link_elements};
 ghost use Rattle.doc_places.specs.Places.{note_elements, position_elements};
 ghost use Rattle.view_places.specs.declared.element.Element.TheVariants.{Raised, Reference as AReference};
 
@@ -98,7 +98,7 @@ fn push_format(path: &mut Path<Element>, format: &CharFormat)
 /// Puts an element where it is to be there.
 fn push_given(path: &mut Path<Element>, there: bool, element: Element)
     requires { length path.old < MAX_DEPTH }
-    ensures is { path.new ≡ path.old ++ given there element }
+    ensures is { path.new ≡ path.old ++ element_if there element }
     ensures few { length path.new ≤ length path.old + 1 }
 {
     if there {

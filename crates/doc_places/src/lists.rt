@@ -1,6 +1,7 @@
 // The lists that are open at a paragraph.
 ghost use Rattle.std.specs.Prelude.{◌≡◌, ◌+◌, ◌≤◌, ◌++◌, length};
-ghost use Rattle.doc_places.specs.Lists.{frame_at, frame_elements, item_of, list_elements, lists_after, no_lists};
+ghost use Rattle.doc_places.specs.Lists.{frame_at, frame_elements, item_frame, list_elements, lists_after};
+ghost use Rattle.doc_places.specs.Lists.{no_open_lists};
 ghost use Rattle.doc_places.specs.Lists.{level_frame, with_item};
 ghost use Rattle.view_places.specs.Same.{equal};
 
@@ -34,7 +35,7 @@ pub struct Lists {
 impl Lists {
     /// None.
     pub fn none() -> Lists
-        ensures { result ≡ no_lists }
+        ensures { result ≡ no_open_lists }
     {
         Lists {
             frames: [None; LEVELS],
@@ -114,7 +115,7 @@ fn is_same(one: bool, other: bool) -> bool
 
 /// The list of an item behind the one that is open at its level.
 fn item_of(frame: Option<Frame>, is_ordered: bool, number: usize) -> Frame
-    ensures { result ≡ item_of frame is_ordered number }
+    ensures { result ≡ item_frame frame is_ordered number }
 {
     let first = match frame {
         None => number,

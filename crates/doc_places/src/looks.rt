@@ -1,7 +1,8 @@
 // How a paragraph looks apart from its text.
 ghost use Rattle.std.specs.Prelude.{◌≡◌, ◌&&◌, [], Some, option_map, if◌then◌else◌};
-ghost use Rattle.doc_places.specs.Looks.{heading_level, item_of_label, label_units, labelled_item, level_of, look_of};
-ghost use Rattle.doc_places.specs.Looks.{shown_units};
+ghost use Rattle.doc_places.specs.Looks.{heading_level, item_of_label, label_units, labelled_item, level_of_outline};
+ghost use Rattle.doc_places.specs.Looks.{look_of};
+ghost use Rattle.doc_places.specs.Looks.{shown_label_units};
 
 use crate::lists::ListItem;
 use list_numbers::{ListLabel, ParagraphValues};
@@ -62,7 +63,7 @@ fn heading_level(outline: Option<u8>, in_table: bool, is_text: bool) -> u8
 
 /// The level of a heading at a level of the outline.
 fn level_of(outline: Option<u8>) -> u8
-    ensures { result ≡ level_of outline }
+    ensures { result ≡ level_of_outline outline }
 {
     match outline {
         None => 0,
@@ -106,7 +107,7 @@ pub fn label_units<'a>(item: Option<ListItem>, values: Option<&'a ParagraphValue
 
 /// Those of a label: a bullet is shown where the paragraph is no item.
 fn shown_units(item: Option<ListItem>, label: &Option<ListLabel>) -> &[u16]
-    ensures { result.now ≡ shown_units item label.now }
+    ensures { result.now ≡ shown_label_units item label.now }
 {
     match label {
         None => &[],

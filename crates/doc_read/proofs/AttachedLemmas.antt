@@ -11,13 +11,13 @@ use Rattle.prop_map.specs.Settings.{Properties}
 use Rattle.prop_map.specs.declared.modifiers.Modifier.{Modifier}
 use Rattle.prop_map.specs.Formed.{IsPropertyMap, paragraph_groups, section_groups}
 use Rattle.text_codes.specs.Paragraph.{is_paragraph_end}
-use Rattle.plain_doc.proofs.Public.{ForSome-from_cases}
+use Rattle.doc_model.proofs.Public.{ForSome-from_cases}
 use Rattle.doc_columns.specs.declared.attached.Attached.{Attached}
 use Rattle.doc_columns.specs.Attached.{nothing}
 use Rattle.doc_read.specs.declared.reading.PlcCursors.{PlcCursors}
-use Rattle.doc_read.specs.Items.{IsMarkAt}
-use Rattle.doc_read.specs.Passing.{AddsEach, IsPassed, IsNotAmong}
-use Rattle.doc_read.specs.Reading.{ArePassed, HaveValidMarks, TextView, ends_at}
+use Rattle.doc_read.specs.Items.{IsDirectMarkAt}
+use Rattle.doc_read.specs.Passing.{AddsEach, AreCpsPassed, IsNotAmong}
+use Rattle.doc_read.specs.Reading.{ArePassed, HaveValidMarks, TextView, ends_paragraph_at}
 use Rattle.doc_read.proofs.EntryLemmas.{entry_none}
 use Rattle.doc_read.specs.Attached.{IsAttachedAt}
 
@@ -45,7 +45,7 @@ adds_times {A = A} P count old new x is right =
     }
 
 -- nothing is at a CP that is passed with the same number as the next one
-none_at : (cps : List ℕ) (next cp : ℕ) → IsPassed cps next cp → IsPassed cps next (cp + 1) → IsNotAmong cps cp
+none_at : (cps : List ℕ) (next cp : ℕ) → AreCpsPassed cps next cp → AreCpsPassed cps next (cp + 1) → IsNotAmong cps cp
 none_at cps next cp here later k below = elim (cases_lt k next) [
   | inl low ↦ λ e. omega (arith, here.before k low, e)
   | inr high ↦ λ e. omega (arith, later.after k high below, e)
@@ -60,7 +60,7 @@ bare_attached view modifier passed cp goes_on here later = record {
       sym (entry_none view.marks.section_cps view.maps cp
       (none_at view.marks.section_cps passed.section cp here.sections later.sections));
   mark_is =
-      subst (λ b. IsMarkAt b view.wd view.paragraphs (slice_index view.places cp) modifier None) (sym goes_on) tt;
+      subst (λ b. IsDirectMarkAt b view.wd view.paragraphs (slice_index view.places cp) modifier None) (sym goes_on) tt;
   fld_is =
       sym (entry_none view.marks.field_cps view.marks.field_bytes cp
       (none_at view.marks.field_cps passed.field cp here.fields later.fields));
@@ -76,7 +76,7 @@ bare_attached view modifier passed cp goes_on here later = record {
 -- the unit of such a CP ends no paragraph
 bare_goes_on : (view : TextView) (passed : PlcCursors) (cp : ℕ) →
     is_paragraph_end (slice_index view.units cp) false ≡ false → ArePassed view.marks passed cp
-    → ArePassed view.marks passed (cp + 1) → ends_at view cp ≡ false
+    → ArePassed view.marks passed (cp + 1) → ends_paragraph_at view cp ≡ false
 bare_goes_on view passed cp goes_on here later =
     let none = entry_none view.marks.section_cps view.maps cp
     (none_at view.marks.section_cps passed.section cp here.sections later.sections) in

@@ -4,11 +4,12 @@ use Rattle.std.specs.Prelude.{All, Bool, false, nat_lt, ◌≡◌, if◌then◌e
 use Rattle.std.proofs.lemmas.Bool.{cases_lt, le-ltb}
 use Rattle.std.proofs.lemmas.List.Elements.{All-nil}
 use Rattle.doc_bits.specs.Number.{AreBytes}
-use Rattle.doc_parts.specs.declared.bookmark_order.Bookmark.{Bookmark}
-use Rattle.doc_parts.specs.Order.{in_order}
-use Rattle.doc_parts.specs.Bookmarks.{bookmark_cmp, HasFileNumbers}
+use Rattle.document_bookmarks.specs.declared.bookmark_order.Bookmark.{Bookmark}
+use Rattle.document_bookmarks.specs.Order.{in_order}
+use Rattle.document_bookmarks.specs.Bookmarks.{bookmark_cmp, HasFileNumbers}
 use Rattle.doc_parts.specs.BookmarkParts.{BookmarkParts, kept_bookmarks, bookmarks_of}
-use Rattle.doc_parts.proofs.Public.{all_in_order, kept_numbers, read_some}
+use Rattle.doc_parts.proofs.Public.{kept_numbers, read_some}
+use Rattle.document_bookmarks.proofs.Public.{all_in_order}
 
 -- the bookmarks that bytes spell have the numbers of a file
 pub bookmarks-numbers : (parts : BookmarkParts) (main_len : ℕ) → AreBytes parts.names → AreBytes parts.starts →

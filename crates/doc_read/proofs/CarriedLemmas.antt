@@ -4,7 +4,7 @@ use Rattle.std.proofs.Common.{Some, length, map, filter, slice_get, refl, sym, a
 use Rattle.std.proofs.lemmas.Bool.{cases_Bool}
 use Rattle.std.proofs.lemmas.Option.{none-some, same_Some}
 use Rattle.cfb_streams.specs.Contents.{Stream, NamedBytes}
-use Rattle.cfb_directory.specs.Directory.{ComesBefore}
+use Rattle.cfb_directory.specs.Directory.{IsNameBefore}
 use Rattle.doc_read.specs.CarriedParts.{is_carried, carried_streams}
 
 -- where a carried stream is in the file
@@ -71,11 +71,11 @@ carried-from (stream ∷ streams) i named here = elim (cases_Bool (is_carried st
 -- names that ascend
 abbrev pub Ascend : List Stream → Type 0
 Ascend streams = (i j : ℕ) (stream later : Stream) → i < j → slice_get streams i ≡ Some stream → slice_get streams j ≡
-    Some later → ComesBefore stream.name later.name
+    Some later → IsNameBefore stream.name later.name
 
 abbrev pub AscendNamed : List NamedBytes → Type 0
 AscendNamed streams = (i j : ℕ) (named later : NamedBytes) → i < j → slice_get streams i ≡ Some named →
-    slice_get streams j ≡ Some later → ComesBefore named.name later.name
+    slice_get streams j ≡ Some later → IsNameBefore named.name later.name
 
 order-cons : (stream : Stream) (streams : List Stream) → Ascend (stream ∷ streams) →
     AscendNamed (carried_streams streams) → AscendNamed (without_chain stream ∷ carried_streams streams)
@@ -83,8 +83,8 @@ order-cons stream streams order tail zero zero named later less here there = abs
 order-cons stream streams order tail zero (suc j) named later less here there =
     let from = carried-from streams j later there in
     let first : stream.name ≡ named.name = ap (λ (n : NamedBytes). n.name) (same_Some _ _ here) in
-    subst (λ name. ComesBefore name later.name) first
-    (subst (λ name. ComesBefore stream.name name) (sym from.name) (order zero (suc from.index) stream from.stream
+    subst (λ name. IsNameBefore name later.name) first
+    (subst (λ name. IsNameBefore stream.name name) (sym from.name) (order zero (suc from.index) stream from.stream
     (omega arith) refl from.here))
 order-cons stream streams order tail (suc i) zero named later less here there = absurd (omega arith)
 order-cons stream streams order tail (suc i) (suc j) named later less here there =

@@ -12,7 +12,7 @@ use Rattle.fib_form.specs.declared.stories.StoryKind.TheVariants.{Main, Notes}
 use Rattle.file_rules.specs.Source.{DocSource, story_length}
 use Rattle.file_rules.specs.PartRules.{PartLists}
 use Rattle.doc_read.specs.Sections.{section_lasts}
-use Rattle.doc_read.specs.Marked.{story_bytes, field_bytes}
+use Rattle.doc_read.specs.Marked.{story_bytes, field_mark_bytes}
 use Rattle.doc_bits.proofs.Public.{map-map}
 use Rattle.doc_read.proofs.MarkListLemmas.{three_parts}
 
@@ -98,7 +98,7 @@ pub collected : (f : ℕ × ℕ → ℕ) (source : DocSource) (lists : PartLists
     notes ≡ lists.note_fields → heads ≡ lists.head_fields
     → c0 ≡ [] → c1 ≡ c0 ++ map (λ fld. f (0 + fld.cp, fld.byte)) main →
     c2 ≡ c1 ++ map (λ fld. f (one + fld.cp, fld.byte)) notes →
-    c3 ≡ c2 ++ map (λ fld. f (one + two + fld.cp, fld.byte)) heads → c3 ≡ map f (field_bytes source lists)
+    c3 ≡ c2 ++ map (λ fld. f (one + two + fld.cp, fld.byte)) heads → c3 ≡ map f (field_mark_bytes source lists)
 collected f source lists one two main notes heads c0 c1 c2 c3 one_is two_is main_is notes_is heads_is e0 e1 e2 e3 =
     let first = story_length source Main in
     let next = story_length source Notes in

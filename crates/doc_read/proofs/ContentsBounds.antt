@@ -5,11 +5,11 @@ use Rattle.std.proofs.lemmas.Bool.{cases_lt}
 use Rattle.std.proofs.lemmas.List.{length-take}
 use Rattle.std.proofs.lemmas.Option.{slice_get_within}
 use Rattle.doc_bits.specs.Rules.{Nowhere, Hold}
-use Rattle.cfb_sectors.specs.Opening.{IsWhole}
+use Rattle.cfb_sectors.specs.Opening.{HasRightLength}
 use Rattle.cfb_sectors.specs.Header.{valid_below}
 use Rattle.cfb_sectors.specs.Chain.{fat_table}
 use Rattle.cfb_directory.specs.Directory.{entry_name_length}
-use Rattle.cfb_directory.specs.Reach.{entry_place, IsEntry, BreaksName}
+use Rattle.cfb_directory.specs.Reach.{entry_place, IsLinkedEntry, BreaksName}
 use Rattle.cfb_streams.specs.StreamRules.{Parts}
 use Rattle.cfb_directory.specs.StreamEntries.{stream_head}
 use Rattle.cfb_directory.specs.Order.{ListsStreams}
@@ -26,7 +26,7 @@ use Rattle.doc_read.specs.CarriedParts.{AreWithinBounds}
 entries-few : (file directory entries : List ℕ) → length directory ≤ 256 → ListsStreams file directory entries →
     length entries ≤ 1023
 entries-few file directory entries short lists =
-    let there : (i : ℕ) → i < length entries → IsEntry directory (slice_index entries i) =
+    let there : (i : ℕ) → i < length entries → IsLinkedEntry directory (slice_index entries i) =
     λ i below. reached_there file directory (lists.sound i below).reached in
     let more = length_pushed entries 0 in
     let most = length_below (entries ++ 0 ∷ []) 1024
@@ -47,7 +47,7 @@ entries-few file directory entries short lists =
     omega arith
 
 -- a stream is no longer than the file
-stream-short : (file : List ℕ) (parts : Parts) (entry : ℕ) (stream : Stream) → IsWhole file →
+stream-short : (file : List ℕ) (parts : Parts) (entry : ℕ) (stream : Stream) → HasRightLength file →
     IsStreamOf file parts entry stream → length stream.bytes ≤ 7143936
 stream-short file parts entry stream whole is =
     elim is.holds [
@@ -79,7 +79,7 @@ stream-name file parts entry stream names is =
     (omega arith, omega arith)
 
 -- the streams of a whole file whose names break no rule
-pub bounded : (file : List ℕ) (contents : Contents) → IsWhole file → (has : HasContents file contents) →
+pub bounded : (file : List ℕ) (contents : Contents) → HasRightLength file → (has : HasContents file contents) →
     Nowhere (BreaksName file has.parts.directory) → AreWithinBounds contents
 bounded file contents whole has names =
     let directory = has.parts.directory in

@@ -11,17 +11,17 @@ use Rattle.std.proofs.lemmas.Option.{same_Some}
 use Rattle.doc_bits.specs.Number.{number_at}
 use Rattle.doc_bits.proofs.Public.{number_at-bound, found_has, All-from_slice_get, AreBytes-range}
 use Rattle.doc_bits.specs.Number.{AreBytes}
-use Rattle.text_codes.specs.Compressed.{compressed_text, unit_by, unit_of}
+use Rattle.text_codes.specs.Compressed.{compressed_text, unit_by, compressed_unit}
 use Rattle.piece_table.specs.Piece.{UnitPlace}
 use Rattle.doc_parts.specs.declared.lists.Fld.{Fld}
 use Rattle.doc_parts.specs.Table.{plc_part}
-use Rattle.doc_parts.specs.Fields.{AreFields}
+use Rattle.doc_parts.specs.Fields.{AreFieldCharacters}
 use Rattle.fib_form.specs.declared.stories.StoryKind.TheVariants.{Main, Notes, Heads}
 use Rattle.file_rules.specs.Units.{unit_at}
 use Rattle.file_rules.specs.Source.{DocSource, story_begin}
 use Rattle.file_rules.specs.PartRules.{PartLists}
-use Rattle.plain_doc.specs.Entries.{entry_at}
-use Rattle.doc_read.specs.Marked.{story_bytes, field_bytes}
+use Rattle.doc_model.specs.Entries.{entry_at_cp}
+use Rattle.doc_read.specs.Marked.{story_bytes, field_mark_bytes}
 use Rattle.doc_read.proofs.ExistTables.{fld_byte}
 
 -- ---- what holds of all entries holds of that of a CP
@@ -32,7 +32,7 @@ mapped_has Q f None x has e = absurd (cc (e))
 mapped_has Q f (Some a) x has e = subst Q (same_Some (f a) x e) (has a refl)
 
 pub entry_has : {A : Type 0} (Q : A → Type 0) (entries : List (ℕ × A)) (cp : ℕ) (x : A) →
-    All (λ (e : ℕ × A). Q e.1) entries → entry_at entries cp ≡ Some x → Q x
+    All (λ (e : ℕ × A). Q e.1) entries → entry_at_cp entries cp ≡ Some x → Q x
 entry_has {A = A} Q entries cp x all e =
     mapped_has Q (λ (e : ℕ × A). e.1) (find (λ e. e.0 == cp) entries) x (λ a is. found_has (λ (e : ℕ × A). Q e.1)
     (λ e. e.0 == cp) entries a all is) e
@@ -48,7 +48,7 @@ zipped_has {A = A} Q (c ∷ cps) (v ∷ values) all =
 -- ---- field bytes
 
 pub fields_are_bytes : (bytes : List ℕ) (story_len : ℕ) (list : List Fld) → AreBytes bytes →
-    AreFields bytes story_len list → All (λ (fld : Fld). fld.byte < 256) list
+    AreFieldCharacters bytes story_len list → All (λ (fld : Fld). fld.byte < 256) list
 fields_are_bytes bytes story_len list are fields =
     All-from_slice_get (λ (fld : Fld). fld.byte < 256) list (λ k fld here.
     let table = plc_part 2 bytes in
@@ -67,7 +67,7 @@ pub record AreByteFields (lists : PartLists) : Type 0 where
   pub heads : All (λ (fld : Fld). fld.byte < 256) lists.head_fields
 
 pub all_bytes : (source : DocSource) (lists : PartLists) → AreByteFields lists →
-    All (λ (e : ℕ × ℕ). e.1 < 256) (field_bytes source lists)
+    All (λ (e : ℕ × ℕ). e.1 < 256) (field_mark_bytes source lists)
 all_bytes source lists are =
     let P : ℕ × ℕ → Type 0 = λ e. e.1 < 256 in
     All-append P (story_bytes (story_begin source Main) lists.main_fields) (story_bytes (story_begin source Notes)
@@ -100,6 +100,6 @@ all_small rows tested k d below =
 pub place_unit_small : (wd : List ℕ) (place : UnitPlace) → AreBytes wd → unit_at wd place < 65536
 place_unit_small wd place are = pick place.wide
   where
-    pick : (b : Bool) → cond b (number_at wd place.at 2) (unit_of (slice_index wd place.at)) < 65536
+    pick : (b : Bool) → cond b (number_at wd place.at 2) (compressed_unit (slice_index wd place.at)) < 65536
     pick true = number_at-bound wd place.at 2 are
     pick false = unit_small compressed_text (slice_index wd place.at) (all_small compressed_text refl) (are place.at)

@@ -14,14 +14,14 @@ use Rattle.cfb_sectors.proofs.Public.{whole_length}
 use Rattle.fib_form.specs.Fib.{fib_flags}
 use Rattle.fib_form.specs.FibFields.{fib_fields}
 use Rattle.fib_form.proofs.Public.{kept_flags-kept}
-use Rattle.plain_doc.specs.declared.carried.Carried.{Carried}
-use Rattle.plain_doc.specs.Carried.{ArePartsShort, AreListsWithLevels}
-use Rattle.plain_doc.specs.Formed.{IsFormedCarried}
+use Rattle.doc_model.specs.declared.carried.Carried.{Carried}
+use Rattle.doc_model.specs.Carried.{ArePartsShort, AreListsWithLevels}
+use Rattle.doc_model.specs.Formed.{IsFormedCarried}
 use Rattle.fib_form.specs.declared.table_parts.TablePart.{TablePart}
 use Rattle.fib_form.specs.declared.table_parts.TablePart.TheVariants.{SttbfFfn, Dop, SttbfAssoc, PlfLst, PlfLfo}
-use Rattle.file_rules.specs.Source.{DocSource, part_bytes, part_place}
+use Rattle.file_rules.specs.Source.{DocSource, table_part_bytes, part_place}
 use Rattle.file_rules.specs.ListRules.{HasLevels}
-use Rattle.file_rules.specs.FileRules.{FileText, HasText, source_of}
+use Rattle.file_rules.specs.FileRules.{FileText, HasFileText, doc_source_of}
 use Rattle.doc_read.specs.CarriedParts.{carried_streams, AreWithinBounds, HoldsCarried}
 use Rattle.doc_read.proofs.ExistParts.{part_bytes_are}
 use Rattle.doc_read.proofs.PartLemmas.{short-cons}
@@ -48,24 +48,25 @@ pub record HasFormedCarried (contents : Contents) (source : DocSource) (levels :
   pub formed : IsFormedCarried carried
 
 part_small : (source : DocSource) (part : TablePart) → length source.table ≤ 7143936 →
-    length (part_bytes source part) < 2 ^ 32
+    length (table_part_bytes source part) < 2 ^ 32
 part_small source part short = simp (length-take, length-drop) (omega arith)
 
 -- the CLSID and the parts of a file of bytes are bytes
 pub carried_bytes : (file : List ℕ) (contents : Contents) (source : DocSource) (levels : List ℕ) → AreBytes file →
     HasContents file contents → AreBytes source.table → HasLevels source levels
-    → All AreBytes (contents.clsid ∷ part_bytes source SttbfFfn ∷ part_bytes source Dop ∷ part_bytes source SttbfAssoc
-    ∷ part_bytes source PlfLst ∷ levels ∷ part_bytes source PlfLfo ∷ [])
+    → All AreBytes (contents.clsid ∷ table_part_bytes source SttbfFfn ∷ table_part_bytes source Dop ∷ table_part_bytes
+    source SttbfAssoc
+    ∷ table_part_bytes source PlfLst ∷ levels ∷ table_part_bytes source PlfLfo ∷ [])
 carried_bytes file contents source levels bytes has table has_levels =
     let at = entry_place has.parts.directory 0 in
     let clsid : AreBytes contents.clsid =
     subst AreBytes (sym has.clsid) (AreBytes-range file (at + 80) (at + 96) bytes) in
-    let from = part_place source PlfLst + length (part_bytes source PlfLst) in
+    let from = part_place source PlfLst + length (table_part_bytes source PlfLst) in
     let of_levels : AreBytes levels =
     subst AreBytes (sym has_levels.bytes_are) (AreBytes-range source.table from (from + has_levels.len) table) in
     let none : List (List ℕ) = [] in
-    let one : TablePart → List ℕ = part_bytes source in
-    let is : (part : TablePart) → AreBytes (part_bytes source part) = λ part. part_bytes_are source part table in
+    let one : TablePart → List ℕ = table_part_bytes source in
+    let is : (part : TablePart) → AreBytes (table_part_bytes source part) = λ part. part_bytes_are source part table in
     let from_lfo : List (List ℕ) = one PlfLfo ∷ none in
     let from_levels : List (List ℕ) = levels ∷ from_lfo in
     let from_lst : List (List ℕ) = one PlfLst ∷ from_levels in
@@ -81,28 +82,33 @@ carried_bytes file contents source levels bytes has table has_levels =
     (All-cons AreBytes (one PlfLfo) none (is PlfLfo) (All-nil AreBytes)))))))
 
 pub carried_there : (contents : Contents) (text : FileText) (levels : List ℕ) → AreWithinBounds contents →
-    HasText contents text → AreBytes text.wd → length contents.clsid ≡ 16
-    → All AreBytes (contents.clsid ∷ part_bytes (source_of text) SttbfFfn ∷ part_bytes (source_of text) Dop ∷
-    part_bytes (source_of text) SttbfAssoc ∷ part_bytes (source_of text) PlfLst ∷ levels ∷ part_bytes
-    (source_of text) PlfLfo ∷ [])
-    → ArePartsShort (part_bytes (source_of text) SttbfFfn ∷ part_bytes (source_of text) Dop ∷ part_bytes
-    (source_of text) SttbfAssoc ∷ part_bytes (source_of text) PlfLst ∷ levels ∷ part_bytes (source_of text) PlfLfo
+    HasFileText contents text → AreBytes text.wd → length contents.clsid ≡ 16
+    → All AreBytes (contents.clsid ∷ table_part_bytes (doc_source_of text) SttbfFfn ∷ table_part_bytes (doc_source_of
+    text) Dop ∷
+    table_part_bytes (doc_source_of text) SttbfAssoc ∷ table_part_bytes (doc_source_of text) PlfLst ∷ levels ∷
+    table_part_bytes
+    (doc_source_of text) PlfLfo ∷ [])
+    → ArePartsShort (table_part_bytes (doc_source_of text) SttbfFfn ∷ table_part_bytes (doc_source_of text) Dop ∷
+    table_part_bytes
+    (doc_source_of text) SttbfAssoc ∷ table_part_bytes (doc_source_of text) PlfLst ∷ levels ∷ table_part_bytes
+    (doc_source_of text) PlfLfo
     ∷ []) →
-    AreListsWithLevels (part_bytes (source_of text) PlfLst) levels → AreStored (carried_streams contents.streams) →
-    HasFormedCarried contents (source_of text) levels
+    AreListsWithLevels (table_part_bytes (doc_source_of text) PlfLst) levels → AreStored (carried_streams
+    contents.streams) →
+    HasFormedCarried contents (doc_source_of text) levels
 carried_there contents text levels bounds has bytes long are short lists stored =
-    let source = source_of text in
+    let source = doc_source_of text in
     let kept = (fib_fields text.wd).kept in
     let fit = carried-fit contents text.table bounds (leaves_room contents text bounds has) in
     let flags = kept_flags-kept (fib_flags text.wd) in
     record {
       carried = record {
-        fonts = part_bytes source SttbfFfn;
-        dop = part_bytes source Dop;
-        assoc = part_bytes source SttbfAssoc;
-        lst = part_bytes source PlfLst;
+        fonts = table_part_bytes source SttbfFfn;
+        dop = table_part_bytes source Dop;
+        assoc = table_part_bytes source SttbfAssoc;
+        lst = table_part_bytes source PlfLst;
         levels = levels;
-        lfo = part_bytes source PlfLfo;
+        lfo = table_part_bytes source PlfLfo;
         clsid = contents.clsid;
         lid = kept.lid;
         lid_fe = kept.lid_fe;
@@ -141,11 +147,12 @@ carried_there contents text levels bounds has bytes long are short lists stored 
 
 pub all_short : (source : DocSource) (levels : List ℕ) → length source.table ≤ 7143936 →
     length levels ≤ length source.table →
-    ArePartsShort (part_bytes source SttbfFfn ∷ part_bytes source Dop ∷ part_bytes source SttbfAssoc ∷ part_bytes
-    source PlfLst ∷ levels ∷ part_bytes source PlfLfo ∷ [])
+    ArePartsShort (table_part_bytes source SttbfFfn ∷ table_part_bytes source Dop ∷ table_part_bytes source SttbfAssoc ∷
+    table_part_bytes
+    source PlfLst ∷ levels ∷ table_part_bytes source PlfLfo ∷ [])
 all_short source levels short few =
     let none : List (List ℕ) = [] in
-    let one : TablePart → List ℕ = part_bytes source in
+    let one : TablePart → List ℕ = table_part_bytes source in
     let from_lfo : List (List ℕ) = one PlfLfo ∷ none in
     let from_levels : List (List ℕ) = levels ∷ from_lfo in
     let from_lst : List (List ℕ) = one PlfLst ∷ from_levels in

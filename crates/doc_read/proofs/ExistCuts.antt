@@ -5,8 +5,8 @@ use Rattle.std.specs.Prelude.{slice_index, slice_range}
 use Rattle.std.specs.List.{All}
 use Rattle.std.proofs.lemmas.Bool.{cases_lt}
 use Rattle.std.proofs.lemmas.List.Elements.{All-nil, All-take, All-drop}
-use Rattle.plain_doc.specs.declared.item.Item.{Item}
-use Rattle.plain_doc.specs.Document.{IsFormedItem, IsFormedText, AreFormedTexts}
+use Rattle.doc_model.specs.declared.item.Item.{Item}
+use Rattle.doc_model.specs.Document.{IsFormedItem, IsFormedText, AreFormedTexts}
 use Rattle.doc_read.specs.Texts.{AreCutFrom}
 use Rattle.doc_parts.proofs.Public.{list_of}
 use Rattle.doc_bits.proofs.Public.{All-from_slice_get}

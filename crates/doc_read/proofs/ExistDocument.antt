@@ -12,18 +12,18 @@ use Rattle.cfb_streams.specs.Container.{container_rules, HasContents}
 use Rattle.fkp_pages.specs.declared.kind.PageKind.TheVariants.{Chpx, Papx}
 use Rattle.direct_props.specs.PageRules.{page_rules}
 use Rattle.piece_table.specs.Piece.{flat_pieces}
-use Rattle.doc_parts.specs.Bookmarks.{HasFileNumbers}
-use Rattle.plain_doc.specs.declared.document.Document.{Document}
-use Rattle.plain_doc.specs.Document.{IsFormedItem}
-use Rattle.plain_doc.specs.Formed.{IsFormed}
+use Rattle.document_bookmarks.specs.Bookmarks.{HasFileNumbers}
+use Rattle.doc_model.specs.declared.document.Document.{Document}
+use Rattle.doc_model.specs.Document.{IsFormedItem}
+use Rattle.doc_model.specs.Formed.{IsFormed}
 use Rattle.fib_form.specs.declared.table_parts.TablePart.TheVariants.{Clx, PlcfBteChpx, PlcfBtePapx}
 use Rattle.fib_form.specs.declared.stories.StoryKind.TheVariants.{Main, Notes, Heads}
 use Rattle.file_rules.specs.Units.{unit_at}
-use Rattle.file_rules.specs.Source.{part_bytes, story_length, story_begin}
-use Rattle.file_rules.specs.FormatRules.{text_count, judged_places, paragraph_places, format_rules}
+use Rattle.file_rules.specs.Source.{table_part_bytes, story_length, story_begin}
+use Rattle.file_rules.specs.FormatRules.{text_count, judged_places, paragraph_end_places, format_rules}
 use Rattle.file_rules.specs.SectionRules.{sed_rules}
 use Rattle.file_rules.specs.PartRules.{PartLists, HasPartLists, part_rules}
-use Rattle.file_rules.specs.FileRules.{FileText, HasText, source_of, table_stream_name, clx_of, loading_rules}
+use Rattle.file_rules.specs.FileRules.{FileText, HasFileText, doc_source_of, table_stream_name, clx_of, loading_rules}
 use Rattle.cfb_streams.specs.Names.{wd_name}
 use Rattle.file_rules.proofs.Public.{sections_one, hold_out}
 use Rattle.style_sheet.specs.Formed.{IsFormedSheet}
@@ -54,12 +54,12 @@ record HasFormedDocument (contents : Contents) (text : FileText) (lists : PartLi
 
 -- the parts of a document, put together
 document_of : (contents : Contents) (text : FileText) (lists : PartLists) (maps : List Properties) →
-    HasPartLists (source_of text) lists → AreSectionMaps text.wd lists.sections maps → IsFormedSheet lists.sheet →
-    length text.table ≤ 7143936 → text_count (source_of text) < 2 ^ 32 → HasItems text lists maps →
-    HasFormedCarried contents (source_of text) lists.levels → All HasFileNumbers lists.bookmarks →
+    HasPartLists (doc_source_of text) lists → AreSectionMaps text.wd lists.sections maps → IsFormedSheet lists.sheet →
+    length text.table ≤ 7143936 → text_count (doc_source_of text) < 2 ^ 32 → HasItems text lists maps →
+    HasFormedCarried contents (doc_source_of text) lists.levels → All HasFileNumbers lists.bookmarks →
     HasFormedDocument contents text lists
 document_of contents text lists maps has made sheet short few items carried numbers =
-    let source = source_of text in
+    let source = doc_source_of text in
     let main_len = story_length source Main in
     let all = items.formed in
     let len : length items.items ≡ text_count source = omega (arith, items.holds.len) in
@@ -98,26 +98,28 @@ document_of contents text lists maps has made sheet short few items carried numb
 
 -- what the items are read from
 pub ready : (file : List ℕ) (contents : Contents) (text : FileText) (lists : PartLists) (maps : List Properties) →
-    AreBytes text.wd → AreBytes text.table → TextFits text.wd text.pieces → HasText contents text →
-    Hold (part_rules (source_of text)) → HasPartLists (source_of text) lists → AreByteFields lists →
+    AreBytes text.wd → AreBytes text.table → TextFits text.wd text.pieces → HasFileText contents text →
+    Hold (part_rules (doc_source_of text)) → HasPartLists (doc_source_of text) lists → AreByteFields lists →
     AreSectionMaps text.wd lists.sections maps → AreReady text lists maps
 ready file contents text lists maps wd table fits has_text hold has fields made =
-    let source = source_of text in
+    let source = doc_source_of text in
     let main_len = story_length source Main in
     let formats = hold.1.0 in
     let held : Hold (format_rules source lists.sections) = subst (λ list. Hold (format_rules source list))
     (sections_one source formats.0 lists.sections formats.1.0 has.has_sections) formats.1.1 in
-    let chars = hold_out Wd (page_rules Chpx text.wd (part_bytes source PlcfBteChpx) (judged_places source)) held.0 in
-    let paras = hold_out Wd (page_rules Papx text.wd (part_bytes source PlcfBtePapx) (paragraph_places source
+    let chars = hold_out Wd (page_rules Chpx text.wd (table_part_bytes source PlcfBteChpx) (judged_places source))
+    held.0 in
+    let paras = hold_out Wd (page_rules Papx text.wd (table_part_bytes source PlcfBtePapx) (paragraph_end_places source
     lists.sections)) held.1 in
     let total = fits.total in
     record {
       bytes = wd;
       long = omega arith;
       modifiers = place_right text.pieces (right_modifiers (clx_of text.wd text.table) text.pieces (part_bytes_are
-          (source_of text) Clx table) has_text.has_pieces);
-      characters = right_of Chpx text.wd (part_bytes source PlcfBteChpx) (judged_places source) chars;
-      paragraphs = right_of Papx text.wd (part_bytes source PlcfBtePapx) (paragraph_places source lists.sections) paras;
+          (doc_source_of text) Clx table) has_text.has_pieces);
+      characters = right_of Chpx text.wd (table_part_bytes source PlcfBteChpx) (judged_places source) chars;
+      paragraphs = right_of Papx text.wd (table_part_bytes source PlcfBtePapx) (paragraph_end_places source
+          lists.sections) paras;
       ends = ends_up lists.sections main_len (some_section source lists.sections hold.0.0 has.has_sections)
           has.has_sections.leading.in_order;
       maps_formed = made.formed;
@@ -126,14 +128,14 @@ ready file contents text lists maps wd table fits has_text hold has fields made 
 
 -- the document of the text that a file has
 document_there : (file : List ℕ) (contents : Contents) (text : FileText) → AreBytes file → Hold (container_rules file) →
-    HasContents file contents → Hold (loading_rules contents) → HasText contents text →
-    Hold (part_rules (source_of text)) →
-    (lists : PartLists) × (HasPartLists (source_of text) lists × HasFormedDocument contents text lists)
+    HasContents file contents → Hold (loading_rules contents) → HasFileText contents text →
+    Hold (part_rules (doc_source_of text)) →
+    (lists : PartLists) × (HasPartLists (doc_source_of text) lists × HasFormedDocument contents text lists)
 document_there file contents text bytes container has texts has_text hold =
-    let source = source_of text in
+    let source = doc_source_of text in
     let wd = named_bytes file contents wd_name text.wd bytes has has_text.has_wd in
     let table = named_bytes file contents (table_stream_name text.wd) text.table bytes has has_text.has_table in
-    let fits = text_fits text.wd text.table text.pieces (part_bytes_are (source_of text) Clx table) (text_held file
+    let fits = text_fits text.wd text.table text.pieces (part_bytes_are (doc_source_of text) Clx table) (text_held file
     contents text texts has has_text) has_text.has_pieces in
     let bounds = contents-bounded file contents container has in
     let short = table-short contents text bounds has_text in

@@ -13,8 +13,8 @@ use Rattle.piece_table.specs.Clx.{ClxParts, IsClx, clx_pieces, plc_place}
 use Rattle.piece_table.specs.ClxRules.{clx_rules, text_bounds}
 use Rattle.piece_table.proofs.Public.{parts_unique, ascends_of, total_of_pieces, length-flat_pieces}
 use Rattle.fib_form.specs.declared.table_parts.TablePart.TheVariants.{Clx}
-use Rattle.fib_form.specs.TableParts.{pair_of}
-use Rattle.file_rules.specs.FileRules.{FileText, HasText, table_stream_name, clx_of, table_rules, wd_rules}
+use Rattle.fib_form.specs.TableParts.{pair_number}
+use Rattle.file_rules.specs.FileRules.{FileText, HasFileText, table_stream_name, clx_of, table_rules, wd_rules}
 use Rattle.file_rules.specs.FileRules.{loading_rules}
 use Rattle.cfb_streams.specs.Names.{wd_name}
 use Rattle.file_rules.proofs.Public.{named_one, hold_out}
@@ -22,7 +22,7 @@ use Rattle.doc_read.proofs.ExistText.{plc_bytes}
 
 -- the rules on the pieces hold of the text that the file has
 pub text_held : (file : List ℕ) (contents : Contents) (text : FileText) → Hold (loading_rules contents) →
-    HasContents file contents → HasText contents text → Hold (table_rules text.wd text.table)
+    HasContents file contents → HasFileText contents text → Hold (table_rules text.wd text.table)
 text_held file contents text h has has_text =
     let wd : h.1.0 ≡ text.wd = named_one file contents wd_name h.1.0 text.wd has h.1.1.0 has_text.has_wd in
     let held : Hold (wd_rules contents text.wd) = subst (λ w. Hold (wd_rules contents w)) wd h.1.1.1 in
@@ -39,7 +39,7 @@ pub text_fits : (wd table : List ℕ) (pieces : List TextPiece) → AreBytes (cl
     Hold (table_rules wd table) → IsClx (clx_of wd table) pieces → TextFits wd pieces
 text_fits wd table pieces are h is =
     let clx = clx_of wd table in
-    let at = (fib_pair wd (pair_of Clx)).0 in
+    let at = (fib_pair wd (pair_number Clx)).0 in
     let len = text_length (fib_fields wd).ccps in
     let rules = hold_out Table (clx_rules clx at (text_bounds (fib_size wd) (length wd)) len) h.1 in
     let parts = rules.1.0 in

@@ -11,7 +11,7 @@ use Rattle.doc_parts.specs.declared.lists.Fld.{Fld}
 use Rattle.doc_parts.specs.Table.{plc_part, IsValidEntry}
 use Rattle.doc_parts.specs.Fields.{fld_form, fld_cps}
 use Rattle.doc_parts.specs.Levels.{level_start, level_count, list_part}
-use Rattle.doc_parts.specs.Bookmarks.{HasFileNumbers}
+use Rattle.document_bookmarks.specs.Bookmarks.{HasFileNumbers}
 use Rattle.doc_parts.specs.BookmarkParts.{bookmarks_of}
 use Rattle.doc_parts.proofs.Public.{level_start-zero, level_start-up}
 use Rattle.fib_form.specs.declared.table_parts.TablePart.{TablePart}
@@ -19,11 +19,11 @@ use Rattle.fib_form.specs.declared.table_parts.TablePart.TheVariants.{Stshf, Plc
 use Rattle.fib_form.specs.declared.table_parts.TablePart.TheVariants.{SttbfBkmk, PlcfBkf, PlcfBkl}
 use Rattle.fib_form.specs.declared.stories.StoryKind.{StoryKind}
 use Rattle.fib_form.specs.declared.stories.StoryKind.TheVariants.{Main, Notes, Heads}
-use Rattle.file_rules.specs.Source.{DocSource, part_bytes, part_place, story_begin, story_length, story_units}
+use Rattle.file_rules.specs.Source.{DocSource, table_part_bytes, part_place, story_begin, story_length, story_units}
 use Rattle.file_rules.specs.FormatRules.{text_count}
 use Rattle.fib_form.specs.Fib.{fib_pair}
-use Rattle.fib_form.specs.TableParts.{pair_of}
-use Rattle.file_rules.specs.FieldRules.{BreaksAllFields, BreaksStoryFields, field_part, HasFields}
+use Rattle.fib_form.specs.TableParts.{pair_number}
+use Rattle.file_rules.specs.FieldRules.{BreaksAllFields, BreaksStoryFields, field_part, HasStoryFields}
 use Rattle.file_rules.specs.ListRules.{HasLevels}
 use Rattle.file_rules.specs.BookmarkRules.{bookmark_parts}
 use Rattle.file_rules.specs.PartRules.{PartLists, HasPartLists, part_rules}
@@ -33,9 +33,10 @@ use Rattle.doc_read.proofs.ExistTables.{refs_there, fields_there}
 use Rattle.style_sheet.proofs.Public.{sheet_there}
 use Rattle.doc_read.proofs.EntryValues.{AreByteFields, fields_are_bytes}
 
-pub part_bytes_are : (source : DocSource) (part : TablePart) → AreBytes source.table → AreBytes (part_bytes source part)
+pub part_bytes_are : (source : DocSource) (part : TablePart) → AreBytes source.table → AreBytes (table_part_bytes source
+    part)
 part_bytes_are source part are =
-    let pair = fib_pair source.wd (pair_of part) in
+    let pair = fib_pair source.wd (pair_number part) in
     AreBytes-range source.table pair.0 (pair.0 + pair.1) are
 
 -- a story has its units, where the text is long enough
@@ -60,13 +61,13 @@ story_fits source Heads long =
 -- the field characters of a story, with their bytes
 record HasByteFields (source : DocSource) (story : StoryKind) : Type 0 where
   list : List Fld
-  has : HasFields source story list
+  has : HasStoryFields source story list
   bytes : All (λ (fld : Fld). fld.byte < 256) list
 
 story_fields : (source : DocSource) (story : StoryKind) → AreBytes source.table →
     text_count source ≤ length source.text.units → Nowhere (BreaksStoryFields source story) → HasByteFields source story
 story_fields source story are long none =
-    let bytes = part_bytes source (field_part story) in
+    let bytes = table_part_bytes source (field_part story) in
     let at = part_place source (field_part story) in
     let found = fields_there bytes (story_length source story) (λ k below no.
     none (at + 4 * k) (inr (record {
@@ -96,7 +97,7 @@ all_stories source none Heads = λ place broken. none place (inr (inr broken))
 levels_there : (source : DocSource) → (bytes : List ℕ) × HasLevels source bytes
 levels_there source =
     let at = part_place source PlfLst in
-    let lcb = length (part_bytes source PlfLst) in
+    let lcb = length (table_part_bytes source PlfLst) in
     let count = level_count (list_part source.table at lcb) in
     let end = level_start source.table (at + lcb) count in
     let first = level_start-zero source.table (at + lcb) in
@@ -120,11 +121,11 @@ part_lists_there source are long hold =
     let main = story_fields source Main are long (none_fields Main) in
     let notes = story_fields source Notes are long (none_fields Notes) in
     let heads = story_fields source Heads are long (none_fields Heads) in
-    let refs = refs_there (part_bytes source PlcffndRef) (part_place source PlcffndRef) (story_length source Main)
+    let refs = refs_there (table_part_bytes source PlcffndRef) (part_place source PlcffndRef) (story_length source Main)
     (λ place broken. story.1.0 (Table, place) (refl, inl broken)) in
     let ends = story.1.1.1.0 in
-    let sheet = sheet_there (part_bytes source Stshf) (part_place source Stshf) (part_bytes_are source Stshf are)
-    (hold_out Table (stsh_rules (part_bytes source Stshf) (part_place source Stshf)) hold.1.1.0) in
+    let sheet = sheet_there (table_part_bytes source Stshf) (part_place source Stshf) (part_bytes_are source Stshf are)
+    (hold_out Table (stsh_rules (table_part_bytes source Stshf) (part_place source Stshf)) hold.1.1.0) in
     let levels = levels_there source in
     let sections = hold.0.0.1 in
     record {

@@ -8,8 +8,8 @@ use Rattle.doc_bits.specs.Plc.{plc_cp, plc_entry}
 use Rattle.doc_bits.specs.Rules.{Nowhere}
 use Rattle.doc_parts.specs.declared.lists.Fld.{Fld}
 use Rattle.doc_parts.specs.declared.lists.NoteRef.{NoteRef}
-use Rattle.doc_parts.specs.Table.{plc_part, entry_at, IsValidEntry, BreaksTable}
-use Rattle.doc_parts.specs.Fields.{is_field_unit, fld_form, fld_cps, AreFields}
+use Rattle.doc_parts.specs.Table.{plc_part, spelled_entry, IsValidEntry, BreaksTable}
+use Rattle.doc_parts.specs.Fields.{is_field_unit, fld_form, fld_cps, AreFieldCharacters}
 use Rattle.doc_parts.specs.Stories.{ref_form, ref_cps, AreRefs}
 use Rattle.doc_parts.proofs.Public.{entries_there}
 
@@ -36,18 +36,19 @@ fld_is false cp unit byte fld e = absurd (cc)
 
 pub fields_there : (bytes : List ℕ) (story_len : ℕ) →
     ((k : ℕ) → k < (plc_part 2 bytes).count → ¬ ¬ (IsValidEntry fld_form (fld_cps story_len) (plc_part 2 bytes) k)) →
-    (list : List Fld) × AreFields bytes story_len list
+    (list : List Fld) × AreFieldCharacters bytes story_len list
 fields_there bytes story_len right =
     entries_there fld_form (fld_cps story_len) (plc_part 2 bytes)
     (λ cp bytes entry e. (fld_is (is_field_unit (slice_index bytes 0 % 32)) cp (slice_index bytes 0 % 32) (slice_index
     bytes 1) entry e).0) right
 
-pub fld_byte : (bytes : List ℕ) (story_len k : ℕ) (list : List Fld) (fld : Fld) → AreFields bytes story_len list →
+pub fld_byte : (bytes : List ℕ) (story_len k : ℕ) (list : List Fld) (fld : Fld) → AreFieldCharacters bytes story_len
+    list →
     slice_get list k ≡ Some fld → fld.byte ≡ slice_index (plc_entry (plc_part 2 bytes) k) 1
 fld_byte bytes story_len k list fld are here =
     let table = plc_part 2 bytes in
     let entry = plc_entry table k in
     let cp = plc_cp bytes k in
-    let there : entry_at fld_form table k ≡ Some fld =
+    let there : spelled_entry fld_form table k ≡ Some fld =
     sym (are.leading.each k (slice_get_within list k fld here)) ∙ here in
     (fld_is (is_field_unit (slice_index entry 0 % 32)) cp (slice_index entry 0 % 32) (slice_index entry 1) fld there).1

@@ -19,7 +19,7 @@ use Rattle.cfb_streams.specs.Contents.{Stream, Contents, HasNamed}
 use Rattle.cfb_streams.specs.Container.{HasContents}
 use Rattle.cfb_sectors.specs.Header.{sector_bytes}
 use Rattle.piece_table.specs.declared.pcd.Prm.TheVariants.{Nothing, Sprm, Prc}
-use Rattle.piece_table.specs.Piece.{TextPiece, UnitPlace, unit_places, flat_pieces, place_of_cp}
+use Rattle.piece_table.specs.Piece.{TextPiece, UnitPlace, places_of_piece, flat_pieces, place_of_cp}
 use Rattle.piece_table.specs.Clx.{ClxParts, SpellsClx, IsClx, prc_bytes, pcdt_bytes, prm_word, pcd_prm}
 use Rattle.piece_table.specs.PrmLists.{NamesSprms}
 use Rattle.direct_props.specs.Laws.{IsValidModifier}
@@ -119,19 +119,19 @@ has_modifier : (P : Modifier → Type 0) (f : ℕ → UnitPlace) → ((j : ℕ) 
 has_modifier P f each js = All-map (λ (place : UnitPlace). P place.modifier) f js (λ k d below. each (get_or js k d))
 
 places_right : (pieces : List TextPiece) → All (λ (piece : TextPiece). IsValidModifier piece.modifier) pieces →
-    All (λ (place : UnitPlace). IsValidModifier place.modifier) (flat_map unit_places pieces)
+    All (λ (place : UnitPlace). IsValidModifier place.modifier) (flat_map places_of_piece pieces)
 places_right [] all = All-nil (λ (place : UnitPlace). IsValidModifier place.modifier)
 places_right (p ∷ ps) all =
     let P : TextPiece → Type 0 = λ piece. IsValidModifier piece.modifier in
     let first : IsValidModifier p.modifier = All-head P p ps all in
-    All-append (λ (place : UnitPlace). IsValidModifier place.modifier) (unit_places p) (flat_map unit_places ps)
+    All-append (λ (place : UnitPlace). IsValidModifier place.modifier) (places_of_piece p) (flat_map places_of_piece ps)
     (has_modifier IsValidModifier _ (λ j. first) (range_with_len 0 p.len)) (places_right ps (All-tail P p ps all))
 
 pub place_right : (pieces : List TextPiece) → All (λ (piece : TextPiece). IsValidModifier piece.modifier) pieces →
     (cp : ℕ) (place : UnitPlace) → place_of_cp pieces cp ≡ Some place → IsValidModifier place.modifier
 unfolding flat_pieces
 place_right pieces all cp place here =
-    let flat = flat_map unit_places pieces in
+    let flat = flat_map places_of_piece pieces in
     let within = slice_get_within flat cp place here in
     subst (λ (p : UnitPlace). IsValidModifier p.modifier) (get_or_from_slice_get flat cp place place here)
     (places_right pieces all cp place within)

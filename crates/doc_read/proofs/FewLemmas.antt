@@ -4,10 +4,10 @@ use Rattle.cfb_streams.specs.Contents.{Contents}
 use Rattle.doc_parts.specs.declared.lists.Sed.{Sed}
 use Rattle.fib_form.specs.declared.table_parts.TablePart.{TablePart}
 use Rattle.fib_form.specs.declared.table_parts.TablePart.TheVariants.{PlcfSed, PlcffndTxt}
-use Rattle.file_rules.specs.Source.{DocSource, part_bytes}
+use Rattle.file_rules.specs.Source.{DocSource, table_part_bytes}
 use Rattle.file_rules.specs.SectionRules.{HasSections}
 use Rattle.file_rules.specs.NoteRules.{HasNoteCuts}
-use Rattle.file_rules.specs.FileRules.{FileText, AreSmall, HasText}
+use Rattle.file_rules.specs.FileRules.{FileText, AreSmall, HasFileText}
 use Rattle.doc_read.specs.CarriedParts.{AreWithinBounds, LeavesRoom}
 use Rattle.doc_read.proofs.StreamLemmas.{carried-few}
 
@@ -21,7 +21,7 @@ bounded-AreSmall contents bounds i stream here =
     let short = bounds.short i stream here in omega arith
 
 -- the table stream is one of them
-pub table-short : (contents : Contents) (text : FileText) → AreWithinBounds contents → HasText contents text →
+pub table-short : (contents : Contents) (text : FileText) → AreWithinBounds contents → HasFileText contents text →
     length text.table ≤ most_bytes
 table-short contents text bounds has =
     let named = has.has_table in
@@ -29,14 +29,14 @@ table-short contents text bounds has =
     omega (arith, ap length named.same)
 
 -- two of them are not carried
-pub leaves_room : (contents : Contents) (text : FileText) → AreWithinBounds contents → HasText contents text →
+pub leaves_room : (contents : Contents) (text : FileText) → AreWithinBounds contents → HasFileText contents text →
     LeavesRoom contents text.table
 leaves_room contents text bounds has =
     record { few = carried-few contents text has; short = table-short contents text bounds has }
 
 -- a part of it is no longer
 part-short : (source : DocSource) (part : TablePart) → length source.table ≤ most_bytes →
-    length (part_bytes source part) ≤ most_bytes
+    length (table_part_bytes source part) ≤ most_bytes
 part-short source part short = simp (length-take, length-drop) (omega arith)
 
 -- so there are few header texts

@@ -2,22 +2,22 @@
 use Rattle.std.proofs.Common.{◌≡◌, sym, subst, ℕ, length, arith}
 use Rattle.doc_bits.specs.Rules.{Hold}
 use Rattle.fib_form.specs.declared.stories.StoryKind.TheVariants.{Main}
-use Rattle.doc_parts.specs.Bookmarks.{AreFormedBookmarks}
-use Rattle.plain_doc.specs.declared.document.Document.{Document}
-use Rattle.plain_doc.specs.Marks.{HasFormedBookmarks}
+use Rattle.document_bookmarks.specs.Bookmarks.{AreFormedBookmarks}
+use Rattle.doc_model.specs.declared.document.Document.{Document}
+use Rattle.doc_model.specs.Marks.{HasFormedBookmarks}
 use Rattle.file_rules.specs.Source.{DocSource, story_length}
 use Rattle.file_rules.specs.PartRules.{HasPartLists, part_rules}
-use Rattle.file_rules.specs.FileRules.{source_of}
+use Rattle.file_rules.specs.FileRules.{doc_source_of}
 use Rattle.file_rules.proofs.Public.{bookmarks-formed}
 use Rattle.doc_read.specs.Holds.{FileParts, IsDocumentOf}
 use Rattle.doc_read.specs.Laws.{HeldBookmarksAreFormed}
 use Rattle.doc_read.proofs.OneDocument.{held_parts}
 
 -- those of the document of parts that break no rule
-pub parts-formed : (parts : FileParts) (document : Document) → Hold (part_rules (source_of parts.text)) →
-    HasPartLists (source_of parts.text) parts.lists → IsDocumentOf parts document → HasFormedBookmarks document
+pub parts-formed : (parts : FileParts) (document : Document) → Hold (part_rules (doc_source_of parts.text)) →
+    HasPartLists (doc_source_of parts.text) parts.lists → IsDocumentOf parts document → HasFormedBookmarks document
 parts-formed parts document hold has is =
-    let source : DocSource = source_of parts.text in
+    let source : DocSource = doc_source_of parts.text in
     let len : story_length source Main ≡ length document.main = omega (arith, is.main.len) in
     let formed : AreFormedBookmarks (story_length source Main) parts.lists.bookmarks =
     bookmarks-formed source parts.lists.bookmarks hold.1.1.1.1.1.1.1.1 has.has_bookmarks in

@@ -11,13 +11,13 @@ use Rattle.fkp_pages.specs.declared.kind.PageKind.TheVariants.{Chpx, Papx}
 use Rattle.direct_props.specs.PageRules.{IsValidPlace}
 use Rattle.piece_table.specs.Piece.{UnitPlace, flat_pieces, place_of_cp}
 use Rattle.text_codes.specs.Paragraph.{is_paragraph_end}
-use Rattle.plain_doc.specs.declared.item.Item.{Item}
-use Rattle.plain_doc.specs.Entries.{entry_at}
-use Rattle.file_rules.specs.Source.{part_bytes, story_length}
+use Rattle.doc_model.specs.declared.item.Item.{Item}
+use Rattle.doc_model.specs.Entries.{entry_at_cp}
+use Rattle.file_rules.specs.Source.{table_part_bytes, story_length}
 use Rattle.file_rules.specs.Units.{unit_at}
 use Rattle.file_rules.specs.FormatRules.{text_count, judged_units, ends_section, ends_paragraph}
 use Rattle.file_rules.specs.PartRules.{PartLists, HasPartLists, part_rules}
-use Rattle.file_rules.specs.FileRules.{FileText, source_of}
+use Rattle.file_rules.specs.FileRules.{FileText, doc_source_of}
 use Rattle.file_rules.proofs.Public.{right_characters, right_paragraphs}
 use Rattle.doc_read.specs.Sections.{section_marks}
 use Rattle.doc_read.proofs.MarkListLemmas.{some_section, ends_up}
@@ -28,34 +28,34 @@ use Rattle.doc_read.proofs.RightLemmas.{paragraph_right, section_ends_there, end
 pub record RightText : Type 0 where
   pub text : FileText
   pub lists : PartLists
-  pub hold : Hold (part_rules (source_of text))
-  pub has : HasPartLists (source_of text) lists
+  pub hold : Hold (part_rules (doc_source_of text))
+  pub has : HasPartLists (doc_source_of text) lists
 
 -- the page of the characters of a CP
-pub character_place : (r : RightText) (cp : ℕ) (place : UnitPlace) → cp < text_count (source_of r.text) →
+pub character_place : (r : RightText) (cp : ℕ) (place : UnitPlace) → cp < text_count (doc_source_of r.text) →
     place_of_cp r.text.pieces cp ≡ Some place →
-    IsValidPlace Chpx r.text.wd (part_bytes (source_of r.text) PlcfBteChpx) place.at
+    IsValidPlace Chpx r.text.wd (table_part_bytes (doc_source_of r.text) PlcfBteChpx) place.at
 character_place r cp place below here =
-    let source = source_of r.text in
+    let source = doc_source_of r.text in
     let right = right_characters source r.lists.sections r.hold.1.0 r.has.has_sections in
     let at = read_at_place (λ (p : UnitPlace). p.at) r.text.pieces cp (text_count source) place here below in
     let inside = slice_get_within (flat_pieces r.text.pieces) cp place here in
     let len = length-take (text_count source) source.text.places in
     let all = length-map (flat_pieces r.text.pieces) (λ (p : UnitPlace). p.at) in
-    subst (IsValidPlace Chpx r.text.wd (part_bytes source PlcfBteChpx)) at
+    subst (IsValidPlace Chpx r.text.wd (table_part_bytes source PlcfBteChpx)) at
     (right cp (omega (arith, below, inside, len, all)))
 
 -- the page of the mark of a CP, where an item ends a paragraph that has the unit and the properties of a section of the
 -- CP
 pub mark_place : (r : RightText) (maps : List Properties) (cp : ℕ) (place : UnitPlace) (item : Item) →
-    cp < text_count (source_of r.text) → place_of_cp r.text.pieces cp ≡ Some place →
+    cp < text_count (doc_source_of r.text) → place_of_cp r.text.pieces cp ≡ Some place →
     item.unit ≡ unit_at r.text.wd place →
-    item.sect ≡ entry_at (section_marks r.lists.sections (story_length (source_of r.text) Main) maps) cp →
+    item.sect ≡ entry_at_cp (section_marks r.lists.sections (story_length (doc_source_of r.text) Main) maps) cp →
     is_paragraph_end item.unit (is_some item.sect) ≡ true →
-    IsValidPlace Papx r.text.wd (part_bytes (source_of r.text) PlcfBtePapx) place.at
+    IsValidPlace Papx r.text.wd (table_part_bytes (doc_source_of r.text) PlcfBtePapx) place.at
 mark_place r maps cp place item below here unit sect ends =
-    let source = source_of r.text in
-    let paragraphs = part_bytes source PlcfBtePapx in
+    let source = doc_source_of r.text in
+    let paragraphs = table_part_bytes source PlcfBtePapx in
     let sections = r.lists.sections in
     let main_len = story_length source Main in
     let right = right_paragraphs source sections r.hold.1.0 r.has.has_sections in

@@ -7,7 +7,8 @@ use Rattle.std.proofs.lemmas.List.{length-map, get_or-map}
 use Rattle.std.proofs.lemmas.List.FromFn.{length-range_with_len, get_or-range_with_len}
 use Rattle.doc_parts.specs.declared.lists.Sed.{Sed}
 use Rattle.file_rules.specs.Source.{DocSource}
-use Rattle.file_rules.specs.FormatRules.{judged_units, judged_places, ends_paragraph, paragraph_ends, paragraph_places}
+use Rattle.file_rules.specs.FormatRules.{judged_units, judged_places, ends_paragraph, paragraph_ends}
+use Rattle.file_rules.specs.FormatRules.{paragraph_end_places}
 
 -- where a kept number is among those that are kept
 IsKeptAt : (ℕ → Bool) → List ℕ → ℕ → ℕ → Type 0
@@ -39,7 +40,8 @@ kept_at p (x ∷ xs) (suc i) below e =
 -- the place of a unit that ends a paragraph is among theirs
 pub paragraph_place : (source : DocSource) (sections : List Sed) (cp : ℕ) → cp < length (judged_units source) →
     ends_paragraph source sections cp ≡ true →
-    (k : ℕ) × ((k < length (paragraph_places source sections)) × (slice_index (paragraph_places source sections) k ≡
+    (k : ℕ) × ((k < length (paragraph_end_places source sections)) × (slice_index (paragraph_end_places source sections)
+    k ≡
     slice_index (judged_places source) cp))
 unfolding IsKeptAt
 paragraph_place source sections cp below ends =
@@ -52,7 +54,7 @@ paragraph_place source sections cp below ends =
     let found = kept_at p all cp there (ap p at ∙ ends) in
     let k = found.0 in
     let within : k < length (paragraph_ends source sections) = found.1.0 in
-    let place : slice_index (paragraph_places source sections) k ≡ slice_index places (slice_index (paragraph_ends
+    let place : slice_index (paragraph_end_places source sections) k ≡ slice_index places (slice_index (paragraph_ends
     source sections) k) = get_or-map (slice_index places) (paragraph_ends source sections) k 0 0 within in (
       k,
       (

@@ -10,9 +10,9 @@ use Rattle.doc_bits.proofs.Public.{number_at-range}
 use Rattle.doc_parts.specs.Levels.{level_count, level_end, level_start, AreLevelsFrom, list_part, level_rules}
 use Rattle.doc_parts.specs.Levels.{HaveLength}
 use Rattle.doc_parts.proofs.Public.{level_start-zero, level_start-more, level_start-up, level_count-empty, levels-none}
-use Rattle.plain_doc.specs.Carried.{AreListsWithLevels}
+use Rattle.doc_model.specs.Carried.{AreListsWithLevels}
 use Rattle.fib_form.specs.declared.table_parts.TablePart.TheVariants.{PlfLst}
-use Rattle.file_rules.specs.Source.{DocSource, part_place, part_bytes}
+use Rattle.file_rules.specs.Source.{DocSource, part_place, table_part_bytes}
 use Rattle.file_rules.specs.ListRules.{rules_of_lists, HasLevels}
 use Rattle.file_rules.proofs.Public.{levels_within}
 
@@ -131,15 +131,17 @@ levels-of_some table lst levels at lcb len within part holds have bytes =
 
 -- a document that breaks no rule has its lists with their levels
 pub lists-with_levels : (source : DocSource) (levels : List ℕ) → Hold (rules_of_lists source) →
-    HasLevels source levels → AreListsWithLevels (part_bytes source PlfLst) levels
+    HasLevels source levels → AreListsWithLevels (table_part_bytes source PlfLst) levels
 lists-with_levels source levels holds has =
     let table = source.table in
     let at = part_place source PlfLst in
-    let lst = part_bytes source PlfLst in
-    let lcb = length (part_bytes source PlfLst) in
-    let level_holds : Hold (level_rules source.table (part_place source PlfLst) (length (part_bytes source PlfLst))) =
+    let lst = table_part_bytes source PlfLst in
+    let lcb = length (table_part_bytes source PlfLst) in
+    let level_holds : Hold (level_rules source.table (part_place source PlfLst) (length (table_part_bytes source
+    PlfLst))) =
     λ place broken. holds (Table, place) (refl, broken) in
-    let part : list_part source.table (part_place source PlfLst) (length (part_bytes source PlfLst)) ≡ part_bytes
+    let part : list_part source.table (part_place source PlfLst) (length (table_part_bytes source PlfLst)) ≡
+    table_part_bytes
     source PlfLst = list_part-same table at _ in
     record {
       counted = subst (λ xs. 0 < length xs → 2 + 28 * u16_at xs 0 ≤ length xs) part (lists-counted table at lcb

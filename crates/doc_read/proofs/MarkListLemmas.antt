@@ -15,13 +15,13 @@ use Rattle.doc_parts.specs.Fields.{fld_cps}
 use Rattle.doc_parts.specs.Sections.{sed_cps, section_rules}
 use Rattle.fib_form.specs.declared.table_parts.TablePart.TheVariants.{PlcfSed}
 use Rattle.fib_form.specs.declared.stories.StoryKind.TheVariants.{Main, Notes, Heads}
-use Rattle.file_rules.specs.Source.{DocSource, part_bytes, part_place, story_length}
+use Rattle.file_rules.specs.Source.{DocSource, table_part_bytes, part_place, story_length}
 use Rattle.file_rules.specs.SectionRules.{HasSections, rules_of_sections}
 use Rattle.file_rules.specs.FormatRules.{section_ends}
 use Rattle.file_rules.specs.PartRules.{PartLists, HasPartLists}
 use Rattle.file_rules.proofs.Public.{hold_out}
 use Rattle.doc_read.specs.Sections.{section_lasts}
-use Rattle.doc_read.specs.Marked.{story_bytes, field_bytes, note_kind, note_kinds}
+use Rattle.doc_read.specs.Marked.{story_bytes, field_mark_bytes, note_kind, note_kind_entries}
 use Rattle.doc_read.specs.Passing.{AreUp}
 use Rattle.doc_read.proofs.UpLemmas.{IsUpWithin, up_in_order, up_shift, up_join, up_one, up_rest}
 
@@ -45,7 +45,7 @@ pub three_parts : (f : ℕ × ℕ → ℕ) (xs ys zs : List (ℕ × ℕ)) →
 three_parts f xs ys zs = map-append f xs (ys ++ zs) ∙ ap (λ l. map f xs ++ l) (map-append f ys zs)
 
 pub fields_up : (source : DocSource) (lists : PartLists) → HasPartLists source lists →
-    AreUp (map (λ entry. entry.0) (field_bytes source lists))
+    AreUp (map (λ entry. entry.0) (field_mark_bytes source lists))
 fields_up source lists has =
     let one = story_length source Main in
     let two = story_length source Notes in
@@ -60,15 +60,15 @@ fields_up source lists has =
     lists.note_fields) (story_bytes (one + two) lists.head_fields))) all.up
 
 -- those of the references to notes
-pub note_cps_are : (refs : List NoteRef) → map (λ ref. ref.cp) refs ≡ map (λ entry. entry.0) (note_kinds refs)
+pub note_cps_are : (refs : List NoteRef) → map (λ ref. ref.cp) refs ≡ map (λ entry. entry.0) (note_kind_entries refs)
 note_cps_are refs = sym (map-map (λ entry. entry.0) (λ (ref : NoteRef). (ref.cp, note_kind ref.auto)) refs)
 
 pub note_kinds_are : (refs : List NoteRef) →
-    map (λ ref. note_kind ref.auto) refs ≡ map (λ entry. entry.1) (note_kinds refs)
+    map (λ ref. note_kind ref.auto) refs ≡ map (λ entry. entry.1) (note_kind_entries refs)
 note_kinds_are refs = sym (map-map (λ entry. entry.1) (λ (ref : NoteRef). (ref.cp, note_kind ref.auto)) refs)
 
 pub notes_up : (source : DocSource) (lists : PartLists) → HasPartLists source lists →
-    AreUp (map (λ entry. entry.0) (note_kinds lists.refs))
+    AreUp (map (λ entry. entry.0) (note_kind_entries lists.refs))
 notes_up source lists has =
     let is =
     up_in_order false (story_length source Main) (map (λ ref. ref.cp) lists.refs) has.has_refs.leading.in_order in
@@ -78,7 +78,7 @@ notes_up source lists has =
 pub some_section : (source : DocSource) (sections : List Sed) → Hold (rules_of_sections source) →
     HasSections source sections → 1 ≤ length sections
 some_section source sections h has =
-    let plc = part_bytes source PlcfSed in
+    let plc = table_part_bytes source PlcfSed in
     let at = part_place source PlcfSed in
     let none_broken = hold_out Table (section_rules plc at (story_length source Main)) h.0 in
     let all = has.all in

@@ -13,15 +13,15 @@ use Rattle.direct_props.specs.Direct.{IsDirectCharacter}
 use Rattle.direct_props.specs.Stretches.{AddsCharacters}
 use Rattle.text_codes.specs.Paragraph.{is_paragraph_end}
 use Rattle.piece_table.specs.Piece.{TextPiece}
-use Rattle.plain_doc.specs.declared.item.Item.{Item}
-use Rattle.plain_doc.specs.Document.{HasPropertyMaps}
+use Rattle.doc_model.specs.declared.item.Item.{Item}
+use Rattle.doc_model.specs.Document.{HasPropertyMaps}
 use Rattle.doc_columns.specs.declared.attached.Attached.{Attached}
 use Rattle.doc_columns.specs.Attached.{attached_of}
 use Rattle.doc_columns.specs.Columns.{items_of}
 use Rattle.doc_columns.proofs.Public.{item_at, has_parts}
-use Rattle.doc_read.specs.Items.{IsMarkAt}
+use Rattle.doc_read.specs.Items.{IsDirectMarkAt}
 use Rattle.doc_read.specs.Passing.{AddsEach}
-use Rattle.doc_read.specs.Reading.{TextView, IsReadAt, IsReadCharacter, ArePlacedItems}
+use Rattle.doc_read.specs.Reading.{TextView, IsItemReadAt, IsReadCharacter, ArePlacedItems}
 use Rattle.doc_read.specs.Attached.{IsAttachedAt}
 
 -- ---- the properties of a piece
@@ -66,14 +66,15 @@ adds_characters view modifier from to old new here ordered within formed adds =
 -- by its three parts
 read_of : (view : TextView) (modifier : Modifier) (cp : ℕ) (item : Item) → item.unit ≡ slice_index view.units cp →
     IsReadCharacter view modifier cp item.chp → IsAttachedAt view modifier cp (attached_of item)
-    → IsReadAt view modifier cp item
+    → IsItemReadAt view modifier cp item
 read_of view modifier cp item unit_is characters stands = record {
   unit_is = unit_is;
   characters = characters.is;
   sect_is = stands.sect_is;
   mark_is =
       subst
-      (λ (u : ℕ). IsMarkAt (is_paragraph_end u (is_some item.sect)) view.wd view.paragraphs (slice_index view.places cp)
+      (λ (u : ℕ). IsDirectMarkAt (is_paragraph_end u (is_some item.sect)) view.wd view.paragraphs (slice_index
+      view.places cp)
       modifier item.mark)
       (sym unit_is) stands.mark_is;
   fld_is = stands.fld_is;
@@ -99,7 +100,7 @@ pub adds_items : (view : TextView) (modifier : Modifier) (cp count : ℕ) (chps 
     view.units
     → AddsEach (IsReadCharacter view modifier) count chps more_chps
     → AddsEach (IsAttachedAt view modifier) count attachments more_attachments
-    → AddsEach (IsReadAt view modifier) count (items_of view.units chps attachments)
+    → AddsEach (IsItemReadAt view modifier) count (items_of view.units chps attachments)
     (items_of view.units more_chps more_attachments)
 adds_items view modifier cp count chps more_chps attachments more_attachments cs bs within characters stands =
     let units = view.units in

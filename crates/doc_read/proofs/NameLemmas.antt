@@ -4,7 +4,7 @@ use Rattle.std.proofs.lemmas.Bool.{and_parts, and_left, and_right, not_from_true
 use Rattle.cfb_directory.specs.Directory.{AreSameNames}
 use Rattle.cfb_streams.specs.Names.{wd_name, first_table_name, second_table_name, is_same_name}
 use Rattle.cfb_streams.proofs.Public.{same_name-is}
-use Rattle.plain_doc.specs.Carried.{IsCarriedName}
+use Rattle.doc_model.specs.Carried.{IsCarriedName}
 use Rattle.doc_read.specs.CarriedParts.{is_carried}
 
 -- the three tests of a name

@@ -5,15 +5,15 @@ use Rattle.doc_bits.specs.Rules.{Hold, IsSingle, Ascends}
 use Rattle.doc_bits.proofs.Public.{ascends_wider}
 use Rattle.cfb_streams.specs.Contents.{Contents, NamedBytes}
 use Rattle.fib_form.specs.FibFields.{IsKeptFlags}
-use Rattle.plain_doc.specs.declared.carried.Carried.{Carried}
-use Rattle.plain_doc.specs.declared.document.Document.{Document}
-use Rattle.plain_doc.specs.Carried.{ArePartsShort, AreListsWithLevels, AreCarriedStreams}
+use Rattle.doc_model.specs.declared.carried.Carried.{Carried}
+use Rattle.doc_model.specs.declared.document.Document.{Document}
+use Rattle.doc_model.specs.Carried.{ArePartsShort, AreListsWithLevels, AreCarriedStreams}
 use Rattle.plain_doc.specs.Sound.{document_rules}
 use Rattle.plain_doc.proofs.Public.{document_rules-IsSingle, document_rules-Ascends}
 use Rattle.fib_form.specs.declared.stories.StoryKind.TheVariants.{Main, Notes, Heads}
 use Rattle.file_rules.specs.Source.{DocSource, story_length, story_begin}
 use Rattle.file_rules.specs.PartRules.{part_rules}
-use Rattle.file_rules.specs.FileRules.{HasText, source_of, file_rules}
+use Rattle.file_rules.specs.FileRules.{HasFileText, doc_source_of, file_rules}
 use Rattle.file_rules.proofs.Public.{text_one, bin_tables, file_single, file_ascends}
 use Rattle.cfb_streams.proofs.Public.{contents_unique}
 use Rattle.doc_read.specs.CarriedParts.{HoldsCarried}
@@ -88,7 +88,7 @@ same_built : (d e : CarriedData) → d ≡ e → (p : CarriedFacts d) (q : Carri
 same_built d e same p =
     subst (λ x. (q : CarriedFacts x) → carried_of d p ≡ carried_of x q) same (λ q. ap (carried_of d) (facts_prop d p q))
 
-carried_one : (contents : Contents) (source : DocSource) (levels : List ℕ) (a b : Carried) →
+pub carried_one : (contents : Contents) (source : DocSource) (levels : List ℕ) (a b : Carried) →
     HoldsCarried contents source levels a → HoldsCarried contents source levels b → a ≡ b
 carried_one contents source levels a b ha hb =
     let fonts : a.fonts ≡ b.fonts = ha.fonts ∙ sym hb.fonts in
@@ -120,7 +120,7 @@ carried_one contents source levels a b ha hb =
 -- ---- the document
 
 -- a document is the same where each part of it is
-same_document : (a b : Document) → a.main ≡ b.main → a.notes ≡ b.notes → a.heads ≡ b.heads → a.sheet ≡ b.sheet →
+pub same_document : (a b : Document) → a.main ≡ b.main → a.notes ≡ b.notes → a.heads ≡ b.heads → a.sheet ≡ b.sheet →
     a.carried ≡ b.carried → a.bookmarks ≡ b.bookmarks → a ≡ b
 same_document a b e0 e1 e2 e3 e4 e5 = λ i. record {
   main = e0 i;
@@ -132,10 +132,11 @@ same_document a b e0 e1 e2 e3 e4 e5 = λ i. record {
 }
 
 -- the parts of a file make one document
-pub parts_make_one : (parts : FileParts) → HaveBins (source_of parts.text) → (a b : Document) → IsDocumentOf parts a →
+pub parts_make_one : (parts : FileParts) → HaveBins (doc_source_of parts.text) → (a b : Document) → IsDocumentOf parts a
+    →
     IsDocumentOf parts b → a ≡ b
 parts_make_one parts bins a b ha hb =
-    let source = source_of parts.text in
+    let source = doc_source_of parts.text in
     let of = text_parts parts in
     same_document a b
     (items_one of bins 0 (story_length source Main) a.main b.main ha.main hb.main)
@@ -149,20 +150,20 @@ parts_make_one parts bins a b ha hb =
 
 -- the rules on the parts hold of those of a file that breaks no rule
 pub held_parts : (file : List ℕ) (parts : FileParts) → Hold (file_rules file) → HasFileParts file parts →
-    Hold (part_rules (source_of parts.text))
+    Hold (part_rules (doc_source_of parts.text))
 held_parts file parts h has =
     let contents : h.1.0 ≡ parts.contents = contents_unique file h.1.0 parts.contents h.1.1.0 has.has_contents in
     let rest = h.1.1.1 in
-    let text : HasText parts.contents rest.1.0 = subst (λ c. HasText c rest.1.0) contents rest.1.1.0 in
+    let text : HasFileText parts.contents rest.1.0 = subst (λ c. HasFileText c rest.1.0) contents rest.1.1.0 in
     let same : rest.1.0 ≡ parts.text =
     text_one file parts.contents rest.1.0 parts.text has.has_contents text has.has_text in
-    subst (λ t. Hold (part_rules (source_of t))) same rest.1.1.1
+    subst (λ t. Hold (part_rules (doc_source_of t))) same rest.1.1.1
 
 -- the bin tables of such a file
 pub file_bins : (file : List ℕ) (parts : FileParts) → Hold (file_rules file) → HasFileParts file parts →
-    HaveBins (source_of parts.text)
+    HaveBins (doc_source_of parts.text)
 file_bins file parts h has =
-    let bins = bin_tables (source_of parts.text) (held_parts file parts h has).0.1 in
+    let bins = bin_tables (doc_source_of parts.text) (held_parts file parts h has).0.1 in
     record { characters = bins.0; paragraphs = bins.1 }
 
 pub document_one : DocumentIsOne

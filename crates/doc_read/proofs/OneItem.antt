@@ -7,25 +7,25 @@ use Rattle.piece_table.specs.Piece.{UnitPlace}
 use Rattle.fkp_pages.specs.Bin.{IsBinTable}
 use Rattle.direct_props.specs.Direct.{IsDirectCharacter}
 use Rattle.direct_props.proofs.Public.{character_one, mark_one}
-use Rattle.plain_doc.specs.declared.item.Item.{Item}
-use Rattle.plain_doc.specs.declared.item.Mark.{Mark}
+use Rattle.doc_model.specs.declared.item.Item.{Item}
+use Rattle.doc_model.specs.declared.item.Mark.{Mark}
 use Rattle.fib_form.specs.declared.table_parts.TablePart.TheVariants.{PlcfBteChpx, PlcfBtePapx}
 use Rattle.file_rules.specs.Units.{unit_at}
-use Rattle.file_rules.specs.Source.{DocSource, part_bytes}
+use Rattle.file_rules.specs.Source.{DocSource, table_part_bytes}
 use Rattle.text_codes.specs.Paragraph.{is_paragraph_end}
-use Rattle.doc_read.specs.Items.{TextParts, IsMarkAt, IsItemAt, HoldsItems, HoldsTexts}
+use Rattle.doc_read.specs.Items.{TextParts, IsDirectMarkAt, IsItemAt, HoldsItems, HoldsTexts}
 use Rattle.doc_read.proofs.PartsOfOneFile.{same_lists}
 
 -- the tables that name the pages are tables
 pub record HaveBins (source : DocSource) : Type 0 where
-  pub characters : IsBinTable (part_bytes source PlcfBteChpx)
-  pub paragraphs : IsBinTable (part_bytes source PlcfBtePapx)
+  pub characters : IsBinTable (table_part_bytes source PlcfBteChpx)
+  pub paragraphs : IsBinTable (table_part_bytes source PlcfBtePapx)
 
 mark_of_one : (end : Bool) (source : DocSource) (place : UnitPlace) (a b : Option Mark) → HaveBins source →
-    IsMarkAt end source.wd (part_bytes source PlcfBtePapx) place.at place.modifier a →
-    IsMarkAt end source.wd (part_bytes source PlcfBtePapx) place.at place.modifier b → a ≡ b
+    IsDirectMarkAt end source.wd (table_part_bytes source PlcfBtePapx) place.at place.modifier a →
+    IsDirectMarkAt end source.wd (table_part_bytes source PlcfBtePapx) place.at place.modifier b → a ≡ b
 mark_of_one true source place (Some a) (Some b) bins ha hb =
-    let one = mark_one source.wd (part_bytes source PlcfBtePapx) place.at place.modifier a.istd b.istd a.pap b.pap
+    let one = mark_one source.wd (table_part_bytes source PlcfBtePapx) place.at place.modifier a.istd b.istd a.pap b.pap
     bins.paragraphs ha hb in
     λ i. Some (record { istd = one.0 i; pap = one.1 i })
 mark_of_one true source place (Some a) None bins ha hb = absurd hb
@@ -35,7 +35,7 @@ mark_of_one false source place None (Some b) bins ha hb = absurd hb
 mark_of_one false source place (Some a) b bins ha hb = absurd ha
 
 -- an item is the same where each part of it is
-same_item : (a b : Item) → a.unit ≡ b.unit → a.chp ≡ b.chp → a.mark ≡ b.mark → a.sect ≡ b.sect → a.fld ≡ b.fld →
+pub same_item : (a b : Item) → a.unit ≡ b.unit → a.chp ≡ b.chp → a.mark ≡ b.mark → a.sect ≡ b.sect → a.fld ≡ b.fld →
     a.note ≡ b.note → a ≡ b
 same_item a b e0 e1 e2 e3 e4 e5 =
     λ i. record { unit = e0 i; chp = e1 i; mark = e2 i; sect = e3 i; fld = e4 i; note = e5 i }
@@ -47,19 +47,21 @@ item_one parts bins cp a b ha hb =
     let source = parts.source in
     let place : ha.place ≡ hb.place = ap (λ o. unwrap_or o ha.place) (sym ha.here ∙ hb.here) in
     let unit : a.unit ≡ b.unit = ha.unit ∙ (ap (unit_at source.wd) place ∙ sym hb.unit) in
-    let chp : a.chp ≡ b.chp = character_one source.wd (part_bytes source PlcfBteChpx) hb.place.at hb.place.modifier
+    let chp : a.chp ≡ b.chp = character_one source.wd (table_part_bytes source PlcfBteChpx) hb.place.at
+    hb.place.modifier
     a.chp b.chp bins.characters
-    (subst (λ p. IsDirectCharacter source.wd (part_bytes source PlcfBteChpx) p.at p.modifier a.chp) place
+    (subst (λ p. IsDirectCharacter source.wd (table_part_bytes source PlcfBteChpx) p.at p.modifier a.chp) place
     ha.characters) hb.characters in
     let sect : a.sect ≡ b.sect = ha.section ∙ sym hb.section in
     let end : is_paragraph_end a.unit (is_some a.sect) ≡ is_paragraph_end b.unit (is_some b.sect) =
     λ i. is_paragraph_end (unit i) (is_some (sect i)) in
-    let near : IsMarkAt (is_paragraph_end b.unit (is_some b.sect)) source.wd (part_bytes source PlcfBtePapx)
-    ha.place.at ha.place.modifier a.mark = subst (λ e. IsMarkAt e source.wd (part_bytes source PlcfBtePapx)
+    let near : IsDirectMarkAt (is_paragraph_end b.unit (is_some b.sect)) source.wd (table_part_bytes source PlcfBtePapx)
+    ha.place.at ha.place.modifier a.mark = subst (λ e. IsDirectMarkAt e source.wd (table_part_bytes source PlcfBtePapx)
     ha.place.at ha.place.modifier a.mark) end ha.mark in
     let mark : a.mark ≡ b.mark =
     mark_of_one (is_paragraph_end b.unit (is_some b.sect)) source hb.place a.mark b.mark bins
-    (subst (λ p. IsMarkAt (is_paragraph_end b.unit (is_some b.sect)) source.wd (part_bytes source PlcfBtePapx) p.at
+    (subst (λ p. IsDirectMarkAt (is_paragraph_end b.unit (is_some b.sect)) source.wd (table_part_bytes source
+    PlcfBtePapx) p.at
     p.modifier a.mark) place near) hb.mark in
     same_item a b unit chp mark sect (ha.field ∙ sym hb.field) (ha.note ∙ sym hb.note)
 

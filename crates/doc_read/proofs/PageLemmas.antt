@@ -5,14 +5,15 @@ use Rattle.std.proofs.lemmas.Bool.{cases_lt}
 use Rattle.doc_bits.proofs.Public.{length-range, range_index}
 use Rattle.fkp_pages.specs.declared.kind.PageKind.TheVariants.{Chpx, Papx}
 use Rattle.direct_props.specs.PageRules.{AreValidPlaces, IsValidPlace}
-use Rattle.doc_read.specs.Reading.{TextView, HaveValidMarks, HaveValidPages, ends_at}
+use Rattle.doc_read.specs.Reading.{TextView, HaveValidMarks, HaveValidPages, ends_paragraph_at}
 
 -- the unit of one CP
-pub one_mark : (view : TextView) (cp : ℕ) → (IsTrue (ends_at view cp) →
+pub one_mark : (view : TextView) (cp : ℕ) → (IsTrue (ends_paragraph_at view cp) →
     IsValidPlace Papx view.wd view.paragraphs (slice_index view.places cp)) → HaveValidMarks view cp (cp + 1)
 one_mark view cp right = λ at upper lower.
     let same : cp ≡ at = omega (arith, upper, lower) in
-    subst (λ n. IsTrue (ends_at view n) → IsValidPlace Papx view.wd view.paragraphs (slice_index view.places n)) same
+    subst (λ n. IsTrue (ends_paragraph_at view n) → IsValidPlace Papx view.wd view.paragraphs (slice_index view.places
+    n)) same
     right
 
 -- two stretches

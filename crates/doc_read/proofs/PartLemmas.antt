@@ -2,7 +2,7 @@
 use Rattle.std.proofs.Common.{◌≡◌, ℕ, ◌<◌, ◌^◌, List, ◌∷◌, length, nat_lt, subst, sym, arith, lt-ltb}
 use Rattle.std.specs.List.{list_all}
 use Rattle.std.proofs.lemmas.Bool.{and_from}
-use Rattle.plain_doc.specs.Carried.{ArePartsShort}
+use Rattle.doc_model.specs.Carried.{ArePartsShort}
 
 -- the copy of a short part before others
 pub short-cons : (copy part : List ℕ) (parts : List (List ℕ)) → copy ≡ part → length part < 2 ^ 32 →

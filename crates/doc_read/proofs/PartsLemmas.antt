@@ -1,12 +1,12 @@
 -- What was read of a document and the units of its text make the document.
 use Rattle.std.proofs.Common.{◌≡◌, ◌∙◌, sym, ap, subst, ℕ, ◌-◌, length, take, arith}
 use Rattle.cfb_streams.specs.Contents.{Contents}
-use Rattle.plain_doc.specs.declared.document.Document.{Document}
+use Rattle.doc_model.specs.declared.document.Document.{Document}
 use Rattle.fib_form.specs.declared.stories.StoryKind.TheVariants.{Main, Notes, Heads}
 use Rattle.fib_form.specs.FibFields.{fib_fields}
 use Rattle.file_rules.specs.FormatRules.{judged_units, text_count}
 use Rattle.file_rules.specs.PartRules.{PartLists, HasPartLists}
-use Rattle.file_rules.specs.FileRules.{FileText, source_of}
+use Rattle.file_rules.specs.FileRules.{FileText, doc_source_of}
 use Rattle.file_rules.proofs.Public.{story_count, story_front}
 use Rattle.doc_columns.specs.Columns.{items_of}
 use Rattle.doc_read.specs.Texts.{AreCutsWithin, AreCutFrom}
@@ -19,7 +19,7 @@ use Rattle.doc_read.specs.declared.columns.ReadColumns.{ReadColumns}
 use Rattle.doc_read.specs.declared.document.StoryCuts.{StoryCuts}
 use Rattle.doc_read.specs.declared.document.DocumentParts.{DocumentParts}
 use Rattle.doc_read.specs.ReadParts.{AreColumnsOf, AreDocumentParts}
-use Rattle.doc_read.specs.ReadTexts.{AreCutsOf, AreTextsOf, IsDocumentWith}
+use Rattle.doc_read.specs.ReadTexts.{AreCutsOf, AreCutTexts, IsDocumentOfUnits}
 use Rattle.doc_read.proofs.MeetLemmas.{length-read}
 
 -- there are as many units as CPs of the three stories
@@ -33,11 +33,11 @@ units_long parts read are =
 
 -- the cuts of a file are within its text
 pub cuts_fit : (contents : Contents) (text : FileText) (lists : PartLists) (parts : DocumentParts) →
-    LeavesRoom contents text.table → HasPartLists (source_of text) lists →
+    LeavesRoom contents text.table → HasPartLists (doc_source_of text) lists →
     AreDocumentParts contents text lists parts →
-    AreCutsOf (fib_fields text.wd) parts.cuts (length (judged_units (source_of text)))
+    AreCutsOf (fib_fields text.wd) parts.cuts (length (judged_units (doc_source_of text)))
 cuts_fit contents text lists parts room has are =
-    let source = source_of text in
+    let source = doc_source_of text in
     let len = length (judged_units source) in
     let long : len ≡ text_count source = units_long _ parts.columns are.columns_are in
     let short = room.short in
@@ -57,14 +57,14 @@ cuts_fit contents text lists parts room has are =
 
 -- the document of the parts is that of the file
 pub made_from : (contents : Contents) (text : FileText) (lists : PartLists) (parts : DocumentParts)
-    (document : Document) → HasPartLists (source_of text) lists → AreDocumentParts contents text lists parts →
-    IsDocumentWith (fib_fields text.wd) (judged_units (source_of text)) parts document →
+    (document : Document) → HasPartLists (doc_source_of text) lists → AreDocumentParts contents text lists parts →
+    IsDocumentOfUnits (fib_fields text.wd) (judged_units (doc_source_of text)) parts document →
     IsDocumentFrom contents text lists document
 made_from contents text lists parts document has are made =
-    let source = source_of text in
+    let source = doc_source_of text in
     let items = items_of (judged_units source) parts.columns.chps parts.columns.attachments in
     let texts = made.texts in
-    let cut = subst (λ (cuts : StoryCuts). AreTextsOf (fib_fields text.wd) cuts items texts) are.cuts_are
+    let cut = subst (λ (cuts : StoryCuts). AreCutTexts (fib_fields text.wd) cuts items texts) are.cuts_are
     made.texts_are in
     subst (IsDocumentFrom contents text lists) (sym made.document_is)
     (document-from contents text lists are.sections items

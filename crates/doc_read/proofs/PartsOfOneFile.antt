@@ -14,7 +14,7 @@ use Rattle.doc_parts.specs.declared.lists.Sed.{Sed}
 use Rattle.file_rules.specs.SectionRules.{section_fc, sepx_list}
 use Rattle.prop_map.specs.Formed.{section_groups}
 use Rattle.file_rules.specs.PartRules.{HasPartLists}
-use Rattle.file_rules.specs.FileRules.{HasText, source_of}
+use Rattle.file_rules.specs.FileRules.{HasFileText, doc_source_of}
 use Rattle.file_rules.proofs.Public.{parts_one, text_one}
 use Rattle.doc_read.specs.Sections.{IsSectionProperties, HaveProperties}
 use Rattle.doc_read.specs.Holds.{FileParts, HasFileParts}
@@ -65,11 +65,11 @@ pub file_parts_one : (file : List ℕ) (a b : FileParts) → HasFileParts file a
 file_parts_one file a b ha hb =
     let contents : a.contents ≡ b.contents =
     contents_unique file a.contents b.contents ha.has_contents hb.has_contents in
-    let text_there : HasText b.contents a.text = subst (λ c. HasText c a.text) contents ha.has_text in
+    let text_there : HasFileText b.contents a.text = subst (λ c. HasFileText c a.text) contents ha.has_text in
     let text : a.text ≡ b.text = text_one file b.contents a.text b.text hb.has_contents text_there hb.has_text in
-    let lists_there : HasPartLists (source_of b.text) a.lists =
-    subst (λ t. HasPartLists (source_of t) a.lists) text ha.has_lists in
-    let lists : a.lists ≡ b.lists = parts_one (source_of b.text) a.lists b.lists lists_there hb.has_lists in
+    let lists_there : HasPartLists (doc_source_of b.text) a.lists =
+    subst (λ t. HasPartLists (doc_source_of t) a.lists) text ha.has_lists in
+    let lists : a.lists ≡ b.lists = parts_one (doc_source_of b.text) a.lists b.lists lists_there hb.has_lists in
     let near : HaveProperties b.text.wd a.lists.sections a.sections =
     subst (λ t. HaveProperties t.wd a.lists.sections a.sections) text ha.has_sections in
     let there : HaveProperties b.text.wd b.lists.sections a.sections =

@@ -5,7 +5,7 @@ use Rattle.std.specs.Prelude.{slice_index}
 use Rattle.std.proofs.lemmas.Option.{slice_get_within, slice_get-get_or, get_or_from_slice_get}
 use Rattle.std.proofs.lemmas.List.{get_or-map, get_or-drop}
 use Rattle.std.proofs.lemmas.List.Concat.{get_or-flat_map}
-use Rattle.piece_table.specs.Piece.{TextPiece, UnitPlace, unit_bytes, unit_places, flat_pieces, place_of_cp}
+use Rattle.piece_table.specs.Piece.{TextPiece, UnitPlace, unit_bytes, places_of_piece, flat_pieces, place_of_cp}
 use Rattle.piece_table.specs.Piece.{total_length}
 use Rattle.piece_table.proofs.Public.{length-unit_places, length-flat_pieces, get_or-unit_places}
 use Rattle.file_rules.proofs.Public.{total-within}
@@ -22,19 +22,20 @@ place_in_piece pieces i j cp piece here below cp_is =
     let d = place_at piece j in
     let within = slice_get_within pieces i piece here in
     let it : get_or pieces i piece ≡ piece = get_or_from_slice_get pieces i piece piece here in
-    let len : length (unit_places (get_or pieces i piece)) ≡ piece.len =
-    ap (λ (p : TextPiece). length (unit_places p)) it ∙ length-unit_places piece in
-    let front : length (flat_map unit_places (take i pieces)) ≡ total_length (take i pieces) =
+    let len : length (places_of_piece (get_or pieces i piece)) ≡ piece.len =
+    ap (λ (p : TextPiece). length (places_of_piece p)) it ∙ length-unit_places piece in
+    let front : length (flat_map places_of_piece (take i pieces)) ≡ total_length (take i pieces) =
     length-flat_pieces (take i pieces) in
-    let inside : j < length (unit_places (get_or pieces i piece)) = omega arith in
-    let got = get_or-flat_map unit_places pieces i j piece d within inside in
-    let cp_at : cp ≡ length (flat_map unit_places (take i pieces)) + j = omega arith in
-    let value : get_or (flat_map unit_places pieces) cp d ≡ d = ap (λ n. get_or (flat_map unit_places pieces) n d)
-    cp_at ∙ (got ∙ (ap (λ (p : TextPiece). get_or (unit_places p) j d) it ∙ get_or-unit_places piece j d below)) in
-    let all : length (flat_map unit_places pieces) ≡ total_length pieces = length-flat_pieces pieces in
+    let inside : j < length (places_of_piece (get_or pieces i piece)) = omega arith in
+    let got = get_or-flat_map places_of_piece pieces i j piece d within inside in
+    let cp_at : cp ≡ length (flat_map places_of_piece (take i pieces)) + j = omega arith in
+    let value : get_or (flat_map places_of_piece pieces) cp d ≡ d = ap (λ n. get_or (flat_map places_of_piece pieces) n
+    d)
+    cp_at ∙ (got ∙ (ap (λ (p : TextPiece). get_or (places_of_piece p) j d) it ∙ get_or-unit_places piece j d below)) in
+    let all : length (flat_map places_of_piece pieces) ≡ total_length pieces = length-flat_pieces pieces in
     let bound = total-within pieces i piece here in
-    let there : cp < length (flat_map unit_places pieces) = omega (arith, all, bound, cp_is) in
-    slice_get-get_or (flat_map unit_places pieces) cp d there ∙ ap Some value
+    let there : cp < length (flat_map places_of_piece pieces) = omega (arith, all, bound, cp_is) in
+    slice_get-get_or (flat_map places_of_piece pieces) cp d there ∙ ap Some value
 
 -- what is listed by CP of the places, at a CP
 pub read_at_place : (f : UnitPlace → ℕ) (pieces : List TextPiece) (cp count : ℕ) (place : UnitPlace) →

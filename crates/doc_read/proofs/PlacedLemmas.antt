@@ -8,19 +8,20 @@ use Rattle.std.proofs.lemmas.Option.{slice_get_within}
 use Rattle.prop_map.specs.Settings.{Properties}
 use Rattle.direct_props.specs.Direct.{IsDirectCharacter}
 use Rattle.piece_table.specs.Piece.{TextPiece, UnitPlace, flat_pieces, total_length}
-use Rattle.plain_doc.specs.declared.item.Item.{Item}
+use Rattle.doc_model.specs.declared.item.Item.{Item}
 use Rattle.fib_form.specs.declared.table_parts.TablePart.TheVariants.{PlcfBteChpx, PlcfBtePapx}
 use Rattle.file_rules.specs.Units.{unit_at}
-use Rattle.file_rules.specs.Source.{DocSource, part_bytes}
-use Rattle.file_rules.specs.FileRules.{FileText, source_of}
+use Rattle.file_rules.specs.Source.{DocSource, table_part_bytes}
+use Rattle.file_rules.specs.FileRules.{FileText, doc_source_of}
 use Rattle.file_rules.specs.FormatRules.{text_count, judged_units, judged_places}
 use Rattle.text_codes.specs.Paragraph.{is_paragraph_end}
 use Rattle.file_rules.specs.PartRules.{PartLists}
 use Rattle.file_rules.proofs.Public.{total-more, length-text_units}
-use Rattle.doc_read.specs.Marked.{field_bytes, note_kinds}
-use Rattle.doc_read.specs.Items.{TextParts, IsItemAt, HoldsItems, IsMarkAt}
+use Rattle.doc_read.specs.Marked.{field_mark_bytes, note_kind_entries}
+use Rattle.doc_read.specs.Items.{TextParts, IsItemAt, HoldsItems, IsDirectMarkAt}
 use Rattle.doc_read.specs.Passing.{AddsEach}
-use Rattle.doc_read.specs.Reading.{MarkLists, AreMarksOf, TextView, IsReadAt, IsPlacedItem, ArePlacedItems, section_at}
+use Rattle.doc_read.specs.Reading.{MarkLists, AreMarkListsOf, TextView, IsItemReadAt, IsPlacedItem, ArePlacedItems}
+use Rattle.doc_read.specs.Reading.{section_at}
 use Rattle.doc_read.proofs.EntryLemmas.{entry_of_parts}
 use Rattle.doc_read.proofs.PlaceLemmas.{place_at, place_in_piece, read_at_place}
 use Rattle.doc_read.proofs.ReadableLemmas.{view_of}
@@ -28,7 +29,7 @@ use Rattle.doc_read.proofs.ReadableLemmas.{view_of}
 -- the item of a CP
 pub item_of : (text : FileText) (source : DocSource) (lists : PartLists) (marks : MarkLists) (maps : List Properties)
     (cp : ℕ) (item : Item) →
-    source ≡ source_of text → AreMarksOf source lists marks → cp < text_count source →
+    source ≡ doc_source_of text → AreMarkListsOf source lists marks → cp < text_count source →
     IsPlacedItem (view_of source marks maps) text.pieces cp item →
     IsItemAt (record { source = source; pieces = text.pieces; lists = lists; sections = maps }) cp item
 item_of text source lists marks maps cp item same is below placed =
@@ -49,15 +50,18 @@ item_of text source lists marks maps cp item same is below placed =
       here = placed.here;
       unit = read.unit_is ∙ (ap (λ l. slice_index (take count l) cp) units_are ∙ read_at_place (unit_at source.wd)
           pieces cp count place placed.here below);
-      characters = subst (λ fc. IsDirectCharacter source.wd (part_bytes source PlcfBteChpx) fc place.modifier
+      characters = subst (λ fc. IsDirectCharacter source.wd (table_part_bytes source PlcfBteChpx) fc place.modifier
           item.chp) place_is read.characters;
       section = read.sect_is ∙ ap (λ l. section_at l maps cp) is.sections;
       mark =
-          (subst (λ fc. IsMarkAt (is_paragraph_end item.unit (is_some item.sect)) source.wd (part_bytes source
+          (subst (λ fc. IsDirectMarkAt (is_paragraph_end item.unit (is_some item.sect)) source.wd (table_part_bytes
+          source
           PlcfBtePapx) fc place.modifier item.mark) place_is read.mark_is);
-      field = read.fld_is ∙ entry_of_parts (field_bytes source lists) marks.field_cps marks.field_bytes cp is.fields
+      field = read.fld_is ∙ entry_of_parts (field_mark_bytes source lists) marks.field_cps marks.field_bytes cp
+          is.fields
           is.bytes;
-      note = read.note_is ∙ entry_of_parts (note_kinds lists.refs) marks.note_cps marks.note_kinds cp is.notes is.kinds;
+      note = read.note_is ∙ entry_of_parts (note_kind_entries lists.refs) marks.note_cps marks.note_kinds cp is.notes
+          is.kinds;
     }
 
 -- the items of one piece more
@@ -65,7 +69,7 @@ pub placed_more : (view : TextView) (pieces : List TextPiece) (i added count : �
     Item) →
     slice_get pieces i ≡ Some piece → length old ≡ min (total_length (take i pieces)) count →
     added ≡ min piece.len (count - length old) → ArePlacedItems view pieces old →
-    AddsEach (IsReadAt view piece.modifier) added old new → ArePlacedItems view pieces new
+    AddsEach (IsItemReadAt view piece.modifier) added old new → ArePlacedItems view pieces new
 placed_more view pieces i added count piece old new here len added_is so_far adds cp item there =
     elim (cases_lt cp (length old)) [
       | inl lower ↦ so_far cp item (sym (adds.kept cp lower) ∙ there)
@@ -95,7 +99,8 @@ take_within n xs = omega (arith, length-take n xs)
 
 -- the pieces have a place for each unit
 pub enough_units : (text : FileText) (source : DocSource) (units : List ℕ) (pieces : List TextPiece) →
-    units ≡ judged_units source → source ≡ source_of text → pieces ≡ text.pieces → length units ≤ total_length pieces
+    units ≡ judged_units source → source ≡ doc_source_of text → pieces ≡ text.pieces → length units ≤ total_length
+    pieces
 enough_units text source units pieces units_are same pieces_are =
     let some = take_within (text_count source) source.text.units in
     let one : length units ≡ length (judged_units source) = ap length units_are in
@@ -107,7 +112,7 @@ enough_units text source units pieces units_are same pieces_are =
 -- all items
 pub held : (text : FileText) (source : DocSource) (lists : PartLists) (marks : MarkLists) (maps : List Properties)
     (items : List Item) →
-    source ≡ source_of text → AreMarksOf source lists marks → length items ≡ text_count source →
+    source ≡ doc_source_of text → AreMarkListsOf source lists marks → length items ≡ text_count source →
     ArePlacedItems (view_of source marks maps) text.pieces items
     → HoldsItems (record { source = source; pieces = text.pieces; lists = lists; sections = maps }) 0
     (text_count source) items

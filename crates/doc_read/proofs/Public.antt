@@ -33,9 +33,9 @@ pub use Rattle.doc_read.proofs.MarkListLemmas.{ends_up, length-section_lasts, so
 -- The names of streams that are carried.
 pub use Rattle.doc_read.proofs.NameLemmas.{table-not_carried, wd-not_carried}
 -- A file holds one document, and names one first broken rule.
-pub use Rattle.doc_read.proofs.OneDocument.{all_single, document_one, held_parts}
+pub use Rattle.doc_read.proofs.OneDocument.{all_single, carried_one, document_one, held_parts, same_document}
 -- What is at a CP, and in a text, is one thing.
-pub use Rattle.doc_read.proofs.OneItem.{HaveBins}
+pub use Rattle.doc_read.proofs.OneItem.{HaveBins, same_item}
 -- What a file has, it has once.
 pub use Rattle.doc_read.proofs.PartsOfOneFile.{file_parts_one, same_lists, section_maps_one}
 -- The place of a CP, by the pieces.

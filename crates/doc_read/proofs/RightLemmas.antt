@@ -14,10 +14,10 @@ use Rattle.fkp_pages.specs.declared.kind.PageKind.TheVariants.{Papx}
 use Rattle.direct_props.specs.PageRules.{AreValidPlaces, IsValidPlace}
 use Rattle.file_rules.specs.Source.{DocSource}
 use Rattle.file_rules.specs.FormatRules.{judged_units, judged_places, section_ends, is_end, ends_section}
-use Rattle.file_rules.specs.FormatRules.{ends_paragraph, paragraph_ends, paragraph_places}
+use Rattle.file_rules.specs.FormatRules.{ends_paragraph, paragraph_ends, paragraph_end_places}
 use Rattle.file_rules.proofs.Public.{index_of_get, below_len}
 use Rattle.text_codes.specs.Paragraph.{is_paragraph_end}
-use Rattle.plain_doc.specs.Entries.{entry_at}
+use Rattle.doc_model.specs.Entries.{entry_at_cp}
 use Rattle.doc_read.specs.Sections.{section_lasts}
 use Rattle.doc_read.proofs.EntryLemmas.{entry_found, entry_some}
 use Rattle.doc_read.proofs.KeptPlaces.{paragraph_place}
@@ -35,7 +35,7 @@ kept_true test (x ∷ xs) = elim (cases_Bool (test x)) [
 pub paragraphs_right : (wd bin : List ℕ) (source : DocSource) (sections : List Sed) →
     ((cp : ℕ) → cp < length (judged_units source) → ends_paragraph source sections cp ≡ true →
     IsValidPlace Papx wd bin (slice_index (judged_places source) cp)) →
-    AreValidPlaces Papx wd bin (paragraph_places source sections)
+    AreValidPlaces Papx wd bin (paragraph_end_places source sections)
 paragraphs_right wd bin source sections each k below =
     let test = ends_paragraph source sections in
     let ends = paragraph_ends source sections in
@@ -50,7 +50,7 @@ paragraphs_right wd bin source sections each k below =
 
 -- the place of such a unit
 pub paragraph_right : (wd bin : List ℕ) (source : DocSource) (sections : List Sed) →
-    AreValidPlaces Papx wd bin (paragraph_places source sections) → (cp : ℕ) → cp < length (judged_units source) →
+    AreValidPlaces Papx wd bin (paragraph_end_places source sections) → (cp : ℕ) → cp < length (judged_units source) →
     ends_paragraph source sections cp ≡ true → IsValidPlace Papx wd bin (slice_index (judged_places source) cp)
 paragraph_right wd bin source sections right cp below ends =
     let found = paragraph_place source sections cp below ends in
@@ -59,7 +59,8 @@ paragraph_right wd bin source sections right cp below ends =
 -- a section ends with the CP at which properties are
 pub section_ends_there : (sections : List Sed) (main_len : ℕ) (maps : List Properties) (cp : ℕ) →
     IsUpWithin 1 (main_len + 1) (section_ends sections main_len) →
-    is_some (entry_at (zip (section_lasts sections main_len) maps) cp) ≡ true → ends_section sections main_len cp ≡ true
+    is_some (entry_at_cp (zip (section_lasts sections main_len) maps) cp) ≡ true → ends_section sections main_len cp ≡
+    true
 section_ends_there sections main_len maps cp is some =
     let ends = section_ends sections main_len in
     let found = entry_some (section_lasts sections main_len) maps cp some in
@@ -93,7 +94,8 @@ any_index test (x ∷ xs) any = elim (cases_Bool (test x)) [
 properties_there : (sections : List Sed) (main_len : ℕ) (maps : List Properties) (cp : ℕ) →
     IsUpWithin 1 (main_len + 1) (section_ends sections main_len) →
     length maps ≡ length (section_lasts sections main_len) →
-    ends_section sections main_len cp ≡ true → is_some (entry_at (zip (section_lasts sections main_len) maps) cp) ≡ true
+    ends_section sections main_len cp ≡ true → is_some (entry_at_cp (zip (section_lasts sections main_len) maps) cp) ≡
+    true
 properties_there sections main_len maps cp up many here =
     let ends = section_ends sections main_len in
     let lasts = section_lasts sections main_len in
@@ -111,9 +113,9 @@ properties_there sections main_len maps cp up many here =
 pub section_same : (sections : List Sed) (main_len : ℕ) (maps : List Properties) (cp : ℕ) →
     IsUpWithin 1 (main_len + 1) (section_ends sections main_len) →
     length maps ≡ length (section_lasts sections main_len) →
-    is_some (entry_at (zip (section_lasts sections main_len) maps) cp) ≡ ends_section sections main_len cp
+    is_some (entry_at_cp (zip (section_lasts sections main_len) maps) cp) ≡ ends_section sections main_len cp
 section_same sections main_len maps cp up many =
-    let some = is_some (entry_at (zip (section_lasts sections main_len) maps) cp) in
+    let some = is_some (entry_at_cp (zip (section_lasts sections main_len) maps) cp) in
     elim (cases_Bool (ends_section sections main_len cp)) [
       | inl here ↦ properties_there sections main_len maps cp up many here ∙ sym here
       | inr not_here ↦ elim (cases_Bool some) [

@@ -15,7 +15,7 @@ use Rattle.prop_map.specs.Formed.{IsPropertyMap}
 use Rattle.prop_map.specs.declared.acting.Acted.{Acted}
 use Rattle.prop_map.specs.Acting.{IsActedBy, style_named}
 use Rattle.overlapping_grpprls.specs.declared.ranges.ListRange.{ListRange}
-use Rattle.overlapping_grpprls.specs.Walks.{list_at}
+use Rattle.overlapping_grpprls.specs.Walks.{list_bytes_at}
 use Rattle.overlapping_grpprls.specs.Keeping.{IsMadeBy}
 use Rattle.direct_props.proofs.Public.{makes_properties, together_one}
 use Rattle.doc_parts.specs.declared.lists.Sed.{Sed}
@@ -76,9 +76,9 @@ is-made wd list fc none acted properties e accepted bare act = record {
 
 -- the properties that were made in a walk
 pub walked_section : (wd : List ℕ) (range : ListRange) (fc : ℕ) (made : Properties) → fc ≢ 0xFFFFFFFF →
-    IsSepxPlace wd range fc → IsMadeBy (list_at wd range) section_groups made → IsMetSection wd (fc, fc) made
+    IsSepxPlace wd range fc → IsMadeBy (list_bytes_at wd range) section_groups made → IsMetSection wd (fc, fc) made
 walked_section wd range fc made there place is =
-    let list : list_at wd range ≡ sepx_list wd fc = cc (place.from, place.to) in
+    let list : list_bytes_at wd range ≡ sepx_list wd fc = cc (place.from, place.to) in
     record {
       is = inr (record {
         there = there;

@@ -6,11 +6,11 @@ use Rattle.std.proofs.lemmas.List.{map-id}
 use Rattle.std.proofs.lemmas.Option.{none-some}
 use Rattle.doc_parts.specs.Cps.{AreCpsInOrder}
 use Rattle.doc_parts.specs.Stories.{cut_cps, AreCuts}
-use Rattle.plain_doc.specs.declared.item.Item.{Item}
+use Rattle.doc_model.specs.declared.item.Item.{Item}
 use Rattle.doc_bits.proofs.Public.{slice_get-take, zero_more}
 use Rattle.fib_form.specs.declared.table_parts.TablePart.TheVariants.{PlcffndTxt}
 use Rattle.fib_form.specs.declared.stories.StoryKind.TheVariants.{Notes}
-use Rattle.file_rules.specs.Source.{DocSource, part_bytes, story_length}
+use Rattle.file_rules.specs.Source.{DocSource, table_part_bytes, story_length}
 use Rattle.file_rules.specs.NoteRules.{HasNoteCuts}
 use Rattle.doc_read.specs.Items.{TextParts, IsItemAt, HoldsItems, HoldsTexts}
 use Rattle.doc_read.specs.Texts.{AreCutsWithin, AreCutFrom}
@@ -65,7 +65,7 @@ cuts_within plc story_len begin len cuts are h =
 pub note_cuts_within : (source : DocSource) (begin len : ℕ) (cuts : List ℕ) → HasNoteCuts source cuts →
     begin + story_length source Notes ≤ len → AreCutsWithin begin cuts len
 note_cuts_within source begin len cuts (inl some) h =
-    cuts_within (part_bytes source PlcffndTxt) (story_length source Notes) begin len cuts some.1 h
+    cuts_within (table_part_bytes source PlcffndTxt) (story_length source Notes) begin len cuts some.1 h
 note_cuts_within source begin len cuts (inr none) h =
     subst (λ list. AreCutsWithin begin list len) (sym none.1)
     (record { order = λ k more. absurd (omega arith); within = λ k less. absurd (omega arith) })

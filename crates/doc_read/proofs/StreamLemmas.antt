@@ -12,9 +12,9 @@ use Rattle.std.specs.Prelude.{slice_index}
 use Rattle.doc_bits.specs.Number.{AreBytes}
 use Rattle.fib_form.specs.Fib.{fib_which_table}
 use Rattle.cfb_streams.specs.Contents.{Stream, Contents, NamedBytes, AreStreams, IsStored, AreStored}
-use Rattle.plain_doc.specs.Carried.{IsCarriedName, AreCarriedStreams}
+use Rattle.doc_model.specs.Carried.{IsCarriedName, AreCarriedStreams}
 use Rattle.doc_bits.proofs.Public.{slice_get-take}
-use Rattle.file_rules.specs.FileRules.{FileText, HasText}
+use Rattle.file_rules.specs.FileRules.{FileText, HasFileText}
 use Rattle.doc_read.specs.CarriedParts.{is_carried, carried_streams, AreWithinBounds, LeavesRoom}
 use Rattle.doc_read.proofs.CarriedLemmas.{without_chain, carried-from, carried-order, carried-count, left_out-two}
 use Rattle.doc_read.proofs.NameLemmas.{carried_name, wd-not_carried, table-not_carried}
@@ -72,7 +72,7 @@ table_name-length true = refl
 table_name-length false = refl
 
 -- two streams of the document are not carried
-pub carried-few : (contents : Contents) (text : FileText) → HasText contents text →
+pub carried-few : (contents : Contents) (text : FileText) → HasFileText contents text →
     length (carried_streams contents.streams) + 2 ≤ length contents.streams
 carried-few contents text has =
     let wd = has.has_wd in

@@ -1,12 +1,12 @@
 -- What a document carries along unread, as its file has it.
 use Rattle.std.specs.Prelude.{◌≡◌, ℕ, ◌+◌, ◌<◌, ◌≤◌, Bool, ◌&&◌, not, List, length, map, filter, slice_get, Some}
 use Rattle.cfb_streams.specs.Contents.{Stream, Contents, NamedBytes}
-use Rattle.cfb_directory.specs.Directory.{ComesBefore}
+use Rattle.cfb_directory.specs.Directory.{IsNameBefore}
 use Rattle.cfb_streams.specs.Names.{wd_name, first_table_name, second_table_name, is_same_name}
 use Rattle.fib_form.specs.FibFields.{fib_fields}
-use Rattle.plain_doc.specs.declared.carried.Carried.{Carried}
+use Rattle.doc_model.specs.declared.carried.Carried.{Carried}
 use Rattle.fib_form.specs.declared.table_parts.TablePart.TheVariants.{SttbfFfn, Dop, SttbfAssoc, PlfLst, PlfLfo}
-use Rattle.file_rules.specs.Source.{DocSource, part_bytes}
+use Rattle.file_rules.specs.Source.{DocSource, table_part_bytes}
 
 -- a stream that no save makes
 abbrev pub is_carried : List ℕ → Bool
@@ -34,7 +34,7 @@ pub record AreWithinBounds (contents : Contents) : Type 0 where
   pub fit : (i : ℕ) (stream : Stream) → slice_get contents.streams i ≡ Some stream → length stream.name ≤ 31
   pub order :
       (i j : ℕ) (stream later : Stream) → i < j → slice_get contents.streams i ≡ Some stream →
-      slice_get contents.streams j ≡ Some later → ComesBefore stream.name later.name
+      slice_get contents.streams j ≡ Some later → IsNameBefore stream.name later.name
 
 -- two streams at least are not carried, and the table stream is no longer than the longest file
 pub record LeavesRoom (contents : Contents) (table : List ℕ) : Type 0 where
@@ -43,12 +43,12 @@ pub record LeavesRoom (contents : Contents) (table : List ℕ) : Type 0 where
 
 -- the parts of the table stream, the fields of the FIB, the CLSID and the streams
 pub record HoldsCarried (contents : Contents) (source : DocSource) (levels : List ℕ) (carried : Carried) : Type 0 where
-  pub fonts : carried.fonts ≡ part_bytes source SttbfFfn
-  pub dop : carried.dop ≡ part_bytes source Dop
-  pub assoc : carried.assoc ≡ part_bytes source SttbfAssoc
-  pub lst : carried.lst ≡ part_bytes source PlfLst
+  pub fonts : carried.fonts ≡ table_part_bytes source SttbfFfn
+  pub dop : carried.dop ≡ table_part_bytes source Dop
+  pub assoc : carried.assoc ≡ table_part_bytes source SttbfAssoc
+  pub lst : carried.lst ≡ table_part_bytes source PlfLst
   pub levels_are : carried.levels ≡ levels
-  pub lfo : carried.lfo ≡ part_bytes source PlfLfo
+  pub lfo : carried.lfo ≡ table_part_bytes source PlfLfo
   pub clsid : carried.clsid ≡ contents.clsid
   pub lid : carried.lid ≡ (fib_fields source.wd).kept.lid
   pub lid_fe : carried.lid_fe ≡ (fib_fields source.wd).kept.lid_fe

@@ -5,13 +5,13 @@ use Rattle.doc_bits.specs.Places.{Place}
 use Rattle.prop_map.specs.Settings.{Properties}
 use Rattle.cfb_streams.specs.Contents.{Contents}
 use Rattle.cfb_streams.specs.Container.{HasContents}
-use Rattle.plain_doc.specs.declared.document.Document.{Document}
+use Rattle.doc_model.specs.declared.document.Document.{Document}
 use Rattle.plain_doc.specs.RulesOfSheet.{heads_of_sections}
 use Rattle.plain_doc.specs.Sound.{document_rules}
 use Rattle.fib_form.specs.declared.stories.StoryKind.TheVariants.{Main, Notes, Heads}
 use Rattle.file_rules.specs.Source.{story_length, story_begin}
 use Rattle.file_rules.specs.PartRules.{PartLists, HasPartLists}
-use Rattle.file_rules.specs.FileRules.{FileText, HasText, source_of, file_rules}
+use Rattle.file_rules.specs.FileRules.{FileText, HasFileText, doc_source_of, file_rules}
 use Rattle.doc_read.specs.Sections.{HaveProperties}
 use Rattle.doc_read.specs.Items.{TextParts, HoldsItems, HoldsTexts}
 use Rattle.doc_read.specs.CarriedParts.{HoldsCarried}
@@ -25,13 +25,13 @@ pub record FileParts : Type 0 where
 
 pub record HasFileParts (file : List ℕ) (parts : FileParts) : Type 0 where
   pub has_contents : HasContents file parts.contents
-  pub has_text : HasText parts.contents parts.text
-  pub has_lists : HasPartLists (source_of parts.text) parts.lists
+  pub has_text : HasFileText parts.contents parts.text
+  pub has_lists : HasPartLists (doc_source_of parts.text) parts.lists
   pub has_sections : HaveProperties parts.text.wd parts.lists.sections parts.sections
 
 abbrev pub text_parts : FileParts → TextParts
 text_parts parts = record {
-  source = source_of parts.text;
+  source = doc_source_of parts.text;
   pieces = parts.text.pieces;
   lists = parts.lists;
   sections = parts.sections;
@@ -43,15 +43,15 @@ head_texts lists = heads_of_sections (length lists.sections)
 
 -- the document has the texts by CP, the styles, what is carried, and the bookmarks
 pub record IsDocumentOf (parts : FileParts) (document : Document) : Type 0 where
-  pub main : HoldsItems (text_parts parts) 0 (story_length (source_of parts.text) Main) document.main
+  pub main : HoldsItems (text_parts parts) 0 (story_length (doc_source_of parts.text) Main) document.main
   pub notes :
-      HoldsTexts (text_parts parts) (story_begin (source_of parts.text) Notes) parts.lists.notes
+      HoldsTexts (text_parts parts) (story_begin (doc_source_of parts.text) Notes) parts.lists.notes
       (length parts.lists.notes - 1) document.notes
   pub heads :
-      HoldsTexts (text_parts parts) (story_begin (source_of parts.text) Heads) parts.lists.heads
+      HoldsTexts (text_parts parts) (story_begin (doc_source_of parts.text) Heads) parts.lists.heads
       (head_texts parts.lists) document.heads
   pub sheet : document.sheet ≡ parts.lists.sheet
-  pub carried : HoldsCarried parts.contents (source_of parts.text) parts.lists.levels document.carried
+  pub carried : HoldsCarried parts.contents (doc_source_of parts.text) parts.lists.levels document.carried
   pub bookmarks : document.bookmarks ≡ parts.lists.bookmarks
 
 -- the document of these streams, this text and these lists, with the properties of the sections

@@ -5,17 +5,17 @@ use Rattle.prop_map.specs.Settings.{Properties}
 use Rattle.prop_map.specs.declared.modifiers.Modifier.{Modifier}
 use Rattle.piece_table.specs.Piece.{TextPiece, UnitPlace, place_of_cp}
 use Rattle.direct_props.specs.Direct.{IsDirectCharacter, IsDirectMark}
-use Rattle.plain_doc.specs.declared.item.Item.{Item}
-use Rattle.plain_doc.specs.declared.item.Mark.{Mark}
+use Rattle.doc_model.specs.declared.item.Item.{Item}
+use Rattle.doc_model.specs.declared.item.Mark.{Mark}
 use Rattle.fib_form.specs.declared.table_parts.TablePart.TheVariants.{PlcfBteChpx, PlcfBtePapx}
 use Rattle.fib_form.specs.declared.stories.StoryKind.TheVariants.{Main}
 use Rattle.file_rules.specs.Units.{unit_at}
-use Rattle.file_rules.specs.Source.{DocSource, part_bytes, story_length}
+use Rattle.file_rules.specs.Source.{DocSource, table_part_bytes, story_length}
 use Rattle.text_codes.specs.Paragraph.{is_paragraph_end}
 use Rattle.file_rules.specs.PartRules.{PartLists}
-use Rattle.plain_doc.specs.Entries.{entry_at}
+use Rattle.doc_model.specs.Entries.{entry_at_cp}
 use Rattle.doc_read.specs.Sections.{section_marks}
-use Rattle.doc_read.specs.Marked.{field_bytes, note_kinds}
+use Rattle.doc_read.specs.Marked.{field_mark_bytes, note_kind_entries}
 
 -- what the items are read from: the streams and the text, the pieces, the lists of the parts, the properties of the
 -- sections
@@ -26,11 +26,11 @@ pub record TextParts : Type 0 where
   pub sections : List Properties
 
 -- a mark is exactly where a paragraph ends, with the style and the properties of its place
-abbrev pub IsMarkAt : Bool → List ℕ → List ℕ → ℕ → Modifier → Option Mark → Type 0
-IsMarkAt true wd bin fc modifier (Some mark) = IsDirectMark wd bin fc modifier mark.istd mark.pap
-IsMarkAt true wd bin fc modifier None = ⊥
-IsMarkAt false wd bin fc modifier (Some mark) = ⊥
-IsMarkAt false wd bin fc modifier None = ⊤
+abbrev pub IsDirectMarkAt : Bool → List ℕ → List ℕ → ℕ → Modifier → Option Mark → Type 0
+IsDirectMarkAt true wd bin fc modifier (Some mark) = IsDirectMark wd bin fc modifier mark.istd mark.pap
+IsDirectMarkAt true wd bin fc modifier None = ⊥
+IsDirectMarkAt false wd bin fc modifier (Some mark) = ⊥
+IsDirectMarkAt false wd bin fc modifier None = ⊤
 
 -- the item of a CP
 pub record IsItemAt (parts : TextParts) (cp : ℕ) (item : Item) : Type 0 where
@@ -38,14 +38,15 @@ pub record IsItemAt (parts : TextParts) (cp : ℕ) (item : Item) : Type 0 where
   pub here : place_of_cp parts.pieces cp ≡ Some place
   pub unit : item.unit ≡ unit_at parts.source.wd place
   pub characters :
-      IsDirectCharacter parts.source.wd (part_bytes parts.source PlcfBteChpx) place.at place.modifier item.chp
+      IsDirectCharacter parts.source.wd (table_part_bytes parts.source PlcfBteChpx) place.at place.modifier item.chp
   pub section :
-      item.sect ≡ entry_at (section_marks parts.lists.sections (story_length parts.source Main) parts.sections) cp
+      item.sect ≡ entry_at_cp (section_marks parts.lists.sections (story_length parts.source Main) parts.sections) cp
   pub mark :
-      IsMarkAt (is_paragraph_end item.unit (is_some item.sect)) parts.source.wd (part_bytes parts.source PlcfBtePapx)
+      IsDirectMarkAt (is_paragraph_end item.unit (is_some item.sect)) parts.source.wd (table_part_bytes parts.source
+      PlcfBtePapx)
       place.at place.modifier item.mark
-  pub field : item.fld ≡ entry_at (field_bytes parts.source parts.lists) cp
-  pub note : item.note ≡ entry_at (note_kinds parts.lists.refs) cp
+  pub field : item.fld ≡ entry_at_cp (field_mark_bytes parts.source parts.lists) cp
+  pub note : item.note ≡ entry_at_cp (note_kind_entries parts.lists.refs) cp
 
 -- the text has the items of the CPs from one to before another
 pub record HoldsItems (parts : TextParts) (from to : ℕ) (text : List Item) : Type 0 where

@@ -2,9 +2,9 @@
 use Rattle.std.specs.Prelude.{◌≡◌, ℕ, ◌<◌, List, slice_index}
 use Rattle.doc_bits.specs.Rules.{Hold, Breaks, IsLeastOfAll}
 use Rattle.doc_bits.specs.Places.{Place, Upto, IsFirstPlace}
-use Rattle.plain_doc.specs.declared.document.Document.{Document}
-use Rattle.plain_doc.specs.Formed.{IsFormed}
-use Rattle.plain_doc.specs.Marks.{HasFormedBookmarks}
+use Rattle.doc_model.specs.declared.document.Document.{Document}
+use Rattle.doc_model.specs.Formed.{IsFormed}
+use Rattle.doc_model.specs.Marks.{HasFormedBookmarks}
 use Rattle.file_rules.specs.FileRules.{file_rules}
 use Rattle.doc_read.specs.CarriedParts.{AreShortStreams}
 use Rattle.doc_read.specs.Holds.{HoldsDocument, all_rules}

@@ -2,8 +2,8 @@
 use Rattle.std.specs.Prelude.{ℕ, ◌+◌, Bool, List, ◌++◌, map, if◌then◌else◌}
 use Rattle.doc_parts.specs.declared.lists.Fld.{Fld}
 use Rattle.doc_parts.specs.declared.lists.NoteRef.{NoteRef}
-use Rattle.plain_doc.specs.declared.item.NoteKind.{NoteKind}
-use Rattle.plain_doc.specs.declared.item.NoteKind.TheVariants.{Auto, Custom}
+use Rattle.doc_model.specs.declared.item.NoteKind.{NoteKind}
+use Rattle.doc_model.specs.declared.item.NoteKind.TheVariants.{Auto, Custom}
 use Rattle.fib_form.specs.declared.stories.StoryKind.TheVariants.{Main, Notes, Heads}
 use Rattle.file_rules.specs.Source.{DocSource, story_begin}
 use Rattle.file_rules.specs.PartRules.{PartLists}
@@ -13,8 +13,8 @@ abbrev pub story_bytes : ℕ → List Fld → List (ℕ × ℕ)
 story_bytes begin fields = map (λ fld. (begin + fld.cp, fld.byte)) fields
 
 -- those of all stories
-abbrev pub field_bytes : DocSource → PartLists → List (ℕ × ℕ)
-field_bytes source lists =
+abbrev pub field_mark_bytes : DocSource → PartLists → List (ℕ × ℕ)
+field_mark_bytes source lists =
     story_bytes (story_begin source Main) lists.main_fields ++
     (story_bytes (story_begin source Notes) lists.note_fields
     ++ story_bytes (story_begin source Heads) lists.head_fields)
@@ -24,5 +24,5 @@ abbrev pub note_kind : Bool → NoteKind
 note_kind auto = if auto then Auto else Custom
 
 -- the kinds of the notes that the main text refers to
-abbrev pub note_kinds : List NoteRef → List (ℕ × NoteKind)
-note_kinds refs = map (λ ref. (ref.cp, note_kind ref.auto)) refs
+abbrev pub note_kind_entries : List NoteRef → List (ℕ × NoteKind)
+note_kind_entries refs = map (λ ref. (ref.cp, note_kind ref.auto)) refs

@@ -7,10 +7,10 @@ use Rattle.cfb_streams.specs.Contents.{Contents}
 use Rattle.cfb_streams.specs.Container.{container_rules, HasContents}
 use Rattle.fib_form.specs.FibFields.{FibFields, fib_fields}
 use Rattle.piece_table.specs.Piece.{TextPiece}
-use Rattle.plain_doc.specs.declared.document.Document.{Document}
+use Rattle.doc_model.specs.declared.document.Document.{Document}
 use Rattle.plain_doc.specs.Sound.{IsSound}
 use Rattle.file_rules.specs.PartRules.{PartLists, HasPartLists}
-use Rattle.file_rules.specs.FileRules.{FileText, HasText, source_of}
+use Rattle.file_rules.specs.FileRules.{FileText, HasFileText, doc_source_of}
 use Rattle.doc_read.specs.Holds.{IsDocumentFrom, HoldsDocument, IsAccepted}
 
 pub record OpenedFile : Type 0 where
@@ -24,17 +24,17 @@ pub record OpenedFile : Type 0 where
 pub record IsFoundIn
     (contents : Contents) (document : Document) (fib : FibFields) (pieces : List TextPiece) : Type 0 where
   pub text : FileText
-  pub has_text : HasText contents text
+  pub has_text : HasFileText contents text
   pub lists : PartLists
-  pub has_lists : HasPartLists (source_of text) lists
+  pub has_lists : HasPartLists (doc_source_of text) lists
   pub document_is : IsDocumentFrom contents text lists document
   pub fib_is : fib ≡ fib_fields text.wd
   pub pieces_are : pieces ≡ text.pieces
 
 -- the document is that of these streams and of this text, by what its parts hold
-pub record IsReadOf (contents : Contents) (text : FileText) (document : Document) : Type 0 where
+pub record IsReadDocument (contents : Contents) (text : FileText) (document : Document) : Type 0 where
   pub lists : PartLists
-  pub has_lists : HasPartLists (source_of text) lists
+  pub has_lists : HasPartLists (doc_source_of text) lists
   pub document_is : IsDocumentFrom contents text lists document
 
 -- these are the streams of some file, whose container breaks no rule

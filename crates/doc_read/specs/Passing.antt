@@ -6,7 +6,7 @@ abbrev pub AreUp : List ℕ → Type 0
 AreUp cps = (i j : ℕ) → i < j → j < length cps → slice_index cps i < slice_index cps j
 
 -- the CPs before that number are below the CP, and the others are not
-pub record IsPassed (cps : List ℕ) (next cp : ℕ) : Type 0 where
+pub record AreCpsPassed (cps : List ℕ) (next cp : ℕ) : Type 0 where
   pub within : next ≤ length cps
   pub before : (k : ℕ) → k < next → slice_index cps k < cp
   pub after : (k : ℕ) → next ≤ k → k < length cps → cp ≤ slice_index cps k

@@ -3,10 +3,10 @@ use Rattle.std.specs.Prelude.{◌≡◌, ℕ, ◌<◌, ◌^◌, List, length, Al
 use Rattle.prop_map.specs.Settings.{Properties}
 use Rattle.cfb_streams.specs.Contents.{Contents}
 use Rattle.piece_table.specs.Piece.{TextPiece}
-use Rattle.plain_doc.specs.Document.{HasPropertyMaps}
+use Rattle.doc_model.specs.Document.{HasPropertyMaps}
 use Rattle.file_rules.specs.FormatRules.{judged_units, text_count}
 use Rattle.file_rules.specs.PartRules.{PartLists, HasPartLists}
-use Rattle.file_rules.specs.FileRules.{FileText, source_of}
+use Rattle.file_rules.specs.FileRules.{FileText, doc_source_of}
 use Rattle.doc_columns.specs.Columns.{items_of}
 use Rattle.doc_read.specs.Sections.{AreSectionMaps}
 use Rattle.doc_read.specs.Items.{TextParts, HoldsItems}
@@ -44,13 +44,13 @@ pub record IsReadFromText (contents : Contents) (text : FileText) (lists : PartL
   pub sections : List Properties
   pub has_sections : AreSectionMaps text.wd lists.sections sections
   pub columns_are :
-      AreColumnsOf (record { source = source_of text; pieces = text.pieces; lists = lists; sections = sections })
+      AreColumnsOf (record { source = doc_source_of text; pieces = text.pieces; lists = lists; sections = sections })
       read.columns
-  pub carried_is : HoldsCarried contents (source_of text) lists.levels read.carried
+  pub carried_is : HoldsCarried contents (doc_source_of text) lists.levels read.carried
 
 -- the cuts of a file, and the number of header texts that belong to its sections
-abbrev pub cuts_of : PartLists → StoryCuts
-cuts_of lists = record { notes = lists.notes; heads = lists.heads; head_count = head_texts lists }
+abbrev pub story_cuts : PartLists → StoryCuts
+story_cuts lists = record { notes = lists.notes; heads = lists.heads; head_count = head_texts lists }
 
 -- the parts of the document of these streams, this text and these lists
 pub record AreDocumentParts (contents : Contents) (text : FileText) (lists : PartLists) (parts : DocumentParts) :
@@ -58,15 +58,15 @@ pub record AreDocumentParts (contents : Contents) (text : FileText) (lists : Par
   pub sections : List Properties
   pub has_sections : AreSectionMaps text.wd lists.sections sections
   pub columns_are :
-      AreColumnsOf (record { source = source_of text; pieces = text.pieces; lists = lists; sections = sections })
+      AreColumnsOf (record { source = doc_source_of text; pieces = text.pieces; lists = lists; sections = sections })
       parts.columns
-  pub cuts_are : parts.cuts ≡ cuts_of lists
+  pub cuts_are : parts.cuts ≡ story_cuts lists
   pub sheet_is : parts.sheet ≡ lists.sheet
-  pub carried_is : HoldsCarried contents (source_of text) lists.levels parts.carried
+  pub carried_is : HoldsCarried contents (doc_source_of text) lists.levels parts.carried
   pub bookmarks_are : parts.bookmarks ≡ lists.bookmarks
 
 -- the same, of the lists that the text has
 pub record IsReadFrom (contents : Contents) (text : FileText) (parts : DocumentParts) : Type 0 where
   pub lists : PartLists
-  pub has_lists : HasPartLists (source_of text) lists
+  pub has_lists : HasPartLists (doc_source_of text) lists
   pub are : AreDocumentParts contents text lists parts

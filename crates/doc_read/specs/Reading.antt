@@ -10,9 +10,9 @@ use Rattle.fkp_pages.specs.Bin.{IsBinTable}
 use Rattle.direct_props.specs.Direct.{IsDirectCharacter}
 use Rattle.direct_props.specs.PageRules.{IsValidPlace}
 use Rattle.piece_table.specs.Piece.{TextPiece, UnitPlace, place_of_cp}
-use Rattle.plain_doc.specs.declared.item.Item.{Item}
-use Rattle.plain_doc.specs.declared.item.NoteKind.{NoteKind}
-use Rattle.plain_doc.specs.Document.{HasPropertyMaps}
+use Rattle.doc_model.specs.declared.item.Item.{Item}
+use Rattle.doc_model.specs.declared.item.NoteKind.{NoteKind}
+use Rattle.doc_model.specs.Document.{HasPropertyMaps}
 use Rattle.fib_form.specs.declared.stories.StoryKind.TheVariants.{Main}
 use Rattle.file_rules.specs.Source.{DocSource, story_length}
 use Rattle.text_codes.specs.Paragraph.{is_paragraph_end}
@@ -21,11 +21,11 @@ use Rattle.doc_read.specs.declared.marked.TextMarks.{TextMarks}
 use Rattle.doc_read.specs.declared.reading.TextSource.{TextSource}
 use Rattle.doc_read.specs.declared.reading.PieceReader.{PieceReader}
 use Rattle.doc_read.specs.declared.reading.PlcCursors.{PlcCursors}
-use Rattle.plain_doc.specs.Entries.{entry_at}
+use Rattle.doc_model.specs.Entries.{entry_at_cp}
 use Rattle.doc_read.specs.Sections.{section_lasts}
-use Rattle.doc_read.specs.Marked.{field_bytes as bytes_of_fields, note_kinds as kinds_of_notes}
-use Rattle.doc_read.specs.Items.{IsMarkAt}
-use Rattle.doc_read.specs.Passing.{IsPassed, AreListed}
+use Rattle.doc_read.specs.Marked.{field_mark_bytes as bytes_of_fields, note_kind_entries as kinds_of_notes}
+use Rattle.doc_read.specs.Items.{IsDirectMarkAt}
+use Rattle.doc_read.specs.Passing.{AreCpsPassed, AreListed}
 
 -- the CPs of what is at CPs, and what is there
 pub record MarkLists : Type 0 where
@@ -45,7 +45,7 @@ mark_lists marks = record {
 }
 
 -- those of a document
-pub record AreMarksOf (source : DocSource) (lists : PartLists) (marks : MarkLists) : Type 0 where
+pub record AreMarkListsOf (source : DocSource) (lists : PartLists) (marks : MarkLists) : Type 0 where
   pub fields : marks.field_cps ≡ map (λ entry. entry.0) (bytes_of_fields source lists)
   pub bytes : marks.field_bytes ≡ map (λ entry. entry.1) (bytes_of_fields source lists)
   pub notes : marks.note_cps ≡ map (λ entry. entry.0) (kinds_of_notes lists.refs)
@@ -75,23 +75,23 @@ text_view text = record {
 
 -- what is at a CP
 abbrev pub field_at : MarkLists → ℕ → Option ℕ
-field_at marks cp = entry_at (zip marks.field_cps marks.field_bytes) cp
+field_at marks cp = entry_at_cp (zip marks.field_cps marks.field_bytes) cp
 
 abbrev pub note_at : MarkLists → ℕ → Option NoteKind
-note_at marks cp = entry_at (zip marks.note_cps marks.note_kinds) cp
+note_at marks cp = entry_at_cp (zip marks.note_cps marks.note_kinds) cp
 
 abbrev pub section_at : List ℕ → List Properties → ℕ → Option Properties
-section_at cps maps cp = entry_at (zip cps maps) cp
+section_at cps maps cp = entry_at_cp (zip cps maps) cp
 
 -- the unit of a CP ends a paragraph
-abbrev pub ends_at : TextView → ℕ → Bool
-ends_at view cp =
+abbrev pub ends_paragraph_at : TextView → ℕ → Bool
+ends_paragraph_at view cp =
     is_paragraph_end (slice_index view.units cp) (is_some (section_at view.marks.section_cps view.maps cp))
 
 -- each unit from one CP to before another that ends a paragraph has its page for a mark
 abbrev pub HaveValidMarks : TextView → ℕ → ℕ → Type 0
 HaveValidMarks view from to =
-    (cp : ℕ) → from ≤ cp → cp < to → IsTrue (ends_at view cp) →
+    (cp : ℕ) → from ≤ cp → cp < to → IsTrue (ends_paragraph_at view cp) →
     IsValidPlace Papx view.wd view.paragraphs (slice_index view.places cp)
 
 -- each unit from one CP to before another has its page for characters, and for a mark where it ends a paragraph
@@ -143,9 +143,9 @@ pub record HasReaderFor (readers : List PieceReader) (number : ℕ) (modifier : 
 
 -- what is passed before a CP
 pub record ArePassed (marks : MarkLists) (passed : PlcCursors) (cp : ℕ) : Type 0 where
-  pub fields : IsPassed marks.field_cps passed.field cp
-  pub notes : IsPassed marks.note_cps passed.note cp
-  pub sections : IsPassed marks.section_cps passed.section cp
+  pub fields : AreCpsPassed marks.field_cps passed.field cp
+  pub notes : AreCpsPassed marks.note_cps passed.note cp
+  pub sections : AreCpsPassed marks.section_cps passed.section cp
 
 -- the properties of the characters of a CP, in a piece with the modifier
 pub record IsReadCharacter (view : TextView) (modifier : Modifier) (cp : ℕ) (chp : Properties) : Type 0 where
@@ -153,12 +153,13 @@ pub record IsReadCharacter (view : TextView) (modifier : Modifier) (cp : ℕ) (c
   pub formed : IsPropertyMap character_groups chp
 
 -- the item of a CP, in a piece with the modifier
-pub record IsReadAt (view : TextView) (modifier : Modifier) (cp : ℕ) (item : Item) : Type 0 where
+pub record IsItemReadAt (view : TextView) (modifier : Modifier) (cp : ℕ) (item : Item) : Type 0 where
   pub unit_is : item.unit ≡ slice_index view.units cp
   pub characters : IsDirectCharacter view.wd view.characters (slice_index view.places cp) modifier item.chp
   pub sect_is : item.sect ≡ section_at view.marks.section_cps view.maps cp
   pub mark_is :
-      IsMarkAt (is_paragraph_end item.unit (is_some item.sect)) view.wd view.paragraphs (slice_index view.places cp)
+      IsDirectMarkAt (is_paragraph_end item.unit (is_some item.sect)) view.wd view.paragraphs (slice_index view.places
+      cp)
       modifier item.mark
   pub fld_is : item.fld ≡ field_at view.marks cp
   pub note_is : item.note ≡ note_at view.marks cp
@@ -168,7 +169,7 @@ pub record IsReadAt (view : TextView) (modifier : Modifier) (cp : ℕ) (item : I
 pub record IsPlacedItem (view : TextView) (pieces : List TextPiece) (cp : ℕ) (item : Item) : Type 0 where
   pub place : UnitPlace
   pub here : place_of_cp pieces cp ≡ Some place
-  pub read : IsReadAt view place.modifier cp item
+  pub read : IsItemReadAt view place.modifier cp item
 
 abbrev pub ArePlacedItems : TextView → List TextPiece → List Item → Type 0
 ArePlacedItems view pieces items =

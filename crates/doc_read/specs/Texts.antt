@@ -1,6 +1,6 @@
 -- Texts cut out of the items of the whole text.
 use Rattle.std.specs.Prelude.{◌≡◌, ℕ, ◌+◌, ◌<◌, ◌≤◌, List, [], length, slice_get, slice_index, slice_range, Some}
-use Rattle.plain_doc.specs.declared.item.Item.{Item}
+use Rattle.doc_model.specs.declared.item.Item.{Item}
 
 -- the cuts of a story that begins at a CP never fall, and end within so many items
 pub record AreCutsWithin (begin : ℕ) (cuts : List ℕ) (len : ℕ) : Type 0 where

@@ -1,8 +1,8 @@
 // What a document carries along unread.
 ghost use Rattle.std.specs.Prelude.{◌≡◌, ◌<◌, ◌^◌, length, IfOk};
-ghost use Rattle.file_rules.specs.Source.{part_bytes};
+ghost use Rattle.file_rules.specs.Source.{table_part_bytes};
 ghost use Rattle.file_rules.specs.PartRules.{HasPartLists, HoldButFormats};
-ghost use Rattle.file_rules.specs.FileRules.{source_of};
+ghost use Rattle.file_rules.specs.FileRules.{doc_source_of};
 ghost use Rattle.doc_read.specs.CarriedParts.{AreWithinBounds, LeavesRoom, HoldsCarried, carried_streams};
 ghost use Rattle.doc_read.specs.CarriedParts.{is_carried as is_other};
 
@@ -22,9 +22,9 @@ pub fn read_carried(
 ) -> Result<Carried, Memory>
     requires bounds { AreWithinBounds container.now }
     requires room { LeavesRoom container.now text.now.table }
-    requires rules { HoldButFormats (source_of text.now) }
-    requires lists { HasPartLists (source_of text.now) parts.now }
-    ensures { IfOk result (HoldsCarried container.now (source_of text.now) parts.now.levels) }
+    requires rules { HoldButFormats (doc_source_of text.now) }
+    requires lists { HasPartLists (doc_source_of text.now) parts.now }
+    ensures { IfOk result (HoldsCarried container.now (doc_source_of text.now) parts.now.levels) }
 {
     let fib = text.fib();
     let source = text.source();
@@ -45,8 +45,8 @@ pub fn read_carried(
 
 /// Copies a part of the table stream.
 fn copy_part(alloc: Global, source: &Source<'_>, part: TablePart) -> Result<Bytes, Memory>
-    ensures bytes { IfOk result (λ copy. copy ≡ part_bytes source.now part) }
-    ensures short { length (part_bytes source.now part) < 2 ^ 32 }
+    ensures bytes { IfOk result (λ copy. copy ≡ table_part_bytes source.now part) }
+    ensures short { length (table_part_bytes source.now part) < 2 ^ 32 }
     ensures small { length source.now.table < 2 ^ 32 }
 {
     Bytes::from_slice(alloc, source.part(part))

@@ -4,18 +4,18 @@ ghost use Rattle.doc_bits.specs.declared.places.Where.TheVariants.{File};
 ghost use Rattle.doc_bits.specs.Rules.{Hold};
 ghost use Rattle.doc_bits.specs.Places.{rules_in};
 ghost use Rattle.cfb_streams.specs.Container.{container_rules, HasContents};
-ghost use Rattle.plain_doc.specs.Marks.{HasFormedBookmarks};
+ghost use Rattle.doc_model.specs.Marks.{HasFormedBookmarks};
 ghost use Rattle.plain_doc.specs.Sound.{IsSound, document_rules};
 ghost use Rattle.fib_form.specs.FibFields.{fib_fields};
 ghost use Rattle.file_rules.specs.Faults.{IsReadFault};
 ghost use Rattle.file_rules.specs.FormatRules.{judged_units, rules_of_formats};
 ghost use Rattle.file_rules.specs.PartRules.{layout_rules, part_rules};
-ghost use Rattle.file_rules.specs.FileRules.{contents_rules, source_of};
+ghost use Rattle.file_rules.specs.FileRules.{contents_rules, doc_source_of};
 ghost use Rattle.doc_read.specs.CarriedParts.{AreWithinBounds, LeavesRoom};
 ghost use Rattle.doc_read.specs.Holds.{all_rules};
 ghost use Rattle.doc_read.specs.ReadParts.{FitUnits, IsReadFrom};
-ghost use Rattle.doc_read.specs.ReadTexts.{AreCutsOf, IsDocumentWith};
-ghost use Rattle.doc_read.specs.Opened.{AreOfFile, IsFoundIn, IsOpened, IsReadOf};
+ghost use Rattle.doc_read.specs.ReadTexts.{AreCutsOf, IsDocumentOfUnits};
+ghost use Rattle.doc_read.specs.Opened.{AreOfFile, IsFoundIn, IsOpened, IsReadDocument};
 
 use crate::document::{DocumentParts, document_with, read_document_parts};
 use cfb_streams::Container;
@@ -43,7 +43,7 @@ impl Model for ColumnFile {
     ghost use Rattle.doc_read.specs.Opened.{OpenedFile};
     ghost use Rattle.std.specs.Coded.{codes};
     ghost use Rattle.piece_table.specs.Codes.{piece_code};
-    ghost use Rattle.plain_doc.specs.contracts.document.Document as whole;
+    ghost use Rattle.doc_model.specs.contracts.document.Document as whole;
 
     ghost Value = { OpenedFile };
 
@@ -193,8 +193,8 @@ pub fn read_loaded(
     requires bounds { AreWithinBounds container.now }
     requires room { LeavesRoom container.now text.table }
     ensures { MatchResult result
-        (λ document. Hold (part_rules (source_of text.entry)) × IsReadOf container.now text.entry document)
-        (IsReadFault (part_rules (source_of text.entry))) }
+        (λ document. Hold (part_rules (doc_source_of text.entry)) × IsReadDocument container.now text.entry document)
+        (IsReadFault (part_rules (doc_source_of text.entry))) }
 {
     let found = read_found(alloc, container, text)?;
     Ok(found.document)
@@ -209,9 +209,9 @@ fn read_found(
     requires bounds { AreWithinBounds container.now }
     requires room { LeavesRoom container.now text.table }
     ensures { MatchResult result
-        (λ found. Hold (part_rules (source_of text.entry)) × IsReadOf container.now text.entry found.document
+        (λ found. Hold (part_rules (doc_source_of text.entry)) × IsReadDocument container.now text.entry found.document
         × (found.fib ≡ fib_fields text.entry.wd) × (found.pieces.pieces ≡ text.entry.pieces))
-        (IsReadFault (part_rules (source_of text.entry))) }
+        (IsReadFault (part_rules (doc_source_of text.entry))) }
 {
     let read = read_text(alloc, container, &text)?;
     let found = found_of(alloc, text, read)?;
@@ -227,8 +227,8 @@ fn read_text(
     requires bounds { AreWithinBounds container.now }
     requires room { LeavesRoom container.now text.now.table }
     ensures { MatchResult result
-        (λ parts. Hold (part_rules (source_of text.now)) × IsReadFrom container.now text.now parts)
-        (IsReadFault (part_rules (source_of text.now))) }
+        (λ parts. Hold (part_rules (doc_source_of text.now)) × IsReadFrom container.now text.now parts)
+        (IsReadFault (part_rules (doc_source_of text.now))) }
 {
     let source = text.source();
     let parts = read_unjudged(alloc, &source)?;
@@ -240,10 +240,10 @@ fn read_text(
 
 /// The document of a text whose units it takes over, with the FIB and the pieces.
 fn found_of(alloc: Global, text: LoadedText<'_>, parts: DocumentParts) -> Result<Found, Memory>
-    requires units { FitUnits (judged_units (source_of text)) parts.columns }
-    requires cuts { AreCutsOf (fib_fields text.wd) parts.cuts (length (judged_units (source_of text))) }
+    requires units { FitUnits (judged_units (doc_source_of text)) parts.columns }
+    requires cuts { AreCutsOf (fib_fields text.wd) parts.cuts (length (judged_units (doc_source_of text))) }
     ensures document { IfOk result (λ found.
-        IsDocumentWith (fib_fields text.entry.wd) (judged_units (source_of text.entry)) parts found.document) }
+        IsDocumentOfUnits (fib_fields text.entry.wd) (judged_units (doc_source_of text.entry)) parts found.document) }
     ensures fib { IfOk result (λ found. found.fib ≡ fib_fields text.entry.wd) }
     ensures pieces { IfOk result (λ found. found.pieces.pieces ≡ text.entry.pieces) }
 {

@@ -2,7 +2,7 @@
 ghost use Rattle.std.specs.Prelude.{◌≡◌, ◌↔◌, ◌-◌, ◌≤◌, length, IfOk, IsTrue, MatchOption};
 ghost use Rattle.doc_bits.specs.Rules.{Hold};
 ghost use Rattle.piece_table.specs.Piece.{total_length};
-ghost use Rattle.file_rules.specs.FileRules.{source_of};
+ghost use Rattle.file_rules.specs.FileRules.{doc_source_of};
 ghost use Rattle.file_rules.specs.FormatRules.{rules_of_formats, text_count};
 ghost use Rattle.file_rules.specs.PartRules.{HasPartLists, HoldButFormats};
 ghost use Rattle.doc_read.specs.Sections.{AreSectionMaps};
@@ -41,13 +41,13 @@ pub(crate) fn read_columns(
     parts: &DocParts<'_>,
     sections: &SectionMaps,
 ) -> Result<Option<ReadColumns>, Memory>
-    requires rules { HoldButFormats (source_of text.now) }
-    requires lists { HasPartLists (source_of text.now) parts.now }
+    requires rules { HoldButFormats (doc_source_of text.now) }
+    requires lists { HasPartLists (doc_source_of text.now) parts.now }
     requires sections { AreSectionMaps text.now.wd parts.now.sections sections.now }
     ensures { IfOk result (λ read. MatchOption read
-        (¬ (Hold (rules_of_formats (source_of text.now))))
-        (λ read. Hold (rules_of_formats (source_of text.now)) × AreColumnsOf (record {
-          source = source_of text.now;
+        (¬ (Hold (rules_of_formats (doc_source_of text.now))))
+        (λ read. Hold (rules_of_formats (doc_source_of text.now)) × AreColumnsOf (record {
+          source = doc_source_of text.now;
           pieces = text.now.pieces;
           lists = parts.now;
           sections = sections.now;

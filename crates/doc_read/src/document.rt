@@ -3,11 +3,11 @@ ghost use Rattle.std.specs.Prelude.{◌≡◌, length, IfOk, MatchOption};
 ghost use Rattle.doc_bits.specs.Rules.{Hold};
 ghost use Rattle.file_rules.specs.FormatRules.{rules_of_formats};
 ghost use Rattle.file_rules.specs.PartRules.{HasPartLists, HoldButFormats};
-ghost use Rattle.file_rules.specs.FileRules.{source_of};
+ghost use Rattle.file_rules.specs.FileRules.{doc_source_of};
 ghost use Rattle.doc_read.specs.CarriedParts.{AreWithinBounds, LeavesRoom};
 ghost use Rattle.doc_columns.specs.Columns.{items_of};
-ghost use Rattle.doc_read.specs.ReadParts.{AreDocumentParts, FitUnits, IsReadFromText, cuts_of};
-ghost use Rattle.doc_read.specs.ReadTexts.{AreCutsOf, AreTextsOf, IsDocumentWith};
+ghost use Rattle.doc_read.specs.ReadParts.{AreDocumentParts, FitUnits, IsReadFromText, story_cuts};
+ghost use Rattle.doc_read.specs.ReadTexts.{AreCutsOf, AreCutTexts, IsDocumentOfUnits};
 
 use crate::carried::read_carried;
 use crate::columns::{ReadColumns, read_columns};
@@ -59,11 +59,11 @@ pub(crate) fn read_document_parts(
 ) -> Result<Option<DocumentParts>, Memory>
     requires bounds { AreWithinBounds container.now }
     requires room { LeavesRoom container.now text.now.table }
-    requires rules { HoldButFormats (source_of text.now) }
-    requires lists { HasPartLists (source_of text.now) parts }
+    requires rules { HoldButFormats (doc_source_of text.now) }
+    requires lists { HasPartLists (doc_source_of text.now) parts }
     ensures { IfOk result (λ read. MatchOption read
-        (¬ (Hold (rules_of_formats (source_of text.now))))
-        (λ read. Hold (rules_of_formats (source_of text.now))
+        (¬ (Hold (rules_of_formats (doc_source_of text.now))))
+        (λ read. Hold (rules_of_formats (doc_source_of text.now))
         × AreDocumentParts container.now text.now parts.entry read)) }
 {
     let found = match read_from_text(alloc, container, text, &parts) {
@@ -92,11 +92,11 @@ fn read_from_text(
 ) -> Result<Option<ReadFromText>, Memory>
     requires bounds { AreWithinBounds container.now }
     requires room { LeavesRoom container.now text.now.table }
-    requires rules { HoldButFormats (source_of text.now) }
-    requires lists { HasPartLists (source_of text.now) parts.now }
+    requires rules { HoldButFormats (doc_source_of text.now) }
+    requires lists { HasPartLists (doc_source_of text.now) parts.now }
     ensures { IfOk result (λ read. MatchOption read
-        (¬ (Hold (rules_of_formats (source_of text.now))))
-        (λ read. Hold (rules_of_formats (source_of text.now))
+        (¬ (Hold (rules_of_formats (doc_source_of text.now))))
+        (λ read. Hold (rules_of_formats (doc_source_of text.now))
         × IsReadFromText container.now text.now parts.now read)) }
 {
     let sections = read_section_maps(alloc, text, &parts.sections)?;
@@ -111,7 +111,7 @@ fn read_from_text(
 fn parts_of(parts: DocParts<'_>, read: ReadFromText) -> DocumentParts
     ensures { result ≡ record {
       columns = read.columns;
-      cuts = cuts_of parts.entry;
+      cuts = story_cuts parts.entry;
       sheet = parts.entry.sheet;
       carried = read.carried;
       bookmarks = parts.entry.bookmarks;
@@ -141,7 +141,7 @@ pub(crate) fn document_with(
 ) -> Result<ColumnDocument, Memory>
     requires units { FitUnits units.items parts.columns }
     requires cuts { AreCutsOf fib.now parts.cuts (length units.items) }
-    ensures { IfOk result (IsDocumentWith fib.now units.items parts) }
+    ensures { IfOk result (IsDocumentOfUnits fib.now units.items parts) }
 {
     let DocumentParts {
         columns,
@@ -164,7 +164,7 @@ fn cut_units(
 ) -> Result<ReadTexts, Memory>
     requires units { FitUnits units.items columns }
     requires cuts { AreCutsOf fib.now cuts.now (length units.items) }
-    ensures { IfOk result (AreTextsOf fib.now cuts.now (items_of units.items columns.chps columns.attachments)) }
+    ensures { IfOk result (AreCutTexts fib.now cuts.now (items_of units.items columns.chps columns.attachments)) }
 {
     let all = Columns::from_parts(units, columns.chps, columns.attachments);
     let ends = text_ends(alloc, fib, cuts)?;
@@ -190,7 +190,7 @@ fn read_texts(
     cuts: &StoryCuts,
 ) -> Result<ReadTexts, Memory>
     requires { AreCutsOf fib.now cuts.now (length whole.old) }
-    ensures { IfOk result (AreTextsOf fib.now cuts.now whole.old) }
+    ensures { IfOk result (AreCutTexts fib.now cuts.now whole.old) }
 {
     let main = whole.cut(alloc, 0, fib.story_len(StoryKind::Main) as usize)?;
     let notes = cut_columns(

@@ -7,8 +7,8 @@ ghost use Rattle.doc_parts.specs.declared.lists.Fld.{Fld as FldType};
 ghost use Rattle.file_rules.specs.PartRules.{HasPartLists};
 ghost use Rattle.doc_read.specs.Sections.{section_lasts};
 ghost use Rattle.doc_read.specs.Marked.{note_kind};
-ghost use Rattle.doc_read.specs.Passing.{AreListed, IsPassed};
-ghost use Rattle.doc_read.specs.Reading.{AreMarksOf, mark_lists, field_at, note_at, section_at};
+ghost use Rattle.doc_read.specs.Passing.{AreListed, AreCpsPassed};
+ghost use Rattle.doc_read.specs.Reading.{AreMarkListsOf, mark_lists, field_at, note_at, section_at};
 
 use crate::entries::step;
 use crate::sections::SectionMaps;
@@ -35,8 +35,8 @@ impl TextMarks {
     /// The byte of the field character at a CP.
     pub fn byte_at(&self, next: &mut usize, cp: u32) -> Option<u8>
         requires listed { AreListed self.now.field_cps.items self.now.field_bytes.items }
-        requires passed { IsPassed self.now.field_cps.items next.old cp }
-        ensures passed { IsPassed self.now.field_cps.items next.new (cp + 1) }
+        requires passed { AreCpsPassed self.now.field_cps.items next.old cp }
+        ensures passed { AreCpsPassed self.now.field_cps.items next.new (cp + 1) }
         ensures byte { result ≡ field_at (mark_lists self.now) cp }
     {
         match step(&self.field_cps, next, cp) {
@@ -48,8 +48,8 @@ impl TextMarks {
     /// The kind of the note that the unit at a CP refers to.
     pub fn kind_at(&self, next: &mut usize, cp: u32) -> Option<NoteKind>
         requires listed { AreListed self.now.note_cps.items self.now.note_kinds.items }
-        requires passed { IsPassed self.now.note_cps.items next.old cp }
-        ensures passed { IsPassed self.now.note_cps.items next.new (cp + 1) }
+        requires passed { AreCpsPassed self.now.note_cps.items next.old cp }
+        ensures passed { AreCpsPassed self.now.note_cps.items next.new (cp + 1) }
         ensures kind { result ≡ note_at (mark_lists self.now) cp }
     {
         match step(&self.note_cps, next, cp) {
@@ -68,8 +68,8 @@ impl TextMarks {
     ) -> Result<Option<PropMap>, Memory>
         requires listed { AreListed self.now.section_cps.items maps.now }
         requires maps { All (IsPropertyMap section_groups) maps.now }
-        requires passed { IsPassed self.now.section_cps.items next.old cp }
-        ensures passed { OnOk result (IsPassed self.now.section_cps.items next.new (cp + 1)) }
+        requires passed { AreCpsPassed self.now.section_cps.items next.old cp }
+        ensures passed { OnOk result (AreCpsPassed self.now.section_cps.items next.new (cp + 1)) }
         ensures section { IfOk result (λ sect. sect ≡ section_at self.now.section_cps.items maps.now cp) }
         ensures formed { IfOk result (λ sect. IfSome sect (IsPropertyMap section_groups)) }
     {
@@ -87,7 +87,7 @@ pub fn read_marks(
     parts: &DocParts<'_>,
 ) -> Result<TextMarks, Memory>
     requires { HasPartLists source.now parts.now }
-    ensures { IfOk result (λ marks. AreMarksOf source.now parts.now (mark_lists marks)) }
+    ensures { IfOk result (λ marks. AreMarkListsOf source.now parts.now (mark_lists marks)) }
 {
     let main_len = source.story_len(StoryKind::Main);
     let notes_len = source.story_len(StoryKind::Notes);

@@ -27,7 +27,7 @@ impl Model for Opened {
     ghost use Rattle.doc_read.specs.Opened.{OpenedFile};
     ghost use Rattle.std.specs.Coded.{codes};
     ghost use Rattle.piece_table.specs.Codes.{piece_code};
-    ghost use Rattle.plain_doc.specs.contracts.document.Document as whole;
+    ghost use Rattle.doc_model.specs.contracts.document.Document as whole;
 
     ghost Value = { OpenedFile };
 

@@ -18,7 +18,7 @@ pub struct TextPart<'a> {
 impl<'a> Model for TextPart<'a> {
     ghost use Rattle.std.specs.Coded.{codes};
     ghost use Rattle.prop_map.specs.Settings.{properties_code};
-    ghost use Rattle.plain_doc.specs.contracts.item.NoteKind as note;
+    ghost use Rattle.doc_model.specs.contracts.item.NoteKind as note;
     ghost use Rattle.doc_read.specs.Reading.{TextRest, IsTextPart, text_view};
 
     ghost Value = { TextRest };

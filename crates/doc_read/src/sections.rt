@@ -3,7 +3,7 @@ ghost use Rattle.std.specs.Prelude.{◌≡◌, ◌≢◌, ◌<◌, ℕ, List, le
 ghost use Rattle.doc_bits.specs.Rules.{Hold, Nowhere};
 ghost use Rattle.sprm_table.specs.Sprm.{IsAcceptedList};
 ghost use Rattle.prop_map.specs.Formed.{IsPropertyMap};
-ghost use Rattle.file_rules.specs.FileRules.{source_of};
+ghost use Rattle.file_rules.specs.FileRules.{doc_source_of};
 ghost use Rattle.file_rules.specs.SectionRules.{HasSections, HasSepxFault, LacksSepx, rules_of_sections, sepx_list};
 ghost use Rattle.prop_map.specs.Formed.{section_groups};
 ghost use Rattle.overlapping_grpprls.specs.Keeping.{IsWalkedMap};
@@ -12,8 +12,9 @@ ghost use Rattle.doc_read.specs.Sections.{AreMetSections, AreSectionMaps, IsSect
 use doc_bits::Memory;
 use doc_parts::{NO_SEPX, Seds, sepx};
 use file_rules::{LoadedText, sepx_place, sepx_ranges};
+use grpprl_index::ListPlaces;
 use overlapping_grpprls::{WalkedMap, walked_maps};
-use prop_map::{ListPlaces, PropMap, SECTION_GROUPS, act};
+use prop_map::{PropMap, SECTION_GROUPS, act};
 use std::alloc::Global;
 use std::marker::Model;
 
@@ -51,8 +52,8 @@ pub fn read_section_maps(
     text: &LoadedText<'_>,
     sections: &Seds,
 ) -> Result<SectionMaps, Memory>
-    requires rules { Hold (rules_of_sections (source_of text.now)) }
-    requires sections { HasSections (source_of text.now) sections.now }
+    requires rules { Hold (rules_of_sections (doc_source_of text.now)) }
+    requires sections { HasSections (doc_source_of text.now) sections.now }
     ensures { IfOk result (AreSectionMaps text.now.wd sections.now) }
 {
     let source = text.source();

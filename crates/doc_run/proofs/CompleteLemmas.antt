@@ -1,7 +1,7 @@
 -- A command in whose way nothing is is served.
 use Rattle.std.proofs.Common.{◌≡◌, ◌≢◌, ◌<◌, ◌≤◌, inl, inr, refl, subst, ℕ, List, Some, length, arith}
 use Rattle.doc_bits.specs.declared.places.Where.TheVariants.{File}
-use Rattle.doc_bits.specs.Rules.{Rules, Hold, IsSingle, IsFirst}
+use Rattle.doc_bits.specs.Rules.{Rules, Hold, IsSingle, IsFirstOffset}
 use Rattle.doc_bits.specs.Places.{Place, Upto, IsFirstPlace}
 use Rattle.doc_bits.proofs.Public.{hold_or_first, first_in}
 use Rattle.doc_outer.specs.Held.{Files}
@@ -9,11 +9,11 @@ use Rattle.cfb_streams.specs.Container.{container_rules}
 use Rattle.doc_read.specs.Holds.{all_rules}
 use Rattle.doc_read.proofs.Public.{all_single}
 use Rattle.edit_guards.specs.Policies.{Policy}
-use Rattle.script_run.specs.States.{start_of}
+use Rattle.script_run.specs.States.{starting_state}
 use Rattle.run_stages.specs.Outcomes.{Outcome}
-use Rattle.document_commands.specs.Replies.{EndsBy}
+use Rattle.document_commands.specs.Replies.{EndsByReply}
 use Rattle.run_stages.specs.Judged.{Judges}
-use Rattle.document_commands.specs.Judged.{stream_rules}
+use Rattle.document_commands.specs.Judged.{rules_by_place}
 use Rattle.document_commands.specs.Answers.{ListsStreams, AnswersFile, AnswersTwo}
 use Rattle.run_stages.proofs.Public.{status_said, Says, settled}
 use Rattle.document_commands.proofs.Public.{ends_done, streams_single, file_done, two_done, import_done}
@@ -22,14 +22,14 @@ use Rattle.doc_run.specs.Commands.{Request, streams, on_document, on_two, edit, 
 use Rattle.run_stages.specs.Stages.{longest_file, BreaksLengthRule, ReadsFile}
 use Rattle.doc_run.specs.Edits.{EditsBy, IsOverlongScript, EditsFile}
 use Rattle.doc_run.specs.Imports.{IsOverlongJson}
-use Rattle.doc_run.specs.Endings.{ReadsSecond, Ends, IsEnding}
+use Rattle.doc_run.specs.Endings.{ReadsSecond, EndsCommand, IsEnding}
 use Rattle.doc_run.specs.Completeness.{HoldsRight, CanServe}
 use Rattle.doc_run.proofs.CommandLemmas.{command_one}
 use Rattle.doc_run.proofs.GenerateLemmas.{generated_done}
 use Rattle.doc_run.proofs.EditLemmas.{edited_done}
 
 -- a file that is too long breaks rule 1
-long_breaks : (file : List ℕ) → 7143936 < length file → IsFirst (container_rules file) 1 7143937
+long_breaks : (file : List ℕ) → 7143936 < length file → IsFirstOffset (container_rules file) 1 7143937
 long_breaks file h =
     inl (inl (
       refl,
@@ -43,7 +43,7 @@ long_breaks file h =
 abbrev BreakFirst : (List ℕ → Rules Place) → Type 0
 BreakFirst rules = (bytes : List ℕ) → 7143936 < length bytes → IsFirstPlace (rules bytes) 1 (File, 7143937)
 
-streams_break : BreakFirst stream_rules
+streams_break : BreakFirst rules_by_place
 streams_break file h = first_in File (container_rules file) 1 7143937 (long_breaks file h)
 
 all_break : BreakFirst all_rules
@@ -89,10 +89,10 @@ short_says name overlong next bytes outcome short (inr x) = x.1
 
 served :
     (policies : List Policy) (command : Request) (files : Files) (outcome : Outcome) →
-    CanServe policies command files → Ends policies command (Some files) outcome → outcome.status ≢ 4 →
+    CanServe policies command files → EndsCommand policies command (Some files) outcome → outcome.status ≢ 4 →
     outcome.status ≡ 0
 served policies (streams file) files outcome can ends calm =
-    let lists = read_right file files stream_rules ListsStreams outcome streams_break streams_single can ends calm in
+    let lists = read_right file files rules_by_place ListsStreams outcome streams_break streams_single can ends calm in
     status_said 0 lists.text outcome lists.ends
 served policies (on_document task file) files outcome can ends calm =
     file_done task file can.right.bytes outcome can.can
@@ -109,15 +109,15 @@ served policies (edit file script out) files outcome can ends calm =
     let x =
     read_right file files all_rules (EditsFile policies script out (Some files)) outcome all_break all_single
     can.right ends calm in
-    let start = start_of x.session policies in
-    let next = λ (b : List ℕ). EndsBy (Some out) (EditsBy start b) in
+    let start = starting_state x.session policies in
+    let next = λ (b : List ℕ). EndsByReply (Some out) (EditsBy start b) in
     let said : Says script IsOverlongScript next (Some can.bytes) outcome =
     subst (λ t. Says script IsOverlongScript next t outcome) can.there
     (settled script files IsOverlongScript next outcome x.reads calm) in
     edited_done start out can.bytes can.commands outcome can.is (can.accepted x.session x.started)
     (short_says script IsOverlongScript next can.bytes outcome can.short said)
 served policies (from_json file out) files outcome can ends calm =
-    let next = λ (b : List ℕ). EndsBy (Some out) (Imports b) in
+    let next = λ (b : List ℕ). EndsByReply (Some out) (Imports b) in
     let said : Says file IsOverlongJson next (Some can.bytes) outcome =
     subst (λ t. Says file IsOverlongJson next t outcome) can.there
     (settled file files IsOverlongJson next outcome ends calm) in
@@ -132,4 +132,4 @@ pub complete :
 complete policies words command files outcome asked can (inl usage) calm = absurd (usage.none command asked)
 complete policies words command files outcome asked can (inr is) calm =
     let e : is.command ≡ command = command_one words is.command command is.asked asked in
-    served policies command files outcome can (subst (λ c. Ends policies c (Some files) outcome) e is.ends) calm
+    served policies command files outcome can (subst (λ c. EndsCommand policies c (Some files) outcome) e is.ends) calm

@@ -19,9 +19,9 @@ use Rattle.document_commands.specs.declared.reply.Reply.{Reply}
 use Rattle.document_commands.specs.declared.reply.Reply.TheVariants.{Made, Refused}
 use Rattle.document_commands.specs.declared.reply.Refusal.TheVariants.{Script}
 use Rattle.run_stages.specs.Outcomes.{Outcome, puts}
-use Rattle.document_commands.specs.Replies.{outcome_of, EndsBy}
+use Rattle.document_commands.specs.Replies.{outcome_of, EndsByReply}
 use Rattle.doc_run.specs.EditLines.{script_line, stop_line, edited_line}
-use Rattle.doc_run.specs.Edits.{refusal_of, counts_line, PutsLastSave, SavesLast, Edits, EditsBy}
+use Rattle.doc_run.specs.Edits.{refusal_of, script_counts_line, PutsLastSave, SavesLast, Edits, EditsBy}
 use Rattle.doc_run.proofs.AlikeLemmas.{IsOne, one_same, one_when, puts_alike}
 
 -- a script has no more commands than a run takes
@@ -81,7 +81,7 @@ saves_one :
     EndsWithSave commands → a ≡ outcome_of (Some out) one → b ≡ outcome_of (Some out) other →
     PutsLastSave start commands one → PutsLastSave start commands other → IsOne (SavesLast false commands) a b
 saves_one start commands out a b one other ends ea eb x y =
-    let line = counts_line commands in
+    let line = script_counts_line commands in
     let of_a : a ≡ puts line out x.image = of_reply out a one (Made line x.image) ea x.ends in
     let of_b : b ≡ puts line out y.image = of_reply out b other (Made line y.image) eb y.ends in (
       puts_alike line out x.image y.image a b of_a of_b,
@@ -144,7 +144,7 @@ by_one free start out bytes a b one other fast ea eb (inr x) (inr y) =
 pub edited_one :
     (free : Type 0) (start : RunState) (out bytes : List ℕ) (a b : Outcome) →
     ((commands : List Command) → IsScript bytes commands → SavesLast false commands → free) →
-    EndsBy (Some out) (EditsBy start bytes) a → EndsBy (Some out) (EditsBy start bytes) b → IsOne free a b
+    EndsByReply (Some out) (EditsBy start bytes) a → EndsByReply (Some out) (EditsBy start bytes) b → IsOne free a b
 edited_one free start out bytes a b fast x y =
     by_one free start out bytes a b x.reply y.reply fast x.ends y.ends x.is y.is
 
@@ -164,8 +164,8 @@ run_of start bytes commands answer is (inr x) =
 
 pub edited_done :
     (start : RunState) (out bytes : List ℕ) (commands : List Command) (outcome : Outcome) → IsScript bytes commands →
-    IsAcceptedScript start commands → EndsBy (Some out) (EditsBy start bytes) outcome → outcome.status ≡ 0
+    IsAcceptedScript start commands → EndsByReply (Some out) (EditsBy start bytes) outcome → outcome.status ≡ 0
 edited_done start out bytes commands outcome is accepted x =
     let made = made_of start commands x.reply accepted (run_of start bytes commands x.reply is x.is) in
     ap (λ (o : Outcome). o.status)
-    (of_reply out outcome x.reply (Made (counts_line commands) made.image) x.ends made.ends)
+    (of_reply out outcome x.reply (Made (script_counts_line commands) made.image) x.ends made.ends)

@@ -9,7 +9,7 @@ use Rattle.script_run.proofs.Public.{last_mode, ends_with_save}
 use Rattle.document_commands.specs.declared.reply.Reply.{Reply}
 use Rattle.document_commands.specs.declared.reply.Reply.TheVariants.{Made}
 use Rattle.run_stages.specs.Outcomes.{Outcome, puts}
-use Rattle.document_commands.specs.Replies.{outcome_of, EndsBy}
+use Rattle.document_commands.specs.Replies.{outcome_of, EndsByReply}
 use Rattle.doc_run.specs.Generates.{generated_line, generated_counts_line, Generates, EndsGenerated}
 use Rattle.doc_run.proofs.AlikeLemmas.{IsOne, puts_alike}
 
@@ -33,8 +33,8 @@ one_image (suc seed) a b few closed x y =
     by_mode (suc seed) (last_mode (suc seed) few (omega arith)) x.image y.image
     (ends_with_save (suc seed) few (omega arith)) closed x.last y.last
 
-made_one : (seed : ℕ) (out : List ℕ) (a b : Outcome) → seed ≤ most_seed → EndsBy (Some out) (Generates seed) a →
-    EndsBy (Some out) (Generates seed) b → IsOne (EndsFastFrom seed) a b
+made_one : (seed : ℕ) (out : List ℕ) (a b : Outcome) → seed ≤ most_seed → EndsByReply (Some out) (Generates seed) a →
+    EndsByReply (Some out) (Generates seed) b → IsOne (EndsFastFrom seed) a b
 made_one seed out a b few x y =
     let line = generated_counts_line seed in
     let of_a : a ≡ puts line out x.is.image = x.ends ∙ ap (outcome_of (Some out)) x.is.ends in

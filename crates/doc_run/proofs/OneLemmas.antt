@@ -8,21 +8,21 @@ use Rattle.doc_read.specs.Holds.{all_rules}
 use Rattle.doc_read.proofs.Public.{all_single}
 use Rattle.fast_save.proofs.Public.{session_one}
 use Rattle.edit_guards.specs.Policies.{Policy}
-use Rattle.script_run.specs.States.{start_of}
+use Rattle.script_run.specs.States.{starting_state}
 use Rattle.run_stages.specs.Outcomes.{Outcome}
-use Rattle.document_commands.specs.Replies.{EndsBy}
+use Rattle.document_commands.specs.Replies.{EndsByReply}
 use Rattle.run_stages.specs.Judged.{Judges}
-use Rattle.document_commands.specs.Judged.{stream_rules}
+use Rattle.document_commands.specs.Judged.{rules_by_place}
 use Rattle.document_commands.specs.Answers.{ListsStreams, AnswersFile, AnswersTwo}
 use Rattle.run_stages.proofs.Public.{refused_one, reads_one as read_to_one}
 use Rattle.document_commands.proofs.Public.{streams_single, lists_one, file_one, two_one, ends_one as replied_one}
 use Rattle.document_commands.proofs.Public.{import_one}
 use Rattle.document_commands.specs.Imports.{Imports}
 use Rattle.doc_run.specs.Commands.{Request, streams, on_document, on_two, edit, from_json, generate, IsCommand}
-use Rattle.run_stages.specs.Stages.{BreaksLengthRule, Reads, ReadsFile}
+use Rattle.run_stages.specs.Stages.{BreaksLengthRule, ReadsNamedFile, ReadsFile}
 use Rattle.doc_run.specs.Edits.{EditsBy, IsOverlongScript, EditsFile, ReadsScript}
 use Rattle.doc_run.specs.Imports.{IsOverlongJson}
-use Rattle.doc_run.specs.Endings.{ReadsSecond, Ends, IsEnding, EndsFast, EndingIsOne}
+use Rattle.doc_run.specs.Endings.{ReadsSecond, EndsCommand, IsEnding, EndsFast, EndingIsOne}
 use Rattle.doc_run.proofs.CommandLemmas.{command_one}
 use Rattle.doc_run.proofs.AlikeLemmas.{IsOne, one_same, one_when}
 use Rattle.doc_run.proofs.GenerateLemmas.{EndsFastFrom, generated_one}
@@ -33,7 +33,7 @@ reads_one :
     (free : Type 0) (name : List ℕ) (files : Files) (overlong : Outcome → Type 0) (next : List ℕ → Outcome → Type 0)
     (a b : Outcome) → a.status ≢ 4 → b.status ≢ 4 → (overlong a → overlong b → a ≡ b) →
     ((bytes : List ℕ) → file_at files name ≡ Some bytes → next bytes a → next bytes b → IsOne free a b) →
-    Reads name (Some files) overlong next a → Reads name (Some files) overlong next b → IsOne free a b
+    ReadsNamedFile name (Some files) overlong next a → ReadsNamedFile name (Some files) overlong next b → IsOne free a b
 reads_one free name files overlong next a b ca cb long one x y =
     read_to_one (IsOne free a b) name files overlong next a b ca cb (one_same free a b) long one x y
 
@@ -68,9 +68,10 @@ scripts_one :
     IsOne (EndsFast words files) a b
 scripts_one policies words file script out files bytes a b asked ca cb x y =
     let same : x.session ≡ y.session = session_one bytes x.session y.session x.started y.started in
-    let start = start_of y.session policies in
-    let reads = subst (λ s. ReadsScript script out (Some files) (start_of s policies) a) same x.reads in
-    reads_one (EndsFast words files) script files IsOverlongScript (λ read. EndsBy (Some out) (EditsBy start read)) a b
+    let start = starting_state y.session policies in
+    let reads = subst (λ s. ReadsScript script out (Some files) (starting_state s policies) a) same x.reads in
+    reads_one (EndsFast words files) script files IsOverlongScript (λ read. EndsByReply (Some out) (EditsBy start read))
+    a b
     ca cb (λ s t. s ∙ sym t)
     (λ read there s t. edited_one (EndsFast words files) start out read a b (λ commands is last. inl (record {
       file = file;
@@ -87,11 +88,12 @@ scripts_one policies words file script out files bytes a b asked ca cb x y =
 -- one ending of a command
 ends_one :
     (policies : List Policy) (words : List (List ℕ)) (command : Request) (files : Files) (a b : Outcome) →
-    IsCommand words command → Ends policies command (Some files) a → Ends policies command (Some files) b →
+    IsCommand words command → EndsCommand policies command (Some files) a → EndsCommand policies command (Some files) b
+    →
     a.status ≢ 4 → b.status ≢ 4 → IsOne (EndsFast words files) a b
 ends_one policies words (streams file) files a b asked x y ca cb =
     let free = EndsFast words files in
-    files_one free file files stream_rules ListsStreams a b ca cb streams_single
+    files_one free file files rules_by_place ListsStreams a b ca cb streams_single
     (λ bytes s t. one_same free a b (lists_one bytes a b s t)) x y
 ends_one policies words (on_document task file) files a b asked x y ca cb =
     let free = EndsFast words files in
@@ -107,7 +109,8 @@ ends_one policies words (edit file script out) files a b asked x y ca cb =
     all_single (λ bytes s t. scripts_one policies words file script out files bytes a b asked ca cb s t) x y
 ends_one policies words (from_json file out) files a b asked x y ca cb =
     let free = EndsFast words files in
-    reads_one free file files IsOverlongJson (λ bytes. EndsBy (Some out) (Imports bytes)) a b ca cb (λ s t. s ∙ sym t)
+    reads_one free file files IsOverlongJson (λ bytes. EndsByReply (Some out) (Imports bytes)) a b ca cb (λ s t. s ∙ sym
+    t)
     (λ bytes there s t. one_same free a b (replied_one (Some out) (Imports bytes) a b (import_one bytes) s t)) x y
 ends_one policies words (generate seed out) files a b asked x y ca cb =
     one_when (EndsFastFrom seed) (EndsFast words files) a b
@@ -124,7 +127,8 @@ run_one policies words files a b (inl x) (inr y) ca cb = absurd (x.none y.comman
 run_one policies words files a b (inr x) (inl y) ca cb = absurd (y.none x.command x.asked)
 run_one policies words files a b (inr x) (inr y) ca cb =
     let e : x.command ≡ y.command = command_one words x.command y.command x.asked y.asked in
-    ends_one policies words y.command files a b y.asked (subst (λ c. Ends policies c (Some files) a) e x.ends) y.ends ca
+    ends_one policies words y.command files a b y.asked (subst (λ c. EndsCommand policies c (Some files) a) e x.ends)
+    y.ends ca
     cb
 
 pub ending_one : EndingIsOne

@@ -6,25 +6,25 @@ use Rattle.doc_bits.specs.Places.{Place}
 use Rattle.doc_outer.specs.Held.{Files, StaysAt, OthersStay}
 use Rattle.doc_read.specs.Holds.{all_rules}
 use Rattle.edit_guards.specs.Policies.{Policy}
-use Rattle.script_run.specs.States.{start_of}
+use Rattle.script_run.specs.States.{starting_state}
 use Rattle.document_commands.specs.declared.reply.Reply.{Reply}
 use Rattle.run_stages.specs.Lines.{shelf_fault_line}
 use Rattle.run_stages.specs.Outcomes.{Outcome, PutFile, says}
 use Rattle.document_commands.specs.Tasks.{out_of, out_of_two}
-use Rattle.document_commands.specs.Replies.{EndsBy, Replies, RepliesTwo}
+use Rattle.document_commands.specs.Replies.{EndsByReply, Replies, RepliesTwo}
 use Rattle.run_stages.specs.Judged.{Judges}
-use Rattle.document_commands.specs.Judged.{stream_rules}
+use Rattle.document_commands.specs.Judged.{rules_by_place}
 use Rattle.document_commands.specs.Answers.{ListsStreams, AnswersFile, AnswersTwo}
 use Rattle.run_stages.proofs.Public.{status_said, after_reading_inside}
 use Rattle.document_commands.proofs.Public.{ends_put, ends_inside}
 use Rattle.document_commands.specs.Imports.{Imports}
 use Rattle.doc_run.specs.Commands.{Request, streams, on_document, on_two, edit, from_json, generate, put_under}
 use Rattle.doc_run.specs.Commands.{IsCommand, PutsUnder}
-use Rattle.run_stages.specs.Stages.{BreaksLengthRule, Reads, ReadsFile}
+use Rattle.run_stages.specs.Stages.{BreaksLengthRule, ReadsNamedFile, ReadsFile}
 use Rattle.doc_run.specs.Generates.{Generates}
 use Rattle.doc_run.specs.Edits.{IsOverlongScript, EditsBy, EditsFile}
 use Rattle.doc_run.specs.Imports.{IsOverlongJson}
-use Rattle.doc_run.specs.Endings.{ReadsSecond, Ends, IsEnding}
+use Rattle.doc_run.specs.Endings.{ReadsSecond, EndsCommand, IsEnding}
 
 -- none of the statuses of a failing sink and of want of memory
 abbrev pub IsCalm : ℕ → Type 0
@@ -48,7 +48,8 @@ said_fine out status text outcome e calm = record {
 }
 
 reply_fine :
-    (out : Option (List ℕ)) (such : Reply → Type 0) (outcome : Outcome) → EndsBy out such outcome → IsFine out outcome
+    (out : Option (List ℕ)) (such : Reply → Type 0) (outcome : Outcome) → EndsByReply out such outcome → IsFine out
+    outcome
 reply_fine out such outcome ends = record {
   puts = λ file put. ends_put out such outcome file ends put;
   calm = after_reading_inside outcome.status (ends_inside out such outcome ends);
@@ -63,7 +64,7 @@ judges_fine out rules name next outcome step (inr x) = step x.1
 reads_fine :
     (out : Option (List ℕ)) (name : List ℕ) (held : Option Files) (overlong : Outcome → Type 0)
     (next : List ℕ → Outcome → Type 0) (outcome : Outcome) → (overlong outcome → IsFine out outcome) →
-    ((bytes : List ℕ) → next bytes outcome → IsFine out outcome) → Reads name held overlong next outcome →
+    ((bytes : List ℕ) → next bytes outcome → IsFine out outcome) → ReadsNamedFile name held overlong next outcome →
     IsFine out outcome
 reads_fine out name held overlong next outcome long step (inl x) =
     said_fine out 3 _ outcome x.ends (calm_below 3 (omega arith))
@@ -85,10 +86,10 @@ file_fine out name held rules next outcome step reads =
 -- a command puts under its own name
 ends_fine :
     (policies : List Policy) (command : Request) (held : Option Files) (outcome : Outcome) →
-    Ends policies command held outcome → IsFine (put_under command) outcome
+    EndsCommand policies command held outcome → IsFine (put_under command) outcome
 ends_fine policies (streams file) held outcome e =
     let out = put_under (streams file) in
-    file_fine out file held stream_rules ListsStreams outcome
+    file_fine out file held rules_by_place ListsStreams outcome
     (λ bytes x. said_fine out 0 x.text outcome x.ends (calm_below 0 (omega arith))) e
 ends_fine policies (on_document task file) held outcome e =
     file_fine (out_of task) file held all_rules (AnswersFile task file) outcome
@@ -100,12 +101,12 @@ ends_fine policies (on_two pair first second) held outcome e =
     (λ other x. reply_fine out (RepliesTwo pair x.first x.second) outcome x.answers) reads) e
 ends_fine policies (edit file script out) held outcome e =
     file_fine (Some out) file held all_rules (EditsFile policies script out held) outcome
-    (λ bytes x. let by = EditsBy (start_of x.session policies) in
-    reads_fine (Some out) script held IsOverlongScript (λ b. EndsBy (Some out) (by b)) outcome
+    (λ bytes x. let by = EditsBy (starting_state x.session policies) in
+    reads_fine (Some out) script held IsOverlongScript (λ b. EndsByReply (Some out) (by b)) outcome
     (λ long. said_fine (Some out) 7 _ outcome long (λ s. omega (arith, s), λ s. omega (arith, s)))
     (λ b y. reply_fine (Some out) (by b) outcome y) x.reads) e
 ends_fine policies (from_json file out) held outcome e =
-    reads_fine (Some out) file held IsOverlongJson (λ b. EndsBy (Some out) (Imports b)) outcome
+    reads_fine (Some out) file held IsOverlongJson (λ b. EndsByReply (Some out) (Imports b)) outcome
     (λ long. said_fine (Some out) 7 _ outcome long (λ s. omega (arith, s), λ s. omega (arith, s)))
     (λ b y. reply_fine (Some out) (Imports b) outcome y) e
 ends_fine policies (generate seed out) held outcome (inl fault) =
@@ -136,7 +137,7 @@ ending_puts policies words held outcome file (inr served) put =
 -- a run that puts may end by a failing shelf
 faulted :
     (policies : List Policy) (command : Request) (held : Option Files) →
-    Ends policies command held (says 4 shelf_fault_line)
+    EndsCommand policies command held (says 4 shelf_fault_line)
 faulted policies (streams file) held = inr (inl refl)
 faulted policies (on_document task file) held = inr (inl refl)
 faulted policies (on_two pair first second) held = inr (inl refl)
@@ -151,7 +152,8 @@ pub ending_faulted :
 ending_faulted policies words held outcome file failed (inl usage) put is =
     absurd (none-some file (sym (ap (λ (o : Outcome). o.put) usage.ends) ∙ put))
 ending_faulted policies words held outcome file failed (inr served) put is =
-    let ends = subst (λ o. Ends policies served.command held o) (sym is) (faulted policies served.command held) in
+    let ends = subst (λ o. EndsCommand policies served.command held o) (sym is) (faulted policies served.command held)
+    in
     inr (record { command = served.command; asked = served.asked; ends = ends })
 
 -- a name that no command of the words puts stays

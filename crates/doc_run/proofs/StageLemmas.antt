@@ -6,7 +6,7 @@ use Rattle.doc_bits.specs.Number.{AreBytes}
 use Rattle.doc_bits.specs.Rules.{Hold}
 use Rattle.doc_outer.specs.Held.{Files}
 use Rattle.doc_outer.specs.declared.shelf.Shelf.{Ghosts}
-use Rattle.plain_doc.specs.declared.document.Document.{Document}
+use Rattle.doc_model.specs.declared.document.Document.{Document}
 use Rattle.plain_doc.specs.Sound.{IsSound}
 use Rattle.doc_read.specs.Holds.{HoldsDocument, all_rules}
 use Rattle.fast_save.specs.Session.{SessionView}
@@ -14,19 +14,19 @@ use Rattle.fast_save.specs.Started.{IsStarted}
 use Rattle.run_stages.specs.declared.stage.Stage.{Stage}
 use Rattle.run_stages.specs.declared.stage.Stage.TheVariants.{Go, Stop}
 use Rattle.run_stages.specs.Outcomes.{Outcome, IsAfterReading}
-use Rattle.run_stages.specs.Judged.{IsRefused, Judges}
+use Rattle.run_stages.specs.Judged.{IsRuleRefusal, Judges}
 use Rattle.run_stages.specs.Leaves.{IsCaused}
 use Rattle.run_stages.specs.Stages.{ReadsFile, BreaksLengthRule}
-use Rattle.run_stages.specs.Reading.{IsTaken, stage_status, Follows, IsWholeIn}
+use Rattle.run_stages.specs.Reading.{IsFileStage, stage_status, FollowsStage, IsWholeIn}
 use Rattle.run_stages.proofs.Public.{said_inside, follow_reads, file_map, inside_caused}
 use Rattle.run_stages.proofs.Public.{stopped_caused as caused_as_stopped}
 use Rattle.document_commands.specs.Tasks.{PairTask, out_of_two}
 use Rattle.document_commands.specs.declared.reply.Reply.{Reply}
-use Rattle.document_commands.specs.Replies.{EndsBy, RepliesTwo}
+use Rattle.document_commands.specs.Replies.{EndsByReply, RepliesTwo}
 use Rattle.document_commands.specs.Judged.{IsJudgedFile}
 use Rattle.document_commands.specs.Answers.{AnswersTwo}
 use Rattle.document_commands.proofs.Public.{ends_inside}
-use Rattle.doc_run.specs.Reading.{IsStoppedBy, IsOpenedAs}
+use Rattle.doc_run.specs.Reading.{IsStoppedBy, IsOpenedDocument}
 use Rattle.doc_run.specs.Reading.{IsOpenedStage, IsBegun, IsBegunOn, AnswersBeside}
 use Rattle.doc_run.specs.Endings.{ReadsSecond}
 
@@ -66,14 +66,15 @@ whole_begun name taken bytes read result whole same are begins =
 refused_follows :
     (name : List ℕ) (taken : Stage (List ℕ)) (next : List ℕ → Outcome → Type 0) (outcome : Outcome) →
     IsStoppedBy name taken outcome →
-    Follows taken (λ bytes. Judges (all_rules bytes) name (next bytes)) outcome
+    FollowsStage taken (λ bytes. Judges (all_rules bytes) name (next bytes)) outcome
 refused_follows name (Go bytes) next outcome stopped = (stopped.0, inl stopped.1)
 refused_follows name (Stop ending) next outcome stopped = stopped
 
 -- a file that is refused ends the run, whatever the next stage is
 pub stopped_reads :
     (name : List ℕ) (held : Option Files) (taken : Stage (List ℕ)) (next : List ℕ → Outcome → Type 0) (outcome : Outcome) →
-    IsTaken name held (BreaksLengthRule name) taken → IsStoppedBy name taken outcome → ReadsFile name held all_rules next outcome
+    IsFileStage name held (BreaksLengthRule name) taken → IsStoppedBy name taken outcome → ReadsFile name held all_rules
+    next outcome
 stopped_reads name held taken next outcome is stopped =
     follow_reads name held taken (BreaksLengthRule name) (λ bytes. Judges (all_rules bytes) name (next bytes)) outcome
     is (refused_follows name taken next outcome stopped)
@@ -81,7 +82,8 @@ stopped_reads name held taken next outcome is stopped =
 -- what is so of the bytes that were read, and what is said of them next
 whole_reads :
     {E : Type 0} (name : List ℕ) (held : Option Files) (bytes : List ℕ) (next : List ℕ → Outcome → Type 0)
-    (result : Result Outcome E) → IsTaken name held (BreaksLengthRule name) (Go bytes) → AreBytes bytes → Hold (all_rules bytes) →
+    (result : Result Outcome E) → IsFileStage name held (BreaksLengthRule name) (Go bytes) → AreBytes bytes → Hold
+    (all_rules bytes) →
     IfOk result (λ o. next bytes o) → IfOk result (λ o. ReadsFile name held all_rules next o)
 whole_reads name held bytes next result is are accepted goes_on =
     IfOk-weaker result (λ o. next bytes o) (λ o. ReadsFile name held all_rules next o)
@@ -91,8 +93,9 @@ whole_reads name held bytes next result is are accepted goes_on =
 -- an opened document goes to the next stage
 pub opened_reads :
     {E : Type 0} (name : List ℕ) (held : Option Files) (taken : Stage (List ℕ)) (document : Document)
-    (next : List ℕ → Outcome → Type 0) (result : Result Outcome E) → IsTaken name held (BreaksLengthRule name) taken →
-    IsWholeIn taken (IsOpenedAs document) →
+    (next : List ℕ → Outcome → Type 0) (result : Result Outcome E) → IsFileStage name held (BreaksLengthRule name) taken
+    →
+    IsWholeIn taken (IsOpenedDocument document) →
     ((bytes : List ℕ) → HoldsDocument bytes document → IfOk result (λ o. next bytes o)) →
     IfOk result (λ o. ReadsFile name held all_rules next o)
 opened_reads name held (Go bytes) document next result is opened goes_on =
@@ -100,14 +103,15 @@ opened_reads name held (Go bytes) document next result is opened goes_on =
 opened_reads name held (Stop ending) document next result is opened goes_on = absurd opened
 
 pub opened_sound :
-    (taken : Stage (List ℕ)) (document : Document) → IsWholeIn taken (IsOpenedAs document) → IsSound document
+    (taken : Stage (List ℕ)) (document : Document) → IsWholeIn taken (IsOpenedDocument document) → IsSound document
 opened_sound (Go bytes) document opened = opened.1.sound
 opened_sound (Stop ending) document opened = absurd opened
 
 -- so does a session that was begun
 pub begun_reads :
     {E : Type 0} (name : List ℕ) (held : Option Files) (taken : Stage (List ℕ)) (session : SessionView)
-    (next : List ℕ → Outcome → Type 0) (result : Result Outcome E) → IsTaken name held (BreaksLengthRule name) taken →
+    (next : List ℕ → Outcome → Type 0) (result : Result Outcome E) → IsFileStage name held (BreaksLengthRule name) taken
+    →
     IsWholeIn taken (λ bytes. IsStarted bytes session) →
     ((bytes : List ℕ) → IsStarted bytes session → IfOk result (λ o. next bytes o)) →
     IfOk result (λ o. ReadsFile name held all_rules next o)
@@ -141,10 +145,10 @@ beside_inside pair first file outcome x =
 -- what comes of a reply needs no cause
 pub reply_caused :
     {S E : Type 0} (shelf : Ghosts S) (before now : S) (out : Option (List ℕ)) (such : Reply → Type 0)
-    (result : Result Outcome E) → IfOk result (λ o. EndsBy out such o) →
+    (result : Result Outcome E) → IfOk result (λ o. EndsByReply out such o) →
     IfOk result (λ o. IsCaused shelf before now o.status)
 reply_caused shelf before now out such result ends =
-    IfOk-weaker result (λ o. EndsBy out such o) (λ o. IsCaused shelf before now o.status)
+    IfOk-weaker result (λ o. EndsByReply out such o) (λ o. IsCaused shelf before now o.status)
     (λ o e. inside_caused o.status (shelf.missed before) (shelf.missed now) (shelf.faults before) (shelf.faults now)
     (ends_inside out such o e)) ends
 
@@ -153,5 +157,5 @@ pub stopped_caused :
     IsCaused shelf before now (stage_status taken) → IsStoppedBy name taken outcome →
     IsCaused shelf before now outcome.status
 stopped_caused shelf before now name taken outcome cause stopped =
-    caused_as_stopped shelf before now taken (λ bytes. IsRefused (all_rules bytes) name) outcome
+    caused_as_stopped shelf before now taken (λ bytes. IsRuleRefusal (all_rules bytes) name) outcome
     (λ bytes r. said_inside 1 _ outcome r.ends (inl (omega arith))) cause stopped

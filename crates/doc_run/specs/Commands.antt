@@ -6,7 +6,7 @@ use Rattle.document_commands.specs.Tasks.{FileTask, text_task, check_task, show_
 use Rattle.document_commands.specs.Tasks.{full_task}
 use Rattle.document_commands.specs.Tasks.{title_task, retitle_task, export_task, task_of, out_of}
 use Rattle.summary_set.specs.Written.{IsTitle}
-use Rattle.document_commands.specs.Tasks.{PairTask, compare_task, join_task, pair_of, out_of_two}
+use Rattle.document_commands.specs.Tasks.{PairTask, compare_task, join_task, pair_task_of, out_of_two}
 use Rattle.doc_run.specs.declared.command.Command as asked
 use Rattle.doc_run.specs.declared.command.Command.TheVariants as asked_for
 
@@ -29,7 +29,7 @@ pub data Request : Type 0 where
 abbrev pub request_of : asked.Command → Request
 request_of (asked_for.Streams file) = streams file.now
 request_of (asked_for.OnDocument task file) = on_document (task_of task) file.now
-request_of (asked_for.OnTwo pair first second) = on_two (pair_of pair) first.now second.now
+request_of (asked_for.OnTwo pair first second) = on_two (pair_task_of pair) first.now second.now
 request_of (asked_for.Edit file script out) = edit file.now script.now out.now
 request_of (asked_for.Import file out) = from_json file.now out.now
 request_of (asked_for.Gen seed out) = generate seed out.now

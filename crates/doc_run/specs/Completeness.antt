@@ -3,17 +3,17 @@ use Rattle.std.specs.Prelude.{◌≡◌, ◌≤◌, ℕ, List, Some, length, ⊤
 use Rattle.doc_bits.specs.Rules.{Rules, Hold}
 use Rattle.doc_bits.specs.Places.{Place}
 use Rattle.doc_outer.specs.Held.{Files, file_at}
-use Rattle.plain_doc.specs.declared.document.Document.{Document}
+use Rattle.doc_model.specs.declared.document.Document.{Document}
 use Rattle.doc_read.specs.Holds.{HoldsDocument, all_rules}
 use Rattle.edit_script.specs.declared.commands.Command.{Command}
 use Rattle.edit_script.specs.Scripts.{IsScript}
 use Rattle.edit_guards.specs.Policies.{Policy}
-use Rattle.script_run.specs.States.{start_of}
+use Rattle.script_run.specs.States.{starting_state}
 use Rattle.fast_save.specs.Session.{SessionView}
 use Rattle.fast_save.specs.Started.{IsStarted}
 use Rattle.script_run.specs.Ends.{IsAcceptedScript}
 use Rattle.document_commands.specs.Tasks.{FileTask, PairTask}
-use Rattle.document_commands.specs.Judged.{stream_rules}
+use Rattle.document_commands.specs.Judged.{rules_by_place}
 use Rattle.document_commands.specs.Replies.{CanReply, CanReplyTwo}
 use Rattle.run_stages.specs.Stages.{longest_file}
 use Rattle.document_commands.specs.Imports.{CanImport}
@@ -49,7 +49,7 @@ pub record IsEditable (policies : List Policy) (files : Files) (file script : Li
   pub is : IsScript bytes commands
   pub accepted :
       (session : SessionView) → IsStarted right.bytes session →
-      IsAcceptedScript (start_of session policies) commands
+      IsAcceptedScript (starting_state session policies) commands
 
 -- the name holds the JSON of a document that can be saved, and no more bytes than any file
 pub record IsImportable (files : Files) (name : List ℕ) : Type 0 where
@@ -60,7 +60,7 @@ pub record IsImportable (files : Files) (name : List ℕ) : Type 0 where
 
 -- nothing that the command names is in its way
 abbrev pub CanServe : List Policy → Request → Files → Type 0
-CanServe policies (streams file) files = HoldsRight stream_rules files file
+CanServe policies (streams file) files = HoldsRight rules_by_place files file
 CanServe policies (on_document task file) files = IsAnswerable task files file
 CanServe policies (on_two pair first second) files = AreAnswerable pair files first second
 CanServe policies (edit file script out) files = IsEditable policies files file script

@@ -8,11 +8,11 @@ use Rattle.edit_script.specs.declared.commands.Command.TheVariants.{Save}
 use Rattle.edit_script.specs.declared.faults.ScriptFault.{ScriptFault}
 use Rattle.edit_script.specs.declared.faults.ScriptFault.TheVariants.{TooLong}
 use Rattle.edit_script.specs.Scripts.{IsScript, IsScriptFault}
-use Rattle.edit_script.specs.Laws.{IsCause}
+use Rattle.edit_script.specs.Laws.{IsScriptCause}
 use Rattle.script_run.specs.declared.faults.Stop.{Stop}
 use Rattle.script_run.specs.declared.faults.Stop.TheVariants.{Refused, Guarded, Sixteenth, TooManyPieces, TooLarge}
 use Rattle.edit_guards.specs.Policies.{Policy}
-use Rattle.script_run.specs.States.{RunState, start_of}
+use Rattle.script_run.specs.States.{RunState, starting_state}
 use Rattle.script_run.specs.Commands.{listed}
 use Rattle.script_run.specs.Saves.{save_count}
 use Rattle.script_run.specs.Ends.{StopsAt, IsAcceptedScript, IsLastSave}
@@ -21,9 +21,9 @@ use Rattle.document_commands.specs.declared.reply.Reply.TheVariants as reply
 use Rattle.document_commands.specs.declared.reply.Refusal.{Refusal}
 use Rattle.document_commands.specs.declared.reply.Refusal.TheVariants as refusal
 use Rattle.run_stages.specs.Outcomes.{Outcome, says}
-use Rattle.document_commands.specs.Replies.{EndsBy}
+use Rattle.document_commands.specs.Replies.{EndsByReply}
 use Rattle.doc_run.specs.EditLines.{script_line, stop_line, edited_line}
-use Rattle.run_stages.specs.Stages.{Reads}
+use Rattle.run_stages.specs.Stages.{ReadsNamedFile}
 
 -- why a run is refused that a command of the script stops: an edit that is refused, one that a guard does not allow, or
 -- a save
@@ -42,8 +42,8 @@ pub record StopsRun (start : RunState) (commands : List Command) (answer : Reply
   pub ends : answer ≡ reply.Refused (refusal_of stop) (stop_line index stop)
 
 -- the line of a script that is accepted: its commands, and its saves by mode
-abbrev pub counts_line : List Command → List ℕ
-counts_line commands = edited_line (length commands) (save_count false commands) (save_count true commands)
+abbrev pub script_counts_line : List Command → List ℕ
+script_counts_line commands = edited_line (length commands) (save_count false commands) (save_count true commands)
 
 -- the script is accepted, and the bytes of its last save are to be put: a file that breaks no rule and holds the
 -- document after all commands. Where that save is full it is the full save of this document; where it is fast the file
@@ -52,7 +52,7 @@ pub record PutsLastSave (start : RunState) (commands : List Command) (answer : R
   pub accepted : IsAcceptedScript start commands
   pub image : List ℕ
   pub last : IsLastSave start (listed commands) image
-  pub ends : answer ≡ reply.Made (counts_line commands) image
+  pub ends : answer ≡ reply.Made (script_counts_line commands) image
 
 -- the last command is a save in this mode
 abbrev pub SavesLast : Bool → List Command → Type 0
@@ -65,7 +65,7 @@ Edits start commands answer = StopsRun start commands answer ⊎ PutsLastSave st
 -- the bytes are no script, and the line says why
 pub record IsNoScript (bytes : List ℕ) (answer : Reply) : Type 0 where
   pub fault : ScriptFault
-  pub cause : IsCause fault
+  pub cause : IsScriptCause fault
   pub is : IsScriptFault bytes fault
   pub ends : answer ≡ reply.Refused refusal.Script (script_line fault)
 
@@ -86,7 +86,7 @@ IsOverlongScript outcome = outcome ≡ says 7 (script_line TooLong)
 -- the script is read, and runs the session; what it makes is put under a name
 abbrev pub ReadsScript : (script out : List ℕ) → Option Files → RunState → Outcome → Type 0
 ReadsScript script out held start =
-    Reads script held IsOverlongScript (λ bytes. EndsBy (Some out) (EditsBy start bytes))
+    ReadsNamedFile script held IsOverlongScript (λ bytes. EndsByReply (Some out) (EditsBy start bytes))
 
 -- the session that begins on a file is run under the guards' policies: the script is looked for once the file is
 -- accepted
@@ -95,4 +95,4 @@ pub record EditsFile
     Type 0 where
   pub session : SessionView
   pub started : IsStarted file session
-  pub reads : ReadsScript script out held (start_of session policies) outcome
+  pub reads : ReadsScript script out held (starting_state session policies) outcome

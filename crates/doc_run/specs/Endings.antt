@@ -11,7 +11,7 @@ use Rattle.script_run.specs.Ends.{EndsInMode}
 use Rattle.document_commands.specs.Lines.{usage_line}
 use Rattle.run_stages.specs.Outcomes.{Outcome, says, AreAlike}
 use Rattle.document_commands.specs.Tasks.{PairTask}
-use Rattle.document_commands.specs.Judged.{stream_rules}
+use Rattle.document_commands.specs.Judged.{rules_by_place}
 use Rattle.document_commands.specs.Answers.{ListsStreams, AnswersFile, AnswersTwo}
 use Rattle.doc_run.specs.Commands.{Request, streams, on_document, on_two, edit, from_json, generate}
 use Rattle.doc_run.specs.Commands.{IsCommand, IsNoCommand}
@@ -25,13 +25,13 @@ abbrev pub ReadsSecond : PairTask → (second : List ℕ) → Option Files → (
 ReadsSecond pair second held first_file = ReadsFile second held all_rules (AnswersTwo pair first_file)
 
 -- how a command ends, under the guards' policies
-abbrev pub Ends : List Policy → Request → Option Files → Outcome → Type 0
-Ends policies (streams file) held = ReadsFile file held stream_rules ListsStreams
-Ends policies (on_document task file) held = ReadsFile file held all_rules (AnswersFile task file)
-Ends policies (on_two pair first second) held = ReadsFile first held all_rules (ReadsSecond pair second held)
-Ends policies (edit file script out) held = ReadsFile file held all_rules (EditsFile policies script out held)
-Ends policies (from_json file out) held = ReadsJson file out held
-Ends policies (generate seed out) held = EndsGenerated seed out
+abbrev pub EndsCommand : List Policy → Request → Option Files → Outcome → Type 0
+EndsCommand policies (streams file) held = ReadsFile file held rules_by_place ListsStreams
+EndsCommand policies (on_document task file) held = ReadsFile file held all_rules (AnswersFile task file)
+EndsCommand policies (on_two pair first second) held = ReadsFile first held all_rules (ReadsSecond pair second held)
+EndsCommand policies (edit file script out) held = ReadsFile file held all_rules (EditsFile policies script out held)
+EndsCommand policies (from_json file out) held = ReadsJson file out held
+EndsCommand policies (generate seed out) held = EndsGenerated seed out
 
 -- the words are no command
 pub record IsUsage (words : List (List ℕ)) (outcome : Outcome) : Type 0 where
@@ -43,7 +43,7 @@ pub record IsServed (policies : List Policy) (words : List (List ℕ)) (held : O
     Type 0 where
   pub command : Request
   pub asked : IsCommand words command
-  pub ends : Ends policies command held outcome
+  pub ends : EndsCommand policies command held outcome
 
 -- a run over these words and this shelf, under the guards' policies, may end so
 abbrev pub IsEnding : List Policy → List (List ℕ) → Option Files → Outcome → Type 0

@@ -1,7 +1,7 @@
 -- How a run ends that makes a file by the generator.
 use Rattle.std.specs.Prelude.{◌≡◌, ◌⊎◌, ℕ, true, false, List, ◌++◌, Some, codes}
 use Rattle.std.specs.Fmt.{decimal}
-use Rattle.plain_doc.specs.Blank.{blank_document}
+use Rattle.doc_model.specs.Blank.{blank_document}
 use Rattle.plain_doc.specs.RulesOfSheet.{item_count}
 use Rattle.full_save.specs.Layout.{full_save_image}
 use Rattle.script_run.specs.Saves.{save_count}
@@ -11,7 +11,7 @@ use Rattle.script_run.specs.GeneratedRuns.{generator_start, commands_run, mark_c
 use Rattle.document_commands.specs.declared.reply.Reply.{Reply}
 use Rattle.document_commands.specs.declared.reply.Reply.TheVariants.{Made}
 use Rattle.run_stages.specs.Outcomes.{Outcome}
-use Rattle.document_commands.specs.Replies.{EndsBy}
+use Rattle.document_commands.specs.Replies.{EndsByReply}
 use Rattle.text_codes.specs.Shown.{line}
 use Rattle.run_stages.specs.Stages.{IsShelfFault}
 
@@ -42,4 +42,4 @@ pub record Generates (seed : ℕ) (answer : Reply) : Type 0 where
 
 -- it is put, or the shelf failed; no name is read
 abbrev pub EndsGenerated : (seed : ℕ) → (out : List ℕ) → Outcome → Type 0
-EndsGenerated seed out outcome = IsShelfFault outcome ⊎ EndsBy (Some out) (Generates seed) outcome
+EndsGenerated seed out outcome = IsShelfFault outcome ⊎ EndsByReply (Some out) (Generates seed) outcome

@@ -1,11 +1,11 @@
 // The endings of a run that edits a document.
 ghost use Rattle.std.specs.Prelude.{◌≡◌, ◌≤◌, Some, length, IfOk, map};
 ghost use Rattle.doc_bits.specs.Number.{AreBytes};
-ghost use Rattle.edit_script.specs.Laws.{IsCause};
+ghost use Rattle.edit_script.specs.Laws.{IsScriptCause};
 ghost use Rattle.edit_script.specs.Scripts.{EndsWithSave, most_commands};
-ghost use Rattle.script_run.specs.States.{start_of};
+ghost use Rattle.script_run.specs.States.{starting_state};
 ghost use Rattle.script_run.specs.Ends.{IsUnchanged};
-ghost use Rattle.document_commands.specs.Replies.{EndsBy};
+ghost use Rattle.document_commands.specs.Replies.{EndsByReply};
 ghost use Rattle.document_commands.specs.declared.reply.Reply.TheVariants.{Made, Refused};
 ghost use Rattle.document_commands.specs.declared.reply.Refusal.TheVariants.{Script as no_script};
 ghost use Rattle.doc_run.specs.EditLines.{script_line as script_of, stop_line as stop_of, edited_line as edited_of};
@@ -33,7 +33,7 @@ pub(crate) fn edit_under(
 ) -> Result<Ending, Memory>
     requires { IsUnchanged session }
     ensures ends { IfOk result (λ e.
-        EndsBy (Some out.now) (EditsBy (start_of session (map (λ b. policy b) guards.old)) script.now) e) }
+        EndsByReply (Some out.now) (EditsBy (starting_state session (map (λ b. policy b) guards.old)) script.now) e) }
     ensures bytes { AreBytes script.now }
 {
     let reply = edit_by(alloc, session, script, guards)?;
@@ -62,7 +62,7 @@ fn edit_by(
     guards: &mut [Box<dyn Guard>],
 ) -> Result<Reply, Memory>
     requires { IsUnchanged session }
-    ensures { IfOk result (λ r. EditsBy (start_of session (map (λ b. policy b) guards.old)) script.now r) }
+    ensures { IfOk result (λ r. EditsBy (starting_state session (map (λ b. policy b) guards.old)) script.now r) }
 {
     match read_script(alloc, script) {
         Ok(script) => edit(alloc, session, &script, guards),
@@ -72,7 +72,7 @@ fn edit_by(
 
 /// What bytes come to that are no script.
 fn no_script(alloc: Global, fault: ScriptFault) -> Result<Reply, Memory>
-    ensures { IfOk result (λ r. IsCause fault × (r ≡ Refused no_script (script_of fault))) }
+    ensures { IfOk result (λ r. IsScriptCause fault × (r ≡ Refused no_script (script_of fault))) }
 {
     let text = script_line(alloc, fault)?;
     let why = Refusal::Script;
@@ -97,7 +97,7 @@ fn edit(
     requires unchanged { IsUnchanged session }
     requires few { length script.now ≤ most_commands }
     requires saved { EndsWithSave script.now }
-    ensures { IfOk result (λ r. Edits (start_of session (map (λ b. policy b) guards.old)) script.now r) }
+    ensures { IfOk result (λ r. Edits (starting_state session (map (λ b. policy b) guards.old)) script.now r) }
 {
     match run_script(alloc, session, script, guards) {
         Ok(saved) => reply_of_edit(alloc, saved),

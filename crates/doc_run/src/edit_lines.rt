@@ -2,7 +2,7 @@
 ghost use Rattle.std.specs.Prelude.{◌≡◌, IfOk};
 ghost use Rattle.std.specs.String.{string_bytes};
 ghost use Rattle.edit_script.specs.declared.faults.ScriptFault.TheVariants.{Shape};
-ghost use Rattle.edit_script.specs.Laws.{IsCause};
+ghost use Rattle.edit_script.specs.Laws.{IsScriptCause};
 ghost use Rattle.script_run.specs.declared.faults.Stop.TheVariants.{Refused, Guarded, Sixteenth, TooManyPieces};
 ghost use Rattle.script_run.specs.declared.faults.Stop.TheVariants.{TooLarge};
 ghost use Rattle.doc_run.specs.EditLines.{script_line as script_of, rule_text as rule_of, cause_text as cause_of};
@@ -16,7 +16,7 @@ use std::alloc::Global;
 
 /// The line that says why bytes are no script.
 pub(crate) fn script_line(alloc: Global, fault: ScriptFault) -> Result<Text, Memory>
-    ensures { IfOk result (λ text. IsCause fault × (text ≡ script_of fault)) }
+    ensures { IfOk result (λ text. IsScriptCause fault × (text ≡ script_of fault)) }
 {
     match fault {
         ScriptFault::Json => {

@@ -1,7 +1,7 @@
 // The ending of a run that makes a file by the generator.
 ghost use Rattle.std.specs.Prelude.{◌≡◌, ◌≤◌, Some, IfOk};
 ghost use Rattle.script_run.specs.GeneratedRuns.{most_seed};
-ghost use Rattle.document_commands.specs.Replies.{EndsBy};
+ghost use Rattle.document_commands.specs.Replies.{EndsByReply};
 ghost use Rattle.doc_run.specs.Generates.{generated_line as generated_of, Generates};
 
 use doc_bits::{Memory, Text};
@@ -13,7 +13,7 @@ use std::alloc::Global;
 /// The ending where what the generator makes of a seed is put under a name.
 pub(crate) fn generate_under(alloc: Global, seed: u32, out: &str) -> Result<Ending, Memory>
     requires { seed ≤ most_seed }
-    ensures { IfOk result (λ e. EndsBy (Some out.now) (Generates seed) e) }
+    ensures { IfOk result (λ e. EndsByReply (Some out.now) (Generates seed) e) }
 {
     let reply = generate_reply(alloc, seed)?;
     reply.into_ending(alloc, Some(out))

@@ -1,6 +1,6 @@
 // Where the reasons of a run go that nobody asks for.
 ghost use Rattle.std.specs.Prelude.{◌<◌, ◌≤◌, length, None, IfOk};
-ghost use Rattle.doc_outer.specs.Counts.{Rose, GoesOn};
+ghost use Rattle.doc_outer.specs.Counts.{Rose, CountGoesOn};
 
 use doc_outer::{Sink, SinkFailed};
 

@@ -3,17 +3,17 @@ ghost use Rattle.std.specs.Prelude.{Some, map, IfOk};
 ghost use Rattle.doc_bits.specs.Number.{AreBytes};
 ghost use Rattle.plain_doc.specs.Sound.{IsSound};
 ghost use Rattle.doc_read.specs.Holds.{all_rules};
-ghost use Rattle.script_run.specs.States.{start_of};
+ghost use Rattle.script_run.specs.States.{starting_state};
 ghost use Rattle.script_run.specs.Ends.{IsUnchanged};
-ghost use Rattle.document_commands.specs.Tasks.{task_of, pair_of};
-ghost use Rattle.document_commands.specs.Replies.{EndsBy};
-ghost use Rattle.document_commands.specs.Judged.{stream_rules};
+ghost use Rattle.document_commands.specs.Tasks.{task_of, pair_task_of};
+ghost use Rattle.document_commands.specs.Replies.{EndsByReply};
+ghost use Rattle.document_commands.specs.Judged.{rules_by_place};
 ghost use Rattle.run_stages.specs.Judged.{Judges};
 ghost use Rattle.document_commands.specs.Answers.{ListsStreams, AnswersFile};
 ghost use Rattle.document_commands.specs.Imports.{Imports};
 ghost use Rattle.run_stages.specs.Leaves.{IsCaused, IsOnlyRead};
 ghost use Rattle.run_stages.specs.Stages.{ReadsFile};
-ghost use Rattle.run_stages.specs.Reading.{Follows, IsTaken, stage_status};
+ghost use Rattle.run_stages.specs.Reading.{FollowsStage, IsFileStage, stage_status};
 ghost use Rattle.doc_run.specs.Reading.{AnswersBeside};
 ghost use Rattle.doc_run.specs.Edits.{EditsBy, IsOverlongScript, ReadsScript, EditsFile};
 ghost use Rattle.doc_run.specs.Imports.{ReadsJson};
@@ -39,7 +39,7 @@ pub(crate) fn serve_streams<S: Shelf>(
     file: &str,
 ) -> Result<Ending, Memory>
     ensures read { IsOnlyRead S.Shelf shelf.old shelf.new }
-    ensures ends { IfOk result (λ e. ReadsFile file.now (S.held shelf.old) stream_rules ListsStreams e) }
+    ensures ends { IfOk result (λ e. ReadsFile file.now (S.held shelf.old) rules_by_place ListsStreams e) }
     ensures cause { IfOk result (λ e. IsCaused S.Shelf shelf.old shelf.new e.status) }
 {
     let taken = take_file(alloc, shelf, file)?;
@@ -48,8 +48,8 @@ pub(crate) fn serve_streams<S: Shelf>(
 
 /// The ending where the streams of what was read are asked for.
 fn list_taken(alloc: Global, name: &str, taken: Stage<Bytes>) -> Result<Ending, Memory>
-    ensures { IfOk result (λ e. Follows taken
-        (λ bytes. Judges (stream_rules bytes) name.now (ListsStreams bytes)) e) }
+    ensures { IfOk result (λ e. FollowsStage taken
+        (λ bytes. Judges (rules_by_place bytes) name.now (ListsStreams bytes)) e) }
 {
     match taken {
         Stage::Go(bytes) => list_streams(alloc, name, bytes.as_slice()),
@@ -80,7 +80,7 @@ fn answer_taken(
     name: &str,
     taken: Stage<Bytes>,
 ) -> Result<Ending, Memory>
-    ensures { IfOk result (λ e. Follows taken
+    ensures { IfOk result (λ e. FollowsStage taken
         (λ bytes. Judges (all_rules bytes) name.now (AnswersFile (task_of task.entry) name.now bytes)) e) }
 {
     match taken {
@@ -100,7 +100,7 @@ pub(crate) fn serve_two<S: Shelf>(
 ) -> Result<Ending, Memory>
     ensures read { IsOnlyRead S.Shelf shelf.old shelf.new }
     ensures ends { IfOk result (λ e. ReadsFile first.now (S.held shelf.old) all_rules
-        (ReadsSecond (pair_of pair.entry) second.now (S.held shelf.old)) e) }
+        (ReadsSecond (pair_task_of pair.entry) second.now (S.held shelf.old)) e) }
     ensures cause { IfOk result (λ e. IsCaused S.Shelf shelf.old shelf.new e.status) }
 {
     let taken = take_file(alloc, shelf, first)?;
@@ -126,7 +126,7 @@ fn serve_second<S: Shelf>(
     requires { IsSound first.now }
     ensures read { IsOnlyRead S.Shelf shelf.old shelf.new }
     ensures ends { IfOk result (λ e.
-        ReadsFile second.now (S.held shelf.old) all_rules (AnswersBeside (pair_of pair.entry) first.now) e) }
+        ReadsFile second.now (S.held shelf.old) all_rules (AnswersBeside (pair_task_of pair.entry) first.now) e) }
     ensures cause { IfOk result (λ e. IsCaused S.Shelf shelf.old shelf.new e.status) }
 {
     let taken = take_file(alloc, shelf, second)?;
@@ -142,8 +142,8 @@ fn second_taken(
     taken: Stage<Bytes>,
 ) -> Result<Ending, Memory>
     requires { IsSound first.now }
-    ensures { IfOk result (λ e. Follows taken
-        (λ bytes. Judges (all_rules bytes) name.now (AnswersBeside (pair_of pair.entry) first.now bytes)) e) }
+    ensures { IfOk result (λ e. FollowsStage taken
+        (λ bytes. Judges (all_rules bytes) name.now (AnswersBeside (pair_task_of pair.entry) first.now bytes)) e) }
 {
     match taken {
         Stage::Go(bytes) => answer_second(alloc, pair, first, name, bytes.as_slice()),
@@ -161,7 +161,7 @@ fn answer_second(
 ) -> Result<Ending, Memory>
     requires { IsSound first.now }
     ensures judges { IfOk result (λ e.
-        Judges (all_rules file.now) name.now (AnswersBeside (pair_of pair.entry) first.now file.now) e) }
+        Judges (all_rules file.now) name.now (AnswersBeside (pair_task_of pair.entry) first.now file.now) e) }
     ensures bytes { AreBytes file.now }
 {
     let reached = open_file(alloc, name, file)?;
@@ -193,8 +193,8 @@ pub(crate) fn serve_import<S: Shelf>(
 
 /// The ending where the document that is the JSON of what was read is saved.
 fn import_taken(alloc: Global, taken: Stage<Bytes>, out: &str) -> Result<Ending, Memory>
-    ensures { IfOk result (λ e. Follows taken
-        (λ bytes. EndsBy (Some out.now) (Imports bytes)) e) }
+    ensures { IfOk result (λ e. FollowsStage taken
+        (λ bytes. EndsByReply (Some out.now) (Imports bytes)) e) }
 {
     match taken {
         Stage::Go(bytes) => import_file(alloc, bytes.as_slice(), out),
@@ -236,7 +236,7 @@ fn edit_by_name<S: Shelf>(
     requires { IsUnchanged session }
     ensures read { IsOnlyRead S.Shelf shelf.old shelf.new }
     ensures ends { IfOk result (λ e.
-        ReadsScript script.now out.now (S.held shelf.old) (start_of session (map (λ b. policy b) guards.old)) e) }
+        ReadsScript script.now out.now (S.held shelf.old) (starting_state session (map (λ b. policy b) guards.old)) e) }
     ensures cause { IfOk result (λ e. IsCaused S.Shelf shelf.old shelf.new e.status) }
 {
     let read = take_script(alloc, shelf, script);
@@ -247,7 +247,7 @@ fn edit_by_name<S: Shelf>(
 /// Reads a script whole.
 fn take_script<S: Shelf>(alloc: Global, shelf: &mut S, script: &str) -> Result<Stage<Bytes>, Memory>
     ensures read { IsOnlyRead S.Shelf shelf.old shelf.new }
-    ensures is { IfOk result (λ t. IsTaken script.now (S.held shelf.old) IsOverlongScript t) }
+    ensures is { IfOk result (λ t. IsFileStage script.now (S.held shelf.old) IsOverlongScript t) }
     ensures cause { IfOk result (λ t. IsCaused S.Shelf shelf.old shelf.new (stage_status t)) }
 {
     let overlong = overlong_script(alloc)?;
@@ -263,8 +263,9 @@ fn edit_taken(
     guards: &mut [Box<dyn Guard>],
 ) -> Result<Ending, Memory>
     requires { IsUnchanged session }
-    ensures { IfOk result (λ e. Follows taken
-        (λ bytes. EndsBy (Some out.now) (EditsBy (start_of session (map (λ b. policy b) guards.old)) bytes)) e) }
+    ensures { IfOk result (λ e. FollowsStage taken
+        (λ bytes. EndsByReply (Some out.now) (EditsBy (starting_state session (map (λ b. policy b) guards.old)) bytes))
+        e) }
 {
     match taken {
         Stage::Go(bytes) => edit_under(alloc, session, bytes.as_slice(), out, guards),

@@ -3,12 +3,12 @@ use Rattle.std.proofs.Common.{◌≡◌, sym, subst, refl, ℕ, ◌<◌, List, l
 use Rattle.std.specs.Prelude.{IsSome}
 use Rattle.std.specs.Option.{MatchOption}
 use Rattle.prop_map.specs.Formed.{IsPropertyMap, paragraph_groups}
-use Rattle.style_sheet.specs.Chain.{kind_at, HasSoundBases}
-use Rattle.plain_doc.specs.declared.item.Item.{Item}
-use Rattle.plain_doc.specs.declared.item.Mark.{Mark}
-use Rattle.plain_doc.specs.declared.document.Document.{Document}
-use Rattle.plain_doc.specs.Document.{IsFormedText}
-use Rattle.plain_doc.specs.Paragraphs.{HasNoParagraphEnd}
+use Rattle.style_sheet.specs.Chain.{style_kind_at, HasSoundBases}
+use Rattle.doc_model.specs.declared.item.Item.{Item}
+use Rattle.doc_model.specs.declared.item.Mark.{Mark}
+use Rattle.doc_model.specs.declared.document.Document.{Document}
+use Rattle.doc_model.specs.Document.{IsFormedText}
+use Rattle.doc_model.specs.Paragraphs.{HasNoParagraphEnd}
 use Rattle.plain_doc.specs.Sound.{IsSound}
 use Rattle.plain_doc.proofs.Public.{sound_is_valid, main_right, some_end, maps_there}
 use Rattle.doc_columns.proofs.Public.{EndsAt}
@@ -19,7 +19,7 @@ sound_bases document sound = (sound_is_valid document sound).bases
 
 -- the style of a mark is one of paragraphs
 pub mark_style : (document : Document) (pos : ℕ) (mark : Mark) → IsSound document →
-    IsMarkFrom document.main pos mark → kind_at document.sheet mark.istd ≡ 1
+    IsMarkFrom document.main pos mark → style_kind_at document.sheet mark.istd ≡ 1
 mark_style document pos mark sound m =
     (main_right document (sound_is_valid document sound)).styles m.end m.item m.there mark m.has
 

@@ -10,18 +10,19 @@ use Rattle.std.proofs.lemmas.Option.{same_Some}
 use Rattle.doc_bits.proofs.Public.{there_is, both_are}
 use Rattle.prop_map.specs.Settings.{Properties}
 use Rattle.run_lists.specs.Spread.{expanded}
-use Rattle.plain_doc.specs.declared.item.Item.{Item}
-use Rattle.plain_doc.specs.Stretches.{stretches, BeginsStretch}
-use Rattle.plain_doc.specs.Settings.{same_properties, is_inside}
-use Rattle.plain_doc.proofs.Public.{equal_are_same, a_mark, no_mark}
+use Rattle.doc_model.specs.declared.item.Item.{Item}
+use Rattle.doc_model.specs.Stretches.{stretches, BeginsStretch}
+use Rattle.doc_model.specs.Settings.{same_properties, is_inside}
+use Rattle.plain_doc.proofs.Public.{equal_are_same}
+use Rattle.doc_model.proofs.Public.{a_mark, no_mark}
 use Rattle.doc_columns.specs.declared.attached.Attached.{Attached}
 use Rattle.doc_columns.specs.Attached.{attached_of}
 use Rattle.doc_columns.specs.declared.walk.Parts.{Parts}
-use Rattle.doc_columns.specs.Walks.{items_in, AreParts}
+use Rattle.doc_columns.specs.Walks.{items_in, AreFullParts}
 use Rattle.doc_columns.proofs.Public.{items_long, units_are, attached_there, range_got, range_long, begins_range}
-use Rattle.doc_show.specs.Story.{is_plain, is_one_run, run_line, mark_line, sect_line, line_of_mark, line_of_sect}
+use Rattle.doc_show.specs.Story.{is_plain_item, is_one_run, run_line, mark_line, sect_line, line_of_mark, line_of_sect}
 use Rattle.doc_show.specs.Story.{paragraph_lines}
-use Rattle.doc_show.specs.Walks.{is_bare, alike_line}
+use Rattle.doc_show.specs.Walks.{is_unattached, alike_line}
 
 -- ---- runs
 
@@ -29,25 +30,26 @@ use Rattle.doc_show.specs.Walks.{is_bare, alike_line}
 abbrev pub AreAlike : List Item → ℕ → ℕ → Properties → Type 0
 AreAlike items from to chp =
     (k : ℕ) (item : Item) → from ≤ k → k < to → slice_get items k ≡ Some item →
-    (is_plain item ≡ true) × (item.chp ≡ chp)
+    (is_plain_item item ≡ true) × (item.chp ≡ chp)
 
-pub alike_by : (items : List Item) (from to : ℕ) (chp : Properties) (attached : Attached) → is_bare attached ≡ true →
+pub alike_by : (items : List Item) (from to : ℕ) (chp : Properties) (attached : Attached) → is_unattached attached ≡
+    true →
     ((k : ℕ) (item : Item) → from ≤ k → k < to → slice_get items k ≡ Some item → item.chp ≡ chp) →
     ((k : ℕ) (item : Item) → from ≤ k → k < to → slice_get items k ≡ Some item → attached_of item ≡ attached) →
     AreAlike items from to chp
 alike_by items from to chp attached bare chps attachments = λ k item le until here. (
-  ap is_bare (attachments k item le until here) ∙ bare,
+  ap is_unattached (attachments k item le until here) ∙ bare,
   chps k item le until here,
 )
 
 -- two stretches of such items one behind the other
 pub alike_on : (items : List Item) (from to end : ℕ) (first next : Properties) (attached : Attached) →
-    AreAlike items from to first → true ≡ (is_bare attached && same_properties first next) →
+    AreAlike items from to first → true ≡ (is_unattached attached && same_properties first next) →
     ((k : ℕ) (item : Item) → to ≤ k → k < end → slice_get items k ≡ Some item → item.chp ≡ next) →
     ((k : ℕ) (item : Item) → to ≤ k → k < end → slice_get items k ≡ Some item → attached_of item ≡ attached) →
     AreAlike items from end first
 alike_on items from to end first next attached before same chps attachments = λ k item le until here.
-    let both = both_are (is_bare attached) (same_properties first next) same in
+    let both = both_are (is_unattached attached) (same_properties first next) same in
     let one : first ≡ next = (equal_are_same first next).0 both.1 in
     elim (cases_lt k to) [
       | inl early ↦ before k item le early here
@@ -69,7 +71,7 @@ alike_joined items from to chp alike k item next le until here there =
 -- the run ends before an item that is not plain or has other properties
 pub alike_ends : (items : List Item) (from to end : ℕ) (first next : Properties) (attached : Attached) → from < to →
     to < end →
-    AreAlike items from to first → false ≡ (is_bare attached && same_properties first next) →
+    AreAlike items from to first → false ≡ (is_unattached attached && same_properties first next) →
     ((k : ℕ) (item : Item) → to ≤ k → k < end → slice_get items k ≡ Some item → item.chp ≡ next) →
     ((k : ℕ) (item : Item) → to ≤ k → k < end → slice_get items k ≡ Some item → attached_of item ≡ attached) →
     (one other : Item) → slice_get items (to - 1) ≡ Some one → slice_get items to ≡ Some other →
@@ -77,7 +79,8 @@ pub alike_ends : (items : List Item) (from to end : ℕ) (first next : Propertie
 alike_ends items from to end first next attached some more alike apart chps attachments one other here there =
     let last = alike (to - 1) one (omega (arith, some)) (omega (arith, some)) here in
     let chp = chps to other (omega arith) more there in
-    let plain : is_plain other ≡ is_bare attached = ap is_bare (attachments to other (omega arith) more there) in
+    let plain : is_plain_item other ≡ is_unattached attached = ap is_unattached (attachments to other (omega arith) more
+    there) in
     (λ i. last.0 i && (plain i && same_properties (last.1 i) (chp i))) ∙ sym apart
 
 run_line_of : (xs : List Item) (x : Item) → slice_get xs 0 ≡ Some x →
@@ -87,7 +90,8 @@ run_line_of (y ∷ ys) x is =
     ap (λ (z : Item). alike_line (attached_of z) z.chp (map (λ (item : Item). item.unit) (y ∷ ys))) (same_Some y x is)
 
 -- the line of the items of a range
-pub run_line-range : (parts : Parts) → AreParts parts → (at to end : ℕ) (chp : Properties) (attached : Attached) → at <
+pub run_line-range : (parts : Parts) → AreFullParts parts → (at to end : ℕ) (chp : Properties) (attached : Attached) →
+    at <
     to →
     to ≤ length parts.units.now → at < end →
     ((k : ℕ) (item : Item) → at ≤ k → k < end → slice_get (items_in parts) k ≡ Some item → item.chp ≡ chp) →
@@ -113,7 +117,7 @@ run_line-range parts are at to end chp attached some within first chps attachmen
 -- ---- paragraphs
 
 -- a paragraph of the text
-pub begins_paragraph : (parts : Parts) → AreParts parts → (from to : ℕ) → from < to → to ≤ length parts.units.now →
+pub begins_paragraph : (parts : Parts) → AreFullParts parts → (from to : ℕ) → from < to → to ≤ length parts.units.now →
     ((k : ℕ) (attached : Attached) → from ≤ k → k + 1 < to → slice_get (expanded parts.attachments.now) k ≡ Some
     attached →
     attached.mark ≡ None) →
@@ -128,7 +132,7 @@ begins_paragraph parts are from to some within inside ends =
     (λ more x y here there. a_mark x y (ends more (attached_of x) (attached_there parts are (to - 1) x here)))
 
 -- its lines, by what is beside its last item
-pub paragraph-range : (parts : Parts) → AreParts parts → (from to : ℕ) (attached : Attached) → from < to →
+pub paragraph-range : (parts : Parts) → AreFullParts parts → (from to : ℕ) (attached : Attached) → from < to →
     to ≤ length parts.units.now → slice_get (expanded parts.attachments.now) (to - 1) ≡ Some attached →
     paragraph_lines (slice_range (items_in parts) from to)
     ≡ mark_line attached.mark ++ (flat_map run_line (stretches is_one_run (slice_range (items_in parts) from to))
@@ -157,7 +161,8 @@ three_put start one two three p q s e f g =
     ∙ append_assoc start p (q ++ s)
 
 -- all of a text is a range of it
-pub whole_range : (parts : Parts) → AreParts parts → slice_range (items_in parts) 0 (length parts.units.now) ≡ items_in
+pub whole_range : (parts : Parts) → AreFullParts parts → slice_range (items_in parts) 0 (length parts.units.now) ≡
+    items_in
     parts
 whole_range parts are =
     let none : length parts.units.now - 0 ≡ length parts.units.now = omega arith in

@@ -7,8 +7,8 @@ use Rattle.std.specs.List.{flat_map}
 use Rattle.std.proofs.lemmas.List.{append-nil, drop-drop, drop-take}
 use Rattle.std.proofs.lemmas.List.Concat.{flat_map-cons}
 use Rattle.run_lists.proofs.Public.{same_front}
-use Rattle.plain_doc.specs.Stretches.{stretches, BeginsStretch}
-use Rattle.plain_doc.proofs.Public.{stretches-first, stretches-nil}
+use Rattle.doc_model.specs.Stretches.{stretches, BeginsStretch}
+use Rattle.doc_model.proofs.Public.{stretches-first, stretches-nil}
 
 -- the front of a range, and what is behind it
 range_front : {A : Type 0} (xs : List A) (from to end : ℕ) → from ≤ to → to ≤ end → end ≤ length xs →

@@ -3,7 +3,7 @@ use Rattle.std.specs.Prelude.{ℕ, is_some, List, ◌++◌, length, codes}
 use Rattle.std.specs.List.{count_by}
 use Rattle.std.specs.Fmt.{decimal}
 use Rattle.style_sheet.specs.Sheet.{Sheet}
-use Rattle.plain_doc.specs.declared.document.Document.{Document}
+use Rattle.doc_model.specs.declared.document.Document.{Document}
 use Rattle.plain_doc.specs.RulesOfSheet.{item_count, section_count}
 use Rattle.doc_show.specs.declared.counts.Counts.{Counts}
 use Rattle.text_codes.specs.Shown.{line}

@@ -1,6 +1,6 @@
 -- What the definitions imply.
 use Rattle.std.specs.Prelude.{◌≡◌, ℕ, List}
-use Rattle.plain_doc.specs.declared.document.Document.{Document}
+use Rattle.doc_model.specs.declared.document.Document.{Document}
 use Rattle.doc_show.specs.Properties.{ArePropertyLines}
 
 -- an item of a document has one text of property lines

@@ -2,14 +2,14 @@
 use Rattle.std.specs.Prelude.{ℕ, false, List, [], ◌∷◌, ◌++◌, Option, Some, None, codes}
 use Rattle.std.specs.List.{flat_map, enumerate_from}
 use Rattle.std.specs.Fmt.{decimal}
-use Rattle.text_codes.specs.Shown.{shown}
-use Rattle.doc_parts.specs.declared.bookmark_order.Bookmark.{Bookmark}
+use Rattle.text_codes.specs.Shown.{shown_text}
+use Rattle.document_bookmarks.specs.declared.bookmark_order.Bookmark.{Bookmark}
 use Rattle.style_sheet.specs.declared.styles.Style.{Style}
 use Rattle.style_sheet.specs.declared.styles.Kind.{Kind}
 use Rattle.style_sheet.specs.declared.styles.Kind.TheVariants.{Para, Char, Other}
 use Rattle.style_sheet.specs.Sheet.{Sheet}
-use Rattle.plain_doc.specs.declared.item.Item.{Item}
-use Rattle.plain_doc.specs.declared.document.Document.{Document}
+use Rattle.doc_model.specs.declared.item.Item.{Item}
+use Rattle.doc_model.specs.declared.document.Document.{Document}
 use Rattle.doc_show.specs.Settings.{properties_text}
 use Rattle.text_codes.specs.Shown.{line}
 use Rattle.doc_show.specs.Story.{story_lines}
@@ -34,7 +34,7 @@ kind_lines (Other stk upxes) = []
 abbrev pub style_lines : ℕ → Style → List ℕ
 style_lines istd style =
     line (codes "style " ++ (decimal istd ++ (kind_word style.kind ++ (base_word style.base
-    ++ (32 ∷ [] ++ (decimal style.next ++ (32 ∷ [] ++ shown false style.name)))))))
+    ++ (32 ∷ [] ++ (decimal style.next ++ (32 ∷ [] ++ shown_text false style.name)))))))
     ++ kind_lines style.kind
 
 -- a slot that is empty has no lines
@@ -59,7 +59,7 @@ numbered_lines word texts =
 abbrev pub bookmark_line : Bookmark → List ℕ
 bookmark_line bookmark =
     line (codes "bookmark " ++ (decimal bookmark.from ++ (32 ∷ [] ++ (decimal bookmark.to
-    ++ (32 ∷ [] ++ shown false bookmark.name)))))
+    ++ (32 ∷ [] ++ shown_text false bookmark.name)))))
 
 abbrev pub bookmark_lines : List Bookmark → List ℕ
 bookmark_lines list = flat_map bookmark_line list

@@ -6,10 +6,10 @@ use Rattle.prop_map.specs.Settings.{Properties}
 use Rattle.effective_props.specs.declared.tabs.Tab.{Tab}
 use Rattle.effective_props.specs.declared.effective.ParaEffect.{ParaEffect}
 use Rattle.effective_props.specs.Effective.{IsEffectiveCharacter, IsEffectiveParagraph}
-use Rattle.plain_doc.specs.declared.item.Item.{Item}
-use Rattle.plain_doc.specs.declared.item.Mark.{Mark}
-use Rattle.plain_doc.specs.declared.document.Document.{Document}
-use Rattle.plain_doc.specs.Paragraphs.{IsParagraphEnd}
+use Rattle.doc_model.specs.declared.item.Item.{Item}
+use Rattle.doc_model.specs.declared.item.Mark.{Mark}
+use Rattle.doc_model.specs.declared.document.Document.{Document}
+use Rattle.doc_model.specs.Paragraphs.{IsParagraphEnd}
 use Rattle.text_codes.specs.Digits.{byte_text, word_text}
 use Rattle.doc_show.specs.Settings.{properties_text}
 use Rattle.text_codes.specs.Shown.{line}

@@ -3,24 +3,24 @@ use Rattle.std.specs.Prelude.{ℕ, ◌-◌, Bool, false, not, ◌&&◌, is_some,
 use Rattle.std.specs.Prelude.{None, slice_get, codes}
 use Rattle.std.specs.List.{flat_map}
 use Rattle.std.specs.Fmt.{decimal}
-use Rattle.text_codes.specs.Shown.{line, shown}
+use Rattle.text_codes.specs.Shown.{line, shown_text}
 use Rattle.prop_map.specs.Settings.{Properties}
-use Rattle.plain_doc.specs.declared.item.Item.{Item}
-use Rattle.plain_doc.specs.declared.item.Mark.{Mark}
-use Rattle.plain_doc.specs.declared.item.NoteKind.{NoteKind}
-use Rattle.plain_doc.specs.declared.item.NoteKind.TheVariants.{Auto, Custom}
-use Rattle.plain_doc.specs.Stretches.{stretches}
-use Rattle.plain_doc.specs.Settings.{same_properties, is_inside}
+use Rattle.doc_model.specs.declared.item.Item.{Item}
+use Rattle.doc_model.specs.declared.item.Mark.{Mark}
+use Rattle.doc_model.specs.declared.item.NoteKind.{NoteKind}
+use Rattle.doc_model.specs.declared.item.NoteKind.TheVariants.{Auto, Custom}
+use Rattle.doc_model.specs.Stretches.{stretches}
+use Rattle.doc_model.specs.Settings.{same_properties, is_inside}
 use Rattle.text_codes.specs.Digits.{byte_text}
 use Rattle.doc_show.specs.Settings.{properties_text}
 
 -- an item that is no field character and no reference
-abbrev pub is_plain : Item → Bool
-is_plain item = not (is_some item.fld) && not (is_some item.note)
+abbrev pub is_plain_item : Item → Bool
+is_plain_item item = not (is_some item.fld) && not (is_some item.note)
 
 -- the next item is of the same run
 abbrev pub is_one_run : Item → Item → Bool
-is_one_run item next = is_plain item && (is_plain next && same_properties item.chp next.chp)
+is_one_run item next = is_plain_item item && (is_plain_item next && same_properties item.chp next.chp)
 
 -- what is before the properties of an item
 abbrev pub note_word : Option NoteKind → List ℕ
@@ -37,7 +37,7 @@ abbrev pub run_line : List Item → List ℕ
 run_line [] = []
 run_line (item ∷ more) =
     line (item_word item.fld item.note ++ (properties_text item.chp
-    ++ (codes " | " ++ shown false (map (λ i. i.unit) (item ∷ more)))))
+    ++ (codes " | " ++ shown_text false (map (λ i. i.unit) (item ∷ more)))))
 
 -- the line of a paragraph's mark
 abbrev pub mark_line : Option Mark → List ℕ

@@ -2,7 +2,7 @@
 // in effect.
 ghost use Rattle.std.specs.Prelude.{◌≡◌, ◌<◌, ◌++◌, length, IfOk, OnOk, MatchOption};
 ghost use Rattle.std.specs.List.{flat_map};
-ghost use Rattle.plain_doc.specs.Paragraphs.{HasNoParagraphEnd};
+ghost use Rattle.doc_model.specs.Paragraphs.{HasNoParagraphEnd};
 ghost use Rattle.plain_doc.specs.Sound.{IsSound};
 ghost use Rattle.doc_show.specs.Properties.{ArePropertyLines, IsMarkFrom, item_lines, mark_lines, tab_text, tabs_line};
 ghost use Rattle.doc_show.specs.Properties.{unit_line, style_line};

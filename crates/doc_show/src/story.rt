@@ -2,14 +2,14 @@
 ghost use Rattle.std.specs.Prelude.{◌≡◌, ℕ, ◌+◌, ◌-◌, ◌<◌, ◌≤◌, ◌++◌, ◌&&◌, true, false};
 ghost use Rattle.std.specs.Prelude.{length, slice_get, slice_range, Some, OnOk};
 ghost use Rattle.std.specs.List.{flat_map};
-ghost use Rattle.plain_doc.specs.declared.item.Item.{Item};
-ghost use Rattle.plain_doc.specs.Stretches.{stretches};
-ghost use Rattle.plain_doc.specs.Settings.{same_properties};
+ghost use Rattle.doc_model.specs.declared.item.Item.{Item};
+ghost use Rattle.doc_model.specs.Stretches.{stretches};
+ghost use Rattle.doc_model.specs.Settings.{same_properties};
 ghost use Rattle.doc_columns.specs.Attached.{attached_of};
-ghost use Rattle.doc_columns.specs.Walks.{items_in, AreParts, IsWalk};
+ghost use Rattle.doc_columns.specs.Walks.{items_in, AreFullParts, IsColumnWalk};
 ghost use Rattle.doc_show.specs.Story.{is_one_run, item_word, mark_line};
 ghost use Rattle.doc_show.specs.Story.{run_line, sect_line, story_lines};
-ghost use Rattle.doc_show.specs.Walks.{is_bare, alike_line};
+ghost use Rattle.doc_show.specs.Walks.{is_unattached, alike_line};
 
 use crate::shown_maps::ShownMaps;
 use doc_bits::{Memory, Text};
@@ -31,7 +31,7 @@ pub(crate) fn push_story(alloc: Global, text: &mut Text, columns: &Columns) -> R
 
 /// Appends the lines of paragraphs: of each its mark, its runs, and the section that ends with it.
 fn push_paragraphs(alloc: Global, text: &mut Text, parts: &Parts<'_>) -> Result<(), Memory>
-    requires { AreParts parts.now }
+    requires { AreFullParts parts.now }
     ensures { OnOk result (text.new ≡ text.old ++ story_lines (items_in parts.now)) }
 {
     let mut maps = ShownMaps::new(alloc);
@@ -85,11 +85,11 @@ fn push_runs(
     from: usize,
     end: usize,
 ) -> Result<(), Memory>
-    requires parts { AreParts parts.now }
-    requires walk { IsWalk parts.now walk.old from }
+    requires parts { AreFullParts parts.now }
+    requires walk { IsColumnWalk parts.now walk.old from }
     requires ordered { from ≤ end }
     requires within { end ≤ length parts.now.units.now }
-    ensures walk { OnOk result (IsWalk parts.now walk.new end) }
+    ensures walk { OnOk result (IsColumnWalk parts.now walk.new end) }
     ensures lines { OnOk result (text.new ≡ text.old
         ++ flat_map run_line (stretches is_one_run (slice_range (items_in parts.now) from end))) }
 {
@@ -105,8 +105,8 @@ fn push_runs(
 
 /// Where the run of a place ends, which begins with items that have this in common, in a paragraph up to `end`.
 fn run_end(parts: &Parts<'_>, walk: &mut Walk, first: &Alike<'_>, place: usize, end: usize) -> usize
-    requires parts { AreParts parts.now }
-    requires walk { IsWalk parts.now walk.old place }
+    requires parts { AreFullParts parts.now }
+    requires walk { IsColumnWalk parts.now walk.old place }
     requires some { place < first.now.end }
     requires before { place < end }
     requires within { end ≤ length parts.now.units.now }
@@ -114,7 +114,7 @@ fn run_end(parts: &Parts<'_>, walk: &mut Walk, first: &Alike<'_>, place: usize, 
         → slice_get (items_in parts.now) k ≡ Some item → item.chp ≡ first.now.chp.now }
     requires attachments { (k : ℕ) (item : Item) → place ≤ k → k < first.now.end
         → slice_get (items_in parts.now) k ≡ Some item → attached_of item ≡ first.now.attached.now }
-    ensures walk { IsWalk parts.now walk.new result }
+    ensures walk { IsColumnWalk parts.now walk.new result }
     ensures some { place < result }
     ensures within { result ≤ end }
     ensures joined { (k : ℕ) (item next : Item) → place ≤ k → k + 1 < result
@@ -139,14 +139,14 @@ fn run_end(parts: &Parts<'_>, walk: &mut Walk, first: &Alike<'_>, place: usize, 
 
 /// Whether a run goes on with what others have in common.
 fn goes_on(first: &Alike<'_>, next: &Alike<'_>) -> bool
-    ensures { result ≡ (is_bare next.now.attached.now && same_properties first.now.chp.now next.now.chp.now) }
+    ensures { result ≡ (is_unattached next.now.attached.now && same_properties first.now.chp.now next.now.chp.now) }
 {
     is_plain(next.attached) && has_same_properties(first.chp, next.chp)
 }
 
 /// Whether there is no field character and no reference.
 fn is_plain(attached: &Attached) -> bool
-    ensures { result ≡ is_bare attached.now }
+    ensures { result ≡ is_unattached attached.now }
 {
     attached.fld.is_none() && attached.note.is_none()
 }

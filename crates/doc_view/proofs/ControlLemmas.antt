@@ -5,11 +5,11 @@ use Rattle.std.specs.Prelude.{if◌then◌else◌, is_some, slice_get, length, d
 use Rattle.std.specs.Fmt.{decimal}
 use Rattle.std.specs.List.{All, cons_option, filter_map}
 use Rattle.std.proofs.lemmas.List.Elements.{All-nil, All-cons, All-append, All-head, All-tail}
-use Rattle.plain_doc.specs.declared.item.Item.{Item}
-use Rattle.plain_doc.specs.declared.item.NoteKind.{NoteKind}
-use Rattle.plain_doc.specs.declared.item.NoteKind.TheVariants.{Auto, Custom}
-use Rattle.plain_doc.specs.Settings.{is_inside}
-use Rattle.plain_doc.specs.Stretches.{stretches}
+use Rattle.doc_model.specs.declared.item.Item.{Item}
+use Rattle.doc_model.specs.declared.item.NoteKind.{NoteKind}
+use Rattle.doc_model.specs.declared.item.NoteKind.TheVariants.{Auto, Custom}
+use Rattle.doc_model.specs.Settings.{is_inside}
+use Rattle.doc_model.specs.Stretches.{stretches}
 use Rattle.char_formats.specs.declared.format.CharFormat.{CharFormat}
 use Rattle.list_numbers.specs.declared.paragraph_values.ListLabel.{ListLabel}
 use Rattle.list_numbers.specs.declared.paragraph_values.ParagraphValues.{ParagraphValues}
@@ -20,11 +20,12 @@ use Rattle.doc_view.specs.declared.reading.Front.{Front}
 use Rattle.doc_view.specs.declared.reading.Manner.{Manner}
 use Rattle.doc_view.specs.declared.reading.Seen.{Seen}
 use Rattle.doc_view.specs.declared.references.Reference.{Reference}
-use Rattle.doc_view.specs.Glyphs.{glyph_of, glyphs_text, is_windows, unit_glyph}
+use Rattle.doc_view.specs.Glyphs.{visible_glyph, glyphs_text, is_windows, unit_glyph}
 use Rattle.doc_view.specs.Labels.{break_text, label_glyph, label_glyphs, label_text, opening_text}
 use Rattle.doc_view.specs.Headers.{header_kind, header_lead, header_text, header_title, headers_from}
 use Rattle.doc_view.specs.Laws.{NoControls}
-use Rattle.doc_view.specs.Layout.{front_at, inner_front, is_in_table, layout_of, line_front, line_of, paragraph_text}
+use Rattle.doc_view.specs.Layout.{front_at, inner_front, is_in_table, layout_of, line_front, line_behind}
+use Rattle.doc_view.specs.Layout.{paragraph_text}
 use Rattle.doc_view.specs.Layout.{some_here, tab_front, text_from}
 use Rattle.doc_view.specs.Notes.{has_lines, note_label, note_lead, note_text, notes_from}
 use Rattle.doc_view.specs.Page.{header_manner, headers_text, main_manner, note_manner, page_text}
@@ -50,7 +51,8 @@ item_plain : (manner : Manner) (format : CharFormat) (front : Front) (item : Ite
     IsPlainSeen (seen_as manner format front item)
 unfolding IsPlainSeen
 item_plain manner format front item =
-    visible_plain (reference_kind manner item.note) (front.numbered + 1) (glyph_of manner.fonts format (is_some item.sect) item.unit)
+    visible_plain (reference_kind manner item.note) (front.numbered + 1) (visible_glyph manner.fonts format (is_some
+    item.sect) item.unit)
     (glyph_plain manner.fonts format (is_some item.sect) item.unit)
 
 items_plain : (formats : Formats) (manner : Manner) (istd : ℕ) (front items : List Item) →
@@ -142,12 +144,12 @@ unfolding IsPlainParagraph
 paragraph_plain lead before paragraph plain is =
     let in_table = is_in_table paragraph.standing in
     either_plain (is_here paragraph)
-    ((front_at lead (line_of before) in_table ++ opening_text in_table paragraph.values)
+    ((front_at lead (line_behind before) in_table ++ opening_text in_table paragraph.values)
     ++ glyphs_text in_table (glyphs_in paragraph.items)) []
-    (both_plain (front_at lead (line_of before) in_table ++ opening_text in_table paragraph.values)
+    (both_plain (front_at lead (line_behind before) in_table ++ opening_text in_table paragraph.values)
     (glyphs_text in_table (glyphs_in paragraph.items))
-    (both_plain (front_at lead (line_of before) in_table) (opening_text in_table paragraph.values)
-    (front_plain lead (line_of before) in_table plain) (opening_plain in_table paragraph.values))
+    (both_plain (front_at lead (line_behind before) in_table) (opening_text in_table paragraph.values)
+    (front_plain lead (line_behind before) in_table plain) (opening_plain in_table paragraph.values))
     (glyphs_plain in_table (glyphs_in paragraph.items) (glyphs_seen paragraph.items is)))
     none_plain
 

@@ -8,9 +8,9 @@ use Rattle.std.proofs.lemmas.List.Sums.{sum_by-append, count_by-le-length}
 use Rattle.std.proofs.lemmas.Option.{get_or_from_slice_get, slice_get_within}
 use Rattle.doc_bits.proofs.Public.{get-map, there_is, take_step}
 use Rattle.run_lists.proofs.Public.{run_and_rest}
-use Rattle.plain_doc.specs.declared.item.Item.{Item}
-use Rattle.plain_doc.specs.declared.item.NoteKind.{NoteKind}
-use Rattle.plain_doc.specs.declared.item.NoteKind.TheVariants.{Auto, Custom}
+use Rattle.doc_model.specs.declared.item.Item.{Item}
+use Rattle.doc_model.specs.declared.item.NoteKind.{NoteKind}
+use Rattle.doc_model.specs.declared.item.NoteKind.TheVariants.{Auto, Custom}
 use Rattle.doc_outer.specs.declared.sink.Sink.{Ghosts}
 use Rattle.plain_doc.specs.RulesOfTexts.{last_unit}
 use Rattle.prop_map.specs.Settings.{Properties}
@@ -20,7 +20,7 @@ use Rattle.doc_columns.specs.Columns.{item_of}
 use Rattle.doc_columns.specs.declared.attached.Attached.{Attached}
 use Rattle.doc_columns.specs.declared.walk.Parts.{Parts}
 use Rattle.doc_columns.specs.declared.walk.Walk.{Walk}
-use Rattle.doc_columns.specs.Walks.{items_in, AreParts}
+use Rattle.doc_columns.specs.Walks.{items_in, AreFullParts}
 use Rattle.doc_columns.proofs.Public.{items_long, units_are}
 use Rattle.field_links.proofs.Public.{open_fields-more}
 use Rattle.field_links.specs.OpenFields.{open_fields, after_unit, is_in_results}
@@ -31,20 +31,21 @@ use Rattle.doc_view.specs.declared.reading.Manner.{Manner}
 use Rattle.doc_view.specs.declared.reading.Seen.{Seen}
 use Rattle.doc_view.specs.declared.references.Reference.{Reference}
 use Rattle.doc_view.specs.declared.text.Course.{Course}
-use Rattle.doc_view.specs.Course.{At, HasRoomFor, IsCourse, Passes, course_after, has_reference, is_numbered}
+use Rattle.doc_view.specs.Course.{CourseAt, HasRoomFor, IsCourse, PutsItems, course_after, has_reference, is_numbered}
 use Rattle.doc_view.specs.Course.{with_reference}
 use Rattle.doc_view.specs.Kept.{KeptReferences}
 use Rattle.doc_view.specs.Lines.{IsSaying, Says}
 use Rattle.page_out.specs.Printed.{Prints}
-use Rattle.doc_view.specs.Seen.{Formats, is_shown, seen_as, front_of, is_auto, is_note_unit, note_unit, reference_kind, reference_of}
+use Rattle.doc_view.specs.Seen.{Formats, is_shown, seen_as, front_of, is_auto_reference, is_note_unit, note_unit}
+use Rattle.doc_view.specs.Seen.{reference_kind, reference_of}
 use Rattle.doc_view.specs.Seen.{references_in}
 use Rattle.page_out.proofs.Public.{nothing_put, put_then}
 use Rattle.doc_view.proofs.RangeLemmas.{last_is, seen_none, seen_one, seen_range, seen_then}
 use Rattle.doc_view.proofs.SayingLemmas.{says_none, says_then}
 
 -- some items were put, and then others
-pub passes_then : {K : Type 0} (sink : Ghosts K) (a b c : At K) (xs ys : List Seen) → Passes sink a b xs →
-    Passes sink b c ys → Passes sink a c (xs ++ ys)
+pub passes_then : {K : Type 0} (sink : Ghosts K) (a b c : CourseAt K) (xs ys : List Seen) → PutsItems sink a b xs →
+    PutsItems sink b c ys → PutsItems sink a c (xs ++ ys)
 passes_then sink a b c xs ys one other = record {
   text = one.text ++ other.text;
   prints = put_then sink a.out b.out c.out a.page b.page c.page one.text other.text one.prints other.prints;
@@ -72,7 +73,7 @@ room_after kept (Some Auto) number rest shown h = omega (arith, h)
 room_after kept (Some Custom) number rest shown h = omega (arith, h)
 
 numbered_by : (kind : Option NoteKind) (number : ℕ) (shown : Bool) →
-    is_numbered (reference_of kind number shown) ≡ is_auto kind
+    is_numbered (reference_of kind number shown) ≡ is_auto_reference kind
 numbered_by None number shown = refl
 numbered_by (Some Auto) number shown = refl
 numbered_by (Some Custom) number shown = refl
@@ -101,7 +102,7 @@ pub few_numbered : (manner : Manner) (items : List Item) (course : Course) → I
 few_numbered manner items course is =
     let front = take course.place items in
     let same : course.front.numbered ≡ (front_of manner front).numbered = ap (λ (f : Front). f.numbered) is.front in
-    let few = count_by-le-length (λ (i : Item). is_auto (reference_kind manner i.note)) front in
+    let few = count_by-le-length (λ (i : Item). is_auto_reference (reference_kind manner i.note)) front in
     omega (arith, same, few, length-take course.place items)
 
 -- the fields that are open behind an item
@@ -120,7 +121,7 @@ numbered_on : (manner : Manner) (items : List Item) (at : ℕ) (item : Item) (nu
     shown) then 1 else 0)
     ≡ (front_of manner (take (at + 1) items)).numbered
 numbered_on manner items at item number shown here =
-    let auto : Item → Bool = λ item. is_auto (reference_kind manner item.note) in
+    let auto : Item → Bool = λ item. is_auto_reference (reference_kind manner item.note) in
     let count = count_by auto (take at items) in
     ap (λ (b : Bool). count + (if b then 1 else 0)) (numbered_by (reference_kind manner item.note) number shown)
     ∙ ap (λ (n : ℕ). count + n) (sym (zero-add (cond (auto item) 1 0)))
@@ -174,7 +175,7 @@ references_on kept (Some reference) = refl
 pub item_passes : {K : Type 0} (sink : Ghosts K) (out next : K) (page after : Page) (saying said : Saying)
     (kept : KeptReferences) (seen : Seen) (text : List ℕ) →
     Prints sink out page next after text → Says saying (seen ∷ []) said text →
-    Passes sink (record { out = out; page = page; saying = saying; references = kept.list })
+    PutsItems sink (record { out = out; page = page; saying = saying; references = kept.list })
     (record { out = next; page = after; saying = said; references = (with_reference kept seen.reference).list })
     (seen ∷ [])
 item_passes sink out next page after saying said kept seen text prints says = record {
@@ -185,7 +186,7 @@ item_passes sink out next page after saying said kept seen text prints says = re
 }
 
 -- nothing was put
-pub passes_none : {K : Type 0} (sink : Ghosts K) (at : At K) → IsSaying at.saying → Passes sink at at []
+pub passes_none : {K : Type 0} (sink : Ghosts K) (at : CourseAt K) → IsSaying at.saying → PutsItems sink at at []
 passes_none sink at is = record {
   text = [];
   prints = nothing_put sink at.out at.page;
@@ -195,29 +196,31 @@ passes_none sink at is = record {
 
 -- ---- ranges of items
 
-pub passes_start : {K : Type 0} (sink : Ghosts K) (at : At K) (formats : Formats) (manner : Manner) (istd : ℕ)
+pub passes_start : {K : Type 0} (sink : Ghosts K) (at : CourseAt K) (formats : Formats) (manner : Manner) (istd : ℕ)
     (items : List Item) (place : ℕ) → IsSaying at.saying →
-    Passes sink at at (seen_range formats manner istd items place place)
+    PutsItems sink at at (seen_range formats manner istd items place place)
 passes_start sink at formats manner istd items place is =
-    subst (λ (seen : List Seen). Passes sink at at seen) (sym (seen_none formats manner istd items place))
+    subst (λ (seen : List Seen). PutsItems sink at at seen) (sym (seen_none formats manner istd items place))
     (passes_none sink at is)
 
-pub passes_further : {K : Type 0} (sink : Ghosts K) (a b c : At K) (formats : Formats) (manner : Manner) (istd : ℕ)
+pub passes_further : {K : Type 0} (sink : Ghosts K) (a b c : CourseAt K) (formats : Formats) (manner : Manner) (istd :
+    ℕ)
     (items : List Item) (from mid to : ℕ) → from ≤ mid → mid ≤ to →
-    Passes sink a b (seen_range formats manner istd items from mid) →
-    Passes sink b c (seen_range formats manner istd items mid to) →
-    Passes sink a c (seen_range formats manner istd items from to)
+    PutsItems sink a b (seen_range formats manner istd items from mid) →
+    PutsItems sink b c (seen_range formats manner istd items mid to) →
+    PutsItems sink a c (seen_range formats manner istd items from to)
 passes_further sink a b c formats manner istd items from mid to low high one other =
-    subst (λ (seen : List Seen). Passes sink a c seen) (sym (seen_then formats manner istd items from mid to low high))
+    subst (λ (seen : List Seen). PutsItems sink a c seen) (sym (seen_then formats manner istd items from mid to low
+    high))
     (passes_then sink a b c (seen_range formats manner istd items from mid)
     (seen_range formats manner istd items mid to) one other)
 
-pub passes_to : {K : Type 0} (sink : Ghosts K) (a b : At K) (formats : Formats) (manner : Manner) (istd : ℕ)
+pub passes_to : {K : Type 0} (sink : Ghosts K) (a b : CourseAt K) (formats : Formats) (manner : Manner) (istd : ℕ)
     (items : List Item) (from mid to : ℕ) → mid ≡ to →
-    Passes sink a b (seen_range formats manner istd items from mid) →
-    Passes sink a b (seen_range formats manner istd items from to)
+    PutsItems sink a b (seen_range formats manner istd items from mid) →
+    PutsItems sink a b (seen_range formats manner istd items from to)
 passes_to sink a b formats manner istd items from mid to same passes =
-    subst (λ (n : ℕ). Passes sink a b (seen_range formats manner istd items from n)) same passes
+    subst (λ (n : ℕ). PutsItems sink a b (seen_range formats manner istd items from n)) same passes
 
 -- ---- the item of a place
 
@@ -251,7 +254,7 @@ pub item_said : {K : Type 0} (sink : Ghosts K) (out next : K) (page after : Page
     (text : List ℕ) (formats : Formats) (istd : ℕ) → IsCourse manner items course →
     slice_get items course.place ≡ Some item → seen ≡ seen_as manner format course.front item →
     formats istd item.chp ≡ format → Prints sink out page next after text → Says saying (seen ∷ []) said text →
-    Passes sink (record { out = out; page = page; saying = saying; references = course.references.list })
+    PutsItems sink (record { out = out; page = page; saying = saying; references = course.references.list })
     (record {
       out = next;
       page = after;
@@ -263,7 +266,7 @@ pub item_said : {K : Type 0} (sink : Ghosts K) (out next : K) (page after : Page
 item_said sink out next page after saying said manner items course format item seen text formats istd is here same formed
     prints says =
     subst
-    (λ (all : List Seen). Passes sink
+    (λ (all : List Seen). PutsItems sink
     (record { out = out; page = page; saying = saying; references = course.references.list })
     (record {
       out = next;
@@ -283,7 +286,7 @@ course_walk manner items course walk is =
     record { within = is.within; fields = is.fields; front = is.front; room = is.room }
 
 -- the item of a place of the columns
-pub item_there : (parts : Parts) → AreParts parts → (place : ℕ) → place < length parts.units.now →
+pub item_there : (parts : Parts) → AreFullParts parts → (place : ℕ) → place < length parts.units.now →
     (item : Item) × ((slice_get (items_in parts) place ≡ Some item) × (item.unit ≡ slice_index parts.units.now place))
 item_there parts are place within =
     let items = items_in parts in

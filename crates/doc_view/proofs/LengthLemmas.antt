@@ -9,9 +9,9 @@ use Rattle.std.proofs.lemmas.Fmt.{length-decimal-le}
 use Rattle.std.proofs.lemmas.Str.{len_utf8_bounds, length-encode}
 use Rattle.std.proofs.lemmas.List.Elements.{All-nil, All-cons, All-append, All-head, All-tail}
 use Rattle.std.proofs.lemmas.List.Sums.{count_by-le-length}
-use Rattle.plain_doc.specs.declared.item.Item.{Item}
-use Rattle.plain_doc.specs.declared.item.NoteKind.{NoteKind}
-use Rattle.plain_doc.specs.declared.item.NoteKind.TheVariants.{Auto, Custom}
+use Rattle.doc_model.specs.declared.item.Item.{Item}
+use Rattle.doc_model.specs.declared.item.NoteKind.{NoteKind}
+use Rattle.doc_model.specs.declared.item.NoteKind.TheVariants.{Auto, Custom}
 use Rattle.char_formats.specs.declared.format.CharFormat.{CharFormat}
 use Rattle.symbol_fonts.specs.declared.fonts.SymbolFonts.{SymbolFonts}
 use Rattle.view_places.specs.declared.glyph.Glyph.{Glyph}
@@ -20,10 +20,12 @@ use Rattle.doc_view.specs.declared.reading.Front.{Front}
 use Rattle.doc_view.specs.declared.reading.Manner.{Manner}
 use Rattle.doc_view.specs.declared.reading.Seen.{Seen}
 use Rattle.doc_view.specs.declared.references.Reference.{Reference}
-use Rattle.doc_view.specs.Glyphs.{are_halves, control_glyph, drawn_unit, glyph_of, glyph_text, glyphs_text, is_stand_in}
-use Rattle.doc_view.specs.Glyphs.{is_windows, stand_in_glyph, unit_glyph, whole_text, windows_unit}
+use Rattle.doc_view.specs.Glyphs.{are_halves, control_glyph, drawn_unit, visible_glyph, glyph_text, glyphs_text}
+use Rattle.doc_view.specs.Glyphs.{is_stand_in}
+use Rattle.doc_view.specs.Glyphs.{is_windows, stand_in_glyph, unit_glyph, halves_text, windows_unit}
 use Rattle.doc_view.specs.Labels.{label_glyph, label_glyphs}
-use Rattle.doc_view.specs.Seen.{Formats, front_of, glyphs_in, is_auto, reference_kind, reference_of, references_in}
+use Rattle.doc_view.specs.Seen.{Formats, front_of, glyphs_in, is_auto_reference, reference_kind, reference_of}
+use Rattle.doc_view.specs.Seen.{references_in}
 use Rattle.doc_view.specs.Seen.{seen_as, seen_from, visible}
 
 -- ---- bytes and digits
@@ -54,7 +56,7 @@ sizes in_cell [] = 0
 sizes in_cell (glyph ∷ glyphs) = length (glyph_text in_cell glyph) + sizes in_cell glyphs
 
 whole_size : (in_cell : Bool) (one next : Glyph) →
-    length (whole_text one next) ≤ length (glyph_text in_cell one) + length (glyph_text in_cell next)
+    length (halves_text one next) ≤ length (glyph_text in_cell one) + length (glyph_text in_cell next)
 whole_size in_cell (Unit first) (Unit second) = omega arith
 whole_size in_cell (Unit first) Tab = omega arith
 whole_size in_cell (Unit first) LineBreak = omega arith
@@ -76,16 +78,16 @@ glyphs_size in_cell (one ∷ []) =
     let long : length (glyph_text in_cell one) ≤ length (glyph_text in_cell one) + 0 = omega arith in long
 glyphs_size in_cell (one ∷ next ∷ more) =
     elim (are_halves one next)
-    as (λ b. length (if b then whole_text one next ++ glyphs_text in_cell more else
+    as (λ b. length (if b then halves_text one next ++ glyphs_text in_cell more else
     glyph_text in_cell one ++ glyphs_text in_cell (next ∷ more)) ≤ sizes in_cell (one ∷ next ∷ more)) [
       | true ↦
-          let long : length (whole_text one next ++ glyphs_text in_cell more)
+          let long : length (halves_text one next ++ glyphs_text in_cell more)
           ≤ length (glyph_text in_cell one) + (length (glyph_text in_cell next) + sizes in_cell more) =
           omega (
             arith,
             whole_size in_cell one next,
             glyphs_size in_cell more,
-            length-append (whole_text one next) (glyphs_text in_cell more),
+            length-append (halves_text one next) (glyphs_text in_cell more),
           ) in
           long
       | false ↦
@@ -160,7 +162,7 @@ unit_small unit ends_section =
     (Some (Unit (if is_windows unit then windows_unit unit else unit))) (control_small unit ends_section) tt
 
 glyph_small : (fonts : SymbolFonts) (format : CharFormat) (ends_section : Bool) (unit : ℕ) →
-    IsSmallIn (glyph_of fonts format ends_section unit)
+    IsSmallIn (visible_glyph fonts format ends_section unit)
 glyph_small fonts format ends_section unit =
     either_small (is_stand_in format unit) (stand_in_glyph format)
     (unit_glyph (drawn_unit fonts format unit) ends_section)
@@ -198,14 +200,14 @@ pub record IsSmallSeen (seen : Seen) : Type 0 where
   pub reference : IsSmallReferenceIn seen.reference
 
 few_before : (manner : Manner) (front : List Item) → (front_of manner front).numbered ≤ length front
-few_before manner front = count_by-le-length (λ item. is_auto (reference_kind manner item.note)) front
+few_before manner front = count_by-le-length (λ item. is_auto_reference (reference_kind manner item.note)) front
 
 item_small : (manner : Manner) (format : CharFormat) (front : Front) (item : Item) → front.numbered + 1 < 1000000 →
     IsSmallSeen (seen_as manner format front item)
 item_small manner format front item low = record {
   glyph =
       visible_small (reference_kind manner item.note) (front.numbered + 1)
-      (glyph_of manner.fonts format (is_some item.sect) item.unit) low
+      (visible_glyph manner.fonts format (is_some item.sect) item.unit) low
       (glyph_small manner.fonts format (is_some item.sect) item.unit);
   reference = reference_small (reference_kind manner item.note) (front.numbered + 1) _ low;
 }

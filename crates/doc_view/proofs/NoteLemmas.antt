@@ -5,7 +5,7 @@ use Rattle.std.specs.Prelude.{slice_get, if◌then◌else◌}
 use Rattle.std.specs.List.{count_by}
 use Rattle.std.proofs.Math.ListN.{drop_of_length-le}
 use Rattle.run_lists.proofs.Public.{run_and_rest}
-use Rattle.plain_doc.specs.declared.item.Item.{Item}
+use Rattle.doc_model.specs.declared.item.Item.{Item}
 use Rattle.doc_outer.specs.declared.sink.Sink.{Ghosts}
 use Rattle.page_out.specs.declared.page.Page.{Page}
 use Rattle.symbol_fonts.specs.declared.fonts.SymbolFonts.{SymbolFonts}

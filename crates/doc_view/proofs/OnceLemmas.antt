@@ -4,13 +4,13 @@ use Rattle.std.proofs.Common.{append_assoc, append-nil, arith, Option, Some, Non
 use Rattle.std.specs.Prelude.{if◌then◌else◌, is_some, slice_get}
 use Rattle.std.specs.List.{cons_option, flat_map}
 use Rattle.std.proofs.lemmas.List.Elements.{filter_map-append}
-use Rattle.plain_doc.specs.declared.item.Item.{Item}
-use Rattle.plain_doc.specs.declared.item.Mark.{Mark}
-use Rattle.plain_doc.specs.Settings.{is_inside}
-use Rattle.plain_doc.specs.Stretches.{stretch_from, stretches}
+use Rattle.doc_model.specs.declared.item.Item.{Item}
+use Rattle.doc_model.specs.declared.item.Mark.{Mark}
+use Rattle.doc_model.specs.Settings.{is_inside}
+use Rattle.doc_model.specs.Stretches.{stretch_from, stretches}
 use Rattle.doc_view.specs.declared.reading.Manner.{Manner}
 use Rattle.doc_view.specs.declared.reading.Seen.{Seen}
-use Rattle.doc_view.specs.Laws.{EachItemIsShownOnce, each_seen, style_behind, style_from}
+use Rattle.doc_view.specs.Laws.{EachItemIsShownOnce, each_seen, first_mark_style, style_from}
 use Rattle.doc_view.specs.Seen.{Formats, Paragraph, front_of, glyphs_in, paragraph_ending}
 use Rattle.doc_view.specs.Seen.{paragraphs_from, paragraphs_of, seen_as, seen_from, shown_glyph, some_shown, style_of}
 use Rattle.doc_bits.proofs.Public.{neither}
@@ -51,8 +51,8 @@ first_step x ((y ∷ ys) ∷ more) (Some m) is =
     ∙ ((λ i. style_of (is i)) ∙ sym (λ i. style_from (is i) (last_style (y ∷ ys))))
 
 -- the style of the first paragraph is that of the first mark
-first_behind : (text : List Item) → first_style (stretches is_inside text) ≡ style_behind text
-unfolding stretches style_behind first_style
+first_behind : (text : List Item) → first_style (stretches is_inside text) ≡ first_mark_style text
+unfolding stretches first_mark_style first_style
 first_behind [] = refl
 first_behind (x ∷ xs) =
     first_step x (stretches is_inside xs) x.mark refl ∙ ap (style_from x.mark) (first_behind xs)
@@ -139,7 +139,7 @@ item_step formats manner front x ((y ∷ ys) ∷ more) (Some m) is =
 
 all_seen : (formats : Formats) (manner : Manner) (front text : List Item) →
     items_of formats manner front (stretches is_inside text) ≡ each_seen formats manner front text
-unfolding stretches style_behind each_seen items_of paragraphs_from one_seen
+unfolding stretches first_mark_style each_seen items_of paragraphs_from one_seen
 all_seen formats manner front [] = refl
 all_seen formats manner front (x ∷ xs) =
     item_step formats manner front x (stretches is_inside xs) x.mark refl

@@ -5,7 +5,7 @@ use Rattle.std.specs.Prelude.{slice_get, slice_range, option_map}
 use Rattle.std.proofs.Math.Seq.{take-add}
 use Rattle.doc_bits.proofs.Public.{slice_get_push, range_split}
 use Rattle.run_lists.proofs.Public.{run_and_rest}
-use Rattle.plain_doc.specs.declared.item.Item.{Item}
+use Rattle.doc_model.specs.declared.item.Item.{Item}
 use Rattle.plain_doc.specs.RulesOfTexts.{last_unit}
 use Rattle.doc_view.specs.declared.reading.Manner.{Manner}
 use Rattle.doc_view.specs.declared.reading.Seen.{Seen}

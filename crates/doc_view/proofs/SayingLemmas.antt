@@ -9,10 +9,10 @@ use Rattle.view_places.specs.declared.glyph.Glyph.{Glyph}
 use Rattle.view_places.specs.declared.glyph.Glyph.TheVariants.{Unit, Tab, LineBreak, PageBreak, NoteMark, Picture, Object}
 use Rattle.doc_view.specs.declared.paragraph.Saying.{Saying}
 use Rattle.doc_view.specs.declared.reading.Seen.{Seen}
-use Rattle.doc_view.specs.Glyphs.{glyph_text, glyphs_text, are_halves, whole_text}
+use Rattle.doc_view.specs.Glyphs.{glyph_text, glyphs_text, are_halves, halves_text}
 use Rattle.doc_view.specs.Seen.{some_shown, glyphs_in}
-use Rattle.doc_view.specs.Lines.{waiting, first_text, unit_in, unit_said, unit_waits, other_said}
-use Rattle.doc_view.specs.Lines.{glyph_said, waits_after, saying_front, shown_said, shown_after, left}
+use Rattle.doc_view.specs.Lines.{waiting, first_unit_said, unit_in, unit_said, unit_waits, other_said}
+use Rattle.doc_view.specs.Lines.{glyph_said, waits_after, saying_front, shown_said, shown_after, unsaid_text}
 use Rattle.doc_view.specs.Lines.{IsSaying, Says}
 use Rattle.doc_bits.proofs.Public.{or_true, or_false}
 use Rattle.text_codes.proofs.Public.{apart_low}
@@ -26,7 +26,8 @@ alone : (in_table : Bool) (g : Glyph) (rest : List Glyph) → ((next : Glyph) �
 unfolding glyphs_text
 alone in_table g [] apart = sym (append-nil (glyph_text in_table g))
 alone in_table g (next ∷ more) apart = λ i.
-    if apart next i then whole_text g next ++ glyphs_text in_table more else glyph_text in_table g ++ glyphs_text in_table
+    if apart next i then halves_text g next ++ glyphs_text in_table more else glyph_text in_table g ++ glyphs_text
+    in_table
     (next ∷ more)
 
 no_half : (unit : ℕ) → is_high unit ≡ false → (next : Glyph) → are_halves (Unit unit) next ≡ false
@@ -57,7 +58,7 @@ first_on in_table unit rest false is = alone in_table (Unit unit) rest (no_half 
 half_on : (in_table : Bool) (first unit : ℕ) (rest : List Glyph) (pair : Bool) → is_high first ≡ true →
     is_pair first unit ≡ pair →
     glyphs_text in_table (Unit first ∷ Unit unit ∷ rest)
-    ≡ (if pair then pair_code first unit ∷ [] else replacement ∷ [] ++ first_text unit) ++ glyphs_text in_table
+    ≡ (if pair then pair_code first unit ∷ [] else replacement ∷ [] ++ first_unit_said unit) ++ glyphs_text in_table
     (waiting (if pair then None else first_half unit) ++ rest)
 unfolding glyphs_text
 half_on in_table first unit rest true high is = λ i.
@@ -75,7 +76,8 @@ other_on : (in_table : Bool) (first : ℕ) (g : Glyph) (rest : List Glyph) → i
     ≡ (replacement ∷ [] ++ glyph_text in_table g) ++ glyphs_text in_table rest
 unfolding glyphs_text
 other_on in_table first g rest high apart lone =
-    (λ i. if apart i then whole_text (Unit first) g ++ glyphs_text in_table rest else glyph_text in_table (Unit first) ++
+    (λ i. if apart i then halves_text (Unit first) g ++ glyphs_text in_table rest else glyph_text in_table (Unit first)
+    ++
     glyphs_text in_table (g ∷ rest))
     ∙ (λ i. high_alone first high i ++ alone in_table g rest lone i)
 
@@ -146,10 +148,10 @@ pub says_then : (p q r : Saying) (xs ys : List Seen) (t u : List ℕ) → Says p
     Says p (xs ++ ys) r (t ++ u)
 says_then p q r xs ys t u one other = record {
   goes_on = λ more.
-      ap (left p) (append_assoc xs ys more)
+      ap (unsaid_text p) (append_assoc xs ys more)
       ∙ one.goes_on (ys ++ more)
       ∙ ap (λ (x : List ℕ). t ++ x) (other.goes_on more)
-      ∙ sym (append_assoc t u (left r more));
+      ∙ sym (append_assoc t u (unsaid_text r more));
   begun =
       other.begun
       ∙ ap (λ b. b || some_shown ys) one.begun
@@ -196,7 +198,7 @@ on_begun front in_table half (Some g) rest false none is =
 
 -- what is left where something is shown next
 shown_left : (p : Saying) (s : Seen) (more : List Seen) → s.is_shown ≡ true →
-    left p (s ∷ more)
+    unsaid_text p (s ∷ more)
     ≡ (if p.begun then glyphs_text p.in_table (waiting p.half ++ cons_option s.glyph (glyphs_in more)) else
     saying_front p ++ glyphs_text p.in_table (cons_option s.glyph (glyphs_in more)))
 shown_left p s more shown = λ i.
@@ -209,7 +211,7 @@ shown_left p s more shown = λ i.
 behind_said : (p : Saying) (glyph : Option Glyph) (more : List Seen) →
     said_behind (if p.begun then [] else saying_front p) p.in_table p.half glyph ++ glyphs_text p.in_table
     (waiting (waits_behind p.half glyph) ++ glyphs_in more)
-    ≡ shown_said p glyph ++ left (shown_after p glyph) more
+    ≡ shown_said p glyph ++ unsaid_text (shown_after p glyph) more
 behind_said p None more = refl
 behind_said p (Some g) more = refl
 
@@ -247,7 +249,7 @@ left_by in_table true half none is =
     ap (glyphs_text in_table) (append-nil (waiting half)) ∙ half_left in_table half is
 left_by in_table false half none is = λ i. half_text (sym (none refl) i)
 
-pub left_end : (p : Saying) → IsSaying p → left p [] ≡ half_text p.half
+pub left_end : (p : Saying) → IsSaying p → unsaid_text p [] ≡ half_text p.half
 left_end p is = left_by p.in_table p.begun p.half is.behind is.half
 
 -- ---- a glyph, by the unit that it is

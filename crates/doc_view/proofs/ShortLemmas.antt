@@ -8,24 +8,25 @@ use Rattle.std.specs.Fmt.{decimal}
 use Rattle.std.specs.List.{All, flat_map, sum_by}
 use Rattle.std.proofs.lemmas.List.Elements.{All-nil, All-cons, All-append, All-head, All-tail}
 use Rattle.std.proofs.lemmas.List.Sums.{count_by-le-length, sum_by-cons}
-use Rattle.plain_doc.specs.declared.item.Item.{Item}
-use Rattle.plain_doc.specs.declared.document.Document.{Document}
+use Rattle.doc_model.specs.declared.item.Item.{Item}
+use Rattle.doc_model.specs.declared.document.Document.{Document}
 use Rattle.plain_doc.specs.RulesOfSheet.{item_count}
-use Rattle.plain_doc.specs.Settings.{is_inside}
-use Rattle.plain_doc.specs.Stretches.{stretches}
-use Rattle.plain_doc.proofs.Public.{are_stretches, sound_is_valid}
+use Rattle.doc_model.specs.Settings.{is_inside}
+use Rattle.doc_model.specs.Stretches.{stretches}
+use Rattle.plain_doc.proofs.Public.{sound_is_valid}
+use Rattle.doc_model.proofs.Public.{are_stretches}
 use Rattle.list_numbers.specs.declared.paragraph_values.ListLabel.{ListLabel}
 use Rattle.list_numbers.specs.declared.paragraph_values.ParagraphValues.{ParagraphValues}
 use Rattle.list_numbers.specs.Counts.{count_at}
-use Rattle.list_numbers.specs.Lists.{lists_of}
+use Rattle.list_numbers.specs.Lists.{list_formats_of}
 use Rattle.list_numbers.specs.MarkValues.{no_values}
 use Rattle.list_numbers.specs.Numbers.{at_entry, units_in}
 use Rattle.list_numbers.specs.ParagraphValues.{AreParagraphValuesOf, is_bullet_level, label_at_place}
-use Rattle.list_numbers.specs.ParagraphValues.{font_of_level, label_with, level_of, shown_units, values_with}
+use Rattle.list_numbers.specs.ParagraphValues.{font_of_level, label_with, list_level, shown_units, values_with}
 use Rattle.symbol_fonts.specs.declared.fonts.SymbolFonts.{SymbolFonts}
 use Rattle.symbol_fonts.specs.Characters.{shown_unit}
 use Rattle.symbol_fonts.specs.Fonts.{symbol_font, symbol_fonts}
-use Rattle.list_numbers.specs.Places.{place_of}
+use Rattle.list_numbers.specs.Places.{place_of_values}
 use Rattle.doc_view.specs.declared.line.Line.{Line}
 use Rattle.doc_view.specs.declared.reading.Manner.{Manner}
 use Rattle.doc_view.specs.declared.reading.Seen.{Seen}
@@ -34,7 +35,8 @@ use Rattle.doc_view.specs.Glyphs.{glyphs_text}
 use Rattle.doc_view.specs.Labels.{break_text, label_glyphs, label_text, opening_text}
 use Rattle.doc_view.specs.Headers.{header_kind, header_lead, header_text, header_title, headers_from}
 use Rattle.doc_view.specs.Laws.{PagesAreShort}
-use Rattle.doc_view.specs.Layout.{front_at, inner_front, is_in_table, layout_of, line_front, line_of, paragraph_text}
+use Rattle.doc_view.specs.Layout.{front_at, inner_front, is_in_table, layout_of, line_front, line_behind}
+use Rattle.doc_view.specs.Layout.{paragraph_text}
 use Rattle.doc_view.specs.Layout.{some_here, tab_front, text_from}
 use Rattle.doc_view.specs.Notes.{has_lines, note_label, note_lead, note_text, notes_from}
 use Rattle.doc_view.specs.Page.{header_manner, headers_text, main_manner, note_manner, page_text}
@@ -69,8 +71,8 @@ pub values_short : (document : Document) (values : List ParagraphValues) → Are
     All AreShortValues values
 values_short document values is =
     let fonts = symbol_fonts document.carried.fonts in
-    let lists = lists_of document.carried.lst document.carried.levels in
-    let places = map (place_of document) is.values in
+    let lists = list_formats_of document.carried.lst document.carried.levels in
+    let places = map (place_of_values document) is.values in
     subst (λ (all : List ParagraphValues). All AreShortValues all) (sym is.made)
     (all_tabulated AreShortValues (λ i. values_with (get_or is.values i no_values)
     (label_at_place fonts lists (take (i + 1) places) (at_entry (slice_get places i)))) (length is.values)
@@ -81,7 +83,7 @@ values_short document values is =
             | None ↦ tt
             | Some place ↦
                 let list = slice_get lists place.list in
-                let level = level_of list place.level in
+                let level = list_level list place.level in
                 let units = units_in list place.level (count_at (take (i + 1) places) place.list) in
                 with_short place.level (is_bullet_level level) (shown_units fonts level (take 64 units))
                 (omega (
@@ -162,21 +164,21 @@ paragraph_short lead before paragraph few short =
     by (is_here paragraph) refl
   where
     by : (here : Bool) → is_here paragraph ≡ here →
-        length (if here then (front_at lead (line_of before) (is_in_table paragraph.standing)
+        length (if here then (front_at lead (line_behind before) (is_in_table paragraph.standing)
         ++ opening_text (is_in_table paragraph.standing) paragraph.values)
         ++ glyphs_text (is_in_table paragraph.standing) (glyphs_in paragraph.items) else [])
         ≤ 116 * length paragraph.items
     by false is = omega arith
     by true is =
         let in_table = is_in_table paragraph.standing in
-        let front = front_at lead (line_of before) in_table in
+        let front = front_at lead (line_behind before) in_table in
         let opening = opening_text in_table paragraph.values in
         let own = glyphs_text in_table (glyphs_in paragraph.items) in
         let long : length ((front ++ opening) ++ own) ≤ 116 * length paragraph.items =
         omega (
           arith,
           here_some paragraph.items is,
-          front_few lead (line_of before) in_table few,
+          front_few lead (line_behind before) in_table few,
           opening_few in_table paragraph.values short.values,
           own_few in_table paragraph.items short.items,
           length-append front opening,

@@ -12,19 +12,19 @@ use Rattle.std.proofs.lemmas.Option.{same_Some, slice_get_past}
 use Rattle.doc_bits.proofs.Public.{there_is, or_false}
 use Rattle.run_lists.specs.Spread.{expanded}
 use Rattle.run_lists.proofs.Public.{run_and_rest}
-use Rattle.style_sheet.specs.Chain.{kind_at}
+use Rattle.style_sheet.specs.Chain.{style_kind_at}
 use Rattle.style_sheet.specs.Sheet.{Sheet}
-use Rattle.plain_doc.specs.declared.item.Item.{Item}
-use Rattle.plain_doc.specs.declared.item.Mark.{Mark}
+use Rattle.doc_model.specs.declared.item.Item.{Item}
+use Rattle.doc_model.specs.declared.item.Mark.{Mark}
 use Rattle.plain_doc.specs.RightDocument.{HoldsAtItems}
 use Rattle.plain_doc.specs.RulesOfTexts.{HasParagraphStyle}
-use Rattle.plain_doc.specs.Settings.{is_inside}
-use Rattle.plain_doc.specs.Stretches.{stretches, BeginsStretch}
-use Rattle.plain_doc.proofs.Public.{stretches-first, stretches-nil, rest_of, a_mark, no_mark}
+use Rattle.doc_model.specs.Settings.{is_inside}
+use Rattle.doc_model.specs.Stretches.{stretches, BeginsStretch}
+use Rattle.doc_model.proofs.Public.{stretches-first, stretches-nil, rest_of, a_mark, no_mark}
 use Rattle.doc_columns.specs.Attached.{attached_of}
 use Rattle.doc_columns.specs.declared.attached.Attached.{Attached}
 use Rattle.doc_columns.specs.declared.walk.Parts.{Parts}
-use Rattle.doc_columns.specs.Walks.{items_in, AreParts}
+use Rattle.doc_columns.specs.Walks.{items_in, AreFullParts}
 use Rattle.doc_columns.proofs.Public.{begins_range, attached_there, items_long, part_at, range_got, range_long}
 use Rattle.doc_columns.proofs.Public.{units_are}
 use Rattle.list_numbers.specs.declared.paragraph_values.ParagraphValues.{ParagraphValues}
@@ -38,12 +38,13 @@ use Rattle.doc_view.specs.declared.reading.Seen.{Seen}
 use Rattle.doc_view.specs.declared.references.Reference.{Reference}
 use Rattle.doc_view.specs.declared.standing.Standing.{Standing}
 use Rattle.doc_view.specs.declared.standing.Standing.TheVariants.{Outside, Inside, Cell, Row, HeadRow}
-use Rattle.doc_view.specs.Course.{At, Passes}
+use Rattle.doc_view.specs.Course.{CourseAt, PutsItems}
 use Rattle.doc_view.specs.Glyphs.{glyphs_text}
 use Rattle.doc_view.specs.Labels.{opening_text}
-use Rattle.doc_view.specs.Layout.{front_at, is_in_table, keeps_row, ends_cell, layout_of, line_of, paragraph_text}
+use Rattle.doc_view.specs.Layout.{front_at, is_in_table, row_goes_on, closes_cell, layout_of, line_behind}
+use Rattle.doc_view.specs.Layout.{paragraph_text}
 use Rattle.doc_view.specs.Layout.{row_before, cell_before, some_here, text_from}
-use Rattle.doc_view.specs.Lines.{lead_text, left, line_after}
+use Rattle.doc_view.specs.Lines.{lead_text, unsaid_text, line_after}
 use Rattle.page_out.specs.Printed.{Prints}
 use Rattle.doc_view.specs.Seen.{Formats, Paragraph, glyphs_in, is_here, paragraph_of, paragraph_ending, paragraphs_from}
 use Rattle.doc_view.specs.Seen.{paragraphs_of, references_in, references_of, seen_from, some_shown, standing_of, style_of}
@@ -57,18 +58,18 @@ use Rattle.text_codes.specs.Halves.{half_text}
 -- ---- lines
 
 row_by : (before : List Paragraph) (paragraph : Paragraph) (standing : Standing) → paragraph.standing ≡ standing →
-    row_before (paragraph ∷ before) ≡ (if keeps_row standing then paragraph ∷ row_before before else [])
+    row_before (paragraph ∷ before) ≡ (if row_goes_on standing then paragraph ∷ row_before before else [])
 row_by before paragraph standing is =
-    take_while-cons (λ (p : Paragraph). keeps_row p.standing) paragraph before
-    ∙ (λ i. if keeps_row (is i) then paragraph ∷ row_before before else [])
+    take_while-cons (λ (p : Paragraph). row_goes_on p.standing) paragraph before
+    ∙ (λ i. if row_goes_on (is i) then paragraph ∷ row_before before else [])
 
 -- what is here, by the paragraphs of the row
 line_with : List Paragraph → Paragraph → List Paragraph → Line
 line_with before paragraph row = record {
   some = is_here paragraph || some_here before;
   in_row = some_here row;
-  in_cell = some_here (take_while (λ (p : Paragraph). not (ends_cell p.standing)) row);
-  later = list_any (λ (p : Paragraph). ends_cell p.standing) row;
+  in_cell = some_here (take_while (λ (p : Paragraph). not (closes_cell p.standing)) row);
+  later = list_any (λ (p : Paragraph). closes_cell p.standing) row;
 }
 
 -- the same where the row goes on
@@ -77,8 +78,8 @@ line_in : (before : List Paragraph) (paragraph : Paragraph) (standing : Standing
     ≡ record {
       some = is_here paragraph || some_here before;
       in_row = is_here paragraph || some_here (row_before before);
-      in_cell = some_here (if not (ends_cell standing) then paragraph ∷ cell_before before else []);
-      later = ends_cell standing || list_any (λ (p : Paragraph). ends_cell p.standing) (row_before before);
+      in_cell = some_here (if not (closes_cell standing) then paragraph ∷ cell_before before else []);
+      later = closes_cell standing || list_any (λ (p : Paragraph). closes_cell p.standing) (row_before before);
     }
 unfolding line_with
 line_in before paragraph standing is =
@@ -87,20 +88,20 @@ line_in before paragraph standing is =
       in_row = is_here paragraph || some_here (row_before before);
       in_cell =
           some_here
-          (take_while-cons (λ (p : Paragraph). not (ends_cell p.standing)) paragraph (row_before before) i);
+          (take_while-cons (λ (p : Paragraph). not (closes_cell p.standing)) paragraph (row_before before) i);
       later =
-          ends_cell paragraph.standing || list_any (λ (p : Paragraph). ends_cell p.standing) (row_before before);
+          closes_cell paragraph.standing || list_any (λ (p : Paragraph). closes_cell p.standing) (row_before before);
     })
     ∙ (λ i. record {
       some = is_here paragraph || some_here before;
       in_row = is_here paragraph || some_here (row_before before);
-      in_cell = some_here (if not (ends_cell (is i)) then paragraph ∷ cell_before before else []);
-      later = ends_cell (is i) || list_any (λ (p : Paragraph). ends_cell p.standing) (row_before before);
+      in_cell = some_here (if not (closes_cell (is i)) then paragraph ∷ cell_before before else []);
+      later = closes_cell (is i) || list_any (λ (p : Paragraph). closes_cell p.standing) (row_before before);
     })
 
 -- what is here behind one paragraph more
 line_by : (before : List Paragraph) (paragraph : Paragraph) (standing : Standing) → paragraph.standing ≡ standing →
-    line_of (paragraph ∷ before) ≡ line_after (line_of before) standing (is_here paragraph)
+    line_behind (paragraph ∷ before) ≡ line_after (line_behind before) standing (is_here paragraph)
 unfolding line_with
 line_by before paragraph Outside is = ap (line_with before paragraph) (row_by before paragraph Outside is)
 line_by before paragraph Inside is =
@@ -110,8 +111,8 @@ line_by before paragraph Cell is =
 line_by before paragraph Row is = ap (line_with before paragraph) (row_by before paragraph Row is)
 line_by before paragraph HeadRow is = ap (line_with before paragraph) (row_by before paragraph HeadRow is)
 
-pub line_on : (before : List Paragraph) (paragraph : Paragraph) (line : Line) → line ≡ line_of before →
-    line_after line paragraph.standing (is_here paragraph) ≡ line_of (paragraph ∷ before)
+pub line_on : (before : List Paragraph) (paragraph : Paragraph) (line : Line) → line ≡ line_behind before →
+    line_after line paragraph.standing (is_here paragraph) ≡ line_behind (paragraph ∷ before)
 line_on before paragraph line is =
     ap (λ (l : Line). line_after l paragraph.standing (is_here paragraph)) is
     ∙ sym (line_by before paragraph paragraph.standing refl)
@@ -122,7 +123,7 @@ line_on before paragraph line is =
 pub record TextAt {K : Type 0} (sink : Ghosts K) (start : K) (page : Page) (out : K) (now : Page) (lead : List ℕ)
     (all rest : List Paragraph) (line : Line) (first references : List Reference) : Type 0 where
   pub before : List Paragraph
-  pub line_is : line ≡ line_of before
+  pub line_is : line ≡ line_behind before
   pub text : List ℕ
   pub prints : Prints sink start page out now text
   pub whole : text ++ text_from lead before rest ≡ text_from lead [] all
@@ -198,12 +199,13 @@ some_put sink start page out now lead all line first references at =
 -- ---- one paragraph
 
 -- what is said of a paragraph that is put from its start to its end
-pub paragraph_put : {K : Type 0} (sink : Ghosts K) (before after : At K) (next : K) (page : Page) (seen : List Seen) →
-    Passes sink before after seen → Prints sink after.out after.page next page (half_text after.saying.half) →
-    Prints sink before.out before.page next page (left before.saying seen)
+pub paragraph_put : {K : Type 0} (sink : Ghosts K) (before after : CourseAt K) (next : K) (page : Page) (seen : List
+    Seen) →
+    PutsItems sink before after seen → Prints sink after.out after.page next page (half_text after.saying.half) →
+    Prints sink before.out before.page next page (unsaid_text before.saying seen)
 paragraph_put sink before after next page seen passes put =
     subst (λ (text : List ℕ). Prints sink before.out before.page next page text)
-    (sym (ap (left before.saying) (sym (append-nil seen)) ∙ passes.says.goes_on []
+    (sym (ap (unsaid_text before.saying) (sym (append-nil seen)) ∙ passes.says.goes_on []
     ∙ ap (λ (x : List ℕ). passes.text ++ x) (left_end after.saying passes.says.still)))
     (put_then sink before.out after.out next before.page after.page page passes.text (half_text after.saying.half)
     passes.prints put)
@@ -211,7 +213,7 @@ paragraph_put sink before after next page seen passes put =
 -- ---- the paragraphs of a text by its columns
 
 -- the items from a place on begin with the paragraph there
-pub paragraph_begins : (parts : Parts) → AreParts parts → (from to : ℕ) → from < to → to ≤ length parts.units.now →
+pub paragraph_begins : (parts : Parts) → AreFullParts parts → (from to : ℕ) → from < to → to ≤ length parts.units.now →
     ((k : ℕ) (attached : Attached) → from ≤ k → k + 1 < to → slice_get (expanded parts.attachments.now) k ≡ Some
     attached →
     attached.mark ≡ None) →
@@ -236,7 +238,7 @@ paragraph_begins parts are from to some within inside ends =
     (drop-drop (to - from) from items ∙ ap (λ (n : ℕ). drop n items) place)
 
 -- the paragraph, by what is at its last item
-pub paragraph_is : (formats : Formats) (manner : Manner) (parts : Parts) → AreParts parts → (from to unit : ℕ)
+pub paragraph_is : (formats : Formats) (manner : Manner) (parts : Parts) → AreFullParts parts → (from to unit : ℕ)
     (attached : Attached) → from < to → to ≤ length parts.units.now →
     slice_get parts.units.now (to - 1) ≡ Some unit → slice_get (expanded parts.attachments.now) (to - 1) ≡ Some attached
     →
@@ -267,22 +269,22 @@ paragraph_is formats manner parts are from to unit attached some within unit_is 
       items = seen_from formats manner (style_of (same i).mark) (take from items) part;
     })
 
-style_by : (sheet : Sheet) (mark : Option Mark) → kind_at sheet 0 ≡ 1 →
-    ForSome mark (λ (m : Mark). kind_at sheet m.istd ≡ 1) → kind_at sheet (style_of mark) ≡ 1
+style_by : (sheet : Sheet) (mark : Option Mark) → style_kind_at sheet 0 ≡ 1 →
+    ForSome mark (λ (m : Mark). style_kind_at sheet m.istd ≡ 1) → style_kind_at sheet (style_of mark) ≡ 1
 style_by sheet None normal right = normal
 style_by sheet (Some mark) normal right = right mark refl
 
 -- the style of a paragraph is one of paragraphs
-pub right_style : (sheet : Sheet) (parts : Parts) → AreParts parts → (at : ℕ) (attached : Attached) →
-    kind_at sheet 0 ≡ 1 → HoldsAtItems (items_in parts) (λ i item. HasParagraphStyle sheet item) →
+pub right_style : (sheet : Sheet) (parts : Parts) → AreFullParts parts → (at : ℕ) (attached : Attached) →
+    style_kind_at sheet 0 ≡ 1 → HoldsAtItems (items_in parts) (λ i item. HasParagraphStyle sheet item) →
     at < length parts.units.now → slice_get (expanded parts.attachments.now) at ≡ Some attached →
-    kind_at sheet (style_of attached.mark) ≡ 1
+    style_kind_at sheet (style_of attached.mark) ≡ 1
 right_style sheet parts are at attached normal styles within here =
     let items = items_in parts in
     let one = there_is items at (omega (arith, items_long parts are, within)) in
     let same : attached_of one.0 ≡ attached =
     same_Some (attached_of one.0) attached (sym (attached_there parts are at one.0 one.1) ∙ here) in
-    subst (λ (b : Attached). kind_at sheet (style_of b.mark) ≡ 1) same
+    subst (λ (b : Attached). style_kind_at sheet (style_of b.mark) ≡ 1) same
     (style_by sheet one.0.mark normal (styles at one.0 one.1))
 
 -- ---- the loop
@@ -318,7 +320,7 @@ none_left formats manner items at past =
     ∙ ap (paragraphs_from formats manner (take at items)) (stretches-nil is_inside)
 
 -- the paragraph of a place, and those behind it
-pub next_left : (formats : Formats) (manner : Manner) (parts : Parts) → AreParts parts → (from to unit : ℕ)
+pub next_left : (formats : Formats) (manner : Manner) (parts : Parts) → AreFullParts parts → (from to unit : ℕ)
     (attached : Attached) → from < to → to ≤ length parts.units.now →
     ((k : ℕ) (attached : Attached) → from ≤ k → k + 1 < to → slice_get (expanded parts.attachments.now) k ≡ Some
     attached →
@@ -404,20 +406,20 @@ pub paragraph_step : {K : Type 0} (sink : Ghosts K) (start : K) (page : Page) (o
       half = None;
     } →
     TextAt sink start page out now (lead_text lead) all there line first references →
-    Passes sink (record { out = out; page = now; saying = saying; references = references })
+    PutsItems sink (record { out = out; page = now; saying = saying; references = references })
     (record { out = mid; page = said; saying = done; references = met }) seen →
     Prints sink mid said next after (half_text done.half) →
     TextAt sink start page next after (lead_text lead) all rest (line_after line standing done.begun) first met
 paragraph_step {K = K} sink start page out now mid said next after lead line all there rest standing values seen saying
     done first references met there_same saying_is at passes put =
     let paragraph : Paragraph = record { standing = standing; values = option_map (λ v. v.now) values; items = seen } in
-    let from : At K = record { out = out; page = now; saying = saying; references = references } in
-    let to : At K = record { out = mid; page = said; saying = done; references = met } in
+    let from : CourseAt K = record { out = out; page = now; saying = saying; references = references } in
+    let to : CourseAt K = record { out = mid; page = said; saying = done; references = met } in
     let here : TextAt sink start page out now (lead_text lead) all (paragraph ∷ rest) line first references =
     subst (λ (ps : List Paragraph). TextAt sink start page out now (lead_text lead) all ps line first references) there_same
     at in
     let whole : Prints sink out now next after (paragraph_said (lead_text lead) line paragraph) =
-    subst (λ (s : Saying). Prints sink out now next after (left s seen)) saying_is
+    subst (λ (s : Saying). Prints sink out now next after (unsaid_text s seen)) saying_is
     (paragraph_put sink from to next after seen passes put) in
     let begun : done.begun ≡ is_here paragraph =
     passes.says.begun ∙ ap (λ (s : Saying). s.begun || some_shown seen) saying_is in

@@ -13,13 +13,13 @@ use Rattle.std.proofs.lemmas.Option.{get_or_from_slice_get}
 use Rattle.doc_bits.proofs.Public.{get-map, there_is, range_split, second_false, and_false, not_true, none_is}
 use Rattle.doc_outer.specs.declared.sink.Sink.{Ghosts}
 use Rattle.doc_columns.specs.declared.walk.Parts.{Parts}
-use Rattle.doc_columns.specs.Walks.{items_in, AreParts}
+use Rattle.doc_columns.specs.Walks.{items_in, AreFullParts}
 use Rattle.doc_columns.proofs.Public.{items_long, units_are}
 use Rattle.page_out.specs.declared.page.Page.{Page}
 use Rattle.page_out.specs.Printed.{Prints}
 use Rattle.std.proofs.lemmas.List.Elements.{All-from_get_or, filter_map-append}
-use Rattle.plain_doc.specs.declared.item.Item.{Item}
-use Rattle.plain_doc.specs.Rows.{is_on, value_in}
+use Rattle.doc_model.specs.declared.item.Item.{Item}
+use Rattle.plain_doc.specs.Rows.{is_byte_one, mark_value_in}
 use Rattle.char_formats.specs.declared.format.CharFormat.{CharFormat}
 use Rattle.doc_columns.specs.Attached.{attached_of}
 use Rattle.doc_columns.specs.declared.attached.Attached.{Attached}
@@ -32,7 +32,7 @@ use Rattle.doc_view.specs.declared.reading.Seen.{Seen}
 use Rattle.doc_view.specs.declared.references.Reference.{Reference}
 use Rattle.doc_view.specs.declared.text.Course.{Course}
 use Rattle.doc_view.specs.Blocks.{IsItself, is_itself, shows_units}
-use Rattle.doc_view.specs.Course.{HasAttached, HasFormat, IsCourse, Passes, is_numbered, with_reference}
+use Rattle.doc_view.specs.Course.{HasAttached, HasFormat, IsCourse, PutsItems, is_numbered, with_reference}
 use Rattle.doc_view.specs.Glyphs.{control_glyph, is_windows, stand_in_glyph, unit_glyph, drawn_unit}
 use Rattle.doc_view.specs.Glyphs.{text_unit}
 use Rattle.symbol_fonts.specs.Characters.{is_sign}
@@ -140,7 +140,7 @@ seen_itself manner format front attached item shows same itself =
     let label : (is_note manner.kind && ((unit == 0x02) || (space && front.behind_label))) ≡ false =
     (λ i. is_note manner.kind && (two i || (space && front.behind_label)))
     ∙ no_label (is_note manner.kind) space front.behind_label is.label in
-    let row : Bool = is_on (value_in item.mark 0x2417) in
+    let row : Bool = is_byte_one (mark_value_in item.mark 0x2417) in
     let mark : ((unit == 0x07) && row) ≡ false = λ i. not_equal unit 0x07 (omega arith) high i && row in
     let stand_in : (format.special && ((unit == 0x01) || (unit == 0x08))) ≡ false =
     (λ i. format.special && (not_equal unit 0x01 (omega arith) high i || not_equal unit 0x08 (omega arith) high i))
@@ -375,7 +375,7 @@ pub units_pass : {K : Type 0} (sink : Ghosts K) (out next : K) (page after : Pag
     HasFormat formats istd items course.place (course.place + count) format → IsSaying p → p.half ≡ None →
     q ≡ record p { begun = true } →
     Prints sink out page next after (begun_front p ++ slice_range units course.place (course.place + count)) →
-    Passes sink (record { out = out; page = page; saying = p; references = course.references.list })
+    PutsItems sink (record { out = out; page = page; saying = p; references = course.references.list })
     (record { out = next; page = after; saying = q; references = course.references.list })
     (seen_range formats manner istd items course.place (course.place + count))
 units_pass sink out next page after p q formats manner istd items units format attached course count some is shows are
@@ -394,7 +394,7 @@ units_pass sink out next page after p q formats manner istd items units format a
     }
 
 -- the items of such units of the columns
-pub units_at : (parts : Parts) → AreParts parts → (attached : Attached) (from until : ℕ) →
+pub units_at : (parts : Parts) → AreFullParts parts → (attached : Attached) (from until : ℕ) →
     until ≤ length parts.units.now → HasAttached (items_in parts) from until attached →
     ((k : ℕ) → from ≤ k → k < until → IsItself (slice_index parts.units.now k)) →
     AreUnits (items_in parts) parts.units.now attached from until

@@ -2,7 +2,7 @@
 use Rattle.std.specs.Prelude.{◌≡◌, ℕ, ◌+◌, ◌<◌, ◌≤◌, Bool, is_some, List, [], ◌∷◌, ◌++◌, length, take, drop}
 use Rattle.std.specs.Prelude.{Option, Some, None, slice_get, if◌then◌else◌, false, ◌==◌, ◌-◌, ⊤}
 use Rattle.std.specs.List.{count_by}
-use Rattle.plain_doc.specs.declared.item.Item.{Item}
+use Rattle.doc_model.specs.declared.item.Item.{Item}
 use Rattle.doc_columns.specs.Attached.{attached_of}
 use Rattle.doc_columns.specs.declared.attached.Attached.{Attached}
 use Rattle.char_formats.specs.declared.format.CharFormat.{CharFormat}
@@ -60,14 +60,14 @@ HasRoomFor kept None = ⊤
 HasRoomFor kept (Some reference) = 1 ≤ kept.room
 
 -- what was put of a page, and of a paragraph of it, and the references that were met
-pub record At (K : Type 0) : Type 0 where
+pub record CourseAt (K : Type 0) : Type 0 where
   pub out : K
   pub page : Page
   pub saying : Saying
   pub references : List Reference
 
 -- items were put
-pub record Passes {K : Type 0} (sink : Ghosts K) (before after : At K) (seen : List Seen) : Type 0 where
+pub record PutsItems {K : Type 0} (sink : Ghosts K) (before after : CourseAt K) (seen : List Seen) : Type 0 where
   pub text : List ℕ
   pub prints : Prints sink before.out before.page after.out after.page text
   pub says : Says before.saying seen after.saying text

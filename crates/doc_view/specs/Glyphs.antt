@@ -2,7 +2,7 @@
 use Rattle.std.specs.Prelude.{ℕ, Bool, false, not, ◌&&◌, ◌||◌, ◌==◌, nat_lt, nat_le, if◌then◌else◌}
 use Rattle.std.specs.Prelude.{List, [], ◌∷◌, ◌++◌, Option, Some, None, codes}
 use Rattle.std.specs.Fmt.{decimal}
-use Rattle.text_codes.specs.Compressed.{unit_of}
+use Rattle.text_codes.specs.Compressed.{compressed_unit}
 use Rattle.text_codes.specs.Shown.{is_pair, pair_code}
 use Rattle.char_formats.specs.declared.format.CharFormat.{CharFormat}
 use Rattle.char_formats.specs.declared.format.Symbol.{Symbol}
@@ -19,7 +19,7 @@ windows_unit unit =
     if unit == 0x80 then 0x20AC else
     if unit == 0x8E then 0x017D else
     if unit == 0x9E then 0x017E else
-    if unit_of unit == unit then replacement else unit_of unit
+    if compressed_unit unit == unit then replacement else compressed_unit unit
 
 -- a unit below 0x20: [MS-DOC] 1E is a hyphen that does not break, 1F an optional one, which is seen at line ends alone;
 -- 0C is the break of a page where no section ends there
@@ -55,8 +55,8 @@ abbrev pub stand_in_glyph : CharFormat → Option Glyph
 stand_in_glyph format = if format.of_field then None else if format.object then Some Object else Some (Picture format.picture)
 
 -- what is visible of a unit of this format in a document with these symbol fonts
-abbrev pub glyph_of : SymbolFonts → CharFormat → Bool → ℕ → Option Glyph
-glyph_of fonts format ends_section unit =
+abbrev pub visible_glyph : SymbolFonts → CharFormat → Bool → ℕ → Option Glyph
+visible_glyph fonts format ends_section unit =
     if is_stand_in format unit then stand_in_glyph format else
     unit_glyph (drawn_unit fonts format unit) ends_section
 
@@ -75,14 +75,15 @@ abbrev pub are_halves : Glyph → Glyph → Bool
 are_halves (Unit first) (Unit second) = is_pair first second
 are_halves one next = false
 
-abbrev pub whole_text : Glyph → Glyph → List ℕ
-whole_text (Unit first) (Unit second) = pair_code first second ∷ []
-whole_text one next = []
+abbrev pub halves_text : Glyph → Glyph → List ℕ
+halves_text (Unit first) (Unit second) = pair_code first second ∷ []
+halves_text one next = []
 
 -- glyphs in a row: the halves of a character are that character, and each other glyph has its own text
 unfoldable pub glyphs_text : Bool → List Glyph → List ℕ
 glyphs_text in_cell [] = []
 glyphs_text in_cell (one ∷ []) = glyph_text in_cell one
 glyphs_text in_cell (one ∷ next ∷ more) =
-    if are_halves one next then whole_text one next ++ glyphs_text in_cell more else glyph_text in_cell one ++ glyphs_text
+    if are_halves one next then halves_text one next ++ glyphs_text in_cell more else glyph_text in_cell one ++
+    glyphs_text
     in_cell (next ∷ more)

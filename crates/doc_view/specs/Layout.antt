@@ -19,19 +19,19 @@ is_in_table Row = true
 is_in_table HeadRow = true
 
 -- a row goes on behind it
-abbrev pub keeps_row : Standing → Bool
-keeps_row Outside = false
-keeps_row Inside = true
-keeps_row Cell = true
-keeps_row Row = false
-keeps_row HeadRow = false
+abbrev pub row_goes_on : Standing → Bool
+row_goes_on Outside = false
+row_goes_on Inside = true
+row_goes_on Cell = true
+row_goes_on Row = false
+row_goes_on HeadRow = false
 
-abbrev pub ends_cell : Standing → Bool
-ends_cell Outside = false
-ends_cell Inside = false
-ends_cell Cell = true
-ends_cell Row = false
-ends_cell HeadRow = false
+abbrev pub closes_cell : Standing → Bool
+closes_cell Outside = false
+closes_cell Inside = false
+closes_cell Cell = true
+closes_cell Row = false
+closes_cell HeadRow = false
 
 -- a row ends that is a head of its table
 abbrev pub ends_head : Standing → Bool
@@ -43,10 +43,10 @@ ends_head HeadRow = true
 
 -- of the paragraphs before one, the nearest first: those of its row, and those of its cell
 abbrev pub row_before : List Paragraph → List Paragraph
-row_before before = take_while (λ paragraph. keeps_row paragraph.standing) before
+row_before before = take_while (λ paragraph. row_goes_on paragraph.standing) before
 
 abbrev pub cell_before : List Paragraph → List Paragraph
-cell_before before = take_while (λ paragraph. not (ends_cell paragraph.standing)) (row_before before)
+cell_before before = take_while (λ paragraph. not (closes_cell paragraph.standing)) (row_before before)
 
 abbrev pub some_here : List Paragraph → Bool
 some_here paragraphs = list_any is_here paragraphs
@@ -71,19 +71,19 @@ abbrev pub front_at : List ℕ → Line → Bool → List ℕ
 front_at lead line in_table = if in_table then inner_front lead line else line_front lead line.some
 
 -- the paragraphs before one, the nearest first
-abbrev pub line_of : List Paragraph → Line
-line_of before = record {
+abbrev pub line_behind : List Paragraph → Line
+line_behind before = record {
   some = some_here before;
   in_row = some_here (row_before before);
   in_cell = some_here (cell_before before);
-  later = list_any (λ paragraph. ends_cell paragraph.standing) (row_before before);
+  later = list_any (λ paragraph. closes_cell paragraph.standing) (row_before before);
 }
 
 -- a paragraph with those before it, the nearest first
 abbrev pub paragraph_text : List ℕ → List Paragraph → Paragraph → List ℕ
 paragraph_text lead before paragraph =
     let in_table = is_in_table paragraph.standing in
-    if is_here paragraph then (front_at lead (line_of before) in_table ++ opening_text in_table paragraph.values)
+    if is_here paragraph then (front_at lead (line_behind before) in_table ++ opening_text in_table paragraph.values)
     ++ glyphs_text in_table (glyphs_in paragraph.items) else []
 
 -- paragraphs behind those before them; the last line ends too

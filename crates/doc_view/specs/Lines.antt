@@ -14,7 +14,7 @@ use Rattle.doc_view.specs.declared.paragraph.Saying.{Saying}
 use Rattle.doc_view.specs.declared.standing.Standing.{Standing}
 use Rattle.doc_view.specs.Glyphs.{glyph_text, glyphs_text}
 use Rattle.doc_view.specs.Labels.{opening_text}
-use Rattle.doc_view.specs.Layout.{front_at, keeps_row, ends_cell}
+use Rattle.doc_view.specs.Layout.{front_at, row_goes_on, closes_cell}
 use Rattle.doc_view.specs.Notes.{note_label}
 use Rattle.doc_view.specs.Headers.{header_title}
 use Rattle.doc_view.specs.declared.reading.Seen.{Seen}
@@ -33,9 +33,9 @@ lead_text lead = (if lead.is_apart then 10 ∷ [] else []) ++ title_text lead.ti
 abbrev pub line_after : Line → Standing → Bool → Line
 line_after line standing here = record {
   some = here || line.some;
-  in_row = keeps_row standing && (here || line.in_row);
-  in_cell = keeps_row standing && (not (ends_cell standing) && (here || line.in_cell));
-  later = keeps_row standing && (ends_cell standing || line.later);
+  in_row = row_goes_on standing && (here || line.in_row);
+  in_cell = row_goes_on standing && (not (closes_cell standing) && (here || line.in_cell));
+  later = row_goes_on standing && (closes_cell standing || line.later);
 }
 
 -- a half that waits, as a glyph, and its text where no other one follows
@@ -44,12 +44,13 @@ waiting None = []
 waiting (Some unit) = Unit unit ∷ []
 
 -- a unit that no half waits for
-abbrev pub first_text : ℕ → List ℕ
-first_text unit = if is_high unit then [] else glyph_text false (Unit unit)
+abbrev pub first_unit_said : ℕ → List ℕ
+first_unit_said unit = if is_high unit then [] else glyph_text false (Unit unit)
 
 abbrev pub unit_said : Option ℕ → ℕ → List ℕ
-unit_said None unit = first_text unit
-unit_said (Some first) unit = if is_pair first unit then pair_code first unit ∷ [] else replacement ∷ [] ++ first_text unit
+unit_said None unit = first_unit_said unit
+unit_said (Some first) unit = if is_pair first unit then pair_code first unit ∷ [] else replacement ∷ [] ++
+    first_unit_said unit
 
 abbrev pub unit_waits : Option ℕ → ℕ → Option ℕ
 unit_waits None unit = first_half unit
@@ -121,8 +122,8 @@ shown_after saying None = record saying { begun = true }
 shown_after saying (Some glyph) = record saying { begun = true; half = waits_after saying.half glyph }
 
 -- what is still to be put where these items follow, and then the paragraph ends
-abbrev pub left : Saying → List Seen → List ℕ
-left saying seen =
+abbrev pub unsaid_text : Saying → List Seen → List ℕ
+unsaid_text saying seen =
     if saying.begun then glyphs_text saying.in_table (waiting saying.half ++ glyphs_in seen) else
     if some_shown seen then saying_front saying ++ glyphs_text saying.in_table (glyphs_in seen) else []
 
@@ -133,6 +134,6 @@ pub record IsSaying (saying : Saying) : Type 0 where
 
 -- these items were said
 pub record Says (saying : Saying) (seen : List Seen) (after : Saying) (text : List ℕ) : Type 0 where
-  pub goes_on : (more : List Seen) → left saying (seen ++ more) ≡ text ++ left after more
+  pub goes_on : (more : List Seen) → unsaid_text saying (seen ++ more) ≡ text ++ unsaid_text after more
   pub begun : after.begun ≡ (saying.begun || some_shown seen)
   pub still : IsSaying after

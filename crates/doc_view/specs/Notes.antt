@@ -1,7 +1,7 @@
 -- The notes of a page of text: behind an empty line, each whose reference is shown, behind its label.
 use Rattle.std.specs.Prelude.{ℕ, Bool, false, ◌||◌, List, [], ◌∷◌, ◌++◌, Option, Some, None, if◌then◌else◌}
 use Rattle.std.specs.Fmt.{decimal}
-use Rattle.plain_doc.specs.declared.item.Item.{Item}
+use Rattle.doc_model.specs.declared.item.Item.{Item}
 use Rattle.doc_view.specs.declared.references.Reference.{Reference}
 use Rattle.doc_view.specs.declared.reading.Manner.{Manner}
 use Rattle.doc_view.specs.Seen.{Formats, paragraphs_of}

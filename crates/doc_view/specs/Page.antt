@@ -2,8 +2,8 @@
 use Rattle.std.specs.Prelude.{◌≡◌, ◌≢◌, ℕ, false, List, [], ◌++◌, drop, None, encode_utf8_all, if◌then◌else◌}
 use Rattle.prop_map.specs.Settings.{Properties}
 use Rattle.style_sheet.specs.Sheet.{Sheet}
-use Rattle.style_sheet.specs.Chain.{kind_at}
-use Rattle.plain_doc.specs.declared.document.Document.{Document}
+use Rattle.style_sheet.specs.Chain.{style_kind_at}
+use Rattle.doc_model.specs.declared.document.Document.{Document}
 use Rattle.list_numbers.specs.declared.paragraph_values.ParagraphValues.{ParagraphValues}
 use Rattle.list_numbers.specs.ParagraphValues.{AreParagraphValuesOf}
 use Rattle.char_formats.specs.Formats.{IsCharFormat, format_in}
@@ -20,8 +20,10 @@ use Rattle.doc_view.specs.declared.reading.TextKind.TheVariants as text_kind
 -- the format of characters with these properties in each paragraph of a style of paragraphs; others have none
 pub record AreFormats (sheet : Sheet) (formats : Formats) : Type 0 where
   pub right :
-      (istd : ℕ) (direct : Properties) → kind_at sheet istd ≡ 1 → IsCharFormat sheet istd direct (formats istd direct)
-  pub none : (istd : ℕ) (direct : Properties) → kind_at sheet istd ≢ 1 → formats istd direct ≡ format_in None (λ code. None)
+      (istd : ℕ) (direct : Properties) → style_kind_at sheet istd ≡ 1 → IsCharFormat sheet istd direct (formats istd
+      direct)
+  pub none : (istd : ℕ) (direct : Properties) → style_kind_at sheet istd ≢ 1 → formats istd direct ≡ format_in None (λ
+      code. None)
 
 -- the symbol fonts of a document
 abbrev pub fonts_of : Document → SymbolFonts

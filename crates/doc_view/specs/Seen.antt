@@ -4,14 +4,14 @@ use Rattle.std.specs.Prelude.{List, [], ◌∷◌, ◌++◌, length, Option, Som
 use Rattle.std.specs.List.{count_by, filter_map, flat_map, list_any}
 use Rattle.prop_map.specs.Settings.{Properties}
 use Rattle.text_codes.specs.Paragraph.{cell_mark}
-use Rattle.plain_doc.specs.declared.item.Item.{Item}
-use Rattle.plain_doc.specs.declared.item.Mark.{Mark}
-use Rattle.plain_doc.specs.declared.item.NoteKind.{NoteKind}
-use Rattle.plain_doc.specs.declared.item.NoteKind.TheVariants.{Auto, Custom}
+use Rattle.doc_model.specs.declared.item.Item.{Item}
+use Rattle.doc_model.specs.declared.item.Mark.{Mark}
+use Rattle.doc_model.specs.declared.item.NoteKind.{NoteKind}
+use Rattle.doc_model.specs.declared.item.NoteKind.TheVariants.{Auto, Custom}
 use Rattle.plain_doc.specs.RulesOfTexts.{last_unit}
-use Rattle.plain_doc.specs.Rows.{value_in, is_on, is_row_mark}
-use Rattle.plain_doc.specs.Stretches.{stretches}
-use Rattle.plain_doc.specs.Settings.{is_inside}
+use Rattle.plain_doc.specs.Rows.{mark_value_in, is_byte_one, is_row_mark}
+use Rattle.doc_model.specs.Stretches.{stretches}
+use Rattle.doc_model.specs.Settings.{is_inside}
 use Rattle.list_numbers.specs.declared.paragraph_values.ParagraphValues.{ParagraphValues}
 use Rattle.char_formats.specs.declared.format.CharFormat.{CharFormat}
 use Rattle.field_links.specs.OpenFields.{is_in_results, open_fields}
@@ -25,7 +25,7 @@ use Rattle.doc_view.specs.declared.reading.TextKind.TheVariants.{Main, Note, Hea
 use Rattle.doc_view.specs.declared.standing.Standing.{Standing}
 use Rattle.doc_view.specs.declared.standing.Standing.TheVariants.{Outside, Inside, Cell, Row, HeadRow}
 use Rattle.doc_view.specs.declared.references.Reference.{Reference}
-use Rattle.doc_view.specs.Glyphs.{glyph_of}
+use Rattle.doc_view.specs.Glyphs.{visible_glyph}
 
 abbrev pub is_main : TextKind → Bool
 is_main Main = true
@@ -46,10 +46,10 @@ is_header Header = true
 abbrev pub reference_kind : Manner → Option NoteKind → Option NoteKind
 reference_kind manner note = if is_main manner.kind then note else None
 
-abbrev pub is_auto : Option NoteKind → Bool
-is_auto None = false
-is_auto (Some Auto) = true
-is_auto (Some Custom) = false
+abbrev pub is_auto_reference : Option NoteKind → Bool
+is_auto_reference None = false
+is_auto_reference (Some Auto) = true
+is_auto_reference (Some Custom) = false
 
 -- [MS-DOC] a note begins with 0x02, its number, and mostly a space or a tab behind it, for which its label is
 abbrev pub note_unit : ℕ
@@ -67,7 +67,7 @@ abbrev pub front_of : Manner → List Item → Front
 front_of manner front = record {
   in_results = is_in_results (open_fields front);
   behind_label = is_note_unit (last_unit front);
-  numbered = count_by (λ item. is_auto (reference_kind manner item.note)) front;
+  numbered = count_by (λ item. is_auto_reference (reference_kind manner item.note)) front;
 }
 
 -- text that is shown: no code of a field, not hidden, not the label of a note
@@ -96,7 +96,7 @@ abbrev pub seen_as : Manner → CharFormat → Front → Item → Seen
 seen_as manner format front item =
     let shown = is_shown manner format front item in
     let kind = reference_kind manner item.note in
-    let glyph = visible kind (front.numbered + 1) (glyph_of manner.fonts format (is_some item.sect) item.unit) in
+    let glyph = visible kind (front.numbered + 1) (visible_glyph manner.fonts format (is_some item.sect) item.unit) in
     record {
       is_shown = counts manner.kind glyph && (shown && not (is_row_mark item));
       glyph = glyph;
@@ -128,8 +128,9 @@ style_of (Some mark) = mark.istd
 abbrev pub standing_of : ℕ → Option Mark → Standing
 standing_of unit mark =
     if unit == cell_mark then
-    (if is_on (value_in mark 0x2417) then (if is_on (value_in mark 0x3404) then HeadRow else Row) else Cell) else
-    if is_on (value_in mark 0x2416) then Inside else Outside
+    (if is_byte_one (mark_value_in mark 0x2417) then (if is_byte_one (mark_value_in mark 0x3404) then HeadRow else Row)
+    else Cell) else
+    if is_byte_one (mark_value_in mark 0x2416) then Inside else Outside
 
 -- a paragraph: where it is, its values where it is one of the main text, and its items
 pub record Paragraph : Type 0 where

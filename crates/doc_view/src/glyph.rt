@@ -1,7 +1,7 @@
 // What is visible of a unit.
 ghost use Rattle.std.specs.Prelude.{◌≡◌, ℕ, ◌+◌, ◌<◌, ◌≤◌, length, slice_index, IsTrue};
 ghost use Rattle.doc_view.specs.Blocks.{IsItself, is_itself};
-ghost use Rattle.doc_view.specs.Glyphs.{control_glyph, drawn_unit, glyph_of, is_stand_in};
+ghost use Rattle.doc_view.specs.Glyphs.{control_glyph, drawn_unit, visible_glyph, is_stand_in};
 ghost use Rattle.doc_view.specs.Glyphs.{is_windows, stand_in_glyph, unit_glyph, windows_unit};
 ghost use Rattle.text_codes.specs.Halves.{is_surrogate};
 
@@ -26,7 +26,7 @@ pub(crate) fn glyph_of(
     ends_section: bool,
     unit: u16,
 ) -> Option<Glyph>
-    ensures { result ≡ glyph_of fonts format.now ends_section unit }
+    ensures { result ≡ visible_glyph fonts format.now ends_section unit }
 {
     if is_stand_in(format, unit) {
         return stand_in_glyph(format);

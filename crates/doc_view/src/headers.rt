@@ -1,7 +1,7 @@
 // The header texts of a page.
 ghost use Rattle.std.specs.Prelude.{◌≡◌, ℕ, ◌<◌, length, drop, List, ◌||◌, false, slice_get, Some};
-ghost use Rattle.style_sheet.specs.Chain.{kind_at};
-ghost use Rattle.plain_doc.specs.declared.item.Item.{Item};
+ghost use Rattle.style_sheet.specs.Chain.{style_kind_at};
+ghost use Rattle.doc_model.specs.declared.item.Item.{Item};
 ghost use Rattle.plain_doc.specs.RightDocument.{HoldsAtItems};
 ghost use Rattle.plain_doc.specs.RulesOfTexts.{HasParagraphStyle};
 ghost use Rattle.doc_view.specs.Headers.{header_text, headers_from};
@@ -37,7 +37,7 @@ pub(crate) struct Headers<'a> {
 impl Headers<'_> {
     /// Puts each header text that has a glyph behind its name, and an empty line before the first one.
     pub(crate) fn push<K: Sink>(&self, page: &mut Page, out: &mut K)
-        requires normal { kind_at self.now.formats.now 0 ≡ 1 }
+        requires normal { style_kind_at self.now.formats.now 0 ≡ 1 }
         requires styles { (k : ℕ) (text : List Item) → slice_get self.now.texts.now k ≡ Some text
             → HoldsAtItems text (λ i item. HasParagraphStyle self.now.formats.now item) }
         ensures { (formats : Formats) → AreFormats self.now.formats.now formats
@@ -56,7 +56,7 @@ impl Headers<'_> {
     /// Puts the header text of a number, behind others or as the first one, and answers whether some header text was put
     /// then.
     fn push_header<K: Sink>(&self, page: &mut Page, out: &mut K, number: usize, begun: bool) -> bool
-        requires normal { kind_at self.now.formats.now 0 ≡ 1 }
+        requires normal { style_kind_at self.now.formats.now 0 ≡ 1 }
         requires styles { (k : ℕ) (text : List Item) → slice_get self.now.texts.now k ≡ Some text
             → HoldsAtItems text (λ i item. HasParagraphStyle self.now.formats.now item) }
         requires there { number < length self.now.texts.now }

@@ -1,9 +1,9 @@
 // Laws over the definitions alone.
-ghost use Rattle.doc_view.specs.Laws.{EachItemIsShownOnce, NoControls, PagesAreOne, PagesAreShort};
+ghost use Rattle.doc_view.specs.Laws.{EachItemIsShownOnce, NoControls, PageIsOne, PagesAreShort};
 
 /// A document has one page of these options.
 pub fn pages_are_one()
-    ensures { PagesAreOne }
+    ensures { PageIsOne }
 {}
 
 /// No character of a page is a control but tabs, line feeds and form feeds.

@@ -1,7 +1,7 @@
 // The notes of a page.
 ghost use Rattle.std.specs.Prelude.{◌≡◌, ℕ, ◌<◌, length, List, ◌||◌, [], false, true, slice_get, Some, if◌then◌else◌};
-ghost use Rattle.style_sheet.specs.Chain.{kind_at};
-ghost use Rattle.plain_doc.specs.declared.item.Item.{Item};
+ghost use Rattle.style_sheet.specs.Chain.{style_kind_at};
+ghost use Rattle.doc_model.specs.declared.item.Item.{Item};
 ghost use Rattle.plain_doc.specs.RightDocument.{HoldsAtItems};
 ghost use Rattle.plain_doc.specs.RulesOfTexts.{HasParagraphStyle};
 ghost use Rattle.doc_view.specs.Notes.{has_lines, note_text, notes_from};
@@ -36,7 +36,7 @@ pub(crate) struct Notes<'a> {
 impl Notes<'_> {
     /// Puts each note whose reference is shown behind its label, and an empty line before the first one.
     pub(crate) fn push<K: Sink>(&self, page: &mut Page, out: &mut K, references: &References)
-        requires normal { kind_at self.now.formats.now 0 ≡ 1 }
+        requires normal { style_kind_at self.now.formats.now 0 ≡ 1 }
         requires styles { (k : ℕ) (note : List Item) → slice_get self.now.texts.now k ≡ Some note
             → HoldsAtItems note (λ i item. HasParagraphStyle self.now.formats.now item) }
         ensures { (formats : Formats) → AreFormats self.now.formats.now formats
@@ -61,7 +61,7 @@ impl Notes<'_> {
         reference: Reference,
         begun: bool,
     ) -> bool
-        requires normal { kind_at self.now.formats.now 0 ≡ 1 }
+        requires normal { style_kind_at self.now.formats.now 0 ≡ 1 }
         requires styles { (k : ℕ) (note : List Item) → slice_get self.now.texts.now k ≡ Some note
             → HoldsAtItems note (λ i item. HasParagraphStyle self.now.formats.now item) }
         requires there { k < length self.now.texts.now }

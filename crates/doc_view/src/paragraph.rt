@@ -7,7 +7,7 @@ ghost use Rattle.std.specs.Prelude.{◌&&◌, not, option_map};
 ghost use Rattle.doc_view.specs.Glyphs.{glyphs_text};
 ghost use Rattle.doc_view.specs.Labels.{break_text, label_glyph, label_glyphs, label_text, opening_text};
 ghost use Rattle.doc_view.specs.Lines.{IsSaying, Says, glyph_said, other_said, shown_after};
-ghost use Rattle.doc_view.specs.Lines.{begun_front, first_text, saying_front, unit_in};
+ghost use Rattle.doc_view.specs.Lines.{begun_front, first_unit_said, saying_front, unit_in};
 ghost use Rattle.doc_view.specs.Lines.{maybe_said, maybe_waits, shown_said, unit_said, unit_waits, waits_after};
 ghost use Rattle.page_out.specs.Printed.{Prints};
 ghost use Rattle.text_codes.specs.Halves.{is_high, is_surrogate, half_text, first_half};
@@ -155,7 +155,7 @@ impl<'a> Saying<'a> {
 
     /// Puts a unit for which no half waits, or lets it wait.
     fn push_first<K: Sink>(&mut self, page: &mut Page, out: &mut K, unit: u16)
-        ensures said { Prints K.Sink out.old page.old out.new page.new (first_text unit) }
+        ensures said { Prints K.Sink out.old page.old out.new page.new (first_unit_said unit) }
         ensures after { self.new ≡ record self.old { half = first_half unit } }
     {
         if is_high(unit) {

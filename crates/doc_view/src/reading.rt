@@ -1,7 +1,7 @@
 // What is seen of an item.
 ghost use Rattle.std.specs.Prelude.{◌≡◌, ◌+◌, ◌^◌, ◌<◌, ◌==◌, ◌&&◌, not};
 ghost use Rattle.text_codes.specs.Paragraph.{cell_mark};
-ghost use Rattle.plain_doc.specs.Rows.{is_on, value_in};
+ghost use Rattle.plain_doc.specs.Rows.{is_byte_one, mark_value_in};
 ghost use Rattle.prop_map.specs.Settings.{Properties};
 ghost use Rattle.doc_columns.specs.Columns.{item_of};
 ghost use Rattle.doc_view.specs.Blocks.{shows_units};
@@ -136,7 +136,7 @@ pub(crate) fn shows_units(
 
 /// Whether a unit is shown and no mark of a row.
 fn is_text(shown: bool, unit: u16, mark: &Option<Mark>) -> bool
-    ensures { result ≡ (shown && not (unit == cell_mark && is_on (value_in mark.now 0x2417))) }
+    ensures { result ≡ (shown && not (unit == cell_mark && is_byte_one (mark_value_in mark.now 0x2417))) }
 {
     shown && !is_row_mark(unit, mark)
 }

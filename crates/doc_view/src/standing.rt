@@ -1,8 +1,8 @@
 // Where a paragraph is.
 ghost use Rattle.std.specs.Prelude.{◌≡◌, ◌==◌, ◌&&◌, if◌then◌else◌};
-ghost use Rattle.plain_doc.specs.Rows.{is_on, value_in};
+ghost use Rattle.plain_doc.specs.Rows.{is_byte_one, mark_value_in};
 ghost use Rattle.text_codes.specs.Paragraph.{cell_mark};
-ghost use Rattle.doc_view.specs.Layout.{ends_cell, ends_head, is_in_table, keeps_row};
+ghost use Rattle.doc_view.specs.Layout.{closes_cell, ends_head, is_in_table, row_goes_on};
 ghost use Rattle.doc_view.specs.Seen.{standing_of, style_of};
 ghost use Rattle.doc_view.specs.declared.standing.Standing.TheVariants.{HeadRow, Row};
 
@@ -57,7 +57,7 @@ impl Standing {
 
     /// Whether its row goes on behind it.
     pub fn keeps_row(self) -> bool
-        ensures { result ≡ keeps_row self }
+        ensures { result ≡ row_goes_on self }
     {
         match self {
             Standing::Outside | Standing::Row | Standing::HeadRow => false,
@@ -77,7 +77,7 @@ impl Standing {
 
     /// Whether its cell ends.
     pub fn ends_cell(self) -> bool
-        ensures { result ≡ ends_cell self }
+        ensures { result ≡ closes_cell self }
     {
         match self {
             Standing::Cell => true,
@@ -99,14 +99,14 @@ fn row_of(is_head: bool) -> Standing
 
 /// Whether a unit with this mark ends a row.
 pub fn is_row_mark(unit: u16, mark: &Option<Mark>) -> bool
-    ensures { result ≡ (unit == cell_mark && is_on (value_in mark.now 0x2417)) }
+    ensures { result ≡ (unit == cell_mark && is_byte_one (mark_value_in mark.now 0x2417)) }
 {
     unit == CELL_MARK && is_set(mark, ENDS_ROW)
 }
 
 /// Whether a mark has the byte 01 at a code.
 fn is_set(mark: &Option<Mark>, code: Code) -> bool
-    ensures { result ≡ is_on (value_in mark.now code.0) }
+    ensures { result ≡ is_byte_one (mark_value_in mark.now code.0) }
 {
     match value_at(mark, code) {
         None => false,

@@ -4,12 +4,12 @@ ghost use Rattle.std.specs.Prelude.{◌≡◌, ℕ, ◌+◌, ◌^◌, ◌<◌, �
 ghost use Rattle.std.specs.Prelude.{slice_index, None, true};
 ghost use Rattle.doc_view.specs.Blocks.{IsItself, shows_units};
 ghost use Rattle.std.specs.List.{count_by};
-ghost use Rattle.style_sheet.specs.Chain.{kind_at};
-ghost use Rattle.plain_doc.specs.declared.item.Item.{Item};
+ghost use Rattle.style_sheet.specs.Chain.{style_kind_at};
+ghost use Rattle.doc_model.specs.declared.item.Item.{Item};
 ghost use Rattle.plain_doc.specs.RightDocument.{HoldsAtItems};
 ghost use Rattle.plain_doc.specs.RulesOfTexts.{HasParagraphStyle};
-ghost use Rattle.doc_columns.specs.Walks.{items_in, AreParts, IsWalk};
-ghost use Rattle.doc_view.specs.Course.{At, HasAttached, HasFormat, HasRoomFor, IsCourse, Passes};
+ghost use Rattle.doc_columns.specs.Walks.{items_in, AreFullParts, IsColumnWalk};
+ghost use Rattle.doc_view.specs.Course.{CourseAt, HasAttached, HasFormat, HasRoomFor, IsCourse, PutsItems};
 ghost use Rattle.doc_view.specs.Course.{course_after, has_reference, is_numbered};
 ghost use Rattle.doc_view.specs.Layout.{layout_of, some_here};
 ghost use Rattle.doc_view.specs.Lines.{IsSaying, lead_text};
@@ -78,8 +78,8 @@ impl Text<'_> {
         references: References,
         values: &ParagraphValuesList,
     ) -> (References, bool)
-        requires parts { AreParts self.now.parts }
-        requires normal { kind_at self.now.formats.now 0 ≡ 1 }
+        requires parts { AreFullParts self.now.parts }
+        requires normal { style_kind_at self.now.formats.now 0 ≡ 1 }
         requires styles { HoldsAtItems (items_in self.now.parts)
             (λ i item. HasParagraphStyle self.now.formats.now item) }
         requires room { count_by (has_reference self.now.manner) (items_in self.now.parts) ≤ references.room }
@@ -155,18 +155,18 @@ impl Course {
         text: &Text<'_>,
         bounds: Bounds,
     )
-        requires parts { AreParts text.now.parts }
-        requires walk { IsWalk text.now.parts self.old.walk self.old.place }
+        requires parts { AreFullParts text.now.parts }
+        requires walk { IsColumnWalk text.now.parts self.old.walk self.old.place }
         requires course { IsCourse text.now.manner (items_in text.now.parts) self.old }
         requires saying { IsSaying saying.old }
         requires ahead { self.old.place ≤ bounds.end }
         requires within { bounds.end ≤ length text.now.parts.units.now }
-        requires style { kind_at text.now.formats.now bounds.istd ≡ 1 }
+        requires style { style_kind_at text.now.formats.now bounds.istd ≡ 1 }
         ensures place { self.new.place ≡ bounds.end }
-        ensures walk { IsWalk text.now.parts self.new.walk bounds.end }
+        ensures walk { IsColumnWalk text.now.parts self.new.walk bounds.end }
         ensures course { IsCourse text.now.manner (items_in text.now.parts) self.new }
         ensures saying { IsSaying saying.new }
-        ensures passes { (formats : Formats) → AreFormats text.now.formats.now formats → Passes K.Sink
+        ensures passes { (formats : Formats) → AreFormats text.now.formats.now formats → PutsItems K.Sink
             (record { out = out.old; page = page.old; saying = saying.old; references = self.old.references.list })
             (record { out = out.new; page = page.new; saying = saying.new; references = self.new.references.list })
             (seen_from formats text.now.manner bounds.istd (take self.old.place (items_in text.now.parts))
@@ -192,7 +192,7 @@ impl Course {
         text: &Text<'_>,
         stretch: &Stretch<'_>,
     )
-        requires parts { AreParts text.now.parts }
+        requires parts { AreFullParts text.now.parts }
         requires course { IsCourse text.now.manner (items_in text.now.parts) self.old }
         requires saying { IsSaying saying.old }
         requires ahead { self.old.place ≤ stretch.now.until }
@@ -205,7 +205,7 @@ impl Course {
         ensures saying { IsSaying saying.new }
         ensures passes { (formats : Formats) (istd : ℕ)
             → HasFormat formats istd (items_in text.now.parts) self.old.place stretch.now.until stretch.now.format
-            → Passes K.Sink
+            → PutsItems K.Sink
             (record { out = out.old; page = page.old; saying = saying.old; references = self.old.references.list })
             (record { out = out.new; page = page.new; saying = saying.new; references = self.new.references.list })
             (seen_from formats text.now.manner istd (take self.old.place (items_in text.now.parts))
@@ -225,7 +225,7 @@ impl Course {
         text: &Text<'_>,
         stretch: &Stretch<'_>,
     )
-        requires parts { AreParts text.now.parts }
+        requires parts { AreFullParts text.now.parts }
         requires course { IsCourse text.now.manner (items_in text.now.parts) self.old }
         requires saying { IsSaying saying.old }
         requires ahead { self.old.place < stretch.now.until }
@@ -239,7 +239,7 @@ impl Course {
         ensures saying { IsSaying saying.new }
         ensures passes { (formats : Formats) (istd : ℕ)
             → HasFormat formats istd (items_in text.now.parts) self.old.place stretch.now.until stretch.now.format
-            → Passes K.Sink
+            → PutsItems K.Sink
             (record { out = out.old; page = page.old; saying = saying.old; references = self.old.references.list })
             (record { out = out.new; page = page.new; saying = saying.new; references = self.new.references.list })
             (seen_from formats text.now.manner istd (take self.old.place (items_in text.now.parts))
@@ -298,7 +298,7 @@ impl Course {
         text: &Text<'_>,
         stretch: &Stretch<'_>,
     )
-        requires parts { AreParts text.now.parts }
+        requires parts { AreFullParts text.now.parts }
         requires course { IsCourse text.now.manner (items_in text.now.parts) self.old }
         requires saying { IsSaying saying.old }
         requires ahead { self.old.place < stretch.now.until }
@@ -311,7 +311,7 @@ impl Course {
         ensures saying { IsSaying saying.new }
         ensures passes { (formats : Formats) (istd : ℕ)
             → HasFormat formats istd (items_in text.now.parts) self.old.place stretch.now.until stretch.now.format
-            → Passes K.Sink
+            → PutsItems K.Sink
             (record { out = out.old; page = page.old; saying = saying.old; references = self.old.references.list })
             (record { out = out.new; page = page.new; saying = saying.new; references = self.new.references.list })
             (seen_from formats text.now.manner istd (take self.old.place (items_in text.now.parts))

@@ -7,13 +7,13 @@ use Rattle.doc_outer.specs.Held.{Files, no_files, with_file}
 use Rattle.doc_run.specs.Quota.{program_policies}
 
 -- the first file, the second one where there are two, and how often another name was asked for
-pub record Given : Type 0 where
+pub record CallFiles : Type 0 where
   pub first : List ℕ
   pub second : Option (List ℕ)
   pub missed : ℕ
 
 -- it is kept as its parts
-abbrev pub given_code : Coded Given
+abbrev pub given_code : Coded CallFiles
 given_code =
     code_by (List ℕ × (Option (List ℕ) × ℕ))
     (coded× (coded_list coded_ℕ) (coded× (coded_option (coded_list coded_ℕ)) coded_ℕ))
@@ -30,7 +30,7 @@ abbrev pub with_second : Option (List ℕ) → Files → Files
 with_second None files = files
 with_second (Some second) files = with_file files (codes "second") second
 
-abbrev pub given_files : Given → Files
+abbrev pub given_files : CallFiles → Files
 given_files given = with_second given.second (file_alone given.first)
 
 -- two files under their names

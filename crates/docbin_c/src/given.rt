@@ -1,9 +1,9 @@
 // The files of a call.
 ghost use Rattle.std.specs.Prelude.{◌≡◌, ◌≤◌, Some, None, option_map};
 ghost use Rattle.std.specs.Prelude.{IfOk, OnOk, OnErr, IsErrOf};
-ghost use Rattle.doc_outer.specs.Counts.{Rose, GoesOn};
+ghost use Rattle.doc_outer.specs.Counts.{Rose, CountGoesOn};
 ghost use Rattle.doc_outer.specs.Held.{file_at, held_with, OthersStay, Told, ReadsPart, IsAbsent};
-ghost use Rattle.docbin_c.specs.Calls.{Given, given_files};
+ghost use Rattle.docbin_c.specs.Calls.{CallFiles, given_files};
 
 use doc_bits::{Bytes, Memory};
 use doc_outer::{PutFault, Shelf, ShelfFault, copy_part};
@@ -28,9 +28,9 @@ pub(crate) struct GivenFiles {
 }
 
 impl Model for GivenFiles {
-    ghost use Rattle.docbin_c.specs.Calls.{Given, given_code};
+    ghost use Rattle.docbin_c.specs.Calls.{CallFiles, given_code};
 
-    ghost Value = { Given };
+    ghost Value = { CallFiles };
 
     ghost coded = { given_code };
 

@@ -1,6 +1,6 @@
 // A sink that keeps what it takes.
 ghost use Rattle.std.specs.Prelude.{◌≡◌, ◌++◌, ◌<◌, ◌≤◌, [], length, take, Some, IfOk, OnErr};
-ghost use Rattle.doc_outer.specs.Counts.{Rose, GoesOn};
+ghost use Rattle.doc_outer.specs.Counts.{Rose, CountGoesOn};
 ghost use Rattle.doc_outer.specs.Written.{Appends};
 
 use doc_bits::{Bytes, Memory};

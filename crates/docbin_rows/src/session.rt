@@ -1,6 +1,6 @@
 // Sessions on files, as the calls of fast_save edit and save them.
 ghost use Rattle.std.specs.Prelude.{IfOk, IsTrue};
-ghost use Rattle.fast_save.specs.Edited.{HasRoom};
+ghost use Rattle.fast_save.specs.Edited.{HasEditRoom};
 
 use crate::document::refusal;
 use crate::edits::Edits;
@@ -129,7 +129,7 @@ fn saved(answer: Result<(), SaveFault>) -> Result<(), FastFault> {
 
 /// Whether so little was added to a session that it may be edited.
 fn has_room(session: &Session) -> Result<bool, Memory>
-    ensures { IfOk result (λ room. IsTrue room → HasRoom session.now.counts) }
+    ensures { IfOk result (λ room. IsTrue room → HasEditRoom session.now.counts) }
 {
     let ledgers = session.ledgers()?;
     Ok(ledgers.units <= ROOM && ledgers.runs <= ROOM && ledgers.sections <= ROOM)

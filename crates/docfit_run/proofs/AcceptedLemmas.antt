@@ -4,7 +4,7 @@ use Rattle.std.proofs.lemmas.Bool.{cases_eq}
 use Rattle.doc_bits.specs.declared.places.Where.TheVariants.{File}
 use Rattle.doc_bits.specs.Number.{AreBytes}
 use Rattle.doc_outer.specs.Held.{Files, file_at}
-use Rattle.plain_doc.specs.declared.document.Document.{Document}
+use Rattle.doc_model.specs.declared.document.Document.{Document}
 use Rattle.doc_read.specs.Holds.{IsAccepted}
 use Rattle.run_stages.specs.Outcomes.{Outcome}
 use Rattle.run_stages.specs.Stages.{longest_file, BreaksLengthRule}
@@ -13,7 +13,7 @@ use Rattle.doc_fit.proofs.Public.{accepted_read, breaks_none}
 use Rattle.file_mends.specs.declared.mends.FileMend.{FileMend}
 use Rattle.docfit_run.specs.Requests.{fit, requested}
 use Rattle.docfit_run.specs.Fitted.{FitMends, JudgesRead, IsSaved, JudgesFit}
-use Rattle.docfit_run.specs.Endings.{Ends, IsEnding}
+use Rattle.docfit_run.specs.Endings.{EndsRequest, IsEnding}
 use Rattle.docfit_run.specs.Laws.{IsAcceptedStatus}
 use Rattle.docfit_run.proofs.OneLemmas.{JudgesBytes, reads_bytes}
 
@@ -51,7 +51,7 @@ said_unrefused plain name out bytes outcome accepted (inr read) =
     judged_unrefused plain name out bytes outcome read.1.0 accepted read.1.1
 
 fit_unrefused : (plain : Bool) (name out : List ℕ) (files : Files) (bytes : List ℕ) (outcome : Outcome) →
-    file_at files name ≡ Some bytes → IsAccepted bytes → Ends (Some files) (Some (fit plain name out)) outcome →
+    file_at files name ≡ Some bytes → IsAccepted bytes → EndsRequest (Some files) (Some (fit plain name out)) outcome →
     IsAcceptedStatus outcome.status
 fit_unrefused plain name out files bytes outcome there accepted ends = elim (cases_eq outcome.status 4) [
   | inl fault ↦ inr (inl fault)
@@ -66,4 +66,5 @@ pub unrefused : (words : List (List ℕ)) (plain : Bool) (file out : List ℕ) (
     (outcome : Outcome) → requested words ≡ Some (fit plain file out) → file_at files file ≡ Some bytes →
     IsAccepted bytes → IsEnding words (Some files) outcome → IsAcceptedStatus outcome.status
 unrefused words plain file out files bytes outcome asked there accepted is =
-    fit_unrefused plain file out files bytes outcome there accepted (subst (λ r. Ends (Some files) r outcome) asked is)
+    fit_unrefused plain file out files bytes outcome there accepted (subst (λ r. EndsRequest (Some files) r outcome)
+    asked is)

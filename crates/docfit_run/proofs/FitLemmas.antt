@@ -11,7 +11,7 @@ use Rattle.doc_fit.specs.declared.opening.OpenedAny.{OpenedAny}
 use Rattle.doc_fit.specs.Opened.{IsOpenedAny}
 use Rattle.doc_fit.specs.Rules.{fit_rules}
 use Rattle.doc_fit.specs.Refusals.{IsFitRefused}
-use Rattle.doc_fit.specs.ReadAs.{IsReadAs}
+use Rattle.doc_fit.specs.ReadAs.{IsMendedRead}
 use Rattle.file_rules.specs.FileRules.{FileText}
 use Rattle.doc_fit.specs.Noted.{IsNotedText, IsOpenedNoted, IsOpenedWith, IsOpenedFit, AreNoted}
 use Rattle.doc_fit.proofs.Public.{inventory_of, lifted_inventory, lines_fit, mended_by, text_meant}
@@ -96,7 +96,7 @@ saves_fit plain out file mends opened outcome None are is saved =
 
 -- what is opened is fitted as it is saved, and what is refused ends so
 pub opened_fits : (plain : Bool) (name out file read : List ℕ) (mends : List FileMend)
-    (found : Result OpenedAny ReadFault) (outcome : Outcome) → IsReadAs file mends read →
+    (found : Result OpenedAny ReadFault) (outcome : Outcome) → IsMendedRead file mends read →
     MatchResult found (IsOpenedFit plain read) (IsReadFault (fit_rules read)) →
     MatchResult found
     (λ opened. IsSaved out opened.lifted.document opened.losses

@@ -1,7 +1,7 @@
 -- What is put is accepted and holds the document, and the fit of a file that breaks no rule is its full save.
 use Rattle.std.proofs.Common.{◌≡◌, ◌∙◌, sym, ap, subst, inl, inr, ℕ, Bool, List, Some}
 use Rattle.std.proofs.lemmas.Option.{none-some, same_Some}
-use Rattle.plain_doc.specs.declared.document.Document.{Document}
+use Rattle.doc_model.specs.declared.document.Document.{Document}
 use Rattle.full_save.specs.Layout.{full_save_image}
 use Rattle.fast_save.specs.Laws.{IsSavable, IsHeldInFull}
 use Rattle.fast_save.proofs.Public.{full_saves_hold}

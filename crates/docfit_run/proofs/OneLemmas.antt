@@ -5,27 +5,28 @@ use Rattle.doc_bits.specs.Rules.{Hold}
 use Rattle.doc_bits.specs.Places.{Upto}
 use Rattle.doc_bits.proofs.Public.{hold_or_first}
 use Rattle.doc_outer.specs.Held.{Files}
-use Rattle.plain_doc.specs.declared.document.Document.{Document}
+use Rattle.doc_model.specs.declared.document.Document.{Document}
 use Rattle.file_rules.specs.FileRules.{FileText}
 use Rattle.loss_report.specs.Features.{Inventory}
 use Rattle.full_save.specs.Layout.{full_save_image}
 use Rattle.run_stages.specs.Outcomes.{Outcome, puts}
-use Rattle.run_stages.specs.Stages.{BreaksLengthRule, Reads}
+use Rattle.run_stages.specs.Stages.{BreaksLengthRule, ReadsNamedFile}
 use Rattle.run_stages.proofs.Public.{reads_one}
 use Rattle.further_notes.specs.declared.stories.NotedStories.{NotedStories}
 use Rattle.doc_fit.specs.Rules.{fit_rules}
-use Rattle.doc_fit.specs.Noted.{IsDocumentWith, AreLinesWith}
+use Rattle.doc_fit.specs.Noted.{IsFitDocument, AreLinesWith}
 use Rattle.doc_mends.specs.declared.mends.Mend.{Mend}
 use Rattle.doc_fit.proofs.Public.{fit_single, refused_one, inventory_one, text_same, AreOneRead, read_one, read_bytes}
 use Rattle.doc_fit.proofs.Public.{document_one, are_noted_one, lines_with_one}
 use Rattle.file_mends.specs.declared.mends.FileMend.{FileMend}
 use Rattle.docfit_run.specs.Requests.{Request, help, version, fit, requested}
-use Rattle.docfit_run.specs.Fitted.{FitMends, IsPut, IsSaved, IsReadFitted, JudgesRead, JudgesFit, FitsFile, fit_report}
-use Rattle.docfit_run.specs.Endings.{Ends}
+use Rattle.docfit_run.specs.Fitted.{FitMends, IsFitSaved, IsSaved, IsReadFitted, JudgesRead, JudgesFit, FitsFile}
+use Rattle.docfit_run.specs.Fitted.{fit_report}
+use Rattle.docfit_run.specs.Endings.{EndsRequest}
 use Rattle.docfit_run.specs.Laws.{FitIsOne}
 
 put_status : (out : List ℕ) (document : Document) (lines : List (List ℕ)) (mends : FitMends) (outcome : Outcome) →
-    IsPut out document lines mends outcome → outcome.status ≡ 0
+    IsFitSaved out document lines mends outcome → outcome.status ≡ 0
 put_status out document lines mends outcome put = ap (λ (o : Outcome). o.status) put.ends
 
 saved_one : (out : List ℕ) (document : Document) (lines others : List (List ℕ)) (mends : FitMends) (a b : Outcome) →
@@ -54,7 +55,7 @@ fitted_one plain out file file_mends a b bytes hold x y =
     are_noted_one plain x.noted y.noted file x.are_noted y.are_noted in
     let one : (x.document ≡ y.document) × (x.mends ≡ y.mends) =
     document_one y.noted file x.document y.document x.mends y.mends bytes hold.0
-    (subst (λ (n : Option NotedStories). IsDocumentWith n file x.document x.mends) noted x.document_is) y.document_is in
+    (subst (λ (n : Option NotedStories). IsFitDocument n file x.document x.mends) noted x.document_is) y.document_is in
     let inventory : x.inventory ≡ y.inventory = inventory_one file x.inventory y.inventory x.has y.has in
     let text : x.has.text ≡ y.has.text = text_same file x.inventory y.inventory x.has y.has in
     saved_one out y.document x.lines y.lines (with_file file_mends y.mends) a b
@@ -92,7 +93,8 @@ abbrev pub JudgesBytes : Bool → (name out file : List ℕ) → Outcome → Typ
 JudgesBytes plain name out file outcome = AreBytes file × JudgesFit plain name out file outcome
 
 pub reads_bytes : (plain : Bool) (name out : List ℕ) (held : Option Files) (outcome : Outcome) →
-    FitsFile plain name out held outcome → Reads name held (BreaksLengthRule name) (JudgesBytes plain name out) outcome
+    FitsFile plain name out held outcome → ReadsNamedFile name held (BreaksLengthRule name) (JudgesBytes plain name out)
+    outcome
 reads_bytes plain name out held outcome (inl x) = inl x
 reads_bytes plain name out held outcome (inr (inl x)) = inr (inl x)
 reads_bytes plain name out held outcome (inr (inr (inl x))) = inr (inr (inl x))
@@ -105,8 +107,8 @@ reads_bytes plain name out held outcome (inr (inr (inr x))) =
       goes_on = (x.are, x.goes_on);
     })))
 
-ends_one : (files : Files) (request : Option Request) (a b : Outcome) → Ends (Some files) request a →
-    Ends (Some files) request b → a.status ≢ 4 → b.status ≢ 4 → a ≡ b
+ends_one : (files : Files) (request : Option Request) (a b : Outcome) → EndsRequest (Some files) request a →
+    EndsRequest (Some files) request b → a.status ≢ 4 → b.status ≢ 4 → a ≡ b
 ends_one files None a b x y ca cb = x ∙ sym y
 ends_one files (Some help) a b x y ca cb = x ∙ sym y
 ends_one files (Some version) a b x y ca cb = x ∙ sym y

@@ -3,7 +3,7 @@ use Rattle.std.proofs.Common.{◌≡◌, ◌≢◌, ◌⊎◌, ◌↔◌, ◌∙
 use Rattle.std.proofs.Common.{Option, Some, None, arith}
 use Rattle.std.proofs.lemmas.Option.{none-some, same_Some}
 use Rattle.doc_bits.specs.Places.{Place}
-use Rattle.plain_doc.specs.declared.document.Document.{Document}
+use Rattle.doc_model.specs.declared.document.Document.{Document}
 use Rattle.full_save.specs.Layout.{full_save_image}
 use Rattle.file_mends.specs.declared.mends.FileMend.{FileMend}
 use Rattle.doc_outer.specs.Held.{Files, StaysAt, OthersStay}
@@ -11,9 +11,9 @@ use Rattle.run_stages.specs.Lines.{shelf_fault_line}
 use Rattle.run_stages.specs.Outcomes.{Outcome, PutFile, says, IsAfterReading}
 use Rattle.run_stages.proofs.Public.{said_inside}
 use Rattle.doc_fit.specs.Refusals.{EndsAt}
-use Rattle.docfit_run.specs.Requests.{Request, help, version, fit, requested, PutsUnder}
+use Rattle.docfit_run.specs.Requests.{Request, help, version, fit, requested, WordsPutUnder}
 use Rattle.docfit_run.specs.Fitted.{FitMends, JudgesRead, JudgesFit, FitsFile, IsSaved}
-use Rattle.docfit_run.specs.Endings.{Ends, IsEnding}
+use Rattle.docfit_run.specs.Endings.{EndsRequest, IsEnding}
 
 -- what is put has this name, and then the status is 0; the status is none of usage, a failing sink and want of memory
 pub record IsFine (out : List ℕ) (outcome : Outcome) : Type 0 where
@@ -128,7 +128,7 @@ record IsPutBy (request : Option Request) (outcome : Outcome) (file : PutFile) :
   done : outcome.status ≡ 0
 
 ends_puts : (held : Option Files) (request : Option Request) (outcome : Outcome) (file : PutFile) →
-    Ends held request outcome → outcome.put ≡ Some file → IsPutBy request outcome file
+    EndsRequest held request outcome → outcome.put ≡ Some file → IsPutBy request outcome file
 ends_puts held None outcome file e put = absurd (said_nothing 2 _ outcome file e put)
 ends_puts held (Some help) outcome file e put = absurd (said_nothing 0 _ outcome file e put)
 ends_puts held (Some version) outcome file e put = absurd (said_nothing 0 _ outcome file e put)
@@ -137,7 +137,7 @@ ends_puts held (Some (fit plain name out)) outcome file e put =
     let is = fine.puts file put in
     record { plain = plain; name = name; asked = ap (λ o. Some (fit plain name o)) is.0; done = is.1 }
 
-ends_calm : (held : Option Files) (request : Option Request) (outcome : Outcome) → Ends held request outcome →
+ends_calm : (held : Option Files) (request : Option Request) (outcome : Outcome) → EndsRequest held request outcome →
     (outcome.status ≢ 5) × (outcome.status ≢ 6)
 ends_calm held None outcome e =
     let same : outcome.status ≡ 2 = ap (λ (o : Outcome). o.status) e in
@@ -152,7 +152,7 @@ ends_calm held (Some (fit plain name out)) outcome e =
     let fine = file_fine plain name out held outcome e in fine.calm
 
 -- the status of words that ask for nothing
-ends_usage : (held : Option Files) (request : Option Request) (outcome : Outcome) → Ends held request outcome →
+ends_usage : (held : Option Files) (request : Option Request) (outcome : Outcome) → EndsRequest held request outcome →
     outcome.status ≡ 2 ↔ request ≡ None
 ends_usage held None outcome e = ((λ is. refl), λ none. ap (λ (o : Outcome). o.status) e)
 ends_usage held (Some help) outcome e =
@@ -176,13 +176,13 @@ ending_calm words held outcome is = ends_calm held (requested words) outcome is
 
 -- a run puts under the name of its words
 pub ending_puts : (words : List (List ℕ)) (held : Option Files) (outcome : Outcome) (file : PutFile) →
-    IsEnding words held outcome → outcome.put ≡ Some file → PutsUnder words file.name × (outcome.status ≡ 0)
+    IsEnding words held outcome → outcome.put ≡ Some file → WordsPutUnder words file.name × (outcome.status ≡ 0)
 ending_puts words held outcome file is put =
     let by = ends_puts held (requested words) outcome file is put in ((by.plain, (by.name, by.asked)), by.done)
 
 -- a run that puts may end by a failing shelf
 ends_faulted : (held : Option Files) (request : Option Request) (outcome : Outcome) (file : PutFile) →
-    Ends held request outcome → outcome.put ≡ Some file → Ends held request (says 4 shelf_fault_line)
+    EndsRequest held request outcome → outcome.put ≡ Some file → EndsRequest held request (says 4 shelf_fault_line)
 ends_faulted held None outcome file e put = absurd (said_nothing 2 _ outcome file e put)
 ends_faulted held (Some help) outcome file e put = absurd (said_nothing 0 _ outcome file e put)
 ends_faulted held (Some version) outcome file e put = absurd (said_nothing 0 _ outcome file e put)
@@ -197,8 +197,8 @@ ending_faulted words held outcome file failed is put e =
 -- a name that the words put nothing under stays
 pub stays_by_put : (words : List (List ℕ)) (before mid now : Option Files) (outcome : Outcome) (file : PutFile)
     (put name : List ℕ) → IsEnding words before outcome → outcome.put ≡ Some file → mid ≡ before →
-    put ≡ file.name → OthersStay put mid now → ¬ (PutsUnder words name) → StaysAt name before now
+    put ≡ file.name → OthersStay put mid now → ¬ (WordsPutUnder words name) → StaysAt name before now
 stays_by_put words before mid now outcome file put name ending has kept at others never =
     let puts = ending_puts words before outcome file ending has in
-    let apart : name ≢ put = λ same. never (subst (PutsUnder words) (sym (same ∙ at)) puts.0) in
+    let apart : name ≢ put = λ same. never (subst (WordsPutUnder words) (sym (same ∙ at)) puts.0) in
     subst (λ h. StaysAt name h now) kept (others name apart)

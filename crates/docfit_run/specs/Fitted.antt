@@ -5,10 +5,10 @@ use Rattle.std.specs.Prelude.{◌≡◌, ◌⊎◌, ◌+◌, ◌<◌, ℕ, Bool,
 use Rattle.std.specs.List.{flat_map}
 use Rattle.doc_bits.specs.Rules.{Hold}
 use Rattle.cfb_layout.specs.Counts.{most_sectors}
-use Rattle.plain_doc.specs.declared.document.Document.{Document}
+use Rattle.doc_model.specs.declared.document.Document.{Document}
 use Rattle.plain_doc.specs.Sound.{IsSound}
 use Rattle.file_rules.specs.Faults.{IsReadFault}
-use Rattle.full_save.specs.Layout.{full_save_image, sectors_of}
+use Rattle.full_save.specs.Layout.{full_save_image, full_save_sectors}
 use Rattle.fast_save.specs.Laws.{IsSavable}
 use Rattle.doc_mends.specs.declared.mends.Mend.{Mend}
 use Rattle.doc_mends.specs.Lines.{mend_line}
@@ -20,12 +20,12 @@ use Rattle.doc_fit.specs.declared.file_opening.OpenedFile.{OpenedFile}
 use Rattle.loss_report.specs.Features.{Inventory}
 use Rattle.doc_outer.specs.Held.{Files}
 use Rattle.run_stages.specs.Outcomes.{Outcome, says, puts}
-use Rattle.run_stages.specs.Stages.{Reads, BreaksLengthRule}
+use Rattle.run_stages.specs.Stages.{ReadsNamedFile, BreaksLengthRule}
 use Rattle.doc_fit.specs.Rules.{fit_rules}
 use Rattle.doc_fit.specs.Refusals.{IsFitRefused}
 use Rattle.doc_fit.specs.Losses.{HasInventory}
-use Rattle.doc_fit.specs.Noted.{AreNoted, IsDocumentWith, AreLinesWith}
-use Rattle.doc_fit.specs.ReadAs.{IsReadAs}
+use Rattle.doc_fit.specs.Noted.{AreNoted, IsFitDocument, AreLinesWith}
+use Rattle.doc_fit.specs.ReadAs.{IsMendedRead}
 use Rattle.docfit_run.specs.Lines.{fit_line, needs_line}
 
 -- the mends of the bytes of a file, and those of the document that these mean
@@ -47,7 +47,8 @@ fit_report bytes lines mends =
     fit_line bytes (length lines) (mend_count mends) ++ (flat_map (λ line. line) lines ++ mend_lines mends)
 
 -- the document is put as its full save, and each feature that is left out and each mend is printed
-pub record IsPut (out : List ℕ) (document : Document) (lines : List (List ℕ)) (mends : FitMends) (outcome : Outcome) :
+pub record IsFitSaved (out : List ℕ) (document : Document) (lines : List (List ℕ)) (mends : FitMends) (outcome :
+    Outcome) :
     Type 0 where
   pub savable : IsSavable document
   pub ends :
@@ -55,11 +56,11 @@ pub record IsPut (out : List ℕ) (document : Document) (lines : List (List ℕ)
 
 -- it needs more sectors than a file has
 pub record NeedsTooMany (document : Document) (outcome : Outcome) : Type 0 where
-  pub over : most_sectors < sectors_of document
-  pub ends : outcome ≡ says 9 (needs_line (sectors_of document))
+  pub over : most_sectors < full_save_sectors document
+  pub ends : outcome ≡ says 9 (needs_line (full_save_sectors document))
 
 abbrev pub IsSaved : List ℕ → Document → List (List ℕ) → FitMends → Outcome → Type 0
-IsSaved out document lines mends outcome = IsPut out document lines mends outcome ⊎ NeedsTooMany document outcome
+IsSaved out document lines mends outcome = IsFitSaved out document lines mends outcome ⊎ NeedsTooMany document outcome
 
 -- a file was opened with a sound document, or refused
 abbrev pub CanEnd : List ℕ → OpenedFile → Type 0
@@ -82,7 +83,7 @@ pub record IsReadFitted (plain : Bool) (out read : List ℕ) (file_mends : List 
     pub are_noted : AreNoted plain read noted
     pub document : Document
     pub mends : List Mend
-    pub document_is : IsDocumentWith noted read document mends
+    pub document_is : IsFitDocument noted read document mends
     pub inventory : Inventory
     pub has : HasInventory read inventory
     pub lines : List (List ℕ)
@@ -93,7 +94,7 @@ pub record IsReadFitted (plain : Bool) (out read : List ℕ) (file_mends : List 
 pub record IsFitted (plain : Bool) (out file : List ℕ) (outcome : Outcome) : Type 0 where
   pub mends : List FileMend
   pub read : List ℕ
-  pub read_as : IsReadAs file mends read
+  pub read_as : IsMendedRead file mends read
   pub fitted : IsReadFitted plain out read mends outcome
 
 -- the first of the rules that are left is broken, or what is read is fitted
@@ -104,9 +105,9 @@ JudgesRead plain name out read mends outcome =
 pub record JudgesFit (plain : Bool) (name out file : List ℕ) (outcome : Outcome) : Type 0 where
   pub mends : List FileMend
   pub read : List ℕ
-  pub read_as : IsReadAs file mends read
+  pub read_as : IsMendedRead file mends read
   pub judged : JudgesRead plain name out read mends outcome
 
 -- a name is read whole, and its file checked so
 abbrev pub FitsFile : Bool → (name out : List ℕ) → Option Files → Outcome → Type 0
-FitsFile plain name out held = Reads name held (BreaksLengthRule name) (JudgesFit plain name out)
+FitsFile plain name out held = ReadsNamedFile name held (BreaksLengthRule name) (JudgesFit plain name out)

@@ -2,15 +2,15 @@
 use Rattle.std.specs.Prelude.{◌≡◌, ◌≢◌, ◌⊎◌, ℕ, Bool, List, Option, Some}
 use Rattle.doc_bits.specs.Rules.{Hold}
 use Rattle.doc_outer.specs.Held.{Files}
-use Rattle.plain_doc.specs.declared.document.Document.{Document}
+use Rattle.doc_model.specs.declared.document.Document.{Document}
 use Rattle.full_save.specs.Layout.{full_save_image}
 use Rattle.doc_read.specs.Holds.{HoldsDocument, IsAccepted, all_rules}
 use Rattle.run_stages.specs.Outcomes.{Outcome, PutFile}
 use Rattle.doc_mends.specs.declared.mends.Mend.{Mend}
 use Rattle.file_mends.specs.declared.mends.FileMend.{FileMend}
 use Rattle.further_notes.specs.declared.stories.NotedStories.{NotedStories}
-use Rattle.doc_fit.specs.Noted.{AreNoted, IsDocumentWith}
-use Rattle.doc_fit.specs.ReadAs.{IsReadAs}
+use Rattle.doc_fit.specs.Noted.{AreNoted, IsFitDocument}
+use Rattle.doc_fit.specs.ReadAs.{IsMendedRead}
 use Rattle.docfit_run.specs.Fitted.{IsFitted}
 use Rattle.docfit_run.specs.Endings.{IsEnding}
 
@@ -21,7 +21,7 @@ pub record IsHeldRead (plain : Bool) (read bytes : List ℕ) : Type 0 where
   pub are_noted : AreNoted plain read noted
   pub document : Document
   pub mends : List Mend
-  pub document_is : IsDocumentWith noted read document mends
+  pub document_is : IsFitDocument noted read document mends
   pub accepted : Hold (all_rules bytes)
   pub holds : HoldsDocument bytes document
 
@@ -29,7 +29,7 @@ pub record IsHeldRead (plain : Bool) (read bytes : List ℕ) : Type 0 where
 pub record IsHeldFit (plain : Bool) (file bytes : List ℕ) : Type 0 where
   pub mends : List FileMend
   pub read : List ℕ
-  pub read_as : IsReadAs file mends read
+  pub read_as : IsMendedRead file mends read
   pub held : IsHeldRead plain read bytes
 
 -- what is put under the name is so

@@ -27,5 +27,5 @@ requested (word ∷ file ∷ out ∷ []) =
 requested (first ∷ second ∷ third ∷ fourth ∷ more) = None
 
 -- the words put something under the name
-abbrev pub PutsUnder : List (List ℕ) → List ℕ → Type 0
-PutsUnder words name = (plain : Bool) × ((file : List ℕ) × (requested words ≡ Some (fit plain file name)))
+abbrev pub WordsPutUnder : List (List ℕ) → List ℕ → Type 0
+WordsPutUnder words name = (plain : Bool) × ((file : List ℕ) × (requested words ≡ Some (fit plain file name)))

@@ -5,7 +5,7 @@ ghost use Rattle.doc_bits.specs.Number.{AreBytes};
 ghost use Rattle.plain_doc.specs.Sound.{IsSound};
 ghost use Rattle.run_stages.specs.Leaves.{IsCaused, IsOnlyRead};
 ghost use Rattle.run_stages.specs.Outcomes.{puts, says};
-ghost use Rattle.run_stages.specs.Reading.{Follows};
+ghost use Rattle.run_stages.specs.Reading.{FollowsStage};
 ghost use Rattle.docfit_run.specs.Lines.{needs_line as needs_of};
 ghost use Rattle.docfit_run.specs.Fitted.{CanEnd, EndsOpened, FitsFile, JudgesFit, IsSaved, fit_report};
 
@@ -45,7 +45,7 @@ fn fit_taken(
     out: &str,
     plain: bool,
 ) -> Result<Ending, Memory>
-    ensures { IfOk result (λ e. Follows taken (JudgesFit plain name.now out.now) e) }
+    ensures { IfOk result (λ e. FollowsStage taken (JudgesFit plain name.now out.now) e) }
 {
     match taken {
         Stage::Go(bytes) => fit_file(alloc, name, bytes.as_slice(), out, plain),

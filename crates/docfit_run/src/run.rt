@@ -7,7 +7,7 @@ ghost use Rattle.doc_outer.specs.Written.{Appends, AppendsPrefix};
 ghost use Rattle.doc_read.specs.Holds.{IsAccepted};
 ghost use Rattle.run_stages.specs.Leaves.{HasCause, IsCaused, IsOnlyRead, IsToldOfPut, LeavesPut};
 ghost use Rattle.run_stages.specs.Outcomes.{Outcome, says};
-ghost use Rattle.docfit_run.specs.Requests.{fit, requested, PutsUnder};
+ghost use Rattle.docfit_run.specs.Requests.{fit, requested, WordsPutUnder};
 ghost use Rattle.docfit_run.specs.Endings.{IsEnding};
 ghost use Rattle.docfit_run.specs.Laws.{FitIsOne, FitsAreFixed, FitsAreHeld, FitsSaveAccepted, IsAcceptedStatus};
 ghost use Rattle.docfit_run.specs.Completeness.{CanFit};
@@ -43,7 +43,7 @@ pub fn docfit_run<S: Shelf, K: Sink, E: Sink>(
     reasons: &mut E,
 ) -> u8
     // A name that the words put nothing under holds what it held.
-    ensures kept { (name : List ℕ) → ¬ (PutsUnder (map string_bytes words.now) name)
+    ensures kept { (name : List ℕ) → ¬ (WordsPutUnder (map string_bytes words.now) name)
         → StaysAt name (S.held shelf.old) (S.held shelf.new) }
 
     // The shelf changes at the statuses 0 and 5 alone, and at 4 where a put failed.
@@ -125,7 +125,7 @@ fn ending_after_put<S: Shelf>(
     words: &[String],
     shelf: &mut S,
 ) -> Result<Ending, Memory>
-    ensures kept { (name : List ℕ) → ¬ (PutsUnder (map string_bytes words.now) name)
+    ensures kept { (name : List ℕ) → ¬ (WordsPutUnder (map string_bytes words.now) name)
         → StaysAt name (S.held shelf.old) (S.held shelf.new) }
     ensures unchanged { IfOk result (λ e. e.status ≢ 0
         → IsToldOfPut e.status (S.put_faults shelf.old) (S.put_faults shelf.new)

@@ -2,14 +2,14 @@
 use Rattle.std.proofs.Common.{◌≡◌, ◌∙◌, ap, sym, subst, ℕ, List, Option, arith, inl}
 use Rattle.cfb_streams.specs.Contents.{Contents}
 use Rattle.cfb_streams.proofs.Public.{contents_unique}
-use Rattle.plain_doc.specs.declared.document.Document.{Document}
+use Rattle.doc_model.specs.declared.document.Document.{Document}
 use Rattle.doc_read.specs.Holds.{HoldsDocument}
 use Rattle.doc_read.proofs.Public.{document_one}
 use Rattle.document_commands.specs.Lines.{stream_lines}
 use Rattle.run_stages.specs.Outcomes.{Outcome, says}
 use Rattle.document_commands.specs.Tasks.{FileTask, PairTask, out_of, out_of_two}
 use Rattle.document_commands.specs.declared.reply.Reply.{Reply}
-use Rattle.document_commands.specs.Replies.{outcome_of, EndsBy, Replies, RepliesTwo, CanReply, CanReplyTwo}
+use Rattle.document_commands.specs.Replies.{outcome_of, EndsByReply, Replies, RepliesTwo, CanReply, CanReplyTwo}
 use Rattle.document_commands.specs.Answers.{IsListingOf, ListsStreams, AnswersFile, AnswersTwo}
 use Rattle.run_stages.specs.Outcomes.{IsAfterReading}
 use Rattle.run_stages.proofs.Public.{said_inside}
@@ -34,7 +34,7 @@ pub file_one :
     AnswersFile task name file b → a ≡ b
 file_one task name file a b x y =
     let same : x.document ≡ y.document = document_one file x.document y.document x.holds y.holds in
-    let answers = subst (λ d. EndsBy (out_of task) (Replies task name d) a) same x.answers in
+    let answers = subst (λ d. EndsByReply (out_of task) (Replies task name d) a) same x.answers in
     ends_one (out_of task) (Replies task name y.document) a b (replies_one task name y.document) answers y.answers
 
 -- one ending of what is asked of two files
@@ -46,8 +46,8 @@ two_one pair one other a b x y =
     let f : x.second ≡ y.second = document_one other x.second y.second x.holds_second y.holds_second in
     let out = out_of_two pair in
     let answers =
-    subst (λ d. EndsBy out (RepliesTwo pair d y.second) a) e
-    (subst (λ d. EndsBy out (RepliesTwo pair x.first d) a) f x.answers) in
+    subst (λ d. EndsByReply out (RepliesTwo pair d y.second) a) e
+    (subst (λ d. EndsByReply out (RepliesTwo pair x.first d) a) f x.answers) in
     ends_one out (RepliesTwo pair y.first y.second) a b (replies_two_one pair y.first y.second) answers y.answers
 
 -- a task is served by a file whose document has what it asks for

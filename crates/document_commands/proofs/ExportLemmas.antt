@@ -1,9 +1,9 @@
 -- The export of a document has one reply, and is served where its text is short enough.
 use Rattle.std.proofs.Common.{◌≡◌, ◌∙◌, inl, inr, sym, subst, arith}
-use Rattle.plain_doc.specs.declared.document.Document.{Document}
+use Rattle.doc_model.specs.declared.document.Document.{Document}
 use Rattle.document_commands.specs.declared.reply.Reply.{Reply}
 use Rattle.document_commands.specs.Exports.{PutsJson, HasLongJson, Exports, CanExport}
-use Rattle.document_commands.specs.Replies.{IsDone}
+use Rattle.document_commands.specs.Replies.{IsNoRefusal}
 
 short_or_long : (document : Document) (a b : Reply) → PutsJson document a → HasLongJson document b → ⊥
 short_or_long document a b x y = let short = x.short in let over = y.over in omega (arith, short, over)
@@ -14,6 +14,7 @@ export_one document a b (inl x) (inr y) = absurd (short_or_long document a b x y
 export_one document a b (inr x) (inl y) = absurd (short_or_long document b a y x)
 export_one document a b (inr x) (inr y) = x.is ∙ sym y.is
 
-pub export_done : (document : Document) (reply : Reply) → CanExport document → Exports document reply → IsDone reply
-export_done document reply can (inl x) = subst (λ r. IsDone r) (sym x.is) tt
+pub export_done : (document : Document) (reply : Reply) → CanExport document → Exports document reply → IsNoRefusal
+    reply
+export_done document reply can (inl x) = subst (λ r. IsNoRefusal r) (sym x.is) tt
 export_done document reply can (inr x) = let over = x.over in absurd (omega (arith, can, over))

@@ -5,12 +5,12 @@ use Rattle.edit_script.specs.Json.{IsJson}
 use Rattle.doc_bits.specs.declared.places.Where.{Where}
 use Rattle.doc_bits.specs.Places.{Upto, IsFirstPlace}
 use Rattle.doc_bits.proofs.Public.{place_one, hold_or_first, first_agrees}
-use Rattle.plain_doc.specs.declared.document.Document.{Document}
+use Rattle.doc_model.specs.declared.document.Document.{Document}
 use Rattle.plain_doc.specs.Sound.{document_rules}
 use Rattle.plain_doc.proofs.Public.{document_rules-IsSingle}
 use Rattle.json_doc.specs.declared.fault.JsonFault.TheVariants as fault
 use Rattle.json_doc.specs.Documents.{json_value}
-use Rattle.json_doc.specs.Reading.{IsWhole, IsReadAs, IsJsonFault}
+use Rattle.json_doc.specs.Reading.{IsWholeDocument, IsSoundJson, IsJsonFault}
 use Rattle.json_doc.proofs.Public.{values_same, json_one}
 use Rattle.document_commands.specs.declared.reply.Reply.{Reply}
 use Rattle.document_commands.specs.declared.reply.Reply.TheVariants.{Refused}
@@ -19,7 +19,7 @@ use Rattle.document_commands.specs.Imports.{not_json_line, wrong_shape_line, Sav
 use Rattle.document_commands.specs.Imports.{BreaksRuleRead}
 use Rattle.document_commands.specs.Imports.{Imports, CanImport}
 use Rattle.run_stages.specs.Lines.{rule_line}
-use Rattle.document_commands.specs.Replies.{IsDone}
+use Rattle.document_commands.specs.Replies.{IsNoRefusal}
 use Rattle.document_commands.specs.Saves.{Saves}
 use Rattle.document_commands.proofs.SaveLemmas.{saved_one, saved_done}
 
@@ -49,11 +49,11 @@ unsound_said bytes rule part at reply is said =
 
 -- ---- one document
 
-whole_of : (bytes : List ℕ) (document : Document) → IsReadAs bytes document → IsWhole document
+whole_of : (bytes : List ℕ) (document : Document) → IsSoundJson bytes document → IsWholeDocument document
 whole_of bytes document read = record { parts = read.formed; bookmarks = read.sound.bookmarks }
 
 -- a document that the bytes spell is the only one
-same_document : (bytes : List ℕ) (one other : Document) → IsWhole one → IsWhole other →
+same_document : (bytes : List ℕ) (one other : Document) → IsWholeDocument one → IsWholeDocument other →
     IsJson bytes (json_value one) → IsJson bytes (json_value other) → one ≡ other
 same_document bytes one other a b x y =
     values_same one other a.parts b.parts (json_one bytes (json_value one) (json_value other) x y)
@@ -133,7 +133,7 @@ saves_again bytes reply can x =
     let same = same_document bytes x.document can.document own other x.read.json can.read.json in
     subst (λ d. Saves (codes "import") d reply) same x.saves
 
-pub import_done : (bytes : List ℕ) (reply : Reply) → CanImport bytes → Imports bytes reply → IsDone reply
+pub import_done : (bytes : List ℕ) (reply : Reply) → CanImport bytes → Imports bytes reply → IsNoRefusal reply
 import_done bytes reply can (inl x) =
     saved_done (codes "import") can.document reply can.room (saves_again bytes reply can x)
 import_done bytes reply can (inr (inl x)) = absurd (x.none (json_value can.document) can.read.json)

@@ -4,7 +4,7 @@ use Rattle.std.specs.Prelude.{codes}
 use Rattle.doc_bits.specs.declared.places.Where.{Where}
 use Rattle.doc_bits.specs.Places.{Upto}
 use Rattle.doc_bits.proofs.Public.{place_one, hold_or_first, first_agrees}
-use Rattle.plain_doc.specs.declared.document.Document.{Document}
+use Rattle.doc_model.specs.declared.document.Document.{Document}
 use Rattle.plain_doc.specs.Sound.{document_rules}
 use Rattle.plain_doc.proofs.Public.{document_rules-IsSingle}
 use Rattle.doc_join.specs.declared.fault.JoinFault.{JoinFault}
@@ -16,7 +16,7 @@ use Rattle.document_commands.specs.declared.reply.Reply.TheVariants.{Refused}
 use Rattle.document_commands.specs.declared.reply.Refusal.TheVariants.{Unsound}
 use Rattle.run_stages.specs.Lines.{rule_line}
 use Rattle.document_commands.specs.Joins.{SavesJoined, HasTooManyStyles, BreaksRuleJoined, Joins, CanJoin}
-use Rattle.document_commands.specs.Replies.{IsDone}
+use Rattle.document_commands.specs.Replies.{IsNoRefusal}
 use Rattle.document_commands.proofs.SaveLemmas.{saved_one, saved_done}
 
 -- the line of a broken rule has its cause
@@ -69,7 +69,7 @@ join_one first second a b (inr (inr x)) (inr (inr y)) = rule_one first second a 
 
 -- it is served where the documents can be joined
 pub join_done : (first second : Document) (reply : Reply) → CanJoin first second → Joins first second reply →
-    IsDone reply
+    IsNoRefusal reply
 join_done first second reply can (inl x) = saved_done _ (document_join first second) reply can.room x.saves
 join_done first second reply can (inr (inl x)) =
     let fits = can.fits in let over = x.over in absurd (omega (arith, fits, over))

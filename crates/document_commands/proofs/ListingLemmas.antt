@@ -4,7 +4,7 @@ use Rattle.std.proofs.Common.{slice_get, length, drop, false}
 use Rattle.std.specs.Fmt.{decimal}
 use Rattle.std.proofs.lemmas.Option.{none-some, slice_get_within, get_or_from_slice_get}
 use Rattle.std.proofs.lemmas.List.{drop_more}
-use Rattle.text_codes.specs.Shown.{shown}
+use Rattle.text_codes.specs.Shown.{shown_text}
 use Rattle.cfb_streams.specs.Contents.{Stream}
 use Rattle.text_codes.specs.Shown.{line}
 use Rattle.document_commands.specs.Lines.{stream_lines}
@@ -25,7 +25,7 @@ stream_of (Some s) name bytes n b = (s, (refl, (ap value_of n, ap value_of b)))
 -- the lines from a stream on
 pub lines-from : (streams : List Stream) (i : ℕ) (name bytes : List ℕ) → option_map (λ s. s.name) (slice_get streams
     i) ≡ Some name → option_map (λ s. s.bytes) (slice_get streams i) ≡ Some bytes → stream_lines (drop i streams) ≡
-    line (decimal (length bytes) ++ (32 ∷ [] ++ shown false name)) ++ stream_lines (drop (i + 1) streams)
+    line (decimal (length bytes) ++ (32 ∷ [] ++ shown_text false name)) ++ stream_lines (drop (i + 1) streams)
 lines-from streams i name bytes n b =
     let it = stream_of (slice_get streams i) name bytes n b in
     let here : drop i streams ≡ it.0 ∷ drop (i + 1) streams =

@@ -1,6 +1,6 @@
 -- A task comes to one reply, and to no refusal where the document has what it asks for.
 use Rattle.std.proofs.Common.{◌≡◌, ◌∙◌, inl, inr, ap, sym, ℕ, ◌<◌, List, length, arith}
-use Rattle.plain_doc.specs.declared.document.Document.{Document}
+use Rattle.doc_model.specs.declared.document.Document.{Document}
 use Rattle.doc_show.proofs.Public.{lines_one}
 use Rattle.list_numbers.proofs.Public.{lines_one as outline_one}
 use Rattle.document_commands.specs.declared.reply.Reply.{Reply}
@@ -9,7 +9,7 @@ use Rattle.document_commands.specs.Tasks.{FileTask, text_task, check_task, show_
 use Rattle.document_commands.specs.Tasks.{full_task}
 use Rattle.document_commands.specs.Tasks.{title_task, retitle_task, export_task}
 use Rattle.document_commands.specs.Tasks.{PairTask, compare_task, join_task}
-use Rattle.document_commands.specs.Replies.{IsDone, ShowsItem, HasNoPosition, ShowsItemOrNone, Replies, CanReply}
+use Rattle.document_commands.specs.Replies.{IsNoRefusal, ShowsItem, HasNoPosition, ShowsItemOrNone, Replies, CanReply}
 use Rattle.document_commands.specs.Replies.{Compares, RepliesTwo, CanReplyTwo}
 use Rattle.document_commands.proofs.SaveLemmas.{done_said, saved_one, saved_done}
 use Rattle.document_commands.proofs.SummaryLemmas.{title_one, title_done, retitle_one, retitle_done}
@@ -64,14 +64,14 @@ replies_two_one (join_task out) first second a b x y = join_one first second a b
 
 item_done :
     (pos : ℕ) (document : Document) (reply : Reply) → pos < length document.main →
-    ShowsItemOrNone pos document reply → IsDone reply
+    ShowsItemOrNone pos document reply → IsNoRefusal reply
 item_done pos document reply within (inl x) = done_said x.text reply x.is
 item_done pos document reply within (inr x) = let beyond = x.beyond in absurd (omega (arith, beyond, within))
 
 -- a task that the document has what is asked for is served
 pub replies_done :
     (task : FileTask) (name : List ℕ) (document : Document) (reply : Reply) → CanReply task document →
-    Replies task name document reply → IsDone reply
+    Replies task name document reply → IsNoRefusal reply
 replies_done text_task name document reply can x = done_said _ reply x
 replies_done check_task name document reply can x = done_said _ reply x
 replies_done show_task name document reply can x = done_said _ reply x
@@ -82,12 +82,13 @@ replies_done title_task name document reply can x = title_done name document.car
 replies_done (retitle_task title out) name document reply can x = retitle_done title name document reply can x
 replies_done (export_task out) name document reply can x = export_done document reply can x
 
-compared_done : (first second : Document) (reply : Reply) → first ≡ second → Compares first second reply → IsDone reply
+compared_done : (first second : Document) (reply : Reply) → first ≡ second → Compares first second reply → IsNoRefusal
+    reply
 compared_done first second reply same (inl x) = done_said _ reply x.1
 compared_done first second reply same (inr x) = absurd (x.0 same)
 
 pub replies_two_done :
     (pair : PairTask) (first second : Document) (reply : Reply) → CanReplyTwo pair first second →
-    RepliesTwo pair first second reply → IsDone reply
+    RepliesTwo pair first second reply → IsNoRefusal reply
 replies_two_done compare_task first second reply can x = compared_done first second reply can x
 replies_two_done (join_task out) first second reply can x = join_done first second reply can x

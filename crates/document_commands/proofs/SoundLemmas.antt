@@ -2,14 +2,14 @@
 use Rattle.std.proofs.Common.{◌≡◌, ◌∙◌, sym, refl}
 use Rattle.doc_bits.specs.declared.places.Where.{Where}
 use Rattle.doc_bits.specs.declared.places.Where.TheVariants.{File, Wd, Table, Sheet, Main, Note, Head}
-use Rattle.plain_doc.specs.declared.carried.Carried.{Carried}
-use Rattle.plain_doc.specs.declared.document.Document.{Document}
-use Rattle.plain_doc.specs.RulesOfTexts.{text_of}
+use Rattle.doc_model.specs.declared.carried.Carried.{Carried}
+use Rattle.doc_model.specs.declared.document.Document.{Document}
+use Rattle.plain_doc.specs.RulesOfTexts.{text_of_place}
 use Rattle.plain_doc.specs.Sound.{IsSound}
 use Rattle.plain_doc.proofs.Public.{sound_is_valid, right_is_sound}
 
 text_of-carried : (document : Document) (carried : Carried) (part : Where) →
-    text_of (record document { carried = carried }) part ≡ text_of document part
+    text_of_place (record document { carried = carried }) part ≡ text_of_place document part
 text_of-carried document carried File = refl
 text_of-carried document carried Wd = refl
 text_of-carried document carried Table = refl

@@ -18,12 +18,12 @@ use Rattle.summary_set.specs.Written.{retitled_stream, kept_bytes, retitled}
 use Rattle.summary_set.specs.Values.{property_values}
 use Rattle.summary_set.specs.Laws.{IsAsked}
 use Rattle.summary_set.proofs.Public.{length-written, writable}
-use Rattle.plain_doc.specs.declared.carried.Carried.{Carried}
-use Rattle.plain_doc.specs.declared.document.Document.{Document}
-use Rattle.plain_doc.specs.Carried.{AreCarriedStreams, with_bytes}
-use Rattle.plain_doc.specs.OtherBytes.{carried_with, HasOtherBytes}
+use Rattle.doc_model.specs.declared.carried.Carried.{Carried}
+use Rattle.doc_model.specs.declared.document.Document.{Document}
+use Rattle.doc_model.specs.Carried.{AreCarriedStreams, with_bytes}
+use Rattle.doc_model.specs.OtherBytes.{carried_with, HasOtherBytes}
 use Rattle.plain_doc.specs.Sound.{IsSound}
-use Rattle.plain_doc.proofs.Public.{with_bytes-carried}
+use Rattle.doc_model.proofs.Public.{with_bytes-carried}
 use Rattle.doc_read.specs.CarriedParts.{AreShortStreams}
 use Rattle.document_commands.specs.declared.reply.Reply.{Reply}
 use Rattle.document_commands.specs.declared.reply.Reply.TheVariants.{Refused}
@@ -33,7 +33,7 @@ use Rattle.document_commands.specs.Saves.{Saves}
 use Rattle.document_commands.specs.Summaries.{summary_name, summary_place, summary_of, HasNoSummary, HasWrongSummary}
 use Rattle.document_commands.specs.Summaries.{ShowsSummary, TellsTitle, HasSummaryBytes, SavesWith}
 use Rattle.document_commands.specs.Summaries.{Retitles, PutsTitle, HasPropertySet, CanRetitle}
-use Rattle.document_commands.specs.Replies.{IsDone}
+use Rattle.document_commands.specs.Replies.{IsNoRefusal}
 use Rattle.document_commands.proofs.SoundLemmas.{sound_with_carried}
 use Rattle.document_commands.proofs.SaveLemmas.{saved_one, saved_done, done_said}
 
@@ -181,20 +181,20 @@ retitle_one title name document a b x y =
 -- ---- served
 
 shown_done :
-    (name stream : List ℕ) (reply : Reply) → IsPropertySet stream → ShowsSummary name stream reply → IsDone reply
+    (name stream : List ℕ) (reply : Reply) → IsPropertySet stream → ShowsSummary name stream reply → IsNoRefusal reply
 shown_done name stream reply set (inl x) = done_said _ reply x.is
 shown_done name stream reply set (inr x) = absurd (set_or_wrong name stream reply set x)
 
 pub title_done : (name : List ℕ) (streams : List NamedBytes) (reply : Reply) → HasPropertySet streams →
     TellsTitle name streams reply
-    → IsDone reply
+    → IsNoRefusal reply
 title_done name streams reply has tells =
     shown_done name has.stream.bytes reply has.set
     (subst (λ found. MatchOption found (HasNoSummary name reply) (λ s. ShowsSummary name s.bytes reply)) has.here tells)
 
 retitled_done : (title name : List ℕ) (document : Document) (reply : Reply) (can : CanRetitle title document) →
     Retitles title name document can.has.stream.bytes reply
-    → IsDone reply
+    → IsNoRefusal reply
 retitled_done title name document reply can (inl x) =
     saved_done _ x.saved.changed reply (can.fits x.saved.changed x.saved.has) x.saved.saves
 retitled_done title name document reply can (inr x) =
@@ -202,7 +202,7 @@ retitled_done title name document reply can (inr x) =
 
 pub retitle_done : (title name : List ℕ) (document : Document) (reply : Reply) → CanRetitle title document →
     PutsTitle title name document reply
-    → IsDone reply
+    → IsNoRefusal reply
 retitle_done title name document reply can puts =
     retitled_done title name document reply can
     (subst (λ found. MatchOption found (HasNoSummary name reply) (λ s. Retitles title name document s.bytes reply))

@@ -2,12 +2,12 @@
 use Rattle.std.specs.Prelude.{◌≡◌, ℕ, List}
 use Rattle.cfb_streams.specs.Contents.{Contents}
 use Rattle.cfb_streams.specs.Container.{HasContents}
-use Rattle.plain_doc.specs.declared.document.Document.{Document}
+use Rattle.doc_model.specs.declared.document.Document.{Document}
 use Rattle.doc_read.specs.Holds.{HoldsDocument}
 use Rattle.document_commands.specs.Lines.{stream_lines}
 use Rattle.run_stages.specs.Outcomes.{Outcome, says}
 use Rattle.document_commands.specs.Tasks.{FileTask, PairTask, out_of, out_of_two}
-use Rattle.document_commands.specs.Replies.{EndsBy, Replies, RepliesTwo}
+use Rattle.document_commands.specs.Replies.{EndsByReply, Replies, RepliesTwo}
 
 -- a line for each stream of a file
 pub record IsListingOf (file text : List ℕ) : Type 0 where
@@ -25,7 +25,7 @@ pub record ListsStreams (file : List ℕ) (outcome : Outcome) : Type 0 where
 pub record AnswersFile (task : FileTask) (name file : List ℕ) (outcome : Outcome) : Type 0 where
   pub document : Document
   pub holds : HoldsDocument file document
-  pub answers : EndsBy (out_of task) (Replies task name document) outcome
+  pub answers : EndsByReply (out_of task) (Replies task name document) outcome
 
 -- what is asked of two documents is served by those that two files hold
 pub record AnswersTwo (pair : PairTask) (one other : List ℕ) (outcome : Outcome) : Type 0 where
@@ -33,4 +33,4 @@ pub record AnswersTwo (pair : PairTask) (one other : List ℕ) (outcome : Outcom
   pub second : Document
   pub holds_first : HoldsDocument one first
   pub holds_second : HoldsDocument other second
-  pub answers : EndsBy (out_of_two pair) (RepliesTwo pair first second) outcome
+  pub answers : EndsByReply (out_of_two pair) (RepliesTwo pair first second) outcome

@@ -1,7 +1,7 @@
 -- What the export of a document comes to.
 use Rattle.std.specs.Prelude.{◌≡◌, ◌⊎◌, ℕ, ◌++◌, ◌<◌, ◌≤◌, List, length, codes}
 use Rattle.std.specs.Fmt.{decimal}
-use Rattle.plain_doc.specs.declared.document.Document.{Document}
+use Rattle.doc_model.specs.declared.document.Document.{Document}
 use Rattle.text_codes.specs.Shown.{line}
 use Rattle.json_doc.specs.Documents.{json_text}
 use Rattle.document_commands.specs.declared.reply.Reply.{Reply}

@@ -3,12 +3,12 @@ use Rattle.std.specs.Prelude.{◌≡◌, ◌⊎◌, ℕ, List, codes}
 use Rattle.serde_json.specs.Data.{Data}
 use Rattle.edit_script.specs.Json.{IsJson}
 use Rattle.doc_bits.specs.Places.{Place, IsFirstPlace}
-use Rattle.plain_doc.specs.declared.document.Document.{Document}
+use Rattle.doc_model.specs.declared.document.Document.{Document}
 use Rattle.plain_doc.specs.Sound.{document_rules}
 use Rattle.full_save.specs.Layout.{FitsCompoundFile}
 use Rattle.text_codes.specs.Shown.{line}
 use Rattle.json_doc.specs.Documents.{json_value}
-use Rattle.json_doc.specs.Reading.{IsWhole, IsReadAs, HasWrongShape}
+use Rattle.json_doc.specs.Reading.{IsWholeDocument, IsSoundJson, HasWrongShape}
 use Rattle.document_commands.specs.declared.reply.Reply.{Reply}
 use Rattle.document_commands.specs.declared.reply.Reply.TheVariants.{Refused}
 use Rattle.document_commands.specs.declared.reply.Refusal.TheVariants.{Json, Unsound}
@@ -28,7 +28,7 @@ overlong_json_line = line (codes "import: too long")
 -- the bytes spell the value of a sound document, which is saved in full
 pub record SavesRead (bytes : List ℕ) (reply : Reply) : Type 0 where
   pub document : Document
-  pub read : IsReadAs bytes document
+  pub read : IsSoundJson bytes document
   pub saves : Saves (codes "import") document reply
 
 -- they are no JSON
@@ -44,7 +44,7 @@ pub record HasNoShape (bytes : List ℕ) (reply : Reply) : Type 0 where
 -- they spell the value of a well-formed document, which breaks a rule: the line names the first one at its least place
 pub record BreaksRuleRead (bytes : List ℕ) (reply : Reply) : Type 0 where
   pub document : Document
-  pub whole : IsWhole document
+  pub whole : IsWholeDocument document
   pub json : IsJson bytes (json_value document)
   pub rule : ℕ
   pub place : Place
@@ -58,5 +58,5 @@ Imports bytes reply =
 -- the bytes spell the value of a sound document that fits a file
 pub record CanImport (bytes : List ℕ) : Type 0 where
   pub document : Document
-  pub read : IsReadAs bytes document
+  pub read : IsSoundJson bytes document
   pub room : FitsCompoundFile document

@@ -2,7 +2,7 @@
 use Rattle.std.specs.Prelude.{◌≡◌, ◌⊎◌, ℕ, ◌++◌, ◌<◌, ◌≤◌, List, codes}
 use Rattle.std.specs.Fmt.{decimal}
 use Rattle.doc_bits.specs.Places.{Place, IsFirstPlace}
-use Rattle.plain_doc.specs.declared.document.Document.{Document}
+use Rattle.doc_model.specs.declared.document.Document.{Document}
 use Rattle.plain_doc.specs.Sound.{IsSound, document_rules}
 use Rattle.full_save.specs.Layout.{FitsCompoundFile}
 use Rattle.text_codes.specs.Shown.{line}

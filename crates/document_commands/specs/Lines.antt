@@ -2,7 +2,7 @@
 use Rattle.std.specs.Prelude.{ℕ, false, List, [], ◌∷◌, ◌++◌, length, codes}
 use Rattle.std.specs.List.{flat_map}
 use Rattle.std.specs.Fmt.{decimal}
-use Rattle.text_codes.specs.Shown.{shown}
+use Rattle.text_codes.specs.Shown.{shown_text}
 use Rattle.text_codes.specs.Shown.{line}
 use Rattle.cfb_streams.specs.Contents.{Stream}
 
@@ -21,8 +21,8 @@ abbrev pub bytes_line : (word : List ℕ) → ℕ → List ℕ
 bytes_line word count = line (word ++ (codes ": " ++ (decimal count ++ codes " bytes")))
 
 -- the sectors that its bytes would need, which no file has
-abbrev pub needs_line : (word : List ℕ) → ℕ → List ℕ
-needs_line word sectors = line (word ++ (codes ": too large, needs " ++ (decimal sectors ++ codes " sectors")))
+abbrev pub needs_sectors_line : (word : List ℕ) → ℕ → List ℕ
+needs_sectors_line word sectors = line (word ++ (codes ": too large, needs " ++ (decimal sectors ++ codes " sectors")))
 
 -- two documents are equal, or not
 abbrev pub equal_line : List ℕ
@@ -33,7 +33,7 @@ different_line = line (codes "different")
 
 -- a stream: its size, and its name as it is shown
 abbrev pub stream_line : Stream → List ℕ
-stream_line stream = line (decimal (length stream.bytes) ++ (32 ∷ [] ++ shown false stream.name))
+stream_line stream = line (decimal (length stream.bytes) ++ (32 ∷ [] ++ shown_text false stream.name))
 
 -- the streams of a file, one on each line
 abbrev pub stream_lines : List Stream → List ℕ

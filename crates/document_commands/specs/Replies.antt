@@ -1,6 +1,6 @@
 -- What a task comes to, and when it must be served.
 use Rattle.std.specs.Prelude.{◌≡◌, ◌≢◌, ◌⊎◌, ◌<◌, ◌≤◌, ℕ, List, Option, Some, None, length, codes, ⊤}
-use Rattle.plain_doc.specs.declared.document.Document.{Document}
+use Rattle.doc_model.specs.declared.document.Document.{Document}
 use Rattle.full_save.specs.Layout.{FitsCompoundFile}
 use Rattle.doc_show.specs.MainText.{main_text_of}
 use Rattle.doc_show.specs.Counts.{accepted_line_of}
@@ -46,16 +46,16 @@ outcome_of (Some name) (Made text bytes) = puts text name bytes
 outcome_of out (Refused why text) = says (status_of why) text
 
 -- a run ends by such a reply, where bytes are put under the name
-pub record EndsBy (out : Option (List ℕ)) (such : Reply → Type 0) (outcome : Outcome) : Type 0 where
+pub record EndsByReply (out : Option (List ℕ)) (such : Reply → Type 0) (outcome : Outcome) : Type 0 where
   pub reply : Reply
   pub is : such reply
   pub ends : outcome ≡ outcome_of out reply
 
 -- it is no refusal
-abbrev pub IsDone : Reply → Type 0
-IsDone (Done text) = ⊤
-IsDone (Made text bytes) = ⊤
-IsDone (Refused why text) = ⊥
+abbrev pub IsNoRefusal : Reply → Type 0
+IsNoRefusal (Done text) = ⊤
+IsNoRefusal (Made text bytes) = ⊤
+IsNoRefusal (Refused why text) = ⊥
 
 -- the lines on the item at a position of the main text
 pub record ShowsItem (pos : ℕ) (document : Document) (reply : Reply) : Type 0 where

@@ -1,14 +1,14 @@
 -- The summary of a document: the carried stream that `title` reads and `retitle` changes.
 use Rattle.std.specs.Prelude.{◌≡◌, ◌⊎◌, ℕ, ◌∷◌, List, Option, Some, MatchOption, codes, slice_get}
 use Rattle.std.specs.List.{position_or_len}
-use Rattle.doc_bits.specs.Rules.{IsFirst}
+use Rattle.doc_bits.specs.Rules.{IsFirstOffset}
 use Rattle.cfb_streams.specs.Contents.{NamedBytes}
 use Rattle.cfb_streams.specs.Names.{is_same_name}
 use Rattle.summary_set.specs.Form.{form_rules, IsPropertySet}
 use Rattle.summary_set.specs.Written.{retitled_stream}
-use Rattle.plain_doc.specs.declared.document.Document.{Document}
-use Rattle.plain_doc.specs.Carried.{AreCarriedStreams, with_bytes}
-use Rattle.plain_doc.specs.OtherBytes.{carried_with}
+use Rattle.doc_model.specs.declared.document.Document.{Document}
+use Rattle.doc_model.specs.Carried.{AreCarriedStreams, with_bytes}
+use Rattle.doc_model.specs.OtherBytes.{carried_with}
 use Rattle.full_save.specs.Layout.{FitsCompoundFile}
 use Rattle.document_commands.specs.declared.reply.Reply.{Reply}
 use Rattle.document_commands.specs.declared.reply.Reply.TheVariants.{Done, Refused}
@@ -35,7 +35,7 @@ HasNoSummary name reply = reply ≡ Refused NoSummary (no_summary_line name)
 pub record HasWrongSummary (name stream : List ℕ) (reply : Reply) : Type 0 where
   pub condition : ℕ
   pub place : ℕ
-  pub first : IsFirst (form_rules stream) condition place
+  pub first : IsFirstOffset (form_rules stream) condition place
   pub is : reply ≡ Refused WrongSummary (wrong_summary_line name place)
 
 -- the lines of title, subject and author

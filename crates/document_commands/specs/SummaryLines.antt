@@ -8,15 +8,15 @@ use Rattle.text_codes.specs.Shown.{line}
 use Rattle.summary_set.specs.Texts.{text_property}
 
 -- a byte that is shown as it is: from 0x20 to 0x7E, but no reverse solidus
-abbrev pub is_shown : ℕ → Bool
-is_shown byte = nat_le 0x20 byte && (nat_le byte 0x7E && not (byte == 0x5C))
+abbrev pub is_shown_byte : ℕ → Bool
+is_shown_byte byte = nat_le 0x20 byte && (nat_le byte 0x7E && not (byte == 0x5C))
 
 -- any other one: a reverse solidus, the letter x and two digits
 abbrev pub byte_escape : ℕ → List ℕ
 byte_escape byte = 92 ∷ 120 ∷ hex_digit (byte / 16) ∷ hex_digit (byte % 16) ∷ []
 
 abbrev pub shown_byte : ℕ → List ℕ
-shown_byte byte = if is_shown byte then byte ∷ [] else byte_escape byte
+shown_byte byte = if is_shown_byte byte then byte ∷ [] else byte_escape byte
 
 -- a text, or `-` for none
 abbrev pub shown_field : Option (List ℕ) → List ℕ

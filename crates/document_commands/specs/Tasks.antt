@@ -57,9 +57,9 @@ pub data PairTask : Type 0 where
   -- the full save of the second behind the first, for a name
   join_task : (out : List ℕ) → PairTask
 
-abbrev pub pair_of : asked_pair.Pair → PairTask
-pair_of asked_for_pair.Compare = compare_task
-pair_of (asked_for_pair.Join out) = join_task out.now
+abbrev pub pair_task_of : asked_pair.Pair → PairTask
+pair_task_of asked_for_pair.Compare = compare_task
+pair_task_of (asked_for_pair.Join out) = join_task out.now
 
 abbrev pub out_of_two : PairTask → Option (List ℕ)
 out_of_two compare_task = None

@@ -4,10 +4,10 @@ ghost use Rattle.doc_bits.specs.Number.{AreBytes};
 ghost use Rattle.plain_doc.specs.Sound.{IsSound};
 ghost use Rattle.doc_read.specs.Holds.{all_rules};
 ghost use Rattle.doc_read.specs.CarriedParts.{AreShortStreams};
-ghost use Rattle.document_commands.specs.Tasks.{task_of, out_of, pair_of, out_of_two};
-ghost use Rattle.document_commands.specs.Replies.{EndsBy, Replies, RepliesTwo};
+ghost use Rattle.document_commands.specs.Tasks.{task_of, out_of, pair_task_of, out_of_two};
+ghost use Rattle.document_commands.specs.Replies.{EndsByReply, Replies, RepliesTwo};
 ghost use Rattle.run_stages.specs.Judged.{Judges};
-ghost use Rattle.document_commands.specs.Judged.{NamesRule, IsJudgedFile, stream_rules};
+ghost use Rattle.document_commands.specs.Judged.{NamesRule, IsJudgedFile, rules_by_place};
 ghost use Rattle.document_commands.specs.Answers.{AnswersFile, ListsStreams};
 
 use crate::equality::compare;
@@ -52,7 +52,7 @@ fn answer_document(
     requires sound { IsSound document.now }
     requires short { AreShortStreams document.now.carried.streams }
     ensures { IfOk result
-        (EndsBy (out_of (task_of task.now)) (Replies (task_of task.now) name.now document.now)) }
+        (EndsByReply (out_of (task_of task.now)) (Replies (task_of task.now) name.now document.now)) }
 {
     let reply = reply_on(alloc, task, name, document)?;
     let ending = reply.into_ending(alloc, task.out())?;
@@ -119,7 +119,7 @@ pub fn answer_two(
     requires first { IsSound first.now }
     requires second { IsSound second.now }
     ensures { IfOk result
-        (EndsBy (out_of_two (pair_of pair.entry)) (RepliesTwo (pair_of pair.entry) first.now second.now)) }
+        (EndsByReply (out_of_two (pair_task_of pair.entry)) (RepliesTwo (pair_task_of pair.entry) first.now second.now)) }
 {
     let reply = reply_on_two(alloc, pair, first, second)?;
     reply.into_ending(alloc, pair.out())
@@ -134,7 +134,7 @@ fn reply_on_two(
 ) -> Result<Reply, Memory>
     requires first { IsSound first.now }
     requires second { IsSound second.now }
-    ensures { IfOk result (RepliesTwo (pair_of pair.entry) first.now second.now) }
+    ensures { IfOk result (RepliesTwo (pair_task_of pair.entry) first.now second.now) }
 {
     match pair {
         Pair::Compare => compare(alloc, first, second),
@@ -144,7 +144,7 @@ fn reply_on_two(
 
 /// The ending where the streams of a file are asked for.
 pub fn list_streams(alloc: Global, name: &str, file: &[u8]) -> Result<Ending, Memory>
-    ensures judges { IfOk result (λ e. Judges (stream_rules file.now) name.now (ListsStreams file.now) e) }
+    ensures judges { IfOk result (λ e. Judges (rules_by_place file.now) name.now (ListsStreams file.now) e) }
     ensures bytes { AreBytes file.now }
 {
     match listing(alloc, file) {

@@ -8,7 +8,7 @@ ghost use Rattle.document_commands.specs.Imports.{Imports};
 ghost use Rattle.document_commands.specs.Imports.{overlong_json_line as overlong_of};
 ghost use Rattle.run_stages.specs.Lines.{rule_line as rule_of};
 ghost use Rattle.run_stages.specs.Outcomes.{says};
-ghost use Rattle.document_commands.specs.Replies.{EndsBy};
+ghost use Rattle.document_commands.specs.Replies.{EndsByReply};
 ghost use Rattle.json_doc.specs.Reading.{IsJsonFault};
 
 use crate::reply::{Refusal, Reply};
@@ -22,7 +22,7 @@ use std::alloc::Global;
 
 /// The ending where the bytes of a file are to be a document as JSON, which is saved for a name.
 pub fn import_file(alloc: Global, file: &[u8], out: &str) -> Result<Ending, Memory>
-    ensures ends { IfOk result (EndsBy (Some out.now) (Imports file.now)) }
+    ensures ends { IfOk result (EndsByReply (Some out.now) (Imports file.now)) }
     ensures bytes { AreBytes file.now }
 {
     let reply = import_reply(alloc, file)?;

@@ -2,7 +2,7 @@
 ghost use Rattle.std.specs.Prelude.{◌≡◌, IfOk};
 ghost use Rattle.document_commands.specs.Lines.{usage_line as usage_of};
 ghost use Rattle.document_commands.specs.Lines.{position_line as position_of};
-ghost use Rattle.document_commands.specs.Lines.{bytes_line as bytes_of, needs_line as needs_of};
+ghost use Rattle.document_commands.specs.Lines.{bytes_line as bytes_of, needs_sectors_line as needs_of};
 ghost use Rattle.document_commands.specs.Lines.{equal_line as equal_of, different_line as different_of};
 
 use doc_bits::{Memory, Text};

@@ -1,6 +1,6 @@
 // A document with another title.
 ghost use Rattle.std.specs.Prelude.{◌≡◌, ◌<◌, length, Some, option_map, IfOk};
-ghost use Rattle.plain_doc.specs.Carried.{AreCarriedStreams, with_bytes};
+ghost use Rattle.doc_model.specs.Carried.{AreCarriedStreams, with_bytes};
 ghost use Rattle.plain_doc.specs.Sound.{IsSound};
 ghost use Rattle.doc_read.specs.CarriedParts.{AreShortStreams};
 ghost use Rattle.document_commands.specs.Summaries.{summary_place as place_of, summary_of, HasSummaryBytes, SavesWith};

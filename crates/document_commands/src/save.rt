@@ -1,12 +1,12 @@
 // Saves of a document.
 ghost use Rattle.std.specs.Prelude.{◌≡◌, length, IfOk, MatchResult, codes};
-ghost use Rattle.plain_doc.specs.declared.document.Document.{Document as SavedDocument};
+ghost use Rattle.doc_model.specs.declared.document.Document.{Document as SavedDocument};
 ghost use Rattle.full_save.specs.Layout.{full_save_image, FitsCompoundFile, IsTooLarge};
 ghost use Rattle.plain_doc.specs.Sound.{IsSound};
 ghost use Rattle.document_commands.specs.Saves.{Saves};
 ghost use Rattle.document_commands.specs.declared.reply.Reply.TheVariants.{Made, Refused};
 ghost use Rattle.document_commands.specs.declared.reply.Refusal.TheVariants.{Save};
-ghost use Rattle.document_commands.specs.Lines.{bytes_line as bytes_of, needs_line as needs_of};
+ghost use Rattle.document_commands.specs.Lines.{bytes_line as bytes_of, needs_sectors_line as needs_of};
 
 use crate::lines::{bytes_line, needs_line};
 use crate::reply::{Refusal, Reply};

@@ -1,7 +1,7 @@
 // The lines on a summary.
 ghost use Rattle.std.specs.Prelude.{◌≡◌, ◌<◌, [], ◌∷◌, ◌++◌, IfOk, OnOk, IsTrue};
 ghost use Rattle.std.specs.List.{flat_map};
-ghost use Rattle.document_commands.specs.SummaryLines.{is_shown as is_plain, byte_escape, shown_byte, shown_field};
+ghost use Rattle.document_commands.specs.SummaryLines.{is_shown_byte as is_plain, byte_escape, shown_byte, shown_field};
 ghost use Rattle.document_commands.specs.SummaryLines.{field_line};
 ghost use Rattle.document_commands.specs.SummaryLines.{three_lines, no_summary_line as no_summary_of};
 ghost use Rattle.document_commands.specs.SummaryLines.{wrong_summary_line as wrong_summary_of};

@@ -1,6 +1,6 @@
 // What is asked of the document of one file, or of the documents of two.
 ghost use Rattle.std.specs.Prelude.{◌≡◌, option_map};
-ghost use Rattle.document_commands.specs.Tasks.{task_of, pair_of, out_of, out_of_two};
+ghost use Rattle.document_commands.specs.Tasks.{task_of, pair_task_of, out_of, out_of_two};
 
 use crate::title::Title;
 
@@ -54,7 +54,7 @@ pub enum Pair<'a> {
 impl<'a> Pair<'a> {
     /// The name that bytes are made for.
     pub fn out(&self) -> Option<&'a str>
-        ensures { option_map (λ name. name.now) result ≡ out_of_two (pair_of self.now) }
+        ensures { option_map (λ name. name.now) result ≡ out_of_two (pair_task_of self.now) }
     {
         match self {
             Pair::Compare => None,

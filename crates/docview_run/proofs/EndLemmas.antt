@@ -12,9 +12,9 @@ use Rattle.doc_bits.specs.Number.{AreBytes}
 use Rattle.doc_outer.specs.Held.{Files}
 use Rattle.run_stages.specs.Leaves.{HasCause}
 use Rattle.run_stages.specs.Outcomes.{Outcome, says}
-use Rattle.run_stages.specs.Reading.{IsFound}
-use Rattle.run_stages.specs.Stages.{BreaksLengthRule, IsMissing, IsOverlong, IsReadWhole, IsShelfFault, Reads}
-use Rattle.docview_run.specs.Endings.{IsOfFile, RunEnds, Shows, printed}
+use Rattle.run_stages.specs.Reading.{IsFoundFile}
+use Rattle.run_stages.specs.Stages.{BreaksLengthRule, IsMissing, IsOverlong, IsReadWhole, IsShelfFault, ReadsNamedFile}
+use Rattle.docview_run.specs.Endings.{IsOfFile, RunEnds, Shows, standard_output}
 use Rattle.docview_run.specs.Requests.{Request}
 
 -- there was no memory
@@ -33,7 +33,7 @@ IsTold status = ((status ≡ 1) ⊎ (status ≡ 2)) ⊎ (((status ≡ 3) ⊎ (st
 text_of_status : Outcome → ℕ → List ℕ
 text_of_status outcome status = if status == 0 then outcome.text else []
 
-told_nothing : (outcome : Outcome) (status : ℕ) → outcome.status ≡ status → IsTold status → printed outcome ≡ []
+told_nothing : (outcome : Outcome) (status : ℕ) → outcome.status ≡ status → IsTold status → standard_output outcome ≡ []
 unfolding text_of_status
 told_nothing outcome status is (inl (inl e)) = ap (text_of_status outcome) (is ∙ e)
 told_nothing outcome status is (inl (inr e)) = ap (text_of_status outcome) (is ∙ e)
@@ -115,16 +115,16 @@ status_of outcome = outcome.status
 pub stopped_ends : {K : Type 0} (sink : Ghosts K) (out : K) (name : List ℕ) (held : Option Files)
     (next : List ℕ → Outcome → Type 0) (ending : Outcome) →
     IsMissing name held ending ⊎ (IsShelfFault ending ⊎ IsOverlong name held (BreaksLengthRule name) ending) →
-    RunEnds (Reads name held (BreaksLengthRule name) next) sink out out ending.status
+    RunEnds (ReadsNamedFile name held (BreaksLengthRule name) next) sink out out ending.status
 unfolding status_of
 stopped_ends sink out name held next ending (inl missing) =
-    told_ends (Reads name held (BreaksLengthRule name) next) sink out ending ending.status refl
+    told_ends (ReadsNamedFile name held (BreaksLengthRule name) next) sink out ending ending.status refl
     (inr (inl (inl (ap status_of missing.ends)))) (inl missing)
 stopped_ends sink out name held next ending (inr (inl fault)) =
-    told_ends (Reads name held (BreaksLengthRule name) next) sink out ending ending.status refl
+    told_ends (ReadsNamedFile name held (BreaksLengthRule name) next) sink out ending ending.status refl
     (inr (inl (inr (ap status_of fault)))) (inr (inl fault))
 stopped_ends sink out name held next ending (inr (inr long)) =
-    told_ends (Reads name held (BreaksLengthRule name) next) sink out ending ending.status refl
+    told_ends (ReadsNamedFile name held (BreaksLengthRule name) next) sink out ending ending.status refl
     (inl (inl (ap status_of long.ends))) (inr (inr (inl long)))
 
 pub stopped_status : (name : List ℕ) (held : Option Files) (ending : Outcome) →
@@ -140,11 +140,11 @@ stopped_status name held ending (inr (inr long)) =
 
 -- the file was read whole
 pub file_ends : {K : Type 0} (sink : Ghosts K) (out after : K) (name : List ℕ) (held : Option Files)
-    (next : List ℕ → Outcome → Type 0) (bytes : List ℕ) (status : ℕ) → IsFound name held bytes → AreBytes bytes →
+    (next : List ℕ → Outcome → Type 0) (bytes : List ℕ) (status : ℕ) → IsFoundFile name held bytes → AreBytes bytes →
     RunEnds (next bytes) sink out after status →
-    RunEnds (Reads name held (BreaksLengthRule name) next) sink out after status
+    RunEnds (ReadsNamedFile name held (BreaksLengthRule name) next) sink out after status
 file_ends sink out after name held next bytes status found are =
-    ends_weaker (next bytes) (Reads name held (BreaksLengthRule name) next) sink out after status
+    ends_weaker (next bytes) (ReadsNamedFile name held (BreaksLengthRule name) next) sink out after status
     (λ outcome shown. inr (inr (inr (record {
       bytes = bytes;
       told = found.told;

@@ -5,7 +5,7 @@ use Rattle.doc_bits.specs.Number.{AreBytes}
 use Rattle.doc_bits.specs.Places.{Upto}
 use Rattle.doc_bits.proofs.Public.{hold_or_first}
 use Rattle.doc_outer.specs.Held.{Files}
-use Rattle.plain_doc.specs.declared.document.Document.{Document}
+use Rattle.doc_model.specs.declared.document.Document.{Document}
 use Rattle.doc_read.specs.Holds.{all_rules}
 use Rattle.doc_read.proofs.Public.{all_single}
 use Rattle.cfb_streams.specs.Contents.{Contents, HasNamed, HasNoNamed, Stream}
@@ -14,7 +14,7 @@ use Rattle.cfb_streams.proofs.Public.{contents_unique}
 use Rattle.file_rules.proofs.Public.{named_one}
 use Rattle.doc_pictures.specs.declared.pictures.Picture.{Picture}
 use Rattle.doc_pictures.specs.Files.{ImageFiles}
-use Rattle.doc_pictures.specs.Places.{places_of}
+use Rattle.doc_pictures.specs.Places.{picture_places}
 use Rattle.doc_pictures.specs.Pictures.{ArePictures}
 use Rattle.doc_pictures.proofs.Public.{pictures-one}
 use Rattle.html_page.specs.Sources.{PageSource}
@@ -23,7 +23,7 @@ use Rattle.doc_view.proofs.Public.{pages_one}
 use Rattle.doc_html.proofs.Public.{form_pages_one}
 use Rattle.form_page.specs.declared.page.PageForm.TheVariants as form
 use Rattle.run_stages.specs.Outcomes.{Outcome, says}
-use Rattle.run_stages.specs.Stages.{BreaksLengthRule, Reads}
+use Rattle.run_stages.specs.Stages.{BreaksLengthRule, ReadsNamedFile}
 use Rattle.run_stages.proofs.Public.{refused_one, reads_one}
 use Rattle.doc_fit.specs.Rules.{fit_rules}
 use Rattle.doc_fit.specs.Refusals.{IsFitRefused}
@@ -33,18 +33,20 @@ use Rattle.docview_run.specs.declared.view.Form.TheVariants.{Text, Html, Markdow
 use Rattle.docview_run.specs.declared.view.View.{View}
 use Rattle.docview_run.specs.Requests.{Request, help, version, page, pictured, properties, requested}
 use Rattle.docview_run.specs.Viewed.{IsLiftedOut, IsNotLifted, IsNotViewed, IsViewed}
-use Rattle.docview_run.specs.Pictured.{ArePicturesOf, IsDataIn, IsDataOf, KeepsFiles, NamesFiles, data_name}
-use Rattle.docview_run.specs.Endings.{IsPageIn, Shows, ShowsDocument, ShowsFile, ShowsName, ShowsPage, ShowsPictured}
-use Rattle.docview_run.specs.Endings.{bare}
+use Rattle.docview_run.specs.Pictured.{ArePicturesOf, IsDataIn, IsDataOf, KeepsFiles, NamesFiles}
+use Rattle.docview_run.specs.Endings.{IsPageInForm, Shows, ShowsDocument, ShowsFile, ShowsName, ShowsPage}
+use Rattle.docview_run.specs.Endings.{ShowsPictured}
+use Rattle.docview_run.specs.Endings.{bare_source}
 use Rattle.docview_run.specs.Laws.{AsksForProperties, ViewIsOne}
 use Rattle.docview_run.proofs.ViewLemmas.{viewed_one}
+use Rattle.huge_papx.specs.Data.{data_name}
 
 pages_same : (form : Form) (options : Options) (source : PageSource) (one other : List ℕ) →
-    IsPageIn form options source one → IsPageIn form options source other → one ≡ other
+    IsPageInForm form options source one → IsPageInForm form options source other → one ≡ other
 pages_same Text options source one other a b = pages_one options source.document one other a b
 pages_same Html options source one other a b = form_pages_one form.Html options source one other a b
 pages_same Markdown options source one other a b =
-    form_pages_one form.Markdown options (bare source.document) one other a b
+    form_pages_one form.Markdown options (bare_source source.document) one other a b
 
 -- ---- a document has one list of pictures
 
@@ -68,8 +70,8 @@ pictures_same : (file : List ℕ) (document : Document) (a b : List Picture) →
     ArePicturesOf file document b → a ≡ b
 pictures_same file document a b x y =
     let same : y.stream ≡ x.stream = data_one file y.stream x.stream y.is x.is in
-    pictures-one x.stream (places_of document) a b x.are
-    (subst (λ (stream : List ℕ). ArePictures stream (places_of document) b) same y.are)
+    pictures-one x.stream (picture_places document) a b x.are
+    (subst (λ (stream : List ℕ). ArePictures stream (picture_places document) b) same y.are)
 
 files_same : (a b : ImageFiles) → a.folder ≡ b.folder → a.pictures ≡ b.pictures → a ≡ b
 files_same a b folder pictures = λ i. record { folder = folder i; pictures = pictures i }
@@ -121,7 +123,8 @@ same_document view folder file document a b x y =
     let images : x.images ≡ y.images = names_same folder file document x.images y.images x.names y.names in
     let page : x.bytes ≡ y.bytes =
     pages_same view.form view.options (record { document = document; images = y.images }) x.bytes y.bytes
-    (subst (λ (i : ImageFiles). IsPageIn view.form view.options (record { document = document; images = i }) x.bytes)
+    (subst (λ (i : ImageFiles). IsPageInForm view.form view.options (record { document = document; images = i })
+    x.bytes)
     images x.are) y.are in
     x.ends ∙ (ap (λ (b : List ℕ). says 0 b) page ∙ sym y.ends)
 
@@ -149,7 +152,7 @@ ShowsBytes view folder name file outcome = AreBytes file × ShowsFile view folde
 
 pub read_bytes : (view : View) (folder : Option (List ℕ)) (name : List ℕ) (held : Option Files) (outcome : Outcome) →
     ShowsName view folder name held outcome →
-    Reads name held (BreaksLengthRule name) (ShowsBytes view folder name) outcome
+    ReadsNamedFile name held (BreaksLengthRule name) (ShowsBytes view folder name) outcome
 read_bytes view folder name held outcome (inl x) = inl x
 read_bytes view folder name held outcome (inr (inl x)) = inr (inl x)
 read_bytes view folder name held outcome (inr (inr (inl x))) = inr (inr (inl x))

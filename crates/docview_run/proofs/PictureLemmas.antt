@@ -2,27 +2,27 @@
 use Rattle.std.proofs.Common.{◌≡◌, ◌≢◌, ◌⊎◌, ◌∙◌, ◌+◌, ◌<◌, ℕ, List, [], Bool, true, false, true≢false, Option, None, Some, Result, Ok, Err, refl, sym, ap, subst, inl, inr, arith}
 use Rattle.std.specs.Prelude.{IsErrOf, OnErr}
 use Rattle.doc_bits.specs.Number.{AreBytes}
-use Rattle.doc_outer.specs.Counts.{GoesOn, Rose}
+use Rattle.doc_outer.specs.Counts.{CountGoesOn, Rose}
 use Rattle.doc_outer.specs.Held.{Files, StaysAt}
 use Rattle.doc_outer.specs.declared.shelf.Shelf.{Ghosts as Shelf}
 use Rattle.doc_outer.specs.declared.sink.Sink.{Ghosts as Sink}
 use Rattle.doc_outer.proofs.Public.{Rose-after, StaysAt-refl, Appends-nil}
-use Rattle.plain_doc.specs.declared.document.Document.{Document}
+use Rattle.doc_model.specs.declared.document.Document.{Document}
 use Rattle.file_rules.specs.Faults.{IsReadFault}
 use Rattle.file_rules.specs.declared.fault.ReadFault.{ReadFault}
 use Rattle.file_rules.specs.declared.fault.ReadFault.TheVariants.{Refused, Memory as NoMemory}
 use Rattle.doc_read.specs.Holds.{IsAccepted, all_rules}
 use Rattle.doc_read.specs.Opened.{IsOpened, OpenedFile}
 use Rattle.file_mends.specs.declared.mends.FileMend.{FileMend}
-use Rattle.doc_fit.specs.ReadAs.{IsReadAs}
+use Rattle.doc_fit.specs.ReadAs.{IsMendedRead}
 use Rattle.doc_pictures.specs.declared.album.AlbumFault.{AlbumFault}
 use Rattle.doc_pictures.specs.declared.album.AlbumFault.TheVariants.{There, Failed, Memory}
 use Rattle.doc_pictures.specs.declared.pictures.Picture.{Picture}
-use Rattle.doc_pictures.specs.Album.{IsPicturePath, IsTaken}
+use Rattle.doc_pictures.specs.Album.{IsPicturePath, IsPathTaken}
 use Rattle.run_stages.specs.Leaves.{HasCause, IsOnlyRead}
 use Rattle.run_stages.specs.Lines.{shelf_fault_line}
 use Rattle.run_stages.specs.Outcomes.{Outcome, says}
-use Rattle.run_stages.specs.Reading.{IsFound}
+use Rattle.run_stages.specs.Reading.{IsFoundFile}
 use Rattle.run_stages.specs.Stages.{BreaksLengthRule, IsMissing, IsOverlong, IsShelfFault}
 use Rattle.docview_run.specs.declared.view.View.{View}
 use Rattle.docview_run.specs.Requests.{Request}
@@ -33,7 +33,8 @@ use Rattle.docview_run.specs.Endings.{IsOfFile, PrintsPage, RunEnds, ShowsFile, 
 use Rattle.docview_run.specs.Endings.{ShowsTaken, pictured_source}
 use Rattle.docview_run.proofs.EndLemmas.{ends_weaker, memory_ends, told_ends}
 use Rattle.docview_run.proofs.SafeLemmas.{not_viewed}
-use Rattle.docview_run.proofs.ViewLemmas.{not_accepted, unopened_ends}
+use Rattle.docview_run.proofs.ViewLemmas.{unopened_ends}
+use Rattle.doc_fit.proofs.Public.{refused_not_accepted}
 
 -- ---- the shelf of a run
 
@@ -69,7 +70,7 @@ read_leaves shelf strict force folder name status before now is other_status = r
 
 -- it was read, and then pictures were written or not
 pub taken_leaves : {S : Type 0} (shelf : Shelf S) (strict force : Bool) (folder name file : List ℕ) (status : ℕ)
-    (before mid now : S) → IsOnlyRead shelf before mid → IsFound name (shelf.held before) file →
+    (before mid now : S) → IsOnlyRead shelf before mid → IsFoundFile name (shelf.held before) file →
     LeavesTaken strict force folder file status (shelf.held mid) (shelf.held now) →
     LeavesPictures shelf strict force folder name status before now
 taken_leaves shelf strict force folder name file status before mid now is found taken = record {
@@ -181,7 +182,7 @@ cut_weaker force folder file stream document before after (Err fault) is cut = e
 
 -- a file that was read
 pub taken_ends : {K : Type 0} (sink : Sink K) (out after : K) (view : View) (force : Bool) (folder name : List ℕ)
-    (held mid : Option Files) (file : List ℕ) (status : ℕ) → mid ≡ held → IsFound name held file → AreBytes file →
+    (held mid : Option Files) (file : List ℕ) (status : ℕ) → mid ≡ held → IsFoundFile name held file → AreBytes file →
     RunEnds (ShowsTaken view force folder name mid file) sink out after status →
     RunEnds (ShowsPictured view force folder name held) sink out after status
 taken_ends sink out after view force folder name held mid file status kept found are ends =
@@ -329,7 +330,7 @@ not_three status (inl low) = λ is. absurd (omega (arith, low, is))
 not_three status (inr high) = λ is. absurd (omega (arith, high, is))
 
 pub taken_caused : (status missed_before missed_now before mid now : ℕ) → (status < 2) ⊎ (3 < status) →
-    GoesOn before mid → (status ≡ 4 → Rose mid now) → HasCause status missed_before missed_now before now
+    CountGoesOn before mid → (status ≡ 4 → Rose mid now) → HasCause status missed_before missed_now before now
 taken_caused status missed_before missed_now before mid now after on rose = record {
   missing = λ is. absurd (not_three status after is);
   shelf_fault = λ is. Rose-after before mid now on (rose is);
@@ -346,7 +347,7 @@ held_viewed strict file opened is = inl (record { accepted = is.accepted; same =
 pub refused_by : (file : List ℕ) (fault : ReadFault) → fault ≢ NoMemory → IsReadFault (all_rules file) fault →
     ¬ (IsAccepted file)
 refused_by file NoMemory other is = absurd (other refl)
-refused_by file (Refused rule place offset) other is = not_accepted file rule (place, offset) is
+refused_by file (Refused rule place offset) other is = refused_not_accepted file rule (place, offset) is
 
 -- a strict view has no document of a file that breaks a rule
 pub none_strict : (strict : Bool) (file read : List ℕ) (document : Document) → ¬ (IsAccepted file) → strict ≡ true →
@@ -357,7 +358,7 @@ none_strict strict file read document refused is (inr (lifts, lifted)) = true≢
 -- what is read in place of a file is refused, or memory ran out
 pub refused_ends : {K : Type 0} (sink : Sink K) (out : K) (view : View) (force : Bool)
     (folder name file read : List ℕ) (mends : List FileMend) (held : Option Files) (status : ℕ) →
-    ¬ (IsAccepted file) → view.strict ≡ false → IsReadAs file mends read → IsFaultStatus read status →
+    ¬ (IsAccepted file) → view.strict ≡ false → IsMendedRead file mends read → IsFaultStatus read status →
     RunEnds (ShowsTaken view force folder name held file) sink out out status
 refused_ends sink out view force folder name file read mends held status refused lifts read_as is =
     ends_weaker (ShowsFile view (Some folder) name file) (ShowsTaken view force folder name held file) sink out out
@@ -370,7 +371,7 @@ same_fault fault is = cc (is)
 
 -- a path of a picture that holds a file is a name of one
 pub taken_there : (force : Bool) (folder : List ℕ) (pictures : List Picture) (held : Option Files) →
-    IsTaken force folder pictures held → IsFileThere force folder held
+    IsPathTaken force folder pictures held → IsFileThere force folder held
 taken_there force folder pictures held is =
     let path = is.path in
     record {

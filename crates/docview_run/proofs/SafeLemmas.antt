@@ -5,7 +5,7 @@ use Rattle.std.proofs.lemmas.Option.{none-some, same_Some}
 use Rattle.doc_outer.specs.Held.{Files}
 use Rattle.doc_outer.specs.Written.{Appends}
 use Rattle.doc_outer.specs.declared.sink.Sink.{Ghosts}
-use Rattle.plain_doc.specs.declared.document.Document.{Document}
+use Rattle.doc_model.specs.declared.document.Document.{Document}
 use Rattle.run_stages.specs.Outcomes.{Outcome, says}
 use Rattle.doc_bits.specs.Places.{Place}
 use Rattle.doc_fit.specs.Refusals.{EndsAt}
@@ -21,12 +21,12 @@ use Rattle.docview_run.specs.declared.view.View.{View}
 use Rattle.docview_run.specs.Requests.{Request, help, version, page, pictured, properties, requested}
 use Rattle.docview_run.specs.Requests.{shown_folder, shown_view}
 use Rattle.docview_run.specs.Viewed.{IsNotViewed}
-use Rattle.docview_run.specs.Endings.{IsEnding, IsPageIn, RunEnds, Shows, ShowsFile, ShowsName, printed}
+use Rattle.docview_run.specs.Endings.{IsEnding, IsPageInForm, RunEnds, Shows, ShowsFile, ShowsName, standard_output}
 use Rattle.docview_run.specs.Pictured.{NamesFiles}
 use Rattle.docview_run.specs.Safe.{AreFilesIn, IsSafeIn, IsSafePage, PrintedPagesAreSafe}
 
 safe_in : (form : Form) (options : Options) (source : PageSource) (bytes : List ℕ) →
-    IsPageIn form options source bytes → IsSafeIn form options source bytes
+    IsPageInForm form options source bytes → IsSafeIn form options source bytes
 safe_in Text options source bytes is =
     let plain = page_plain options source.document bytes is in
     record { text = plain.0; bytes_are = plain.1.0; plain = plain.1.1 }
@@ -110,7 +110,7 @@ printed_safe words held view outcome asked ends done =
     request_safe held (requested words) view outcome asked ends done
 
 -- what was printed at status 0 is the text
-all_printed : (outcome : Outcome) → outcome.status ≡ 0 → printed outcome ≡ outcome.text
+all_printed : (outcome : Outcome) → outcome.status ≡ 0 → standard_output outcome ≡ outcome.text
 all_printed outcome done =
     let none : List ℕ = [] in ap (λ (n : ℕ). if n == 0 then outcome.text else none) done
 

@@ -2,17 +2,16 @@
 use Rattle.std.proofs.Common.{◌≡◌, ◌≢◌, ◌⊎◌, ◌∙◌, ℕ, List, Option, None, Some, true, false, refl, sym, subst, inl, inr}
 use Rattle.std.proofs.Common.{Result, Ok, Err, MatchResult, arith}
 use Rattle.doc_bits.specs.Number.{AreBytes}
-use Rattle.doc_bits.specs.Places.{Place, IsFirstPlace, Upto}
-use Rattle.doc_bits.proofs.Public.{hold_or_first}
+use Rattle.doc_bits.specs.Places.{Place, IsFirstPlace}
 use Rattle.doc_outer.specs.declared.sink.Sink.{Ghosts}
-use Rattle.plain_doc.specs.declared.document.Document.{Document}
+use Rattle.doc_model.specs.declared.document.Document.{Document}
 use Rattle.file_rules.specs.FileRules.{FileText}
 use Rattle.file_rules.specs.Faults.{IsReadFault}
 use Rattle.file_rules.specs.declared.fault.ReadFault.{ReadFault}
 use Rattle.file_mends.specs.declared.mends.FileMend.{FileMend}
 use Rattle.file_mends.specs.Mends.{bytes_read}
 use Rattle.doc_read.specs.Holds.{HoldsDocument, IsAccepted, all_rules}
-use Rattle.doc_read.proofs.Public.{all_single, document_one}
+use Rattle.doc_read.proofs.Public.{document_one}
 use Rattle.run_stages.specs.Lines.{rule_line}
 use Rattle.run_stages.specs.Outcomes.{Outcome, says}
 use Rattle.further_notes.specs.declared.stories.NotedStories.{NotedStories}
@@ -20,35 +19,35 @@ use Rattle.doc_fit.specs.declared.opening.OpenedAny.{OpenedAny}
 use Rattle.doc_fit.specs.declared.file_opening.OpenedFile.{OpenedFile}
 use Rattle.doc_fit.specs.Rules.{fit_rules}
 use Rattle.doc_fit.specs.Refusals.{IsRefusalStatus}
-use Rattle.doc_fit.specs.Noted.{IsDocumentWith, IsNotedText, IsOpenedFit, IsOpenedWith}
-use Rattle.doc_fit.specs.ReadAs.{IsOpenedFile, IsReadAs}
+use Rattle.doc_fit.specs.Noted.{IsFitDocument, IsNotedText, IsOpenedFit, IsOpenedWith}
+use Rattle.doc_fit.specs.ReadAs.{IsOpenedFile, IsMendedRead}
 use Rattle.doc_fit.proofs.Public.{are_noted_one, document_one as fit_document_one, mended_by, read_bytes, read_one}
 use Rattle.doc_fit.proofs.Public.{refused_by, text_meant}
 use Rattle.docview_run.specs.declared.view.View.{View}
 use Rattle.docview_run.specs.Viewed.{IsFaultStatus, IsLiftedFrom, IsLiftedOut, IsStatusOf, IsViewed}
-use Rattle.doc_pictures.specs.Files.{no_files}
-use Rattle.docview_run.specs.Endings.{IsOfFile, PrintsPage, RunEnds, ShowsFile, bare}
+use Rattle.doc_pictures.specs.Files.{no_image_files}
+use Rattle.docview_run.specs.Endings.{IsOfFile, PrintsPage, RunEnds, ShowsFile, bare_source}
 use Rattle.docview_run.specs.Laws.{ViewedDocumentIsOne}
 use Rattle.docview_run.proofs.EndLemmas.{IsTold, ends_weaker, memory_ends, told_ends}
 
 -- the page of the document of a file is shown
 viewed_ends : {K : Type 0} (sink : Ghosts K) (out after : K) (name file read : List ℕ) (view : View)
     (document : Document) (status : ℕ) → IsViewed view.strict file read document →
-    RunEnds (PrintsPage view (bare document)) sink out after status →
+    RunEnds (PrintsPage view (bare_source document)) sink out after status →
     RunEnds (ShowsFile view None name file) sink out after status
 viewed_ends sink out after name file read view document status is =
-    ends_weaker (PrintsPage view (bare document)) (ShowsFile view None name file) sink out after status
+    ends_weaker (PrintsPage view (bare_source document)) (ShowsFile view None name file) sink out after status
     (λ outcome shown. inr (record {
       read = read;
       document = document;
       viewed = is;
-      shows = record { images = no_files; names = refl; bytes = shown.0; are = shown.1.0; ends = shown.1.1 };
+      shows = record { images = no_image_files; names = refl; bytes = shown.0; are = shown.1.0; ends = shown.1.1 };
     }))
 
 -- a document was opened
 pub held_ends : {K : Type 0} (sink : Ghosts K) (out after : K) (name file : List ℕ) (view : View)
     (document : Document) (status : ℕ) → IsAccepted file → HoldsDocument file document →
-    RunEnds (PrintsPage view (bare document)) sink out after status →
+    RunEnds (PrintsPage view (bare_source document)) sink out after status →
     RunEnds (ShowsFile view None name file) sink out after status
 held_ends sink out after name file view document status accepted holds =
     viewed_ends sink out after name file file view document status
@@ -58,7 +57,7 @@ held_ends sink out after name file view document status accepted holds =
 
 -- what is opened has its document, with the texts of stories as notes or without
 opened_document : (read : List ℕ) (opened : OpenedAny) (noted : Option NotedStories) → IsOpenedWith noted read opened →
-    IsDocumentWith noted read opened.lifted.document opened.mends.items
+    IsFitDocument noted read opened.lifted.document opened.mends.items
 opened_document read opened (Some stories) is =
     let by = is.by in
     let lifts = by.lifts in
@@ -127,18 +126,12 @@ found_lifted file found opened refused is same =
 -- it is shown
 pub lifted_ends : {K : Type 0} (sink : Ghosts K) (out after : K) (name file read : List ℕ) (view : View)
     (document : Document) (status : ℕ) → view.strict ≡ false → IsLiftedOut file read document →
-    RunEnds (PrintsPage view (bare document)) sink out after status →
+    RunEnds (PrintsPage view (bare_source document)) sink out after status →
     RunEnds (ShowsFile view None name file) sink out after status
 lifted_ends sink out after name file read view document status lifts is =
     viewed_ends sink out after name file read view document status (inr (lifts, is))
 
 -- ---- what is refused
-
--- a file that breaks a rule is not accepted
-pub not_accepted : (file : List ℕ) (rule : ℕ) (place : Place) → IsFirstPlace (all_rules file) rule place →
-    ¬ (IsAccepted file)
-not_accepted file rule place first accepted =
-    hold_or_first Upto (all_rules file) rule place (all_single file) accepted first
 
 -- a rule is broken, in a strict view
 pub refused_ends : {K : Type 0} (sink : Ghosts K) (out : K) (name file : List ℕ) (view : View) (rule : ℕ)
@@ -175,7 +168,7 @@ unopened_some read status (inr memory) = λ done. absurd (omega (arith, memory, 
 -- a rule that is left is broken by what is read, or memory ran out
 pub unopened_ends : {K : Type 0} (sink : Ghosts K) (out : K) (folder : Option (List ℕ)) (name file read : List ℕ)
     (mends : List FileMend) (view : View) (status : ℕ) → ¬ (IsAccepted file) → view.strict ≡ false →
-    IsReadAs file mends read → IsFaultStatus read status →
+    IsMendedRead file mends read → IsFaultStatus read status →
     RunEnds (ShowsFile view folder name file) sink out out status
 unopened_ends sink out folder name file read mends view status refused lifts read_as (inl is) =
     let ending = refused_by read name is.rule status is.place is.first is.is in
@@ -201,7 +194,7 @@ lifted_one read a b bytes x y =
     are_noted_one false x.noted y.noted read x.are_noted y.are_noted in
     let one : (a ≡ b) × (x.mends ≡ y.mends) =
     fit_document_one y.noted read a b x.mends y.mends bytes x.rules.0
-    (subst (λ (n : Option NotedStories). IsDocumentWith n read a x.mends) noted x.document_is) y.document_is in
+    (subst (λ (n : Option NotedStories). IsFitDocument n read a x.mends) noted x.document_is) y.document_is in
     one.0
 
 pub viewed_one : ViewedDocumentIsOne

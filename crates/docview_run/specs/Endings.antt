@@ -4,9 +4,9 @@ use Rattle.doc_outer.specs.Counts.{Rose}
 use Rattle.doc_outer.specs.Held.{Files}
 use Rattle.doc_outer.specs.Written.{Appends, AppendsPrefix}
 use Rattle.doc_outer.specs.declared.sink.Sink.{Ghosts}
-use Rattle.plain_doc.specs.declared.document.Document.{Document}
+use Rattle.doc_model.specs.declared.document.Document.{Document}
 use Rattle.run_stages.specs.Outcomes.{Outcome, says}
-use Rattle.run_stages.specs.Stages.{BreaksLengthRule, IsShelfFault, Reads}
+use Rattle.run_stages.specs.Stages.{BreaksLengthRule, IsShelfFault, ReadsNamedFile}
 use Rattle.doc_view.specs.declared.view.Options.{Options}
 use Rattle.doc_view.specs.Page.{IsPage}
 use Rattle.doc_html.specs.Page.{IsHtmlPage}
@@ -18,29 +18,29 @@ use Rattle.docview_run.specs.declared.run.TheConstants.{HELP, VERSION}
 use Rattle.docview_run.specs.Requests.{Request, help, version, page, pictured, properties, requested}
 use Rattle.docview_run.specs.FileProperties.{ShowsProperties}
 use Rattle.doc_pictures.specs.declared.pictures.Picture.{Picture}
-use Rattle.doc_pictures.specs.Files.{ImageFiles, no_files}
+use Rattle.doc_pictures.specs.Files.{ImageFiles, no_image_files}
 use Rattle.html_page.specs.Sources.{PageSource}
-use Rattle.docview_run.specs.Pictured.{IsKept, NamesFiles}
+use Rattle.docview_run.specs.Pictured.{IsKeptFile, NamesFiles}
 use Rattle.docview_run.specs.Viewed.{IsNotViewed, IsViewed}
 
 -- a document whose page names no file of a picture, or those of pictures in a folder
-abbrev pub bare : Document → PageSource
-bare document = record { document = document; images = no_files }
+abbrev pub bare_source : Document → PageSource
+bare_source document = record { document = document; images = no_image_files }
 
 abbrev pub pictured_source : Document → (folder : List ℕ) → List Picture → PageSource
 pictured_source document folder pictures =
     record { document = document; images = record { folder = folder; pictures = pictures } }
 
 -- the page of a document in a form; in HTML it names the files of its pictures
-abbrev pub IsPageIn : Form → Options → PageSource → List ℕ → Type 0
-IsPageIn Text options source bytes = IsPage options source.document bytes
-IsPageIn Html options source bytes = IsHtmlPage options source bytes
-IsPageIn Markdown options source bytes = IsMarkdownPage options source.document bytes
+abbrev pub IsPageInForm : Form → Options → PageSource → List ℕ → Type 0
+IsPageInForm Text options source bytes = IsPage options source.document bytes
+IsPageInForm Html options source bytes = IsHtmlPage options source bytes
+IsPageInForm Markdown options source bytes = IsMarkdownPage options source.document bytes
 
 -- the page of a document is printed
 abbrev pub PrintsPage : View → PageSource → Outcome → Type 0
 PrintsPage view source outcome =
-    (bytes : List ℕ) × (IsPageIn view.form view.options source bytes × (outcome ≡ says 0 bytes))
+    (bytes : List ℕ) × (IsPageInForm view.form view.options source bytes × (outcome ≡ says 0 bytes))
 
 -- the page of a document of a file, which names the files of its pictures in a folder, or none
 pub record ShowsDocument (view : View) (folder : Option (List ℕ)) (file : List ℕ) (document : Document)
@@ -48,7 +48,7 @@ pub record ShowsDocument (view : View) (folder : Option (List ℕ)) (file : List
   pub images : ImageFiles
   pub names : NamesFiles folder file document images
   pub bytes : List ℕ
-  pub are : IsPageIn view.form view.options (record { document = document; images = images }) bytes
+  pub are : IsPageInForm view.form view.options (record { document = document; images = images }) bytes
   pub ends : outcome ≡ says 0 bytes
 
 -- the page of the document of a file; the files of its pictures are those of what is read in place of it
@@ -64,22 +64,24 @@ ShowsFile view folder name file outcome = IsNotViewed view.strict file name outc
 
 -- a name is read whole, and its file shown
 abbrev pub ShowsName : View → Option (List ℕ) → (name : List ℕ) → Option Files → Outcome → Type 0
-ShowsName view folder name held outcome = Reads name held (BreaksLengthRule name) (ShowsFile view folder name) outcome
+ShowsName view folder name held outcome = ReadsNamedFile name held (BreaksLengthRule name) (ShowsFile view folder name)
+    outcome
 
 -- a document is shown behind the files of its pictures in a folder, or one of these is there before, or is not written
 abbrev pub ShowsHeld : View → (force : Bool) → (folder file : List ℕ) → Document → Option Files → Outcome → Type 0
 ShowsHeld view force folder file document held outcome =
-    ShowsDocument view (Some folder) file document outcome ⊎ (IsKept force folder held outcome ⊎ IsShelfFault outcome)
+    ShowsDocument view (Some folder) file document outcome ⊎ (IsKeptFile force folder held outcome ⊎ IsShelfFault
+    outcome)
 
 -- the same of a file
 abbrev pub ShowsTaken : View → (force : Bool) → (folder name : List ℕ) → Option Files → List ℕ → Outcome → Type 0
 ShowsTaken view force folder name held file outcome =
-    ShowsFile view (Some folder) name file outcome ⊎ (IsKept force folder held outcome ⊎ IsShelfFault outcome)
+    ShowsFile view (Some folder) name file outcome ⊎ (IsKeptFile force folder held outcome ⊎ IsShelfFault outcome)
 
 -- a name is shown behind the files of its pictures in a folder, or one of these is there before
 abbrev pub ShowsPictured : View → (force : Bool) → (folder name : List ℕ) → Option Files → Outcome → Type 0
 ShowsPictured view force folder name held outcome =
-    ShowsName view (Some folder) name held outcome ⊎ IsKept force folder held outcome
+    ShowsName view (Some folder) name held outcome ⊎ IsKeptFile force folder held outcome
 
 -- what a request comes to
 abbrev pub Shows : Option Files → Option Request → Outcome → Type 0
@@ -99,15 +101,15 @@ abbrev pub IsOfFile : ℕ → Type 0
 IsOfFile status = (status < 2) ⊎ (4 < status)
 
 -- what goes to the standard output: nothing but the page
-abbrev pub printed : Outcome → List ℕ
-printed outcome = if outcome.status == 0 then outcome.text else []
+abbrev pub standard_output : Outcome → List ℕ
+standard_output outcome = if outcome.status == 0 then outcome.text else []
 
 -- a run comes to one of these outcomes by its status, or the sink failed, or memory was refused
 pub record RunEnds {K : Type 0} (ends : Outcome → Type 0) (sink : Ghosts K) (before after : K) (status : ℕ) : Type 0 where
   pub ending :
       status ≢ 5 → status ≢ 6 →
       (outcome : Outcome) × ((outcome.status ≡ status) × (ends outcome
-      × Appends (sink.written before) (sink.written after) (printed outcome)))
+      × Appends (sink.written before) (sink.written after) (standard_output outcome)))
   pub prefix :
       status ≡ 5 →
       (outcome : Outcome) × ((outcome.status ≡ 0) × (ends outcome

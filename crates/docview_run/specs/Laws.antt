@@ -3,10 +3,10 @@ use Rattle.std.specs.Prelude.{◌≡◌, ◌≢◌, ◌⊎◌, Bool, false, ℕ,
 use Rattle.doc_bits.specs.Number.{AreBytes}
 use Rattle.doc_bits.specs.Rules.{Hold}
 use Rattle.doc_outer.specs.Held.{Files, file_at}
-use Rattle.plain_doc.specs.declared.document.Document.{Document}
+use Rattle.doc_model.specs.declared.document.Document.{Document}
 use Rattle.doc_read.specs.Holds.{IsAccepted}
 use Rattle.file_mends.specs.declared.mends.FileMend.{FileMend}
-use Rattle.doc_fit.specs.ReadAs.{IsReadAs}
+use Rattle.doc_fit.specs.ReadAs.{IsMendedRead}
 use Rattle.doc_fit.specs.Rules.{fit_rules}
 use Rattle.property_text.specs.declared.page.PropertyForm.{PropertyForm}
 use Rattle.run_stages.specs.Outcomes.{Outcome}
@@ -36,7 +36,7 @@ ViewIsOne = (words : List (List ℕ)) (files : Files) (one other : Outcome) → 
 pub record CanLift (file : List ℕ) : Type 0 where
   pub mends : List FileMend
   pub read : List ℕ
-  pub read_as : IsReadAs file mends read
+  pub read_as : IsMendedRead file mends read
   pub hold : Hold (fit_rules read)
 
 -- the name holds a file that breaks no rule, or, but for a strict view, none of those that are left

@@ -1,28 +1,25 @@
 -- The files of the pictures of a document are written, and its page is shown.
-use Rattle.std.specs.Prelude.{◌≡◌, ◌⊎◌, ℕ, Bool, false, List, [], Option, Some, None, codes}
+use Rattle.std.specs.Prelude.{◌≡◌, ◌⊎◌, ℕ, Bool, false, List, [], Option, Some, None}
 use Rattle.cfb_streams.specs.Contents.{Contents, HasNamed, HasNoNamed, Stream}
 use Rattle.cfb_streams.specs.Container.{HasContents}
 use Rattle.inline_pictures.specs.declared.kind.PictureKind.{PictureKind}
-use Rattle.plain_doc.specs.declared.document.Document.{Document}
-use Rattle.doc_outer.specs.Held.{Files, IsWhole, StaysAt, Told}
+use Rattle.doc_model.specs.declared.document.Document.{Document}
+use Rattle.doc_outer.specs.Held.{Files, HoldsExactly, StaysAt, Told}
 use Rattle.doc_outer.specs.declared.shelf.Shelf.{Ghosts}
 use Rattle.doc_pictures.specs.declared.album.AlbumFault.{AlbumFault}
 use Rattle.doc_pictures.specs.declared.album.AlbumFault.TheVariants.{There, Failed, Memory}
 use Rattle.doc_pictures.specs.declared.pictures.Picture.{Picture}
-use Rattle.doc_pictures.specs.Places.{places_of}
+use Rattle.doc_pictures.specs.Places.{picture_places}
 use Rattle.doc_pictures.specs.Names.{picture_path}
 use Rattle.doc_pictures.specs.Pictures.{ArePictures}
-use Rattle.doc_pictures.specs.Album.{IsCutShort, IsThere, Writes}
-use Rattle.doc_pictures.specs.Files.{ImageFiles, no_files}
+use Rattle.doc_pictures.specs.Album.{IsCutShort, IsThere, WritesPictures}
+use Rattle.doc_pictures.specs.Files.{ImageFiles, no_image_files}
 use Rattle.run_stages.specs.Leaves.{IsOnlyRead}
 use Rattle.run_stages.specs.Outcomes.{Outcome, says}
 use Rattle.docview_run.specs.declared.view.View.{View}
 use Rattle.docview_run.specs.Requests.{Request, help, version, page, pictured, properties}
 use Rattle.docview_run.specs.Viewed.{IsViewed}
-
--- [MS-DOC] the stream with pictures
-abbrev pub data_name : List ℕ
-data_name = codes "Data"
+use Rattle.huge_papx.specs.Data.{data_name}
 
 -- its bytes; where it is not there it has none
 abbrev pub IsDataIn : List Stream → List ℕ → Type 0
@@ -37,11 +34,11 @@ pub record IsDataOf (file bytes : List ℕ) : Type 0 where
 pub record ArePicturesOf (file : List ℕ) (document : Document) (pictures : List Picture) : Type 0 where
   pub stream : List ℕ
   pub is : IsDataOf file stream
-  pub are : ArePictures stream (places_of document) pictures
+  pub are : ArePictures stream (picture_places document) pictures
 
 -- the files that a page names: those of the pictures of its document in a folder, or none
 abbrev pub NamesFiles : Option (List ℕ) → (file : List ℕ) → Document → ImageFiles → Type 0
-NamesFiles None file document images = images ≡ no_files
+NamesFiles None file document images = images ≡ no_image_files
 NamesFiles (Some folder) file document images = (images.folder ≡ folder) × ArePicturesOf file document images.pictures
 
 -- ---- files that are written
@@ -49,13 +46,13 @@ NamesFiles (Some folder) file document images = (images.folder ≡ folder) × Ar
 -- the files of the pictures of a document in these bytes were written into a folder
 pub record WritesIn (force : Bool) (folder stream : List ℕ) (document : Document) (pictures : List Picture)
     (before after : Option Files) : Type 0 where
-  pub are : ArePictures stream (places_of document) pictures
-  pub writes : Writes force folder stream 1 pictures before after
+  pub are : ArePictures stream (picture_places document) pictures
+  pub writes : WritesPictures force folder stream 1 pictures before after
 
 -- or those before one of them
 pub record CutsIn (force : Bool) (folder stream : List ℕ) (document : Document) (before after : Option Files) : Type 0 where
   pub pictures : List Picture
-  pub are : ArePictures stream (places_of document) pictures
+  pub are : ArePictures stream (picture_places document) pictures
   pub cut : IsCutShort force folder stream pictures before after
 
 -- the same of a file
@@ -95,12 +92,12 @@ pub record StaysViewed (strict force : Bool) (folder file : List ℕ) (before af
 -- the same of the file of a name
 pub record WritesShown (strict force : Bool) (folder name : List ℕ) (before after : Option Files) : Type 0 where
   pub file : List ℕ
-  pub told : Told before name (IsWhole file)
+  pub told : Told before name (HoldsExactly file)
   pub writes : WritesViewed strict force folder file before after
 
 pub record StaysShown (strict force : Bool) (folder name : List ℕ) (before after : Option Files) : Type 0 where
   pub file : List ℕ
-  pub told : Told before name (IsWhole file)
+  pub told : Told before name (HoldsExactly file)
   pub stays : StaysViewed strict force folder file before after
 
 -- the name of a picture in a folder
@@ -152,7 +149,7 @@ pub record IsFileThere (force : Bool) (folder : List ℕ) (held : Option Files) 
   pub is : IsPictureName folder name
   pub there : Told held name IsThere
 
-pub record IsKept (force : Bool) (folder : List ℕ) (held : Option Files) (outcome : Outcome) : Type 0 where
+pub record IsKeptFile (force : Bool) (folder : List ℕ) (held : Option Files) (outcome : Outcome) : Type 0 where
   pub file : IsFileThere force folder held
   pub ends : outcome ≡ says 8 []
 

@@ -30,17 +30,17 @@ begins_with_hyphen [] = false
 begins_with_hyphen (first ∷ more) = first == 45
 
 -- the page of a file; a hyphen names the standard input, and no other word that begins with one names a file
-abbrev pub named : View → List ℕ → Option Request
-named view file =
+abbrev pub page_request : View → List ℕ → Option Request
+page_request view file =
     if bytes_eq file (codes "-") then Some (page view (codes "/dev/stdin")) else
     if begins_with_hyphen file then None else Some (page view file)
 
 -- its page in the form that a word names
 abbrev pub in_form : View → List ℕ → List ℕ → Option Request
 in_form view form file =
-    if bytes_eq form (codes "text") then named (record view { form = Text }) file else
-    if bytes_eq form (codes "markdown") then named (record view { form = Markdown }) file else
-    if bytes_eq form (codes "html") then named (record view { form = Html }) file else None
+    if bytes_eq form (codes "text") then page_request (record view { form = Text }) file else
+    if bytes_eq form (codes "markdown") then page_request (record view { form = Markdown }) file else
+    if bytes_eq form (codes "html") then page_request (record view { form = Html }) file else None
 
 -- a page behind the files of its pictures
 abbrev pub with_pictures : (folder : List ℕ) → (force : Bool) → Option Request → Option Request
@@ -67,7 +67,7 @@ forced view form option folder force file =
 -- a file alone, or a form and a file, with pictures or without
 abbrev pub viewed : View → List (List ℕ) → Option Request
 viewed view [] = None
-viewed view (file ∷ []) = named view file
+viewed view (file ∷ []) = page_request view file
 viewed view (form ∷ file ∷ []) = in_form view form file
 viewed view (form ∷ option ∷ file ∷ []) = None
 viewed view (form ∷ option ∷ folder ∷ file ∷ []) = illustrated view form option folder file
@@ -111,11 +111,11 @@ behind_option view (word ∷ words) =
 abbrev pub viewed_behind : Behind → Option Request
 viewed_behind at = viewed at.view at.words
 
-abbrev pub next_behind : Behind → Behind
-next_behind at = behind_option at.view at.words
+abbrev pub behind_next_option : Behind → Behind
+behind_next_option at = behind_option at.view at.words
 
 abbrev pub viewed_by : List (List ℕ) → Option Request
-viewed_by words = viewed_behind (next_behind (next_behind (behind_option plain_view words)))
+viewed_by words = viewed_behind (behind_next_option (behind_next_option (behind_option plain_view words)))
 
 -- the properties of a file
 abbrev pub properties_named : PropertyForm → List ℕ → Option Request
@@ -142,7 +142,7 @@ requested_many words = if asks_for_properties words then properties_by (drop 1 w
 abbrev pub requested_alone : List ℕ → Option Request
 requested_alone word =
     if bytes_eq word (codes "--help") then Some help else
-    if bytes_eq word (codes "--version") then Some version else named plain_view word
+    if bytes_eq word (codes "--version") then Some version else page_request plain_view word
 
 -- the view of a page that is asked for
 abbrev pub shown_view : Option Request → Option View

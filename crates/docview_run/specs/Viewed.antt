@@ -2,16 +2,16 @@
 use Rattle.std.specs.Prelude.{◌≡◌, ◌⊎◌, ℕ, Bool, true, false, List, Option}
 use Rattle.doc_bits.specs.Places.{Place, IsFirstPlace}
 use Rattle.doc_bits.specs.Rules.{Hold}
-use Rattle.plain_doc.specs.declared.document.Document.{Document}
+use Rattle.doc_model.specs.declared.document.Document.{Document}
 use Rattle.doc_read.specs.Holds.{HoldsDocument, IsAccepted, all_rules}
 use Rattle.doc_mends.specs.declared.mends.Mend.{Mend}
 use Rattle.file_mends.specs.declared.mends.FileMend.{FileMend}
 use Rattle.further_notes.specs.declared.stories.NotedStories.{NotedStories}
 use Rattle.doc_fit.specs.Rules.{fit_rules}
-use Rattle.doc_fit.specs.Noted.{AreNoted, IsDocumentWith}
-use Rattle.doc_fit.specs.ReadAs.{IsReadAs}
+use Rattle.doc_fit.specs.Noted.{AreNoted, IsFitDocument}
+use Rattle.doc_fit.specs.ReadAs.{IsMendedRead}
 use Rattle.doc_fit.specs.Refusals.{IsFitRefused, IsRefusalStatus}
-use Rattle.run_stages.specs.Judged.{IsRefused}
+use Rattle.run_stages.specs.Judged.{IsRuleRefusal}
 use Rattle.run_stages.specs.Outcomes.{Outcome}
 
 -- a file that breaks no rule is read as it is, and has this document
@@ -27,13 +27,13 @@ pub record IsLiftedFrom (read : List ℕ) (document : Document) : Type 0 where
   pub noted : Option NotedStories
   pub are_noted : AreNoted false read noted
   pub mends : List Mend
-  pub document_is : IsDocumentWith noted read document mends
+  pub document_is : IsFitDocument noted read document mends
 
 -- a file that breaks a rule, and what is read in place of it, with its bytes mended, has this document
 pub record IsLiftedOut (file read : List ℕ) (document : Document) : Type 0 where
   pub refused : ¬ (IsAccepted file)
   pub mends : List FileMend
-  pub read_as : IsReadAs file mends read
+  pub read_as : IsMendedRead file mends read
   pub lifts : IsLiftedFrom read document
 
 -- what is read of a file, and its document; a strict view has only that of a file that breaks no rule
@@ -46,13 +46,13 @@ pub record IsNotLifted (file name : List ℕ) (outcome : Outcome) : Type 0 where
   pub refused : ¬ (IsAccepted file)
   pub mends : List FileMend
   pub read : List ℕ
-  pub read_as : IsReadAs file mends read
+  pub read_as : IsMendedRead file mends read
   pub ends : IsFitRefused read name outcome
 
 -- why there is none: the first of the rules that are left, or of all rules in a strict view
 abbrev pub IsNotViewed : (strict : Bool) → (file name : List ℕ) → Outcome → Type 0
 IsNotViewed strict file name outcome =
-    ((strict ≡ true) × IsRefused (all_rules file) name outcome)
+    ((strict ≡ true) × IsRuleRefusal (all_rules file) name outcome)
     ⊎ ((strict ≡ false) × IsNotLifted file name outcome)
 
 -- the status of what is not opened: that of its first rule, or of want of memory

@@ -6,7 +6,7 @@ ghost use Rattle.file_rules.specs.Faults.{IsReadFault};
 ghost use Rattle.property_text.specs.Printable.{HasNoControls};
 ghost use Rattle.run_stages.specs.Leaves.{IsCaused, IsOnlyRead};
 ghost use Rattle.docview_run.specs.Endings.{IsOfFile, RunEnds};
-ghost use Rattle.docview_run.specs.FileProperties.{PropertiesOf, ShowsProperties, file_rules};
+ghost use Rattle.docview_run.specs.FileProperties.{PropertiesOf, ShowsProperties, rules_in_file};
 
 use crate::run::{PROGRAM, print, tell_refusal};
 use cfb_streams::Container;
@@ -87,8 +87,8 @@ fn show_taken<K: Sink, E: Sink>(
 /// The page of the properties of a file.
 fn page_of(alloc: Global, file: &[u8], form: PropertyForm) -> Result<Text, ReadFault>
     ensures { MatchResult result
-        (λ text. Hold (file_rules file.now) × HasNoControls text)
-        (IsReadFault (file_rules file.now)) }
+        (λ text. Hold (rules_in_file file.now) × HasNoControls text)
+        (IsReadFault (rules_in_file file.now)) }
 {
     let container = match Container::load(alloc, file) {
         Ok(container) => container,

@@ -7,7 +7,7 @@ ghost use Rattle.plain_doc.specs.Sound.{IsSound};
 ghost use Rattle.doc_read.specs.Holds.{IsAccepted};
 ghost use Rattle.doc_fit.specs.ReadAs.{IsOpenedFile};
 ghost use Rattle.doc_fit.specs.Rules.{fit_rules};
-ghost use Rattle.docview_run.specs.Endings.{IsOfFile, PrintsPage, RunEnds, ShowsFile, bare};
+ghost use Rattle.docview_run.specs.Endings.{IsOfFile, PrintsPage, RunEnds, ShowsFile, bare_source};
 ghost use Rattle.docview_run.specs.Viewed.{IsFaultStatus};
 
 use crate::View;
@@ -99,7 +99,8 @@ fn show_opened<K: Sink, E: Sink>(
     reasons: &mut E,
 ) -> u8
     requires { IsSound mended.now.opened.now.lifted.document }
-    ensures ends { RunEnds (PrintsPage view (bare mended.now.opened.now.lifted.document)) K.Sink out.old out.new result }
+    ensures ends { RunEnds (PrintsPage view (bare_source mended.now.opened.now.lifted.document)) K.Sink out.old out.new
+        result }
     ensures after { IsOfFile result }
 {
     let Ok(lines) = lines_of(alloc, name, mended) else {

@@ -5,7 +5,7 @@ ghost use Rattle.doc_outer.specs.Counts.{Rose};
 ghost use Rattle.doc_outer.specs.Held.{StaysAt};
 ghost use Rattle.doc_read.specs.Holds.{IsAccepted};
 ghost use Rattle.doc_fit.specs.ReadAs.{IsOpenedFile};
-ghost use Rattle.html_page.specs.Sources.{source_of};
+ghost use Rattle.html_page.specs.Sources.{page_source_of};
 ghost use Rattle.plain_doc.specs.Sound.{IsSound};
 ghost use Rattle.run_stages.specs.Leaves.{IsCaused};
 ghost use Rattle.docview_run.specs.Endings.{IsOfFile, PrintsPage, RunEnds, ShowsHeld, ShowsPictured, ShowsTaken};
@@ -25,14 +25,12 @@ use doc_pictures::{Album, AlbumFault, Images, Pictures, pictures_of, write_pictu
 use doc_read::open;
 use file_rules::ReadFault;
 use html_page::Source;
+use huge_papx::DATA;
 use run_stages::{STATUS_DONE, STATUS_MEMORY, STATUS_SHELF_FAULT, Stage, take_file, tell_reason};
 use std::alloc::Global;
 
 /// A file of a picture is there, and files are not written over.
 const STATUS_THERE: u8 = 8;
-
-/// [MS-DOC] The stream with pictures.
-const DATA: [u16; 4] = [68, 97, 116, 97];
 
 /// The name of a file, what of it is shown, and where the files of its pictures are written.
 #[derive(Clone, Copy)]

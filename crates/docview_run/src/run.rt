@@ -5,9 +5,9 @@ ghost use Rattle.doc_bits.specs.Number.{AreBytes};
 ghost use Rattle.plain_doc.specs.Sound.{IsSound};
 ghost use Rattle.run_stages.specs.Leaves.{IsCaused, IsOnlyRead};
 ghost use Rattle.run_stages.specs.Outcomes.{says};
-ghost use Rattle.docview_run.specs.Endings.{IsEnding, IsOfFile, IsPageIn, PrintsPage, RunEnds, ShowsFile};
-ghost use Rattle.docview_run.specs.Endings.{ShowsName, bare};
-ghost use Rattle.html_page.specs.Sources.{source_of};
+ghost use Rattle.docview_run.specs.Endings.{IsEnding, IsOfFile, IsPageInForm, PrintsPage, RunEnds, ShowsFile};
+ghost use Rattle.docview_run.specs.Endings.{ShowsName, bare_source};
+ghost use Rattle.html_page.specs.Sources.{page_source_of};
 ghost use Rattle.docview_run.specs.Pictured.{Leaves};
 ghost use Rattle.docview_run.specs.Requests.{requested, shown_folder, shown_view};
 ghost use Rattle.docview_run.specs.Safe.{IsSafePage};
@@ -180,7 +180,7 @@ pub(crate) fn show_document<K: Sink>(
     out: &mut K,
 ) -> u8
     requires { IsSound document.now }
-    ensures ends { RunEnds (PrintsPage view (bare document.now)) K.Sink out.old out.new result }
+    ensures ends { RunEnds (PrintsPage view (bare_source document.now)) K.Sink out.old out.new result }
     ensures after { IsOfFile result }
 {
     let pictures = Pictures::none(alloc);
@@ -202,7 +202,7 @@ pub(crate) fn show_source<K: Sink>(
     out: &mut K,
 ) -> u8
     requires { IsSound source.now.document.now }
-    ensures ends { RunEnds (PrintsPage view (source_of source.now)) K.Sink out.old out.new result }
+    ensures ends { RunEnds (PrintsPage view (page_source_of source.now)) K.Sink out.old out.new result }
     ensures after { IsOfFile result }
 {
     match write_view(alloc, source, view, out) {
@@ -220,10 +220,10 @@ fn write_view<K: Sink>(
     out: &mut K,
 ) -> Result<(), ViewFault>
     requires { IsSound source.now.document.now }
-    ensures ok { OnOk result ((bytes : List ℕ) × (IsPageIn view.form view.options (source_of source.now) bytes
+    ensures ok { OnOk result ((bytes : List ℕ) × (IsPageInForm view.form view.options (page_source_of source.now) bytes
         × Appends (K.written out.old) (K.written out.new) bytes)) }
     ensures prefix { IsErrOf result ViewFault.Sink → (bytes : List ℕ)
-        × (IsPageIn view.form view.options (source_of source.now) bytes
+        × (IsPageInForm view.form view.options (page_source_of source.now) bytes
         × AppendsPrefix (K.written out.old) (K.written out.new) bytes) }
     ensures failed { IsErrOf result ViewFault.Sink → Rose (K.faults out.old) (K.faults out.new) }
     ensures memory { IsErrOf result ViewFault.Memory → K.written out.new ≡ K.written out.old }

@@ -2,7 +2,8 @@
 ghost use Rattle.std.specs.Prelude.{◌≡◌, ◌≤◌, [], ◌∷◌, true, false, MatchOption, None, Some, length, map};
 ghost use Rattle.std.specs.String.{string_bytes};
 ghost use Rattle.docview_run.specs.Requests.{begins_with_hyphen, behind_option, in_form, is_headers, is_hidden};
-ghost use Rattle.docview_run.specs.Requests.{is_strict, named, plain_view, request_of, requested, viewed, viewed_by};
+ghost use Rattle.docview_run.specs.Requests.{is_strict, page_request, plain_view, request_of, requested, viewed};
+ghost use Rattle.docview_run.specs.Requests.{viewed_by};
 ghost use Rattle.docview_run.specs.Requests.{asks_for_properties, properties_by, properties_named, requested_many};
 ghost use Rattle.docview_run.specs.Requests.{forced, illustrated, pictured_in, with_headers, with_hidden};
 
@@ -366,8 +367,8 @@ fn with_form(view: View, form: Form) -> View
 /// The page of a file. A word that begins with a hyphen names none.
 fn asked_of(view: View, file: &str) -> Option<Asked<'_>>
     ensures { MatchOption result
-        (named view file.now ≡ None)
-        (λ asked. named view file.now ≡ Some (request_of asked)) }
+        (page_request view file.now ≡ None)
+        (λ asked. page_request view file.now ≡ Some (request_of asked)) }
 {
     if file == "-" {
         return Some(Asked::Page {

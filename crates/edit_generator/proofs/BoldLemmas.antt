@@ -6,7 +6,7 @@ use Rattle.std.specs.Cmp.{nat_cmp_total, unsigned_tied}
 use Rattle.std.specs.Option.{option_or}
 use Rattle.std.specs.FinMap.{get, empty, retain_keys, get-empty, get-insert}
 use Rattle.std.proofs.lemmas.Bool.{eqb-true}
-use Rattle.sprm_table.specs.Codes.{is_among}
+use Rattle.sprm_table.specs.Codes.{is_code_among}
 use Rattle.prop_map.specs.Settings.{Properties}
 use Rattle.prop_map.specs.Overlay.{overlay, without, modified_characters}
 use Rattle.prop_map.proofs.Public.{get-retained, same_properties, get-overlay, overlay-empty}
@@ -52,9 +52,9 @@ bold_kept p keeps = same_properties (kept_by p bold) bold (λ code.
 -- none makes a unit special
 pub plain : (chp : Properties) → IsBoldOrNone chp → without special_codes chp ≡ chp
 plain chp (inl none) = ap (without special_codes) none
-    ∙ (none_kept (λ code. not (is_among code special_codes)) ∙ sym none)
+    ∙ (none_kept (λ code. not (is_code_among code special_codes)) ∙ sym none)
 plain chp (inr is) = ap (without special_codes) is
-    ∙ (bold_kept (λ code. not (is_among code special_codes)) refl ∙ sym is)
+    ∙ (bold_kept (λ code. not (is_code_among code special_codes)) refl ∙ sym is)
 
 -- ---- bold put over them
 

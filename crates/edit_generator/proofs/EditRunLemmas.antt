@@ -14,19 +14,19 @@ use Rattle.prop_map.specs.Overlay.{modified_characters}
 use Rattle.prop_map.proofs.Public.{empty-overlay}
 use Rattle.fkp_pages.specs.declared.kind.PageKind.{PageKind}
 use Rattle.fkp_pages.specs.declared.kind.PageKind.TheVariants.{Chpx, Papx}
-use Rattle.doc_parts.specs.declared.bookmark_order.Bookmark.{Bookmark}
-use Rattle.doc_parts.specs.Bookmarks.{moved_bookmarks}
-use Rattle.plain_doc.specs.declared.item.Item.{Item}
-use Rattle.plain_doc.specs.declared.item.Mark.{Mark}
-use Rattle.plain_doc.specs.declared.document.Document.{Document}
-use Rattle.plain_doc.specs.Settings.{same_properties, is_alike, is_inside}
-use Rattle.plain_doc.proofs.Public.{same_properties-Decides}
+use Rattle.document_bookmarks.specs.declared.bookmark_order.Bookmark.{Bookmark}
+use Rattle.document_bookmarks.specs.Bookmarks.{moved_bookmarks}
+use Rattle.doc_model.specs.declared.item.Item.{Item}
+use Rattle.doc_model.specs.declared.item.Mark.{Mark}
+use Rattle.doc_model.specs.declared.document.Document.{Document}
+use Rattle.doc_model.specs.Settings.{same_properties, is_alike, is_inside}
+use Rattle.doc_model.proofs.Public.{same_properties-Decides}
 use Rattle.full_save.specs.Text.{with_mark, note_story, head_story, text_items}
 use Rattle.full_save.specs.Runs.{joins_run}
-use Rattle.full_save.specs.WordDocument.{text_at}
+use Rattle.full_save.specs.WordDocument.{text_offset}
 use Rattle.full_save.proofs.Public.{length-runs_from}
-use Rattle.plain_doc.specs.Stretches.{stretches}
-use Rattle.edit_ops.specs.Fresh.{base_of, base_properties, plain_end, unit_item, unit_items}
+use Rattle.doc_model.specs.Stretches.{stretches}
+use Rattle.edit_ops.specs.Fresh.{base_of_item, base_properties, plain_end, unit_item, unit_items}
 use Rattle.edit_ops.specs.Fresh.{inserted_items, split_item}
 use Rattle.doc_patch.specs.Places.{mark_place}
 use Rattle.doc_patch.specs.Changes.{map_range, modified_item, modified_mark}
@@ -48,12 +48,12 @@ runs_with : (kind : PageKind) (document : Document) (main : List Item) (bookmark
     runs_of kind (with_main document main bookmarks) ≡ count (joins_run kind) (main ++ behind document)
 unfolding text_items note_story head_story
 runs_with kind document main bookmarks =
-    length-runs_from kind text_at (stretches (joins_run kind) (text_items (with_main document main bookmarks)))
+    length-runs_from kind text_offset (stretches (joins_run kind) (text_items (with_main document main bookmarks)))
 
 runs_now : (kind : PageKind) (document : Document) → runs_of kind document ≡ count (joins_run kind) (document.main ++
     behind document)
 unfolding text_items
-runs_now kind document = length-runs_from kind text_at (stretches (joins_run kind) (text_items document))
+runs_now kind document = length-runs_from kind text_offset (stretches (joins_run kind) (text_items document))
 
 -- ---- the main text where an item is in it
 
@@ -94,7 +94,7 @@ inserted_are (first ∷ main) at text there =
     (unit_items (base_properties (first ∷ main) at) text)
     (λ items. items ≡ unit_items (base_properties (first ∷ main) at) text)
     (λ e. let none = eqb-true (length (first ∷ main)) 0 e in absurd (omega (arith, none))) (λ e. refl)
-    ∙ ap (λ chp. unit_items chp text) (ap base_of there.here ∙ there.plain)
+    ∙ ap (λ chp. unit_items chp text) (ap base_of_item there.here ∙ there.plain)
 
 insertion : (kind : PageKind) (main : List Item) (at : ℕ) (text : List ℕ) (there : IsPlainAt main at) (rest : List
     Item) → count (joins_run kind) (splice main at at (inserted_items main at text) ++ rest) ≡ count (joins_run kind)
@@ -110,7 +110,7 @@ insertion kind main at text there rest =
 -- ---- splits
 
 split_chp : (main : List Item) (at : ℕ) (there : IsPlainAt main at) → (split_item main at).chp ≡ there.item.chp
-split_chp main at there = ap base_of there.here ∙ there.plain
+split_chp main at there = ap base_of_item there.here ∙ there.plain
 
 split_stands : (main : List Item) (at : ℕ) (there : IsPlainAt main at) → StandsFor is_alike (split_item main at)
     there.item

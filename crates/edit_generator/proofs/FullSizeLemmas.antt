@@ -10,13 +10,13 @@ use Rattle.fkp_pages.specs.PageBytes.{last_fc}
 use Rattle.fkp_pages.specs.InARow.{numbered_bins}
 use Rattle.fkp_pages.proofs.Public.{length-printed_bin, length-numbered_bins}
 use Rattle.cfb_streams.specs.Contents.{NamedBytes}
-use Rattle.cfb_layout.specs.Sectors.{padded}
+use Rattle.cfb_layout.specs.Sectors.{padded_to_unit}
 use Rattle.cfb_layout.specs.Counts.{large_len, small_len, mini_counts, large_counts, sector_counts, sectors_needed}
 use Rattle.cfb_layout.specs.Layout.{lengths_of}
 use Rattle.cfb_layout.proofs.Public.{length-padded}
-use Rattle.plain_doc.specs.declared.document.Document.{Document}
-use Rattle.plain_doc.specs.Collected.{sections_of}
-use Rattle.plain_doc.specs.Formed.{IsFormed}
+use Rattle.doc_model.specs.declared.document.Document.{Document}
+use Rattle.doc_model.specs.Collected.{sections_of}
+use Rattle.doc_model.specs.Formed.{IsFormed}
 use Rattle.plain_doc.specs.RightDocument.{IsValidDocument}
 use Rattle.plain_doc.proofs.Public.{sound_is_valid}
 use Rattle.full_save.specs.Text.{text_items}
@@ -70,7 +70,7 @@ module _ (document : Document) (formed : IsFormed document) (right : IsValidDocu
       let sepx = sepxes (sections_of document.main) in
       let units = length-text document in
       let whole = length-padded 512 0 text (omega arith) in
-      let a = length-append (padded 512 0 text) (chp ++ (pap ++ sepx)) in
+      let a = length-append (padded_to_unit 512 0 text) (chp ++ (pap ++ sepx)) in
       let b = length-append chp (pap ++ sepx) in
       let c = length-append pap sepx in
       let chp_size = length-pages Chpx document formed right in

@@ -14,23 +14,23 @@ use Rattle.doc_bits.specs.declared.places.Story.TheVariants.{Main}
 use Rattle.doc_bits.proofs.Public.{All_at, there_is}
 use Rattle.fkp_pages.specs.declared.kind.PageKind.{PageKind}
 use Rattle.fkp_pages.specs.declared.kind.PageKind.TheVariants.{Chpx, Papx}
-use Rattle.doc_parts.specs.declared.bookmark_order.Bookmark.{Bookmark}
-use Rattle.doc_parts.specs.Order.{in_order}
-use Rattle.doc_parts.specs.Bookmarks.{moved_bookmarks}
-use Rattle.plain_doc.specs.declared.item.Item.{Item}
-use Rattle.plain_doc.specs.declared.document.Document.{Document}
-use Rattle.plain_doc.specs.Blank.{blank_item, blank_document}
-use Rattle.plain_doc.specs.Formed.{IsFormed}
-use Rattle.plain_doc.specs.Marks.{main_spliced}
+use Rattle.document_bookmarks.specs.declared.bookmark_order.Bookmark.{Bookmark}
+use Rattle.document_bookmarks.specs.Order.{in_order}
+use Rattle.document_bookmarks.specs.Bookmarks.{moved_bookmarks}
+use Rattle.doc_model.specs.declared.item.Item.{Item}
+use Rattle.doc_model.specs.declared.document.Document.{Document}
+use Rattle.doc_model.specs.Blank.{blank_item, blank_document}
+use Rattle.doc_model.specs.Formed.{IsFormed}
+use Rattle.doc_model.specs.Marks.{main_spliced}
 use Rattle.plain_doc.specs.Sound.{IsSound}
-use Rattle.plain_doc.specs.Stretches.{stretches}
-use Rattle.plain_doc.proofs.Public.{bold as bold_formed, All-one, length-splice}
+use Rattle.doc_model.specs.Stretches.{stretches}
+use Rattle.doc_model.proofs.Public.{bold as bold_formed, All-one, length-splice}
 use Rattle.full_save.specs.Text.{note_story, head_story, text_items}
 use Rattle.full_save.specs.Runs.{joins_run}
-use Rattle.full_save.specs.WordDocument.{text_at, full_text, table_stream}
+use Rattle.full_save.specs.WordDocument.{text_offset, full_text, table_stream}
 use Rattle.full_save.proofs.Public.{length-runs_from}
 use Rattle.edit_script.specs.declared.commands.Command.TheVariants.{Insert, Char, Style, Split}
-use Rattle.edit_ops.specs.Fresh.{base_of, base_properties, unit_item, unit_items, inserted_items, split_item}
+use Rattle.edit_ops.specs.Fresh.{base_of_item, base_properties, unit_item, unit_items, inserted_items, split_item}
 use Rattle.doc_patch.specs.Places.{mark_place}
 use Rattle.doc_patch.specs.Changes.{map_range, modified_item}
 use Rattle.edit_ops.specs.Edits.{property_characters, naming_style, document_after}
@@ -136,7 +136,7 @@ module _ (edits at : ℕ) (document : Document) (within : at < length document.m
     splitting third =
         let main = document.main in
         let there = plain_there main at within is.text in
-        let base : base_properties main at ≡ there.item.chp = ap base_of there.here ∙ there.plain in
+        let base : base_properties main at ≡ there.item.chp = ap base_of_item there.here ∙ there.plain in
         let properties = subst IsBoldOrNone (sym base) (properties_there main at there is.text) in
         let item = split_generated main at (base_properties main at) is.text.each properties in
         let fresh : List Item = split_item main at ∷ [] in
@@ -307,7 +307,7 @@ edit_accepted rest edits number document which few is = record {
 blank_runs : (kind : PageKind) → runs_of kind blank_document ≡ 1
 unfolding text_items note_story head_story
 blank_runs kind =
-    length-runs_from kind text_at (stretches (joins_run kind) (text_items blank_document))
+    length-runs_from kind text_offset (stretches (joins_run kind) (text_items blank_document))
     ∙ count_one (joins_run kind) blank_item
 
 blank_item_generated : IsGeneratedItem blank_item

@@ -22,24 +22,24 @@ use Rattle.prop_map.specs.Settings.{Properties}
 use Rattle.prop_map.specs.Printing.{printed_list}
 use Rattle.prop_map.specs.Formed.{IsPropertyMap, character_groups, paragraph_groups, section_groups}
 use Rattle.prop_map.proofs.Public.{IsPropertyMap-empty}
-use Rattle.style_sheet.specs.Chain.{kind_at}
-use Rattle.doc_parts.specs.Names.{AreApart}
-use Rattle.doc_parts.proofs.Public.{apart_nowhere}
-use Rattle.plain_doc.specs.declared.item.Item.{Item}
-use Rattle.plain_doc.specs.declared.document.Document.{Document}
-use Rattle.plain_doc.specs.Blank.{blank_sheet, blank_document}
-use Rattle.plain_doc.specs.Document.{IsFormedItem}
-use Rattle.plain_doc.specs.Formed.{IsFormed}
-use Rattle.plain_doc.specs.Nesting.{AreFields, field_characters, most_open}
+use Rattle.style_sheet.specs.Chain.{style_kind_at}
+use Rattle.document_bookmarks.specs.Names.{AreApart}
+use Rattle.document_bookmarks.proofs.Public.{apart_nowhere}
+use Rattle.doc_model.specs.declared.item.Item.{Item}
+use Rattle.doc_model.specs.declared.document.Document.{Document}
+use Rattle.doc_model.specs.Blank.{blank_sheet, blank_document}
+use Rattle.doc_model.specs.Document.{IsFormedItem}
+use Rattle.doc_model.specs.Formed.{IsFormed}
+use Rattle.plain_doc.specs.Nesting.{AreNestedFields, field_characters, most_open}
 use Rattle.plain_doc.specs.Rows.{is_row_mark, is_cell_mark, open_cells, cells_after, FitsRow}
 use Rattle.plain_doc.specs.RulesOfItems.{HasMarkRight, IsPlacedRight, HasShortProperties, IsShortChp}
-use Rattle.plain_doc.specs.RulesOfTexts.{text_of, last_unit, HasParagraphStyle}
+use Rattle.plain_doc.specs.RulesOfTexts.{text_of_place, last_unit, HasParagraphStyle}
 use Rattle.plain_doc.specs.RulesOfSheet.{note_count, section_count}
 use Rattle.plain_doc.specs.RightDocument.{IsValidText, IsValidDocument}
 use Rattle.plain_doc.specs.Sound.{IsSound}
-use Rattle.plain_doc.proofs.Public.{bold as bold_formed, blank_document_is_formed, right_is_sound, open_cells-nil}
-use Rattle.plain_doc.proofs.Public.{open_cells_more, blank_bases, blank_short, blank_writable, none_printed}
-use Rattle.plain_doc.proofs.Public.{one_printed}
+use Rattle.plain_doc.proofs.Public.{right_is_sound, open_cells-nil, open_cells_more, blank_bases, blank_short}
+use Rattle.plain_doc.proofs.Public.{blank_writable, none_printed, one_printed}
+use Rattle.doc_model.proofs.Public.{bold as bold_formed, blank_document_is_formed}
 use Rattle.edit_generator.specs.GeneratedDocuments.{IsBoldOrNone, IsLetter, IsPlainMark, IsGeneratedItem}
 use Rattle.edit_generator.specs.GeneratedDocuments.{IsGeneratedText}
 use Rattle.edit_generator.proofs.GeneratedTextLemmas.{marked}
@@ -97,7 +97,7 @@ item_short item is = record {
   sect = λ sect here. let len = empty_short sect (sect_empty item is sect here) in omega (arith, len);
 }
 
-style_kind : (istd : ℕ) → istd ≤ 1 → kind_at blank_sheet istd ≡ 1
+style_kind : (istd : ℕ) → istd ≤ 1 → style_kind_at blank_sheet istd ≡ 1
 style_kind zero small = refl
 style_kind (suc zero) small = refl
 style_kind (suc (suc istd)) small = absurd (omega (arith, small))
@@ -243,8 +243,8 @@ no_fields (item ∷ items) each =
     (filter (λ (item : Item). is_some item.fld) items))) first
     ∙ no_fields items (All-tail IsGeneratedItem item items each)
 
-nothing_nests : AreFields most_open []
-unfolding AreFields
+nothing_nests : AreNestedFields most_open []
+unfolding AreNestedFields
 nothing_nests = record { fields = []; each = All-nil _; joined = refl }
 
 -- the main text
@@ -252,7 +252,7 @@ main_right : (main : List Item) → IsGeneratedText main → IsValidText blank_s
 main_right main text = record {
   ends = inl (ends main text);
   placed = placed main text;
-  fields = subst (AreFields most_open) (sym (no_fields main text.each)) nothing_nests;
+  fields = subst (AreNestedFields most_open) (sym (no_fields main text.each)) nothing_nests;
   rows = fits main text;
   row_ends = ap open_cells (sym (take-length main)) ∙ cells_at main text (length main) (omega arith);
   styles = λ i item here. item_style item (there main text i item here);
@@ -283,7 +283,7 @@ head_empty number text here =
     (All-replicate (λ (text : List Item). text ≡ []) 12 [] refl) here
 
 texts_right : (main : List Item) → IsGeneratedText main → (part : Where) (text : List Item) →
-    text_of (generated_with main) part ≡ Some text → IsValidText blank_sheet part text
+    text_of_place (generated_with main) part ≡ Some text → IsValidText blank_sheet part text
 texts_right main is File text here = absurd (none-some text here)
 texts_right main is Wd text here = absurd (none-some text here)
 texts_right main is Table text here = absurd (none-some text here)

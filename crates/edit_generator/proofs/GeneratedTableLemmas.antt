@@ -9,9 +9,9 @@ use Rattle.std.proofs.lemmas.List.Elements.{All-head, All-tail}
 use Rattle.doc_bits.specs.Number.{number_bytes}
 use Rattle.prop_map.specs.Settings.{Properties}
 use Rattle.prop_map.proofs.Public.{entries-empty}
-use Rattle.fib_form.specs.FibFields.{pair_at}
+use Rattle.fib_form.specs.FibFields.{listed_pair}
 use Rattle.fib_form.specs.TableEntries.{TableEntry, entry}
-use Rattle.fib_form.specs.TableParts.{pair_of}
+use Rattle.fib_form.specs.TableParts.{pair_number}
 use Rattle.fib_form.specs.declared.table_parts.TablePart.TheVariants.{Stshf, PlcffndRef, PlcffndTxt, PlcfSed, PlcfHdd}
 use Rattle.fib_form.specs.declared.table_parts.TablePart.TheVariants.{PlcfBteChpx, PlcfBtePapx, SttbfFfn, PlcfFldMom}
 use Rattle.fib_form.specs.declared.table_parts.TablePart.TheVariants.{PlcfFldHdr, PlcfFldFtn, SttbfBkmk}
@@ -23,11 +23,13 @@ use Rattle.doc_parts.specs.declared.lists.NoteRef.{NoteRef}
 use Rattle.doc_parts.specs.Sections.{printed_sections}
 use Rattle.doc_parts.specs.Fields.{printed_fields}
 use Rattle.doc_parts.specs.Stories.{printed_refs, printed_texts}
-use Rattle.plain_doc.specs.declared.item.Item.{Item}
-use Rattle.plain_doc.specs.declared.item.NoteKind.{NoteKind}
-use Rattle.plain_doc.specs.Blank.{blank_sheet}
-use Rattle.plain_doc.specs.Collected.{entry_before, collected, sections_of, field_of, fields_of, is_auto, refs_of}
-use Rattle.plain_doc.proofs.Public.{collected_count, length-blank_sheet}
+use Rattle.doc_model.specs.declared.item.Item.{Item}
+use Rattle.doc_model.specs.declared.item.NoteKind.{NoteKind}
+use Rattle.doc_model.specs.Blank.{blank_sheet}
+use Rattle.doc_model.specs.Collected.{entry_before, collected, sections_of, field_character, fields_of, is_auto}
+use Rattle.doc_model.specs.Collected.{refs_of}
+use Rattle.plain_doc.proofs.Public.{length-blank_sheet}
+use Rattle.doc_model.proofs.Public.{collected_count}
 use Rattle.full_save.specs.declared.table_text.TableText.{TableText}
 use Rattle.full_save.specs.Text.{note_story, head_story, text_items}
 use Rattle.full_save.specs.Sections.{sepx_bytes, sepxes}
@@ -55,13 +57,13 @@ no_refs main each =
     ap (map (λ (e : ℕ × NoteKind). record { cp = e.0; auto = is_auto e.1 }))
     (collected_none (λ item. item.note) 0 main (λ k d within. (each k d within).note))
 
-no_field : (item : Item) → IsGeneratedItem item → field_of item ≡ None
+no_field : (item : Item) → IsGeneratedItem item → field_character item ≡ None
 no_field item is = ap (option_map (λ (byte : ℕ). (item.unit, byte))) is.fld
 
 no_fields : (main : List Item) → All IsGeneratedItem main → fields_of main ≡ []
 no_fields main each =
     ap (map (λ (e : ℕ × (ℕ × ℕ)). record { cp = e.0; unit = e.1.0; byte = e.1.1 }))
-    (collected_none field_of 0 main (λ k d within. no_field _ (each k d within)))
+    (collected_none field_character 0 main (λ k d within. no_field _ (each k d within)))
 
 -- ---- the sections have no properties
 
@@ -101,29 +103,29 @@ parts_behind refs fields starts ends text =
     let main_count = slice_index text.counts 0 in
     let note_count = slice_index text.counts 1 in
     let head_count = slice_index text.counts 2 in
-    entry (pair_of PlcffndRef) (printed_refs refs main_count)
-    ∷ entry (pair_of PlcffndTxt) (printed_texts [] note_count)
-    ∷ entry (pair_of PlcfSed) (printed_sections text.seds main_count)
-    ∷ entry (pair_of PlcfHdd) (printed_texts [] head_count)
-    ∷ entry (pair_of PlcfBteChpx) text.characters
-    ∷ entry (pair_of PlcfBtePapx) text.paragraphs
-    ∷ entry (pair_of SttbfFfn) []
-    ∷ entry (pair_of PlcfFldMom) (printed_fields fields main_count)
-    ∷ entry (pair_of PlcfFldHdr) (printed_fields [] head_count)
-    ∷ entry (pair_of PlcfFldFtn) (printed_fields [] note_count)
-    ∷ entry (pair_of SttbfBkmk) []
-    ∷ entry (pair_of PlcfBkf) starts
-    ∷ entry (pair_of PlcfBkl) ends
-    ∷ entry (pair_of Dop) []
-    ∷ entry (pair_of SttbfAssoc) []
-    ∷ entry (pair_of Clx) text.clx
-    ∷ record { number = pair_of PlfLst; bytes = []; behind = [] }
-    ∷ entry (pair_of PlfLfo) []
+    entry (pair_number PlcffndRef) (printed_refs refs main_count)
+    ∷ entry (pair_number PlcffndTxt) (printed_texts [] note_count)
+    ∷ entry (pair_number PlcfSed) (printed_sections text.seds main_count)
+    ∷ entry (pair_number PlcfHdd) (printed_texts [] head_count)
+    ∷ entry (pair_number PlcfBteChpx) text.characters
+    ∷ entry (pair_number PlcfBtePapx) text.paragraphs
+    ∷ entry (pair_number SttbfFfn) []
+    ∷ entry (pair_number PlcfFldMom) (printed_fields fields main_count)
+    ∷ entry (pair_number PlcfFldHdr) (printed_fields [] head_count)
+    ∷ entry (pair_number PlcfFldFtn) (printed_fields [] note_count)
+    ∷ entry (pair_number SttbfBkmk) []
+    ∷ entry (pair_number PlcfBkf) starts
+    ∷ entry (pair_number PlcfBkl) ends
+    ∷ entry (pair_number Dop) []
+    ∷ entry (pair_number SttbfAssoc) []
+    ∷ entry (pair_number Clx) text.clx
+    ∷ record { number = pair_number PlfLst; bytes = []; behind = [] }
+    ∷ entry (pair_number PlfLfo) []
     ∷ []
 
 abbrev parts_of : List NoteRef → List Fld → (starts ends : List ℕ) → TableText → List TableEntry
 parts_of refs fields starts ends text =
-    entry (pair_of Stshf) (written_sheet blank_sheet) ∷ parts_behind refs fields starts ends text
+    entry (pair_number Stshf) (written_sheet blank_sheet) ∷ parts_behind refs fields starts ends text
 
 parts_are : (main : List Item) (text : TableText) → IsGeneratedText main →
     table_entries (generated_with main) text ≡ parts_of [] [] [] [] text
@@ -234,11 +236,11 @@ numbered text = (
 )
 
 abbrev bin_lengths : List TableEntry → ℕ
-bin_lengths parts = (pair_at (entries_pairs parts) 12).1 + (pair_at (entries_pairs parts) 13).1
+bin_lengths parts = (listed_pair (entries_pairs parts) 12).1 + (listed_pair (entries_pairs parts) 13).1
 
 pub length-bins : (main : List Item) → IsGeneratedText main →
-    (pair_at (full_fib (generated_with main)).pairs 12).1 +
-    (pair_at (full_fib (generated_with main)).pairs 13).1 ≡ length (full_text (generated_with main)).characters +
+    (listed_pair (full_fib (generated_with main)).pairs 12).1 +
+    (listed_pair (full_fib (generated_with main)).pairs 13).1 ≡ length (full_text (generated_with main)).characters +
     length (full_text (generated_with main)).paragraphs
 unfolding full_fib
 length-bins main is =

@@ -26,10 +26,10 @@ use Rattle.prop_map.specs.declared.modifiers.Modifier.{Modifier}
 use Rattle.prop_map.specs.Modifiers.{mark_style}
 use Rattle.prop_map.specs.Overlay.{modified_paragraph}
 use Rattle.prop_map.proofs.Public.{empty-overlay}
-use Rattle.plain_doc.specs.declared.item.Item.{Item}
-use Rattle.plain_doc.specs.declared.item.Mark.{Mark}
-use Rattle.edit_ops.specs.Fresh.{unit_item, unit_items, is_table_code, split_mark, mark_item}
-use Rattle.doc_patch.specs.Places.{mark_place, mark_at}
+use Rattle.doc_model.specs.declared.item.Item.{Item}
+use Rattle.doc_model.specs.declared.item.Mark.{Mark}
+use Rattle.edit_ops.specs.Fresh.{unit_item, unit_items, is_row_code, split_mark, mark_item}
+use Rattle.doc_patch.specs.Places.{mark_place, paragraph_mark_at}
 use Rattle.doc_patch.specs.Changes.{map_range, modified_item, modified_mark}
 use Rattle.edit_ops.specs.Edits.{property_characters, naming_style}
 use Rattle.edit_generator.specs.Generated.{line_text}
@@ -100,11 +100,11 @@ split_small (Some mark) small =
     let is = small mark refl in
     record {
       style = is.style;
-      pap = ap (kept_by (λ code. not (is_table_code code))) is.pap
-          ∙ none_kept (λ code. not (is_table_code code));
+      pap = ap (kept_by (λ code. not (is_row_code code))) is.pap
+          ∙ none_kept (λ code. not (is_row_code code));
     }
 
-mark_small : (main : List Item) (at : ℕ) → All IsGeneratedItem main → ForSome (mark_at main at) IsSmallMark
+mark_small : (main : List Item) (at : ℕ) → All IsGeneratedItem main → ForSome (paragraph_mark_at main at) IsSmallMark
 mark_small main at each mark is = elim (slice_get_cases main (mark_place main at)).1 [
   | inl w ↦
       let has : w.0.mark ≡ Some mark = sym (ap (option_and_then (λ (item : Item). item.mark)) w.2) ∙ is in
@@ -114,16 +114,16 @@ mark_small main at each mark is = elim (slice_get_cases main (mark_place main at
 
 -- the mark that splits a paragraph
 pub split_generated : (main : List Item) (at : ℕ) (chp : Properties) → All IsGeneratedItem main → IsBoldOrNone chp →
-    IsGeneratedItem (mark_item chp paragraph_mark (split_mark (mark_at main at)))
+    IsGeneratedItem (mark_item chp paragraph_mark (split_mark (paragraph_mark_at main at)))
 split_generated main at chp each properties =
-    let small = split_small (mark_at main at) (mark_small main at each) in
+    let small = split_small (paragraph_mark_at main at) (mark_small main at each) in
     record {
       chp = properties;
       fld = refl;
       note = refl;
       kind = inr (record {
         unit = refl;
-        mark = split_mark (mark_at main at);
+        mark = split_mark (paragraph_mark_at main at);
         has = refl;
         style = small.style;
         pap = small.pap;

@@ -2,7 +2,7 @@
 use Rattle.std.proofs.Common.{◌≡◌, ◌∙◌, refl, sym, ap, ℕ, ◌+◌, ◌≤◌, Bool, true, false, cond, List, [], ◌∷◌}
 use Rattle.std.proofs.Common.{◌++◌, length, map, arith}
 use Rattle.std.specs.Prelude.{if◌then◌else◌}
-use Rattle.plain_doc.specs.Stretches.{stretch_from, stretches}
+use Rattle.doc_model.specs.Stretches.{stretch_from, stretches}
 
 abbrev pub count : {A : Type 0} → (A → A → Bool) → List A → ℕ
 count joins xs = length (stretches joins xs)

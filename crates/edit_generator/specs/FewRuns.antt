@@ -5,8 +5,8 @@ use Rattle.prop_map.specs.Settings.{Properties}
 use Rattle.prop_map.specs.Overlay.{without}
 use Rattle.fkp_pages.specs.declared.kind.PageKind.{PageKind}
 use Rattle.fkp_pages.specs.declared.kind.PageKind.TheVariants.{Chpx, Papx}
-use Rattle.plain_doc.specs.declared.item.Item.{Item}
-use Rattle.plain_doc.specs.declared.document.Document.{Document}
+use Rattle.doc_model.specs.declared.item.Item.{Item}
+use Rattle.doc_model.specs.declared.document.Document.{Document}
 use Rattle.full_save.specs.WordDocument.{document_runs}
 use Rattle.edit_script.specs.declared.commands.Command.TheVariants.{Insert, Char, Style, Split}
 use Rattle.edit_ops.specs.Fresh.{special_codes}

@@ -4,7 +4,7 @@ use Rattle.std.specs.Prelude.{ℕ, zero, suc, ◌+◌, ◌-◌, ◌*◌, ◌/◌
 use Rattle.std.specs.Prelude.{Bool, List, ◌++◌, codes}
 use Rattle.std.specs.Fmt.{decimal}
 use Rattle.doc_bits.specs.declared.places.Story.TheVariants.{Main}
-use Rattle.plain_doc.specs.Blank.{one_property}
+use Rattle.doc_model.specs.Blank.{one_property}
 use Rattle.edit_script.specs.declared.commands.Command.{Command}
 use Rattle.edit_script.specs.declared.commands.Command.TheVariants.{Insert, Char, Style, Split, Save}
 

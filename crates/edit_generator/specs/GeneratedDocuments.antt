@@ -8,10 +8,10 @@ use Rattle.std.specs.FinMap.{empty}
 use Rattle.text_codes.specs.Paragraph.{paragraph_mark}
 use Rattle.prop_map.specs.Settings.{Properties}
 use Rattle.fkp_pages.specs.declared.kind.PageKind.TheVariants.{Chpx, Papx}
-use Rattle.plain_doc.specs.declared.item.Item.{Item}
-use Rattle.plain_doc.specs.declared.item.Mark.{Mark}
-use Rattle.plain_doc.specs.declared.document.Document.{Document}
-use Rattle.plain_doc.specs.Blank.{one_property, blank_document}
+use Rattle.doc_model.specs.declared.item.Item.{Item}
+use Rattle.doc_model.specs.declared.item.Mark.{Mark}
+use Rattle.doc_model.specs.declared.document.Document.{Document}
+use Rattle.doc_model.specs.Blank.{one_property, blank_document}
 use Rattle.edit_generator.specs.FewRuns.{runs_of}
 
 -- [MS-DOC] sprmCFBold

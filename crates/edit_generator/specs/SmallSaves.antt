@@ -1,14 +1,14 @@
 -- How large full saves are of documents that are as small as those of the generator.
 use Rattle.std.specs.Prelude.{◌≡◌, ℕ, ◌+◌, ◌≤◌, [], length}
 use Rattle.fkp_pages.specs.declared.kind.PageKind.TheVariants.{Chpx, Papx}
-use Rattle.plain_doc.specs.declared.document.Document.{Document}
-use Rattle.plain_doc.specs.Collected.{sections_of}
-use Rattle.plain_doc.specs.Formed.{IsFormed}
+use Rattle.doc_model.specs.declared.document.Document.{Document}
+use Rattle.doc_model.specs.Collected.{sections_of}
+use Rattle.doc_model.specs.Formed.{IsFormed}
 use Rattle.plain_doc.specs.Sound.{IsSound}
 use Rattle.full_save.specs.Text.{text_items}
 use Rattle.full_save.specs.Sections.{sepxes}
 use Rattle.full_save.specs.WordDocument.{full_text, table_stream}
-use Rattle.full_save.specs.Layout.{sectors_of}
+use Rattle.full_save.specs.Layout.{full_save_sectors}
 use Rattle.edit_generator.specs.FewRuns.{runs_of}
 
 -- Profile: the most sectors and bytes of bin tables of a full save of what is generated, and the most bytes of Table
@@ -34,7 +34,7 @@ pub record IsSmallDocument (document : Document) : Type 0 where
 
 -- its full save is small
 pub record HasSmallSave (document : Document) : Type 0 where
-  pub sectors : sectors_of document ≤ most_full_sectors
+  pub sectors : full_save_sectors document ≤ most_full_sectors
   pub bins : length (full_text document).characters + length (full_text document).paragraphs ≤ most_bin_bytes
   pub table : length (table_stream document) ≤ most_table_bytes
 

@@ -2,7 +2,7 @@
 ghost use Rattle.std.specs.Prelude.{◌≡◌, ◌+◌, ◌<◌, min, IfOk};
 ghost use Rattle.doc_bits.specs.declared.places.Story.TheVariants.{Main};
 ghost use Rattle.edit_script.specs.declared.commands.Command.TheVariants.{Insert, Char};
-ghost use Rattle.plain_doc.specs.Blank.{one_property};
+ghost use Rattle.doc_model.specs.Blank.{one_property};
 ghost use Rattle.edit_generator.specs.Generated.{next_number as next_of, edit_number as number_of};
 ghost use Rattle.edit_generator.specs.Generated.{line_text as line_of};
 ghost use Rattle.edit_generator.specs.Generated.{generated_edit as edit_made, generated_count as count_of};

@@ -15,19 +15,19 @@ use Rattle.prop_map.specs.Settings.{Properties}
 use Rattle.prop_map.specs.declared.modifiers.Modifier.{Modifier}
 use Rattle.prop_map.specs.Formed.{IsPropertyMap, character_groups, paragraph_groups, section_groups}
 use Rattle.prop_map.specs.Modifiers.{IsFormedModifier}
-use Rattle.plain_doc.specs.declared.item.Item.{Item}
-use Rattle.plain_doc.specs.declared.document.Document.{Document}
+use Rattle.doc_model.specs.declared.item.Item.{Item}
+use Rattle.doc_model.specs.declared.document.Document.{Document}
 use Rattle.plain_doc.specs.Sound.{IsSound}
 use Rattle.plain_doc.specs.RightDocument.{IsValidText, IsValidDocument}
 use Rattle.plain_doc.proofs.Public.{sound_is_valid}
-use Rattle.doc_parts.specs.declared.bookmark_order.Bookmark.{Bookmark as BookmarkOf}
-use Rattle.doc_parts.specs.Bookmarks.{AreFormedBookmarks, IsFormedBookmark}
+use Rattle.document_bookmarks.specs.declared.bookmark_order.Bookmark.{Bookmark as BookmarkOf}
+use Rattle.document_bookmarks.specs.Bookmarks.{AreFormedBookmarks, IsFormedBookmark}
 use Rattle.edit_script.specs.declared.commands.Command.{Command}
 use Rattle.edit_script.specs.declared.commands.Command.TheVariants.{Insert, Erase, Char, Plain, Para, Style, Field}
 use Rattle.edit_script.specs.declared.commands.Command.TheVariants.{Note, Split, Merge, Sect, Row, StyleChar}
 use Rattle.edit_script.specs.declared.commands.Command.TheVariants.{StylePara, Bookmark, Unmark, Save}
 use Rattle.doc_patch.specs.declared.changes.Change.TheVariants.{ModifyItems}
-use Rattle.doc_patch.specs.Places.{text_at, items_at, mark_place, note_number, head_number}
+use Rattle.doc_patch.specs.Places.{story_text, items_at, mark_place, note_number, head_number}
 use Rattle.edit_ops.specs.Fresh.{unit_item, unit_items, inserted_items, field_items, field_mark, base_properties}
 use Rattle.edit_ops.specs.Fresh.{cell_items, cell_properties, row_items, row_properties, mark_item, mark_with}
 use Rattle.edit_ops.specs.Fresh.{plain_end}
@@ -128,7 +128,7 @@ can_put : (document : Document) (story : Story) (at : ℕ) (items : List Item) �
     document
 can_put document story at items right within few = (
   (
-    text_weaker (text_at document story) _ _ within (λ text there inside.
+    text_weaker (story_text document story) _ _ within (λ text there inside.
         let short = few_items document story text right there in
         record { ordered = omega arith; within = inside; few = omega arith }),
     can_follow document story right,
@@ -138,7 +138,7 @@ can_put document story at items right within few = (
 
 pub has_place : (document : Document) (story : Story) (at : ℕ) → HasText document story (HasPlace at) → HasText document
     story (λ text. at ≤ length text)
-has_place document story at there = text_weaker (text_at document story) _ _ there (λ text is within. omega (
+has_place document story at there = text_weaker (story_text document story) _ _ there (λ text is within. omega (
   arith,
   within,
 ))
@@ -154,11 +154,12 @@ takes (HeadText k) at text within = elim within [
 
 pub takes_text : (document : Document) (story : Story) (at : ℕ) → HasText document story (TakesText story at) →
     HasText document story (λ text. at ≤ length text)
-takes_text document story at there = text_weaker (text_at document story) _ _ there (λ text is h. takes story at text h)
+takes_text document story at there = text_weaker (story_text document story) _ _ there (λ text is h. takes story at text
+    h)
 
 pub begins : (document : Document) (story : Story) (at : ℕ) → HasText document story (BeginsParagraph at) →
     HasText document story (λ text. at ≤ length text)
-begins document story at there = text_weaker (text_at document story) _ _ there (λ text is h. let within = h.0 in
+begins document story at there = text_weaker (story_text document story) _ _ there (λ text is h. let within = h.0 in
     omega arith)
 
 can_modify : (document : Document) (story : Story) (from to : ℕ) (modifier : Modifier) → HasText document story
@@ -169,7 +170,7 @@ mark_range : (document : Document) (story : Story) (at : ℕ) → IsValidDocumen
     (HasPlace at) → HasText document story (HasRange (mark_place (items_at document story) at)
     (mark_place (items_at document story) at + 1))
 mark_range document story at right there =
-    range_of (text_at document story) (λ text is. right_text document story text right is) there
+    range_of (story_text document story) (λ text is. right_text document story text right is) there
   where
     range_of : (o : Option (List Item)) → ((text : List Item) → o ≡ Some text → IsValidText document.sheet
         (part_of story) text) → MatchOption o ⊥ (HasPlace at) → MatchOption o ⊥ (HasRange (mark_place (unwrap_or o [])
@@ -182,7 +183,7 @@ mark_range document story at right there =
 pub unit_range : (document : Document) (story : Story) (at : ℕ) → HasText document story (EndsWithMark at) →
     HasText document story (HasRange (mark_place (items_at document story) at) (mark_place (items_at document story)
     at + 1))
-unit_range document story at there = range_of (text_at document story) there
+unit_range document story at there = range_of (story_text document story) there
   where
     range_of : (o : Option (List Item)) → MatchOption o ⊥ (EndsWithMark at) → MatchOption o ⊥
         (HasRange (mark_place (unwrap_or o []) at) (mark_place (unwrap_or o []) at + 1))

@@ -10,8 +10,8 @@ use Rattle.std.proofs.lemmas.List.Folds.{sum_by-replicate}
 use Rattle.doc_bits.specs.declared.places.Story.{Story}
 use Rattle.doc_bits.specs.declared.places.Story.TheVariants.{Main, Note as NoteText, Head as HeadText}
 use Rattle.prop_map.specs.Settings.{Properties}
-use Rattle.plain_doc.specs.declared.item.Item.{Item}
-use Rattle.plain_doc.specs.declared.document.Document.{Document}
+use Rattle.doc_model.specs.declared.item.Item.{Item}
+use Rattle.doc_model.specs.declared.document.Document.{Document}
 use Rattle.plain_doc.specs.Sound.{IsSound}
 use Rattle.plain_doc.specs.RightDocument.{IsValidDocument}
 use Rattle.plain_doc.proofs.Public.{sound_is_valid}
@@ -23,7 +23,7 @@ use Rattle.doc_patch.specs.declared.changes.Change.{Change}
 use Rattle.doc_patch.specs.declared.changes.Change.TheVariants.{SpliceText, ModifyItems, SetSection, SpliceNotes}
 use Rattle.doc_patch.specs.declared.changes.Change.TheVariants.{SpliceHeads, SetStyleCharacters, SetStyleParagraphs}
 use Rattle.doc_patch.specs.declared.changes.Change.TheVariants.{SetBookmarks}
-use Rattle.doc_patch.specs.Places.{text_at, items_at, note_number, head_number}
+use Rattle.doc_patch.specs.Places.{story_text, items_at, note_number, head_number}
 use Rattle.edit_ops.specs.Fresh.{section_item, plain_end, inserted_items, field_items, base_properties, row_items}
 use Rattle.edit_ops.specs.Fresh.{note_items, note_reference, unit_items}
 use Rattle.edit_ops.specs.Edits.{changes_of, erased, section_changes, insertion}
@@ -105,7 +105,7 @@ record IsShortRange (from to : ℕ) : Type 0 where
 
 short_range : (document : Document) (story : Story) (from to : ℕ) → IsValidDocument document → HasText document story
     (HasRange from to) → IsShortRange from to
-short_range document story from to right range = range_of (text_at document story) (λ text there. few_items document
+short_range document story from to right range = range_of (story_text document story) (λ text there. few_items document
     story text right there) range
   where
     range_of : (o : Option (List Item)) → ((text : List Item) → o ≡ Some text → length text ≤ 499998) →

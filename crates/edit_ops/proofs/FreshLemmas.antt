@@ -8,11 +8,11 @@ use Rattle.doc_bits.proofs.Public.{one_byte}
 use Rattle.prop_map.specs.Settings.{Properties}
 use Rattle.prop_map.specs.Formed.{IsPropertyMap, character_groups, paragraph_groups, section_groups}
 use Rattle.prop_map.proofs.Public.{stay_formed}
-use Rattle.plain_doc.specs.declared.item.Item.{Item}
-use Rattle.plain_doc.specs.declared.item.Mark.{Mark}
-use Rattle.plain_doc.specs.Document.{IsFormedText}
+use Rattle.doc_model.specs.declared.item.Item.{Item}
+use Rattle.doc_model.specs.declared.item.Mark.{Mark}
+use Rattle.doc_model.specs.Document.{IsFormedText}
 use Rattle.plain_doc.proofs.Public.{maps_there}
-use Rattle.doc_patch.specs.Places.{mark_place, mark_at, section_place, section_at}
+use Rattle.doc_patch.specs.Places.{mark_place, paragraph_mark_at, section_place, section_around}
 use Rattle.edit_ops.specs.Fresh.{special}
 
 -- ---- properties
@@ -73,7 +73,8 @@ definition_formed base value short bytes formed =
 
 -- ---- maps of items that are there
 
-pub mark_formed : (text : List Item) (at : ℕ) (mark : Mark) → IsFormedText text → mark_at text at ≡ Some mark →
+pub mark_formed : (text : List Item) (at : ℕ) (mark : Mark) → IsFormedText text → paragraph_mark_at text at ≡ Some mark
+    →
     IsPropertyMap paragraph_groups mark.pap
 mark_formed text at mark formed is = elim (slice_get_cases text (mark_place text at)).1 [
   | inl w ↦
@@ -82,7 +83,7 @@ mark_formed text at mark formed is = elim (slice_get_cases text (mark_place text
   | inr past ↦ absurd (none-some mark (sym (ap (option_and_then (λ item. item.mark)) past.1) ∙ is))
 ]
 
-pub section_formed : (main : List Item) (at : ℕ) (sect : Properties) → IsFormedText main → section_at main at ≡ Some
+pub section_formed : (main : List Item) (at : ℕ) (sect : Properties) → IsFormedText main → section_around main at ≡ Some
     sect → IsPropertyMap section_groups sect
 section_formed main at sect formed is = elim (slice_get_cases main (section_place main at)).1 [
   | inl w ↦

@@ -9,15 +9,16 @@ use Rattle.std.proofs.lemmas.Option.{same_Some, none-some, slice_get-map, slice_
 use Rattle.prop_map.specs.Settings.{Properties}
 use Rattle.prop_map.specs.Overlay.{without}
 use Rattle.prop_map.specs.Formed.{IsPropertyMap, character_groups}
-use Rattle.plain_doc.specs.declared.item.Item.{Item}
-use Rattle.plain_doc.specs.Document.{IsFormedText}
+use Rattle.doc_model.specs.declared.item.Item.{Item}
+use Rattle.doc_model.specs.Document.{IsFormedText}
 use Rattle.plain_doc.proofs.Public.{maps_there}
 use Rattle.doc_columns.specs.Columns.{bare_items}
-use Rattle.edit_ops.specs.Fresh.{special_codes, base_of, base_properties, special, unit_item, unit_items, plain_end}
+use Rattle.edit_ops.specs.Fresh.{special_codes, base_of_item, base_properties, special, unit_item, unit_items}
+use Rattle.edit_ops.specs.Fresh.{plain_end}
 use Rattle.edit_ops.specs.Fresh.{field_mark, field_items, note_items}
 
 base_chp : (o : Option Item) →
-    base_of o ≡ unwrap_or (option_map (without special_codes) (option_map (λ (item : Item). item.chp) o)) empty
+    base_of_item o ≡ unwrap_or (option_map (without special_codes) (option_map (λ (item : Item). item.chp) o)) empty
 base_chp None = refl
 base_chp (Some item) = refl
 

@@ -1,6 +1,6 @@
 -- What a checked copy says of the edit.
 use Rattle.std.proofs.Common.{◌≡◌, ◌∙◌, ap, subst, Result, Ok, Err, IsOk, MatchResult}
-use Rattle.plain_doc.specs.declared.document.Document.{Document}
+use Rattle.doc_model.specs.declared.document.Document.{Document}
 use Rattle.plain_doc.specs.Sound.{IsSound, document_rules}
 use Rattle.doc_bits.specs.Places.{IsFirstPlace}
 use Rattle.edit_script.specs.declared.commands.Command.{Command}

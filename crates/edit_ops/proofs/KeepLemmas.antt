@@ -7,22 +7,22 @@ use Rattle.std.specs.List.{splice}
 use Rattle.std.proofs.lemmas.List.{length-map, length-set}
 use Rattle.doc_bits.specs.declared.places.Story.{Story}
 use Rattle.doc_bits.specs.declared.places.Story.TheVariants.{Main, Note as NoteText, Head as HeadText}
-use Rattle.doc_parts.specs.Bookmarks.{AreFormedBookmarks, IsFormedBookmark, moved_bookmarks}
-use Rattle.doc_parts.specs.Names.{is_named}
-use Rattle.doc_parts.proofs.Public.{moves_form, put_form, filter_form}
+use Rattle.document_bookmarks.specs.Bookmarks.{AreFormedBookmarks, IsFormedBookmark, moved_bookmarks}
+use Rattle.document_bookmarks.specs.Names.{is_named}
+use Rattle.document_bookmarks.proofs.Public.{moves_form, put_form, filter_form}
 use Rattle.prop_map.specs.Settings.{Properties}
 use Rattle.prop_map.specs.declared.modifiers.Modifier.{Modifier}
-use Rattle.plain_doc.specs.declared.item.Item.{Item}
-use Rattle.plain_doc.specs.declared.document.Document.{Document}
-use Rattle.plain_doc.specs.Marks.{HasFormedBookmarks, main_spliced}
-use Rattle.plain_doc.proofs.Public.{length-splice}
+use Rattle.doc_model.specs.declared.item.Item.{Item}
+use Rattle.doc_model.specs.declared.document.Document.{Document}
+use Rattle.doc_model.specs.Marks.{HasFormedBookmarks, main_spliced}
+use Rattle.doc_model.proofs.Public.{length-splice}
 use Rattle.edit_script.specs.declared.commands.Command.{Command}
 use Rattle.edit_script.specs.declared.commands.Command.TheVariants.{Insert, Erase, Char, Plain, Para, Style, Field}
 use Rattle.edit_script.specs.declared.commands.Command.TheVariants.{Note, Split, Merge, Sect, Row, StyleChar}
 use Rattle.edit_script.specs.declared.commands.Command.TheVariants.{StylePara, Bookmark, Unmark, Save}
-use Rattle.doc_patch.specs.Changes.{map_range, put_changed, modified_item, with_text, text_spliced}
+use Rattle.doc_patch.specs.Changes.{map_range, put_changed, modified_item, text_changed, text_spliced}
 use Rattle.doc_patch.specs.Changes.{with_section}
-use Rattle.doc_patch.specs.Places.{text_at, items_at, mark_place}
+use Rattle.doc_patch.specs.Places.{story_text, items_at, mark_place}
 use Rattle.edit_ops.specs.Bookmarks.{new_bookmark}
 use Rattle.edit_ops.specs.Fresh.{base_properties, note_reference, section_item}
 use Rattle.edit_ops.specs.Codes.{IsPutName, HasValidCodes}
@@ -82,7 +82,7 @@ put_keeps document (HeadText k) at fresh within formed = formed
 
 -- items of a range modified
 modify_keeps : (document : Document) (story : Story) (from to : ℕ) (modifier : Modifier) → from ≤ to →
-    KeepsForm document (with_text (λ text. map_range (modified_item modifier) text from to) story document)
+    KeepsForm document (text_changed (λ text. map_range (modified_item modifier) text from to) story document)
 modify_keeps document Main from to modifier ordered formed =
     same_length document (map_range (modified_item modifier) document.main from to)
     (length-map_range (modified_item modifier) document.main from to ordered) formed
@@ -133,9 +133,9 @@ keeps_bookmarks document command formed tried = by_kind command tried.range trie
     by_kind (Erase story from to) range codes = erase_keeps document story from to range formed
     by_kind (Char story from to set) range codes =
         modify_keeps document story from to (property_characters set)
-        (range_ordered (text_at document story) from to range) formed
+        (range_ordered (story_text document story) from to range) formed
     by_kind (Plain story from to) range codes =
-        modify_keeps document story from to clearing (range_ordered (text_at document story) from to range) formed
+        modify_keeps document story from to clearing (range_ordered (story_text document story) from to range) formed
     by_kind (Para story at set) range codes = mark_keeps document story at (property_paragraphs set) formed
     by_kind (Style story at istd) range codes = mark_keeps document story at (naming_style istd) formed
     by_kind (Field story at type code shown) range codes =

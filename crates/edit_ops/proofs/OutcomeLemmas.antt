@@ -3,7 +3,7 @@ use Rattle.std.proofs.Common.{◌≡◌, refl, sym, ap, subst, ℕ}
 use Rattle.doc_bits.specs.declared.places.Where.{Where}
 use Rattle.doc_bits.specs.Places.{Place, Upto}
 use Rattle.doc_bits.proofs.Public.{place_one, first_agrees, hold_or_first}
-use Rattle.plain_doc.specs.declared.document.Document.{Document}
+use Rattle.doc_model.specs.declared.document.Document.{Document}
 use Rattle.plain_doc.specs.Sound.{document_rules}
 use Rattle.plain_doc.proofs.Public.{document_rules-IsSingle}
 use Rattle.edit_script.specs.declared.commands.Command.{Command}
@@ -11,7 +11,7 @@ use Rattle.edit_ops.specs.declared.faults.EditFault.{EditFault}
 use Rattle.edit_ops.specs.declared.faults.EditFault.TheVariants.{Range, Code, Rule, Limit, Memory}
 use Rattle.edit_ops.specs.Edits.{document_after}
 use Rattle.edit_ops.specs.Causes.{IsEditFault, IsAcceptedEdit, BreaksFirst, IsLimit}
-use Rattle.edit_ops.specs.Laws.{IsCause, EditHasOneOutcome}
+use Rattle.edit_ops.specs.Laws.{IsEditCause, EditHasOneOutcome}
 
 -- ---- faults
 
@@ -49,7 +49,8 @@ limit_one rule other place there at then same =
 limit_of : (rule other : ℕ) → rule ≡ other → IsLimit rule → IsLimit other
 limit_of rule other e limit = subst (λ r. IsLimit r) e limit
 
-pub one_fault : (document : Document) (command : Command) (one other : EditFault) → IsCause one → IsCause other →
+pub one_fault : (document : Document) (command : Command) (one other : EditFault) → IsEditCause one → IsEditCause other
+    →
     IsEditFault document command one → IsEditFault document command other → one ≡ other
 one_fault d c Memory other cause others a b = absurd cause
 one_fault d c Range Memory cause others a b = absurd others
@@ -75,7 +76,8 @@ one_fault d c (Limit r p o) (Rule s q n) cause others a b = absurd (b.1 (limit_o
     b.0).rules a.1))
 one_fault d c (Limit r p o) (Limit s q n) cause others a b = limit_one r s p q o n (breaks_one d c r s p q o n a.0 b.0)
 
-pub no_fault : (document : Document) (command : Command) (fault : EditFault) → IsCause fault → IsAcceptedEdit document
+pub no_fault : (document : Document) (command : Command) (fault : EditFault) → IsEditCause fault → IsAcceptedEdit
+    document
     command → ¬ (IsEditFault document command fault)
 no_fault d c Memory cause accepted b = cause
 no_fault d c Range cause accepted b = b accepted.tried.range

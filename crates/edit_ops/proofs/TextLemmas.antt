@@ -14,12 +14,12 @@ use Rattle.doc_bits.specs.declared.places.Story.{Story}
 use Rattle.doc_bits.specs.declared.places.Story.TheVariants.{Main, Note, Head}
 use Rattle.text_codes.specs.Paragraph.{paragraph_mark}
 use Rattle.style_sheet.specs.Sheet.{Sheet}
-use Rattle.plain_doc.specs.declared.item.Item.{Item}
-use Rattle.plain_doc.specs.declared.document.Document.{Document}
+use Rattle.doc_model.specs.declared.item.Item.{Item}
+use Rattle.doc_model.specs.declared.document.Document.{Document}
 use Rattle.plain_doc.specs.RulesOfTexts.{last_unit, EndsRight}
 use Rattle.plain_doc.specs.RightDocument.{IsValidText, IsValidDocument}
 use Rattle.plain_doc.proofs.Public.{main_ends, ends_main}
-use Rattle.doc_patch.specs.Places.{text_at, mark_place, mark_unit, section_place}
+use Rattle.doc_patch.specs.Places.{story_text, mark_place, mark_unit, section_place}
 use Rattle.doc_patch.proofs.Public.{nothing}
 
 -- ---- texts that are there
@@ -30,7 +30,7 @@ part_of (Note k) = part.Note k
 part_of (Head k) = part.Head k
 
 pub right_text : (document : Document) (story : Story) (text : List Item) → IsValidDocument document →
-    text_at document story ≡ Some text → IsValidText document.sheet (part_of story) text
+    story_text document story ≡ Some text → IsValidText document.sheet (part_of story) text
 right_text document Main text right there = right.texts part.Main text there
 right_text document (Note k) text right there = right.texts (part.Note k) text there
 right_text document (Head k) text right there = right.texts (part.Head k) text there
@@ -44,7 +44,8 @@ among texts k text there =
     omega arith
 
 -- a text has no more items than a document may have
-pub few_items : (document : Document) (story : Story) (text : List Item) → IsValidDocument document → text_at document
+pub few_items : (document : Document) (story : Story) (text : List Item) → IsValidDocument document → story_text
+    document
     story ≡ Some text → length text ≤ 499998
 few_items document Main text right there =
     let few : length document.main + (sum_by length document.notes + sum_by length document.heads) ≤ 499998 =

@@ -2,19 +2,19 @@
 use Rattle.std.specs.Prelude.{ℕ, ◌-◌, min, not, List, Option, length}
 use Rattle.std.specs.List.{filter, find}
 use Rattle.std.specs.Option.{unwrap_or, option_map}
-use Rattle.plain_doc.specs.declared.item.Item.{Item}
-use Rattle.doc_parts.specs.declared.bookmark_order.Bookmark.{Bookmark}
-use Rattle.doc_parts.specs.Order.{put_in as put_in_order}
-use Rattle.doc_parts.specs.Bookmarks.{bookmark_cmp}
-use Rattle.doc_parts.specs.Names.{is_named}
+use Rattle.doc_model.specs.declared.item.Item.{Item}
+use Rattle.document_bookmarks.specs.declared.bookmark_order.Bookmark.{Bookmark}
+use Rattle.document_bookmarks.specs.Order.{put_in as put_in_order}
+use Rattle.document_bookmarks.specs.Bookmarks.{bookmark_cmp}
+use Rattle.document_bookmarks.specs.Names.{is_named}
 
 -- the bookmark of this name, where it is there
 abbrev pub bookmark_named : List ℕ → List Bookmark → Option Bookmark
 bookmark_named name bookmarks = find (is_named name) bookmarks
 
 -- where it begins; 0 where there is none
-abbrev pub begin_of : List ℕ → List Bookmark → ℕ
-begin_of name bookmarks = unwrap_or (option_map (λ b. b.from) (bookmark_named name bookmarks)) 0
+abbrev pub bookmark_begin : List ℕ → List Bookmark → ℕ
+bookmark_begin name bookmarks = unwrap_or (option_map (λ b. b.from) (bookmark_named name bookmarks)) 0
 
 -- a bookmark without flags
 abbrev pub new_bookmark : List ℕ → ℕ → ℕ → Bookmark

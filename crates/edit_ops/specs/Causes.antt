@@ -2,7 +2,7 @@
 use Rattle.std.specs.Prelude.{◌≡◌, ◌⊎◌, ℕ, ⊤}
 use Rattle.doc_bits.specs.declared.places.Where.{Where}
 use Rattle.doc_bits.specs.Places.{IsFirstPlace}
-use Rattle.plain_doc.specs.declared.document.Document.{Document}
+use Rattle.doc_model.specs.declared.document.Document.{Document}
 use Rattle.plain_doc.specs.Sound.{IsSound, document_rules}
 use Rattle.edit_script.specs.declared.commands.Command.{Command}
 use Rattle.edit_ops.specs.declared.faults.EditFault.{EditFault}

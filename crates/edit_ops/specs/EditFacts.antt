@@ -2,9 +2,9 @@
 use Rattle.std.specs.Prelude.{ℕ, ◌-◌, List, Option, Some, None, length, slice_range}
 use Rattle.std.specs.List.{sum_by}
 use Rattle.edit_guards.specs.declared.facts.Facts.{Facts}
-use Rattle.plain_doc.specs.declared.item.Item.{Item}
-use Rattle.plain_doc.specs.declared.item.Mark.{Mark}
-use Rattle.plain_doc.specs.declared.document.Document.{Document}
+use Rattle.doc_model.specs.declared.item.Item.{Item}
+use Rattle.doc_model.specs.declared.item.Mark.{Mark}
+use Rattle.doc_model.specs.declared.document.Document.{Document}
 use Rattle.edit_script.specs.declared.commands.Command.{Command}
 use Rattle.edit_script.specs.declared.commands.Command.TheVariants.{Insert, Erase, Char, Plain, Para, Style, Field}
 use Rattle.edit_script.specs.declared.commands.Command.TheVariants.{Note, Split, Merge, Sect, Row, StyleChar}
@@ -13,8 +13,8 @@ use Rattle.doc_patch.specs.declared.changes.Change.{Change}
 use Rattle.doc_patch.specs.declared.changes.Change.TheVariants.{SpliceText, ModifyItems, SetSection, SpliceNotes}
 use Rattle.doc_patch.specs.declared.changes.Change.TheVariants.{SpliceHeads, SetStyleCharacters, SetStyleParagraphs}
 use Rattle.doc_patch.specs.declared.changes.Change.TheVariants.{SetBookmarks}
-use Rattle.doc_patch.specs.Places.{items_at, mark_at}
-use Rattle.edit_ops.specs.Bookmarks.{begin_of, place_before}
+use Rattle.doc_patch.specs.Places.{items_at, paragraph_mark_at}
+use Rattle.edit_ops.specs.Bookmarks.{bookmark_begin, place_before}
 use Rattle.edit_ops.specs.Edits.{changes_of}
 
 -- how many items a change adds
@@ -45,27 +45,27 @@ style_in (Some mark) = mark.istd
 
 -- the style of the paragraph that holds the place; 0 where there is none
 abbrev pub style_before : List Item → ℕ → ℕ
-style_before text at = style_in (mark_at text at)
+style_before text at = style_in (paragraph_mark_at text at)
 
 -- the number of the kind of a command; 0 for a save, which is no edit
-abbrev pub kind_of : Command → ℕ
-kind_of (Insert story at text) = 1
-kind_of (Erase story from to) = 2
-kind_of (Char story from to set) = 3
-kind_of (Plain story from to) = 4
-kind_of (Para story at set) = 5
-kind_of (Style story at istd) = 6
-kind_of (Field story at type code result) = 7
-kind_of (Note at text) = 8
-kind_of (Split story at) = 9
-kind_of (Merge story at) = 10
-kind_of (Sect at new set) = 11
-kind_of (Row story at width cells) = 12
-kind_of (StyleChar istd set) = 13
-kind_of (StylePara istd set) = 14
-kind_of (Bookmark name from to) = 15
-kind_of (Unmark name) = 16
-kind_of (Save full) = 0
+abbrev pub command_kind : Command → ℕ
+command_kind (Insert story at text) = 1
+command_kind (Erase story from to) = 2
+command_kind (Char story from to set) = 3
+command_kind (Plain story from to) = 4
+command_kind (Para story at set) = 5
+command_kind (Style story at istd) = 6
+command_kind (Field story at type code result) = 7
+command_kind (Note at text) = 8
+command_kind (Split story at) = 9
+command_kind (Merge story at) = 10
+command_kind (Sect at new set) = 11
+command_kind (Row story at width cells) = 12
+command_kind (StyleChar istd set) = 13
+command_kind (StylePara istd set) = 14
+command_kind (Bookmark name from to) = 15
+command_kind (Unmark name) = 16
+command_kind (Save full) = 0
 
 -- the style of the paragraph that the command begins in, before it; the style that it changes
 abbrev pub style_of_command : Document → Command → ℕ
@@ -85,13 +85,13 @@ style_of_command document (StyleChar istd set) = istd
 style_of_command document (StylePara istd set) = istd
 style_of_command document (Bookmark name from to) = style_before document.main (place_before document.main from)
 style_of_command document (Unmark name) =
-    style_before document.main (place_before document.main (begin_of name document.bookmarks))
+    style_before document.main (place_before document.main (bookmark_begin name document.bookmarks))
 style_of_command document (Save full) = 0
 
 -- the kind of the command, the items that its changes add and remove in all texts, and that style
 abbrev pub edit_facts : Document → Command → Facts
 edit_facts document command = record {
-  kind = kind_of command;
+  kind = command_kind command;
   units_in = sum_by items_added (changes_of document command);
   units_out = sum_by (items_removed document) (changes_of document command);
   style = style_of_command document command;

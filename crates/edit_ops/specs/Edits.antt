@@ -7,8 +7,8 @@ use Rattle.doc_bits.specs.declared.places.Story.TheVariants.{Main, Note as NoteT
 use Rattle.prop_map.specs.declared.modifiers.Modifier.{Modifier}
 use Rattle.prop_map.specs.Settings.{Properties}
 pub use Rattle.doc_patch.specs.Modifiers.{property_characters, clearing, property_paragraphs, naming_style}
-use Rattle.plain_doc.specs.declared.item.Item.{Item}
-use Rattle.plain_doc.specs.declared.document.Document.{Document}
+use Rattle.doc_model.specs.declared.item.Item.{Item}
+use Rattle.doc_model.specs.declared.document.Document.{Document}
 use Rattle.edit_script.specs.declared.commands.Command.{Command}
 use Rattle.edit_script.specs.declared.commands.Command.TheVariants.{Insert, Erase, Char, Plain, Para, Style, Field}
 use Rattle.edit_script.specs.declared.commands.Command.TheVariants.{Note, Split, Merge, Sect, Row, StyleChar}

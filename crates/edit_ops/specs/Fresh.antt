@@ -8,22 +8,22 @@ use Rattle.sprm_table.specs.Codes.{sgc}
 use Rattle.prop_map.specs.Settings.{Properties}
 use Rattle.prop_map.specs.Overlay.{without, overlay}
 use Rattle.text_codes.specs.Paragraph.{paragraph_mark, cell_mark, section_mark}
-use Rattle.plain_doc.specs.declared.item.Item.{Item}
-use Rattle.plain_doc.specs.declared.item.Mark.{Mark}
-use Rattle.plain_doc.specs.declared.item.NoteKind.TheVariants.{Auto}
-use Rattle.doc_patch.specs.Places.{mark_at, section_at}
+use Rattle.doc_model.specs.declared.item.Item.{Item}
+use Rattle.doc_model.specs.declared.item.Mark.{Mark}
+use Rattle.doc_model.specs.declared.item.NoteKind.TheVariants.{Auto}
+use Rattle.doc_patch.specs.Places.{paragraph_mark_at, section_around}
 
 -- [MS-DOC] sprmCFSpec, sprmCFData and sprmCPicLocation
 abbrev pub special_codes : List ℕ
 special_codes = 0x0855 ∷ 0x0806 ∷ 0x6A03 ∷ []
 
-abbrev pub base_of : Option Item → Properties
-base_of None = empty
-base_of (Some item) = without special_codes item.chp
+abbrev pub base_of_item : Option Item → Properties
+base_of_item None = empty
+base_of_item (Some item) = without special_codes item.chp
 
 -- Profile: base properties: those of the item at the place, without what makes a unit special
 abbrev pub base_properties : List Item → ℕ → Properties
-base_properties text at = base_of (slice_get text at)
+base_properties text at = base_of_item (slice_get text at)
 
 -- the properties, of a special unit
 abbrev pub special : Properties → Properties
@@ -74,17 +74,17 @@ abbrev pub note_items : List ℕ → List Item
 note_items units = unit_item (special empty) 0x02 ∷ unit_items empty units ++ plain_end ∷ []
 
 -- sprmPFTtp and the codes of tables, which no paragraph that is split off keeps
-abbrev pub is_table_code : ℕ → Bool
-is_table_code code = code == 0x2417 || sgc code == 5
+abbrev pub is_row_code : ℕ → Bool
+is_row_code code = code == 0x2417 || sgc code == 5
 
 -- the mark of a paragraph that is split off one with this mark
 abbrev pub split_mark : Option Mark → Mark
 split_mark None = mark_with empty
-split_mark (Some mark) = record mark { pap = retain_keys mark.pap (λ code. not (is_table_code code)) }
+split_mark (Some mark) = record mark { pap = retain_keys mark.pap (λ code. not (is_row_code code)) }
 
 -- the paragraph mark that splits the paragraph that holds the place
 abbrev pub split_item : List Item → ℕ → Item
-split_item text at = mark_item (base_properties text at) paragraph_mark (split_mark (mark_at text at))
+split_item text at = mark_item (base_properties text at) paragraph_mark (split_mark (paragraph_mark_at text at))
 
 abbrev pub properties_over : Properties → Option Properties → Properties
 properties_over set None = set
@@ -92,9 +92,10 @@ properties_over set (Some base) = overlay set base
 
 -- the mark that ends a section before the place: its properties are those of the section that holds the place, changed
 abbrev pub section_item : List Item → ℕ → Properties → Item
-section_item main at set = record (mark_item (base_properties main at) section_mark (split_mark (mark_at main at))) {
-  sect = Some (properties_over set (section_at main at));
-}
+section_item main at set = record (mark_item (base_properties main at) section_mark (split_mark (paragraph_mark_at main
+    at))) {
+      sect = Some (properties_over set (section_around main at));
+    }
 
 -- [MS-DOC] sprmPFInTable
 abbrev pub cell_properties : Properties

@@ -1,8 +1,8 @@
 -- What the definitions imply.
 use Rattle.std.specs.Prelude.{◌≡◌, ◌≤◌, length, ⊤}
-use Rattle.plain_doc.specs.declared.document.Document.{Document}
+use Rattle.doc_model.specs.declared.document.Document.{Document}
 use Rattle.plain_doc.specs.Sound.{IsSound}
-use Rattle.plain_doc.specs.Marks.{HasFormedBookmarks}
+use Rattle.doc_model.specs.Marks.{HasFormedBookmarks}
 use Rattle.edit_script.specs.declared.commands.Command.{Command}
 use Rattle.edit_ops.specs.declared.faults.EditFault.{EditFault}
 use Rattle.edit_ops.specs.declared.faults.EditFault.TheVariants.{Range, Code, Rule, Limit, Memory}
@@ -15,18 +15,18 @@ use Rattle.edit_ops.specs.Causes.{CanBeTried, IsEditFault, IsAcceptedEdit}
 use Rattle.doc_patch.specs.Makes.{CanMakeAll}
 
 -- a fault for another cause than memory
-abbrev pub IsCause : EditFault → Type 0
-IsCause Range = ⊤
-IsCause Code = ⊤
-IsCause (Rule rule place at) = ⊤
-IsCause (Limit rule place at) = ⊤
-IsCause Memory = ⊥
+abbrev pub IsEditCause : EditFault → Type 0
+IsEditCause Range = ⊤
+IsEditCause Code = ⊤
+IsEditCause (Rule rule place at) = ⊤
+IsEditCause (Limit rule place at) = ⊤
+IsEditCause Memory = ⊥
 
 -- an edit has one fault at most, and none where it is accepted
 pub record EditHasOneOutcome : Type 0 where
-  pub one : (document : Document) (command : Command) (one other : EditFault) → IsCause one → IsCause other →
+  pub one : (document : Document) (command : Command) (one other : EditFault) → IsEditCause one → IsEditCause other →
       IsEditFault document command one → IsEditFault document command other → one ≡ other
-  pub none : (document : Document) (command : Command) (fault : EditFault) → IsCause fault → IsAcceptedEdit document
+  pub none : (document : Document) (command : Command) (fault : EditFault) → IsEditCause fault → IsAcceptedEdit document
       command → ¬ (IsEditFault document command fault)
 
 -- a command makes three changes at most

@@ -4,9 +4,9 @@ use Rattle.std.specs.Option.{option_and_then}
 use Rattle.doc_bits.specs.declared.places.Story.{Story}
 use Rattle.doc_bits.specs.declared.places.Story.TheVariants.{Main, Note as NoteText, Head as HeadText}
 use Rattle.text_codes.specs.Paragraph.{paragraph_mark}
-use Rattle.style_sheet.specs.Chain.{kind_at}
-use Rattle.plain_doc.specs.declared.item.Item.{Item}
-use Rattle.plain_doc.specs.declared.document.Document.{Document}
+use Rattle.style_sheet.specs.Chain.{style_kind_at}
+use Rattle.doc_model.specs.declared.item.Item.{Item}
+use Rattle.doc_model.specs.declared.document.Document.{Document}
 use Rattle.edit_script.specs.declared.commands.Command.{Command}
 use Rattle.edit_script.specs.declared.commands.Command.TheVariants.{Insert, Erase, Char, Plain, Para, Style, Field}
 use Rattle.edit_script.specs.declared.commands.Command.TheVariants.{Note, Split, Merge, Sect, Row, StyleChar}
@@ -48,8 +48,8 @@ IsInRange document (Split story at) = HasText document story (HasPlace at)
 IsInRange document (Merge story at) = HasText document story (EndsWithMark at)
 IsInRange document (Sect at new set) = HasPlace at document.main
 IsInRange document (Row story at width cells) = HasText document story (BeginsParagraph at)
-IsInRange document (StyleChar istd set) = 0 < kind_at document.sheet istd
-IsInRange document (StylePara istd set) = kind_at document.sheet istd ≡ 1
+IsInRange document (StyleChar istd set) = 0 < style_kind_at document.sheet istd
+IsInRange document (StylePara istd set) = style_kind_at document.sheet istd ≡ 1
 IsInRange document (Bookmark name from to) = (from ≤ to) × (to ≤ length document.main)
 IsInRange document (Unmark name) = IsSome (bookmark_named name document.bookmarks)
 IsInRange document (Save full) = ⊤

@@ -1,10 +1,10 @@
 -- How many runs of properties a command puts: of characters, and of paragraphs. A save writes so many of them at most.
 use Rattle.std.specs.Prelude.{ℕ, ◌+◌, ◌≤◌, Bool, true, false, List, [], ◌∷◌, length, is_some}
 use Rattle.std.specs.List.{count_by, sum_by}
-use Rattle.plain_doc.specs.declared.item.Item.{Item}
-use Rattle.plain_doc.specs.declared.document.Document.{Document}
-use Rattle.plain_doc.specs.Stretches.{stretches}
-use Rattle.plain_doc.specs.Settings.{is_alike}
+use Rattle.doc_model.specs.declared.item.Item.{Item}
+use Rattle.doc_model.specs.declared.document.Document.{Document}
+use Rattle.doc_model.specs.Stretches.{stretches}
+use Rattle.doc_model.specs.Settings.{is_alike}
 use Rattle.edit_script.specs.declared.commands.Command.{Command}
 use Rattle.edit_script.specs.declared.commands.Command.TheVariants.{Insert, Erase, Char, Plain, Para, Style, Field}
 use Rattle.edit_script.specs.declared.commands.Command.TheVariants.{Note, Split, Merge, Sect, Row, StyleChar}
@@ -43,25 +43,25 @@ most_runs_of_section true = 2
 most_runs_of_section false = 0
 
 -- Profile: the runs that are reckoned for a command, whatever the document is
-abbrev pub most_runs : Command → ℕ
-most_runs (Insert story at text) = 3
-most_runs (Erase story from to) = 0
-most_runs (Char story from to set) = 0
-most_runs (Plain story from to) = 0
-most_runs (Para story at set) = 0
-most_runs (Style story at istd) = 0
-most_runs (Field story at type code result) = 5
-most_runs (Note at text) = 5
-most_runs (Split story at) = 2
-most_runs (Merge story at) = 0
-most_runs (Sect at new set) = most_runs_of_section new
-most_runs (Row story at width cells) = length cells + 2
-most_runs (StyleChar istd set) = 0
-most_runs (StylePara istd set) = 0
-most_runs (Bookmark name from to) = 0
-most_runs (Unmark name) = 0
-most_runs (Save full) = 0
+abbrev pub reckoned_runs : Command → ℕ
+reckoned_runs (Insert story at text) = 3
+reckoned_runs (Erase story from to) = 0
+reckoned_runs (Char story from to set) = 0
+reckoned_runs (Plain story from to) = 0
+reckoned_runs (Para story at set) = 0
+reckoned_runs (Style story at istd) = 0
+reckoned_runs (Field story at type code result) = 5
+reckoned_runs (Note at text) = 5
+reckoned_runs (Split story at) = 2
+reckoned_runs (Merge story at) = 0
+reckoned_runs (Sect at new set) = most_runs_of_section new
+reckoned_runs (Row story at width cells) = length cells + 2
+reckoned_runs (StyleChar istd set) = 0
+reckoned_runs (StylePara istd set) = 0
+reckoned_runs (Bookmark name from to) = 0
+reckoned_runs (Unmark name) = 0
+reckoned_runs (Save full) = 0
 
 -- no command puts more runs than are reckoned for it
 abbrev pub RunsAreFew : Type 0
-RunsAreFew = (document : Document) (command : Command) → runs_put document command ≤ most_runs command
+RunsAreFew = (document : Document) (command : Command) → runs_put document command ≤ reckoned_runs command

@@ -1,8 +1,8 @@
 // Bookmarks found by their names, one put and one taken away.
 ghost use Rattle.std.specs.Prelude.{◌≡◌, ◌+◌, ◌^◌, ◌<◌, ◌↔◌, IsTrue, IsSome, IfOk, MatchOption, Some, None, length};
 ghost use Rattle.std.specs.List.Sorted.{IsSorted};
-ghost use Rattle.doc_parts.specs.Bookmarks.{bookmark_cmp};
-ghost use Rattle.edit_ops.specs.Bookmarks.{bookmark_named, begin_of as begin_there, new_bookmark};
+ghost use Rattle.document_bookmarks.specs.Bookmarks.{bookmark_cmp};
+ghost use Rattle.edit_ops.specs.Bookmarks.{bookmark_named, bookmark_begin as begin_there, new_bookmark};
 ghost use Rattle.edit_ops.specs.Bookmarks.{with_bookmark as list_with, without_bookmark as list_without};
 
 use doc_bits::Memory;

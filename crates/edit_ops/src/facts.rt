@@ -5,7 +5,7 @@ ghost use Rattle.plain_doc.specs.Sound.{IsSound};
 ghost use Rattle.doc_patch.specs.Places.{items_at as items_there};
 ghost use Rattle.edit_ops.specs.Causes.{CanBeTried};
 ghost use Rattle.edit_ops.specs.Edits.{changes_of};
-ghost use Rattle.edit_ops.specs.EditFacts.{edit_facts, items_added, items_removed, kind_of as kind_number};
+ghost use Rattle.edit_ops.specs.EditFacts.{edit_facts, items_added, items_removed, command_kind as kind_number};
 ghost use Rattle.edit_ops.specs.EditFacts.{style_of_command as style_number, style_before as style_there};
 ghost use Rattle.edit_ops.specs.Bookmarks.{place_before as place_there};
 ghost use Rattle.doc_patch.specs.Makes.{CanRemove};

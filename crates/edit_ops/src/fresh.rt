@@ -3,7 +3,7 @@ ghost use Rattle.std.specs.Prelude.{◌≡◌, ◌+◌, ◌^◌, ◌<◌, ◌≤
 ghost use Rattle.std.specs.FinMap.{empty};
 ghost use Rattle.prop_map.specs.Formed.{IsPropertyMap, character_groups, paragraph_groups};
 ghost use Rattle.prop_map.specs.Overlay.{without};
-ghost use Rattle.plain_doc.specs.Document.{HasPropertyMaps};
+ghost use Rattle.doc_model.specs.Document.{HasPropertyMaps};
 ghost use Rattle.edit_ops.specs.Codes.{most_units};
 ghost use Rattle.edit_ops.specs.Fresh.{base_properties as base_of, special as special_of, special_codes};
 ghost use Rattle.edit_ops.specs.Fresh.{unit_item as item_of, unit_items as units_of, mark_item as marked_item};

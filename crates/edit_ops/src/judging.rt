@@ -1,7 +1,7 @@
 // A changed document checked.
 ghost use Rattle.std.specs.Prelude.{◌↔◌, IsTrue, MatchResult};
-ghost use Rattle.plain_doc.specs.declared.document.Document.{Document};
-ghost use Rattle.plain_doc.specs.Marks.{HasFormedBookmarks};
+ghost use Rattle.doc_model.specs.declared.document.Document.{Document};
+ghost use Rattle.doc_model.specs.Marks.{HasFormedBookmarks};
 ghost use Rattle.plain_doc.specs.Sound.{IsSound, NamesFirstRule, document_rules};
 ghost use Rattle.edit_ops.specs.Causes.{IsLimit, IsNamedRule};
 

@@ -2,8 +2,8 @@
 ghost use Rattle.std.specs.Prelude.{◌≡◌, ◌≤◌, [], ◌∷◌, length, IfOk, not};
 ghost use Rattle.std.specs.FinMap.{retain_keys};
 ghost use Rattle.prop_map.specs.Formed.{IsPropertyMap, StaysFormed, paragraph_groups, section_groups};
-ghost use Rattle.doc_patch.specs.Places.{mark_at as mark_there, section_at as section_there};
-ghost use Rattle.edit_ops.specs.Fresh.{is_table_code as of_table, split_mark as mark_split, split_item as item_split};
+ghost use Rattle.doc_patch.specs.Places.{paragraph_mark_at as mark_there, section_around as section_there};
+ghost use Rattle.edit_ops.specs.Fresh.{is_row_code as of_table, split_mark as mark_split, split_item as item_split};
 ghost use Rattle.edit_ops.specs.Fresh.{section_item as item_of_section, properties_over as over};
 
 use crate::fresh::{base_properties, mark_item};

@@ -1,6 +1,6 @@
 // Which places of a document a command may name. No call takes memory.
 ghost use Rattle.std.specs.Prelude.{◌≡◌, ◌<◌, ◌↔◌, IsTrue};
-ghost use Rattle.style_sheet.specs.Chain.{kind_at};
+ghost use Rattle.style_sheet.specs.Chain.{style_kind_at};
 ghost use Rattle.edit_ops.specs.Ranges.{IsInRange, TakesText, HasPlace, HasRange};
 ghost use Rattle.edit_ops.specs.Ranges.{EndsWithMark, BeginsParagraph, HasText};
 
@@ -123,7 +123,7 @@ fn begins_at(text: &Columns, at: usize) -> bool
 
 /// The number of the kind of a style: 1 of paragraphs, 2 of characters, 0 of another kind or no style.
 fn kind_of(sheet: &StyleSheet, istd: u16) -> u8
-    ensures { result ≡ kind_at sheet.now istd }
+    ensures { result ≡ style_kind_at sheet.now istd }
 {
     match sheet.get(istd) {
         None => 0,

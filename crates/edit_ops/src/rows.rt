@@ -3,7 +3,7 @@ ghost use Rattle.std.specs.Prelude.{◌≡◌, ◌+◌, ◌*◌, ◌^◌, ◌<�
 ghost use Rattle.std.specs.List.{flat_map, sum_by};
 ghost use Rattle.std.specs.FinMap.{empty, insert};
 ghost use Rattle.prop_map.specs.Formed.{IsPropertyMap, paragraph_groups};
-ghost use Rattle.plain_doc.specs.Document.{HasPropertyMaps};
+ghost use Rattle.doc_model.specs.Document.{HasPropertyMaps};
 ghost use Rattle.edit_ops.specs.Codes.{IsPutRow, most_units};
 ghost use Rattle.edit_ops.specs.Fresh.{cell_properties as settings_of_cells, row_properties as settings_of_row};
 ghost use Rattle.edit_ops.specs.Fresh.{row_definition as definition_of, row_items as items_of, cell_items as items_in};

@@ -19,7 +19,7 @@ use Rattle.edit_script.specs.Json.{IsJson, list_of}
 use Rattle.edit_script.specs.Shapes.{command_of}
 use Rattle.edit_script.specs.Scripts.{most_commands, Spell, EndsWithSave, IsScriptOf, IsFirstMisfit, EndsWithoutSave}
 use Rattle.edit_script.specs.Scripts.{SpellsArray, IsScript, IsMembersFault, IsScriptFault}
-use Rattle.edit_script.specs.Laws.{ScriptIsOne, FaultIsOne, IsCause}
+use Rattle.edit_script.specs.Laws.{ScriptIsOne, FaultIsOne, IsScriptCause}
 
 -- ---- the commands of members
 
@@ -135,7 +135,8 @@ shape_is_json : (bytes : List ℕ) (index : ℕ) → IsScriptFault bytes (Shape 
 shape_is_json bytes index (inl s) json = json s.1.value s.1.json
 shape_is_json bytes index (inr s) json = json (array s.members) s.json
 
-fault_one : (bytes : List ℕ) (one other : ScriptFault) → IsCause one → IsCause other → IsScriptFault bytes one →
+fault_one : (bytes : List ℕ) (one other : ScriptFault) → IsScriptCause one → IsScriptCause other → IsScriptFault bytes
+    one →
     IsScriptFault bytes other → one ≡ other
 fault_one bytes Json Json c d s t = refl
 fault_one bytes Json (Shape j) c d s t = absurd (shape_is_json bytes j t s)
@@ -158,7 +159,7 @@ shape_none members commands index script (inl s) = misfit_unspelt members comman
 shape_none members commands index script (inr s) = s.no_save (subst EndsWithSave (spell_one members commands
     s.commands script.each s.each) script.ends)
 
-fault_none : (bytes : List ℕ) (commands : List Command) (fault : ScriptFault) → IsCause fault →
+fault_none : (bytes : List ℕ) (commands : List Command) (fault : ScriptFault) → IsScriptCause fault →
     IsScript bytes commands → IsScriptFault bytes fault → ⊥
 fault_none bytes commands Json c script json = json (array script.members) script.json
 fault_none bytes commands (Shape index) c script (inl s) = array_or_not bytes script.members s.1.value script.json

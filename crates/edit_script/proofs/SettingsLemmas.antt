@@ -13,7 +13,7 @@ use Rattle.prop_map.specs.Settings.{Properties}
 use Rattle.edit_script.specs.Json.{◌>>=◌}
 use Rattle.edit_script.specs.Hex.{digit_of, byte_of_digits, code_of_digits}
 use Rattle.edit_script.specs.Values.{bytes_of, properties_put}
-use Rattle.edit_script.specs.Laws.{last_value, PropertiesAreAsKeyed}
+use Rattle.edit_script.specs.Laws.{last_member_value, PropertiesAreAsKeyed}
 use Rattle.doc_bits.proofs.Public.{both_true}
 
 -- ---- a code has one key
@@ -196,12 +196,12 @@ code_is : (one other : List ℕ) (c d : ℕ) → one ≡ other → code_of_digit
 code_is one other c d same e f = ap (λ o. unwrap_or o 0) (sym e ∙ ap code_of_digits same ∙ f)
 
 put_says : (members : Members) (set made : Properties) (key : List ℕ) (code : ℕ) → code_of_digits key ≡ Some code →
-    properties_put members set ≡ Some made → Says (last_value key members) (get made code) (get set code)
+    properties_put members set ≡ Some made → Says (last_member_value key members) (get made code) (get set code)
 put_says no_members set made key code is e = ap (λ (o : Option Properties). get (unwrap_or o set) code) (sym e)
 put_says (member name value more) set made key code is e =
     let k = steps_found (code_of_digits name) (bytes_of value) (λ c b. properties_put more (insert set c b)) made e in
     let later = put_says more (insert set k.0 k.1) made key code is k.4 in
-    says_by (last_value key more) (bytes_eq key name) value (get made code) (get (insert set k.0 k.1) code)
+    says_by (last_member_value key more) (bytes_eq key name) value (get made code) (get (insert set k.0 k.1) code)
     (get set code) later
     (λ same. (
       get_same set code k.0 k.1 (code_is key name code k.0 ((bytes_eq-Decides key name).0 same) is k.2) ∙ sym
@@ -259,11 +259,11 @@ only_by None true head value P l s e = subst P (ap (λ o. unwrap_or o head) e) (
 only_by None false head value P l s e = absurd (cc (e))
 
 put_only : (members : Members) (set made : Properties) (key : List ℕ) (value : Data) → properties_put members set ≡ Some
-    made → last_value key members ≡ Some value → IsSome (code_of_digits key) × IsSome (bytes_of value)
+    made → last_member_value key members ≡ Some value → IsSome (code_of_digits key) × IsSome (bytes_of value)
 put_only no_members set made key value e is = absurd (cc (is))
 put_only (member name head more) set made key value e is =
     let k = steps_found (code_of_digits name) (bytes_of head) (λ c b. properties_put more (insert set c b)) made e in
-    only_by (last_value key more) (bytes_eq key name) head value (λ v. IsSome (code_of_digits key) × IsSome
+    only_by (last_member_value key more) (bytes_eq key name) head value (λ v. IsSome (code_of_digits key) × IsSome
     (bytes_of v))
     (λ later. put_only more (insert set k.0 k.1) made key value k.4 later)
     (λ same. (
@@ -274,7 +274,8 @@ put_only (member name head more) set made key value e is =
 
 pub properties_are : PropertiesAreAsKeyed
 properties_are members set e = record {
-  said = λ key code is. said_by (last_value key members) (get set code) (subst (Says (last_value key members)
+  said = λ key code is. said_by (last_member_value key members) (get set code) (subst (Says (last_member_value key
+      members)
       (get set code)) (get-empty {X = List ℕ} nat_cmp code) (put_says members empty set key code is e));
   keyed = λ code bytes is. keyed_end code bytes (put_keyed members empty set code bytes e is);
   only = λ key value is. put_only members empty set key value e is;

@@ -29,7 +29,7 @@ each_of reads (item value more) = do
 
 -- what a reader answers: what the value is read as, or a misfit exactly where it has not the form; want of memory is
 -- free
-abbrev pub Gives : {A : Type 0} → Result A ShapeError → Option A → Type 0
-Gives (Ok given) found = found ≡ Some given
-Gives (Err Shape) found = found ≡ None
-Gives (Err Memory) found = ⊤
+abbrev pub GivesReading : {A : Type 0} → Result A ShapeError → Option A → Type 0
+GivesReading (Ok given) found = found ≡ Some given
+GivesReading (Err Shape) found = found ≡ None
+GivesReading (Err Memory) found = ⊤

@@ -17,35 +17,38 @@ abbrev pub ScriptIsOne : Type 0
 ScriptIsOne = (bytes : List ℕ) (one other : List Command) → IsScript bytes one → IsScript bytes other → one ≡ other
 
 -- a fault for another cause than memory
-abbrev pub IsCause : ScriptFault → Type 0
-IsCause Json = ⊤
-IsCause (Shape index) = ⊤
-IsCause TooLong = ⊤
-IsCause Memory = ⊥
+abbrev pub IsScriptCause : ScriptFault → Type 0
+IsScriptCause Json = ⊤
+IsScriptCause (Shape index) = ⊤
+IsScriptCause TooLong = ⊤
+IsScriptCause Memory = ⊥
 
 -- bytes have one fault at most, and a script has none
 pub record FaultIsOne : Type 0 where
-  pub one : (bytes : List ℕ) (one other : ScriptFault) → IsCause one → IsCause other → IsScriptFault bytes one →
+  pub one : (bytes : List ℕ) (one other : ScriptFault) → IsScriptCause one → IsScriptCause other → IsScriptFault bytes
+      one →
       IsScriptFault bytes other → one ≡ other
-  pub none : (bytes : List ℕ) (commands : List Command) (fault : ScriptFault) → IsCause fault →
+  pub none : (bytes : List ℕ) (commands : List Command) (fault : ScriptFault) → IsScriptCause fault →
       IsScript bytes commands → ¬ (IsScriptFault bytes fault)
 
 -- the value of the last member with the key
-abbrev pub last_value : List ℕ → Members → Option Data
-last_value key no_members = None
-last_value key (member name value more) = option_or (last_value key more) (if bytes_eq key name then Some value
+abbrev pub last_member_value : List ℕ → Members → Option Data
+last_member_value key no_members = None
+last_member_value key (member name value more) = option_or (last_member_value key more) (if bytes_eq key name then Some
+    value
     else None)
 
 -- the properties are what the keys of the object say
 pub record AreAsKeyed (members : Members) (set : Properties) : Type 0 where
   -- at the code of a key are the bytes of its value
-  pub said : (key : List ℕ) (code : ℕ) → code_of_digits key ≡ Some code → get set code ≡ (last_value key members >>=
+  pub said : (key : List ℕ) (code : ℕ) → code_of_digits key ≡ Some code → get set code ≡ (last_member_value key members
+      >>=
       bytes_of)
   -- each code that is set has a key
   pub keyed : (code : ℕ) (bytes : List ℕ) → get set code ≡ Some bytes → (key : List ℕ) × (code_of_digits key ≡ Some
       code)
   -- each key is a code, and its value is bytes
-  pub only : (key : List ℕ) (value : Data) → last_value key members ≡ Some value → IsSome (code_of_digits key) ×
+  pub only : (key : List ℕ) (value : Data) → last_member_value key members ≡ Some value → IsSome (code_of_digits key) ×
       IsSome (bytes_of value)
 
 abbrev pub PropertiesAreAsKeyed : Type 0

@@ -8,14 +8,15 @@ use Rattle.edit_script.specs.declared.commands.Command.TheVariants.{Note, Split,
 use Rattle.edit_script.specs.declared.commands.Command.TheVariants.{StylePara, Bookmark, Unmark, Save}
 use Rattle.edit_script.specs.Json.{◌>>=◌}
 use Rattle.edit_script.specs.Keys.{key, keys_in}
-use Rattle.edit_script.specs.Values.{position, short_number, byte_number, story_of, units_of, cells_of, properties_of}
+use Rattle.edit_script.specs.Values.{position, short_number, byte_number, story_of, string_units, cell_texts_of}
+use Rattle.edit_script.specs.Values.{properties_of}
 use Rattle.edit_script.specs.Values.{mode_of}
 
 abbrev pub insert_of : Data → Option Command
 insert_of value = do
   story ← key (codes "story") story_of value
   at ← key (codes "at") position value
-  text ← key (codes "text") units_of value
+  text ← key (codes "text") string_units value
   Some (Insert story at text)
 
 abbrev pub erase_of : Data → Option Command
@@ -59,14 +60,14 @@ field_of value = do
   story ← key (codes "story") story_of value
   at ← key (codes "at") position value
   kind ← key (codes "type") byte_number value
-  code ← key (codes "code") units_of value
-  result ← key (codes "result") units_of value
+  code ← key (codes "code") string_units value
+  result ← key (codes "result") string_units value
   Some (Field story at kind code result)
 
 abbrev pub note_of : Data → Option Command
 note_of value = do
   at ← key (codes "at") position value
-  text ← key (codes "text") units_of value
+  text ← key (codes "text") string_units value
   Some (Note at text)
 
 abbrev pub split_of : Data → Option Command
@@ -93,7 +94,7 @@ row_of value = do
   story ← key (codes "story") story_of value
   at ← key (codes "at") position value
   width ← key (codes "width") short_number value
-  cells ← key (codes "cells") cells_of value
+  cells ← key (codes "cells") cell_texts_of value
   Some (Row story at width cells)
 
 abbrev pub style_char_of : Data → Option Command
@@ -110,14 +111,14 @@ style_para_of value = do
 
 abbrev pub bookmark_of : Data → Option Command
 bookmark_of value = do
-  name ← key (codes "name") units_of value
+  name ← key (codes "name") string_units value
   from ← key (codes "from") position value
   to ← key (codes "to") position value
   Some (Bookmark name from to)
 
 abbrev pub unmark_of : Data → Option Command
 unmark_of value = do
-  name ← key (codes "name") units_of value
+  name ← key (codes "name") string_units value
   Some (Unmark name)
 
 abbrev pub save_of : Data → Option Command

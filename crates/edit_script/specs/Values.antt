@@ -36,12 +36,12 @@ story_of value = as_str value >>= story_with_name
 abbrev pub utf16 : List ℕ → List ℕ
 utf16 text = flat_map encode_utf16 (chars text)
 
-abbrev pub units_of : Data → Option (List ℕ)
-units_of value = option_map utf16 (as_str value)
+abbrev pub string_units : Data → Option (List ℕ)
+string_units value = option_map utf16 (as_str value)
 
 -- the texts of a row's cells
-abbrev pub cells_of : Data → Option (List (List ℕ))
-cells_of value = as_array value >>= each_of units_of
+abbrev pub cell_texts_of : Data → Option (List (List ℕ))
+cell_texts_of value = as_array value >>= each_of string_units
 
 -- bytes as two digits each
 abbrev pub bytes_of : Data → Option (List ℕ)

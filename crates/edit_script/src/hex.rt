@@ -1,6 +1,6 @@
 // Lower-case hexadecimal, two digits a byte.
 ghost use Rattle.std.specs.Prelude.{◌≡◌, ◌<◌, ◌∷◌, [], ◌++◌, IfSome, OnOk};
-ghost use Rattle.edit_script.specs.Json.{Gives};
+ghost use Rattle.edit_script.specs.Json.{GivesReading};
 ghost use Rattle.edit_script.specs.Hex.{digit_of, byte_of_digits, bytes_of_digits, code_of_digits};
 
 use crate::ShapeError;
@@ -46,7 +46,7 @@ pub(crate) fn code_in(digits: &[u8]) -> Option<u16>
 
 /// The bytes of a text of digits.
 pub(crate) fn bytes_from_digits(alloc: Global, digits: &[u8]) -> Result<Bytes, ShapeError>
-    ensures { Gives result (bytes_of_digits digits.now) }
+    ensures { GivesReading result (bytes_of_digits digits.now) }
 {
     let mut bytes = Bytes::new(alloc);
     let mut at = 0;

@@ -1,6 +1,6 @@
 // The properties that an object spells.
 ghost use Rattle.serde_json.specs.View.{view};
-ghost use Rattle.edit_script.specs.Json.{Gives};
+ghost use Rattle.edit_script.specs.Json.{GivesReading};
 ghost use Rattle.edit_script.specs.Values.{properties_of};
 
 use crate::ShapeError;
@@ -13,7 +13,7 @@ use std::alloc::Global;
 
 /// Properties: an object whose keys are codes of four digits, its values those of their operands, two digits a byte.
 pub fn properties_in(alloc: Global, value: &Value) -> Result<PropMap, ShapeError>
-    ensures { Gives result (properties_of (view value.now)) }
+    ensures { GivesReading result (properties_of (view value.now)) }
 {
     let Some(members) = value.as_object() else {
         return Err(ShapeError::Shape);

@@ -1,6 +1,6 @@
 // The seventeen shapes, key by key. Each reader has its definition beside it in specs/Shapes.
 ghost use Rattle.serde_json.specs.View.{view};
-ghost use Rattle.edit_script.specs.Json.{Gives};
+ghost use Rattle.edit_script.specs.Json.{GivesReading};
 ghost use Rattle.edit_script.specs.Shapes.{command_of, command_with_name, insert_of, erase_of, char_of};
 ghost use Rattle.edit_script.specs.Shapes.{plain_of, para_of, style_command_of, field_of, note_of, split_of, merge_of};
 ghost use Rattle.edit_script.specs.Shapes.{sect_of, row_of, style_char_of, style_para_of, save_of};
@@ -16,7 +16,7 @@ use std::alloc::Global;
 
 /// The command that a value spells.
 pub(crate) fn command_in(alloc: Global, value: &Value) -> Result<Command, ShapeError>
-    ensures { Gives result (command_of (view value.now)) }
+    ensures { GivesReading result (command_of (view value.now)) }
 {
     match value.get("do").and_then(Value::as_str) {
         None => Err(ShapeError::Shape),
@@ -26,7 +26,7 @@ pub(crate) fn command_in(alloc: Global, value: &Value) -> Result<Command, ShapeE
 
 /// The command of this name.
 fn command_named(alloc: Global, name: &str, value: &Value) -> Result<Command, ShapeError>
-    ensures { Gives result (command_with_name name.now (view value.now)) }
+    ensures { GivesReading result (command_with_name name.now (view value.now)) }
 {
     if name == "insert" && key_count(value) == 4 {
         insert_in(alloc, value)
@@ -69,7 +69,7 @@ fn command_named(alloc: Global, name: &str, value: &Value) -> Result<Command, Sh
 
 /// `insert` puts the units of a text before an item.
 fn insert_in(alloc: Global, value: &Value) -> Result<Command, ShapeError>
-    ensures { Gives result (insert_of (view value.now)) }
+    ensures { GivesReading result (insert_of (view value.now)) }
 {
     let story = story_in(member(value, "story")?)?;
     let at = position_in(member(value, "at")?)?;
@@ -79,7 +79,7 @@ fn insert_in(alloc: Global, value: &Value) -> Result<Command, ShapeError>
 
 /// `erase` takes the items of a range away.
 fn erase_in(value: &Value) -> Result<Command, ShapeError>
-    ensures { Gives result (erase_of (view value.now)) }
+    ensures { GivesReading result (erase_of (view value.now)) }
 {
     let story = story_in(member(value, "story")?)?;
     let from = position_in(member(value, "from")?)?;
@@ -89,7 +89,7 @@ fn erase_in(value: &Value) -> Result<Command, ShapeError>
 
 /// `char` puts character properties over those of a range.
 fn char_in(alloc: Global, value: &Value) -> Result<Command, ShapeError>
-    ensures { Gives result (char_of (view value.now)) }
+    ensures { GivesReading result (char_of (view value.now)) }
 {
     let story = story_in(member(value, "story")?)?;
     let from = position_in(member(value, "from")?)?;
@@ -100,7 +100,7 @@ fn char_in(alloc: Global, value: &Value) -> Result<Command, ShapeError>
 
 /// `plain` clears the character properties of a range.
 fn plain_in(value: &Value) -> Result<Command, ShapeError>
-    ensures { Gives result (plain_of (view value.now)) }
+    ensures { GivesReading result (plain_of (view value.now)) }
 {
     let story = story_in(member(value, "story")?)?;
     let from = position_in(member(value, "from")?)?;
@@ -110,7 +110,7 @@ fn plain_in(value: &Value) -> Result<Command, ShapeError>
 
 /// `para` puts paragraph properties over those of a mark.
 fn para_in(alloc: Global, value: &Value) -> Result<Command, ShapeError>
-    ensures { Gives result (para_of (view value.now)) }
+    ensures { GivesReading result (para_of (view value.now)) }
 {
     let story = story_in(member(value, "story")?)?;
     let at = position_in(member(value, "at")?)?;
@@ -120,7 +120,7 @@ fn para_in(alloc: Global, value: &Value) -> Result<Command, ShapeError>
 
 /// `style` gives a mark a style.
 fn style_in(value: &Value) -> Result<Command, ShapeError>
-    ensures { Gives result (style_command_of (view value.now)) }
+    ensures { GivesReading result (style_command_of (view value.now)) }
 {
     let story = story_in(member(value, "story")?)?;
     let at = position_in(member(value, "at")?)?;
@@ -130,7 +130,7 @@ fn style_in(value: &Value) -> Result<Command, ShapeError>
 
 /// `field` puts a field before an item.
 fn field_in(alloc: Global, value: &Value) -> Result<Command, ShapeError>
-    ensures { Gives result (field_of (view value.now)) }
+    ensures { GivesReading result (field_of (view value.now)) }
 {
     let story = story_in(member(value, "story")?)?;
     let at = position_in(member(value, "at")?)?;
@@ -142,7 +142,7 @@ fn field_in(alloc: Global, value: &Value) -> Result<Command, ShapeError>
 
 /// `note` puts a note, and a reference to it before an item of the main text.
 fn note_in(alloc: Global, value: &Value) -> Result<Command, ShapeError>
-    ensures { Gives result (note_of (view value.now)) }
+    ensures { GivesReading result (note_of (view value.now)) }
 {
     let at = position_in(member(value, "at")?)?;
     let text = units_in(alloc, member(value, "text")?)?;
@@ -151,7 +151,7 @@ fn note_in(alloc: Global, value: &Value) -> Result<Command, ShapeError>
 
 /// `split` puts a paragraph mark before an item.
 fn split_in(value: &Value) -> Result<Command, ShapeError>
-    ensures { Gives result (split_of (view value.now)) }
+    ensures { GivesReading result (split_of (view value.now)) }
 {
     let story = story_in(member(value, "story")?)?;
     let at = position_in(member(value, "at")?)?;
@@ -160,7 +160,7 @@ fn split_in(value: &Value) -> Result<Command, ShapeError>
 
 /// `merge` takes a paragraph mark away.
 fn merge_in(value: &Value) -> Result<Command, ShapeError>
-    ensures { Gives result (merge_of (view value.now)) }
+    ensures { GivesReading result (merge_of (view value.now)) }
 {
     let story = story_in(member(value, "story")?)?;
     let at = position_in(member(value, "at")?)?;
@@ -169,7 +169,7 @@ fn merge_in(value: &Value) -> Result<Command, ShapeError>
 
 /// `sect` puts a section mark before an item, or properties over those of a section.
 fn sect_in(alloc: Global, value: &Value) -> Result<Command, ShapeError>
-    ensures { Gives result (sect_of (view value.now)) }
+    ensures { GivesReading result (sect_of (view value.now)) }
 {
     let at = position_in(member(value, "at")?)?;
     let new = bool_in(member(value, "new")?)?;
@@ -179,7 +179,7 @@ fn sect_in(alloc: Global, value: &Value) -> Result<Command, ShapeError>
 
 /// `row` puts a row of a table before an item.
 fn row_in(alloc: Global, value: &Value) -> Result<Command, ShapeError>
-    ensures { Gives result (row_of (view value.now)) }
+    ensures { GivesReading result (row_of (view value.now)) }
 {
     let story = story_in(member(value, "story")?)?;
     let at = position_in(member(value, "at")?)?;
@@ -190,7 +190,7 @@ fn row_in(alloc: Global, value: &Value) -> Result<Command, ShapeError>
 
 /// `stylechar` puts character properties over those of a style.
 fn style_char_in(alloc: Global, value: &Value) -> Result<Command, ShapeError>
-    ensures { Gives result (style_char_of (view value.now)) }
+    ensures { GivesReading result (style_char_of (view value.now)) }
 {
     let istd = short_in(member(value, "istd")?)?;
     let set = properties_in(alloc, member(value, "set")?)?;
@@ -199,7 +199,7 @@ fn style_char_in(alloc: Global, value: &Value) -> Result<Command, ShapeError>
 
 /// `stylepara` puts paragraph properties over those of a style.
 fn style_para_in(alloc: Global, value: &Value) -> Result<Command, ShapeError>
-    ensures { Gives result (style_para_of (view value.now)) }
+    ensures { GivesReading result (style_para_of (view value.now)) }
 {
     let istd = short_in(member(value, "istd")?)?;
     let set = properties_in(alloc, member(value, "set")?)?;
@@ -208,7 +208,7 @@ fn style_para_in(alloc: Global, value: &Value) -> Result<Command, ShapeError>
 
 /// `bookmark` puts a bookmark over a range of the main text.
 fn bookmark_in(alloc: Global, value: &Value) -> Result<Command, ShapeError>
-    ensures { Gives result (bookmark_of (view value.now)) }
+    ensures { GivesReading result (bookmark_of (view value.now)) }
 {
     let name = units_in(alloc, member(value, "name")?)?;
     let from = position_in(member(value, "from")?)?;
@@ -218,7 +218,7 @@ fn bookmark_in(alloc: Global, value: &Value) -> Result<Command, ShapeError>
 
 /// `unmark` takes a bookmark away.
 fn unmark_in(alloc: Global, value: &Value) -> Result<Command, ShapeError>
-    ensures { Gives result (unmark_of (view value.now)) }
+    ensures { GivesReading result (unmark_of (view value.now)) }
 {
     let name = units_in(alloc, member(value, "name")?)?;
     Ok(Command::Unmark(name))
@@ -226,7 +226,7 @@ fn unmark_in(alloc: Global, value: &Value) -> Result<Command, ShapeError>
 
 /// `save` saves the document.
 fn save_in(value: &Value) -> Result<Command, ShapeError>
-    ensures { Gives result (save_of (view value.now)) }
+    ensures { GivesReading result (save_of (view value.now)) }
 {
     let mode = mode_in(member(value, "mode")?)?;
     Ok(Command::Save(mode))

@@ -3,9 +3,9 @@ ghost use Rattle.std.specs.Prelude.{◌≡◌, ◌<◌, IfOk, IfSome, OnOk, IsEr
 ghost use Rattle.std.specs.Char.Escape.{encode_utf16};
 ghost use Rattle.serde_json.specs.Find.{as_bool};
 ghost use Rattle.serde_json.specs.View.{view};
-ghost use Rattle.edit_script.specs.Json.{Gives};
+ghost use Rattle.edit_script.specs.Json.{GivesReading};
 ghost use Rattle.edit_script.specs.Values.{whole_number, position, short_number, byte_number, story_of};
-ghost use Rattle.edit_script.specs.Values.{units_of, utf16, bytes_of, mode_with_name, mode_of};
+ghost use Rattle.edit_script.specs.Values.{string_units, utf16, bytes_of, mode_with_name, mode_of};
 
 use crate::ShapeError;
 use crate::hex::bytes_from_digits;
@@ -25,7 +25,7 @@ fn number_below(limit: u64, value: &Value) -> Option<u64>
 
 /// A place in a text.
 pub fn position_in(value: &Value) -> Result<u32, ShapeError>
-    ensures read { Gives result (position (view value.now)) }
+    ensures read { GivesReading result (position (view value.now)) }
     ensures no_memory { ¬ (IsErrOf result ShapeError.Memory) }
 {
     match number_below(1 << 32, value) {
@@ -36,7 +36,7 @@ pub fn position_in(value: &Value) -> Result<u32, ShapeError>
 
 /// A number of 16 bits.
 pub fn short_in(value: &Value) -> Result<u16, ShapeError>
-    ensures read { Gives result (short_number (view value.now)) }
+    ensures read { GivesReading result (short_number (view value.now)) }
     ensures no_memory { ¬ (IsErrOf result ShapeError.Memory) }
 {
     match number_below(1 << 16, value) {
@@ -47,7 +47,7 @@ pub fn short_in(value: &Value) -> Result<u16, ShapeError>
 
 /// A number of 8 bits.
 pub fn byte_in(value: &Value) -> Result<u8, ShapeError>
-    ensures read { Gives result (byte_number (view value.now)) }
+    ensures read { GivesReading result (byte_number (view value.now)) }
     ensures no_memory { ¬ (IsErrOf result ShapeError.Memory) }
 {
     match number_below(1 << 8, value) {
@@ -58,7 +58,7 @@ pub fn byte_in(value: &Value) -> Result<u8, ShapeError>
 
 /// True or false.
 pub fn bool_in(value: &Value) -> Result<bool, ShapeError>
-    ensures read { Gives result (as_bool (view value.now)) }
+    ensures read { GivesReading result (as_bool (view value.now)) }
     ensures no_memory { ¬ (IsErrOf result ShapeError.Memory) }
 {
     match value.as_bool() {
@@ -69,7 +69,7 @@ pub fn bool_in(value: &Value) -> Result<bool, ShapeError>
 
 /// A text of a document, by its name.
 pub fn story_in(value: &Value) -> Result<Story, ShapeError>
-    ensures read { Gives result (story_of (view value.now)) }
+    ensures read { GivesReading result (story_of (view value.now)) }
     ensures no_memory { ¬ (IsErrOf result ShapeError.Memory) }
 {
     match value.as_str().and_then(story_named) {
@@ -80,7 +80,7 @@ pub fn story_in(value: &Value) -> Result<Story, ShapeError>
 
 /// The units of a text.
 pub fn units_in(alloc: Global, value: &Value) -> Result<Units, ShapeError>
-    ensures { Gives result (units_of (view value.now)) }
+    ensures { GivesReading result (string_units (view value.now)) }
 {
     match value.as_str() {
         None => Err(ShapeError::Shape),
@@ -109,7 +109,7 @@ fn push_character(units: &mut Units, character: char) -> Result<(), Memory>
 
 /// The bytes of a text of digits.
 pub fn bytes_in(alloc: Global, value: &Value) -> Result<Bytes, ShapeError>
-    ensures { Gives result (bytes_of (view value.now)) }
+    ensures { GivesReading result (bytes_of (view value.now)) }
 {
     match value.as_str() {
         None => Err(ShapeError::Shape),
@@ -119,7 +119,7 @@ pub fn bytes_in(alloc: Global, value: &Value) -> Result<Bytes, ShapeError>
 
 /// Whether a save is a full one.
 pub(crate) fn mode_in(value: &Value) -> Result<bool, ShapeError>
-    ensures { Gives result (mode_of (view value.now)) }
+    ensures { GivesReading result (mode_of (view value.now)) }
 {
     match value.as_str().and_then(mode_named) {
         None => Err(ShapeError::Shape),

@@ -11,9 +11,9 @@ use Rattle.style_sheet.specs.declared.styles.Style.{Style}
 use Rattle.style_sheet.specs.declared.styles.Kind.{Kind}
 use Rattle.style_sheet.specs.declared.styles.Kind.TheVariants.{Para, Char, Other}
 use Rattle.style_sheet.specs.Sheet.{Sheet, style_at}
-use Rattle.style_sheet.specs.Chain.{kind_at}
+use Rattle.style_sheet.specs.Chain.{style_kind_at}
 use Rattle.style_sheet.specs.Formed.{IsFormedKind, IsFormedSlot, IsFormedSheet}
-use Rattle.style_sheet.specs.Changes.{characters_of, paragraphs_of}
+use Rattle.style_sheet.specs.Changes.{kind_characters, pap_of_style}
 use Rattle.effective_props.specs.Layers.{paragraph_properties, character_properties, AreChainLayers, AreNamedLayers}
 use Rattle.effective_props.specs.Layers.{named_style, AreCharacterLayers, AreParagraphLayers}
 use Rattle.prop_map.proofs.Public.{IsPropertyMap-empty}
@@ -35,7 +35,7 @@ pub chp_formed : (style : Option Style) → IsFormedSlot style → IsPropertyMap
 chp_formed None h = IsPropertyMap-empty character_groups
 chp_formed (Some style) h = of_kind style.kind h.kind
   where
-    of_kind : (kind : Kind) → IsFormedKind kind → IsPropertyMap character_groups (characters_of kind)
+    of_kind : (kind : Kind) → IsFormedKind kind → IsPropertyMap character_groups (kind_characters kind)
     of_kind (Para pap chp) h = h.1
     of_kind (Char chp) h = h
     of_kind (Other stk upxes) h = IsPropertyMap-empty character_groups
@@ -45,7 +45,7 @@ pub pap_formed : (style : Option Style) → IsFormedSlot style → IsPropertyMap
 pap_formed None h = IsPropertyMap-empty paragraph_groups
 pap_formed (Some style) h = of_kind style.kind h.kind
   where
-    of_kind : (kind : Kind) → IsFormedKind kind → IsPropertyMap paragraph_groups (paragraphs_of kind)
+    of_kind : (kind : Kind) → IsFormedKind kind → IsPropertyMap paragraph_groups (pap_of_style kind)
     of_kind (Para pap chp) h = h.0
     of_kind (Char chp) h = IsPropertyMap-empty paragraph_groups
     of_kind (Other stk upxes) h = IsPropertyMap-empty paragraph_groups
@@ -64,12 +64,13 @@ named_formed : (sheet : Sheet) (named : Option ℕ) (layers : List Properties) �
 named_formed sheet None layers h are = subst (All (IsPropertyMap character_groups)) (sym are)
     (All-nil (IsPropertyMap character_groups))
 named_formed sheet (Some istd) layers h are =
-    elim (kind_at sheet istd == 2) as (λ b. (kind_at sheet istd == 2) ≡ b → All (IsPropertyMap character_groups)
+    elim (style_kind_at sheet istd == 2) as (λ b. (style_kind_at sheet istd == 2) ≡ b → All (IsPropertyMap
+    character_groups)
     layers) [
       | true ↦ λ e. chain_formed character_groups character_properties sheet istd layers chp_formed h
-          (are.0 (eqb-true (kind_at sheet istd) 2 e))
+          (are.0 (eqb-true (style_kind_at sheet istd) 2 e))
       | false ↦ λ e. subst (All (IsPropertyMap character_groups))
-          (sym (are.1 (λ is. absurd (cc (eq-eqb (kind_at sheet istd) 2 is, e)))))
+          (sym (are.1 (λ is. absurd (cc (eq-eqb (style_kind_at sheet istd) 2 is, e)))))
           (All-nil (IsPropertyMap character_groups))
     ] refl
 

@@ -13,7 +13,8 @@ use Rattle.doc_bits.proofs.Public.{one_byte}
 use Rattle.prop_map.specs.Formed.{IsMapEntry, IsPropertyMap}
 use Rattle.effective_props.specs.Toggles.{is_byte, is_keep, is_turn, opposite, toggled, toggle_value}
 use Rattle.effective_props.proofs.PlaceLemmas.{some_is}
-use Rattle.effective_props.specs.Values.{tabs_code, is_toggle, values_at, value_of, effective_value, IsEffectiveMap}
+use Rattle.effective_props.specs.Values.{tabs_code, is_toggle, values_at, combined_value, effective_value}
+use Rattle.effective_props.specs.Values.{IsEffectiveMap}
 
 -- each value that is there may be at the code
 abbrev pub IfProperty : ℕ → ℕ → Option (List ℕ) → Type 0
@@ -109,7 +110,7 @@ effective_formed groups layers m all is code value e =
     let values = values_at layers code in
     let properties = properties_at groups code layers all in
     let there : effective_value layers code ≡ Some value = sym (is code) ∙ e in
-    elim (code == tabs_code) as (λ b. cond b None (value_of code values) ≡ Some value → IsMapEntry groups (
+    elim (code == tabs_code) as (λ b. cond b None (combined_value code values) ≡ Some value → IsMapEntry groups (
       code,
       value,
     )) [

@@ -11,7 +11,7 @@ use Rattle.prop_map.specs.Settings.{Properties}
 use Rattle.prop_map.specs.Formed.{IsPropertyMap, character_groups}
 use Rattle.style_sheet.specs.declared.styles.Style.{Style}
 use Rattle.style_sheet.specs.Sheet.{Sheet, style_at}
-use Rattle.style_sheet.specs.Chain.{kind_at}
+use Rattle.style_sheet.specs.Chain.{style_kind_at}
 use Rattle.effective_props.specs.Layers.{properties_of_styles, AreNamedLayers, named_style, character_style_code}
 use Rattle.effective_props.specs.LayerParts.{AddsNamed}
 
@@ -50,7 +50,8 @@ nothing_added : (sheet : Sheet) (named : Option ℕ) (old : List Properties) →
 nothing_added sheet named old h = record { added = []; layers = h; joined = sym (append-nil old) }
 
 pub foreign_named : (sheet : Sheet) (direct : Properties) (value : List ℕ) (istd : ℕ) (old : List Properties) →
-    get direct character_style_code ≡ Some value → istd ≡ u16_at value 0 → kind_at sheet istd ≢ 2 → AddsNamed sheet
+    get direct character_style_code ≡ Some value → istd ≡ u16_at value 0 → style_kind_at sheet istd ≢ 2 → AddsNamed
+    sheet
     (named_style direct) old old
 foreign_named sheet direct value istd old e number kind =
     let here : AreNamedLayers sheet (Some (u16_at value 0)) [] = subst (λ i. AreNamedLayers sheet (Some i) []) number

@@ -18,7 +18,7 @@ use Rattle.prop_map.specs.Settings.{Properties}
 use Rattle.prop_map.proofs.Public.{of_true}
 use Rattle.style_sheet.specs.declared.styles.Style.{Style}
 use Rattle.style_sheet.specs.Sheet.{Sheet}
-use Rattle.style_sheet.specs.Chain.{kind_at}
+use Rattle.style_sheet.specs.Chain.{style_kind_at}
 use Rattle.style_sheet.proofs.Public.{base_chains_agree}
 use Rattle.effective_props.specs.declared.tabs.Tab.{Tab}
 use Rattle.effective_props.specs.Values.{IsEffectiveMap}
@@ -118,10 +118,15 @@ pub named_layers_one : (sheet : Sheet) (named : Option ℕ) (a b : List Properti
     AreNamedLayers sheet named b → a ≡ b
 named_layers_one sheet None a b h k = h ∙ sym k
 named_layers_one sheet (Some istd) a b h k =
-    elim (kind_at sheet istd == 2) as (λ t. (kind_at sheet istd == 2) ≡ t → a ≡ b) [
-      | true ↦ λ e. let is = eqb-true (kind_at sheet istd) 2 e in chain_layers_one character_properties sheet istd a b
+    elim (style_kind_at sheet istd == 2) as (λ t. (style_kind_at sheet istd == 2) ≡ t → a ≡ b) [
+      | true ↦ λ e. let is = eqb-true (style_kind_at sheet istd) 2 e in chain_layers_one character_properties sheet istd
+          a b
           (h.0 is) (k.0 is)
-      | false ↦ λ e. let not_so : kind_at sheet istd ≢ 2 = (λ is. absurd (cc (eq-eqb (kind_at sheet istd) 2 is, e)))
+      | false ↦ λ e. let not_so : style_kind_at sheet istd ≢ 2 = (λ is. absurd (cc (
+        eq-eqb (style_kind_at sheet istd) 2
+            is,
+        e,
+      )))
           in h.1 not_so ∙ sym (k.1 not_so)
     ] refl
 

@@ -6,7 +6,7 @@ use Rattle.std.specs.List.{slice_get}
 use Rattle.prop_map.specs.Settings.{Properties}
 use Rattle.effective_props.specs.declared.tabs.Tab.{Tab}
 use Rattle.effective_props.specs.TabChange.{deleted_count, deleted_position, added_count, added_position, added_kind}
-use Rattle.effective_props.specs.TabChange.{Adds, Mentions}
+use Rattle.effective_props.specs.TabChange.{AddsTab, Mentions}
 use Rattle.effective_props.specs.Stops.{HasTabChange, MentionsStop, HasStop}
 use Rattle.effective_props.specs.StopSteps.{StopTree, stop_at, ChangesBy, ChangesByLayer}
 use Rattle.effective_props.proofs.PlaceLemmas.{IsLastPlace, last_place, get_old, get_new, get_past, get_within}
@@ -54,7 +54,7 @@ kept_stop layers layer tab h none = record {
 }
 
 pub new_stop : (layers : List Properties) (layer : Properties) (value : List ℕ) (tab : Tab) → HasTabChange layer value →
-    Adds value tab → HasStop (layers ++ layer ∷ []) tab
+    AddsTab value tab → HasStop (layers ++ layer ∷ []) tab
 new_stop layers layer value tab change adds = record {
   number = length layers;
   layer = layer;
@@ -67,7 +67,7 @@ new_stop layers layer value tab change adds = record {
 
 -- a stop of one more layer is one that the layer adds, or one that was there and that it does not mention
 pub which_stop : (layers : List Properties) (layer : Properties) (tab : Tab) → HasStop (layers ++ layer ∷ []) tab →
-    ((value : List ℕ) × (HasTabChange layer value × Adds value tab)) ⊎ ((¬ (MentionsStop layer tab.at)) × HasStop
+    ((value : List ℕ) × (HasTabChange layer value × AddsTab value tab)) ⊎ ((¬ (MentionsStop layer tab.at)) × HasStop
     layers tab)
 which_stop layers layer tab h =
     elim (cases_lt h.number (length layers)) [
@@ -111,7 +111,7 @@ kept_here : (value : List ℕ) (old new : StopTree) (p : ℤ) → ChangesBy valu
 kept_here value old new p by deletes adds = by.adds.kept p adds ∙ by.deletes.kept p deletes
 
 adds_at : (value : List ℕ) (p : ℤ) (place kind : ℕ) → IsLastPlace (added_position value) p (added_count value) place →
-    added_kind value place ≡ kind → Adds value (record { at = p; kind = kind })
+    added_kind value place ≡ kind → AddsTab value (record { at = p; kind = kind })
 adds_at value p place kind h is = record { number = place; within = h.within; at = h.at; kind = is; last = h.last }
 
 changed_found : (layers : List Properties) (layer : Properties) (value : List ℕ) (old new : StopTree) (p : ℤ) (kind : ℕ)
@@ -139,7 +139,8 @@ changed_there : (layers : List Properties) (layer : Properties) (value : List �
 changed_there layers layer value old new tab holds change by h =
     elim (which_stop layers layer tab h) [
       | inl new_one ↦
-          let adds : Adds value tab = subst (λ v. Adds v tab) (one_change layer new_one.0 value new_one.1.0 change)
+          let adds : AddsTab value tab = subst (λ v. AddsTab v tab) (one_change layer new_one.0 value new_one.1.0
+          change)
           new_one.1.1 in
           added_here value old new tab.at adds.number by (record {
             within = adds.within;

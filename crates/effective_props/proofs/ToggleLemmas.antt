@@ -6,7 +6,7 @@ use Rattle.std.proofs.lemmas.List.Elements.{All-head, All-tail}
 use Rattle.std.proofs.lemmas.List.Sums.{fold-append, sum_by-cons}
 use Rattle.std.specs.List.{fold, count_by}
 use Rattle.effective_props.specs.Toggles.{is_byte, is_keep, is_turn, opposite, toggled, toggle_value}
-use Rattle.effective_props.specs.Laws.{is_relative, AreRelative, turned, ToggleIsSaidByLastValue}
+use Rattle.effective_props.specs.Laws.{is_relative, AreRelative, turned_times, ToggleIsSaidByLastValue}
 use Rattle.doc_bits.proofs.Public.{zero_more}
 
 -- turning round three times is turning round once
@@ -29,7 +29,7 @@ turned_next n false true odd_next before first second third = rw (second refl re
 turned_next n false false odd_next before first second third = rw (third refl refl) (ap Some (opposite_thrice before))
 
 -- one more turn
-turned_more : (n : ℕ) (before : Option (List ℕ)) → turned n (Some (opposite before)) ≡ turned (n + 1) before
+turned_more : (n : ℕ) (before : Option (List ℕ)) → turned_times n (Some (opposite before)) ≡ turned_times (n + 1) before
 turned_more n before =
     let next : ((n + 1) == 0) ≡ false = is_false (n + 1) 0 (omega arith) in
     turned_next n (n == 0) (n % 2 == 1) ((n + 1) % 2 == 1) before
@@ -73,18 +73,19 @@ one_before : (n : ℕ) → 1 + n ≡ n + 1
 one_before n = omega arith
 
 pub turned_all : (values : List (List ℕ)) (before : Option (List ℕ)) → AreRelative values → fold toggled before values
-    ≡ turned (count_by is_turn values) before
+    ≡ turned_times (count_by is_turn values) before
 turned_all [] before all = refl
 turned_all (value ∷ values) before all =
     let here = All-head (λ v. is_relative v ≡ true) value values all in
     let rest = All-tail (λ v. is_relative v ≡ true) value values all in
     let n = count_by is_turn values in
-    elim (is_keep value) as (λ b. is_keep value ≡ b → fold toggled before (value ∷ values) ≡ turned (count_by is_turn
+    elim (is_keep value) as (λ b. is_keep value ≡ b → fold toggled before (value ∷ values) ≡ turned_times (count_by
+    is_turn
     (value ∷ values)) before) [
       | true ↦ λ keep.
           ap (λ b. fold toggled (cond b before (cond (is_turn value) (Some (opposite before)) (Some value))) values)
           keep
-          ∙ (turned_all values before rest ∙ ap (λ m. turned m before) (sym (count_more value values false
+          ∙ (turned_all values before rest ∙ ap (λ m. turned_times m before) (sym (count_more value values false
           (keep_no_turn value keep) ∙ zero_more n)))
       | false ↦ λ keep.
           let turn : is_turn value ≡ true = ap (λ b. b || is_turn value) (sym keep) ∙ here in
@@ -92,7 +93,7 @@ turned_all (value ∷ values) before all =
           keep
           ∙ (ap (λ b. fold toggled (cond b (Some (opposite before)) (Some value)) values) turn
           ∙ (turned_all values (Some (opposite before)) rest
-          ∙ (turned_more n before ∙ ap (λ m. turned m before) (sym (count_more value values true turn ∙ one_before
+          ∙ (turned_more n before ∙ ap (λ m. turned_times m before) (sym (count_more value values true turn ∙ one_before
           n)))))
     ] refl
 

@@ -15,19 +15,19 @@ use Rattle.sprm_table.specs.Codes.{class_of}
 use Rattle.prop_map.specs.Settings.{Properties}
 use Rattle.prop_map.specs.Entries.{Entries}
 use Rattle.effective_props.specs.Toggles.{toggled}
-use Rattle.effective_props.specs.Values.{tabs_code, is_toggle, values_at, value_of, effective_value}
-use Rattle.effective_props.specs.ValueSteps.{value_over, layer_over, IsValueOver}
+use Rattle.effective_props.specs.Values.{tabs_code, is_toggle, values_at, combined_value, effective_value}
+use Rattle.effective_props.specs.ValueSteps.{value_laid_over, layer_over, IsValueOver}
 use Rattle.prop_map.proofs.Public.{find-earlier}
 
 -- ---- one value
 
 pub put_over : (code other : ℕ) (old : Properties) (value made : List ℕ) → (code == tabs_code) ≡ false →
-    Some made ≡ value_over code (get old code) value → get (insert old code made) other ≡ cond (other == code)
+    Some made ≡ value_laid_over code (get old code) value → get (insert old code made) other ≡ cond (other == code)
     (layer_over code (get old code) (Some value)) (get old other)
 put_over code other old value made plain is =
     get-insert nat_cmp_total old code made other
     ∙ (ap (λ b. cond b (Some made) (get old other)) (unsigned_tied other code)
-    ∙ ap (λ o. cond (other == code) o (get old other)) (is ∙ ap (λ b. cond b (get old code) (value_over code
+    ∙ ap (λ o. cond (other == code) o (get old other)) (is ∙ ap (λ b. cond b (get old code) (value_laid_over code
     (get old code) value)) (sym plain)))
 
 -- ---- the values of one layer, in the order of their codes
@@ -101,8 +101,8 @@ pub last_of_more : (before : Option (List ℕ)) (values : List (List ℕ)) (valu
 last_of_more before [] value = refl
 last_of_more before (v ∷ values) value = last_of_more (Some v) values value
 
-value_of_more : (code : ℕ) (values : List (List ℕ)) (value : List ℕ) → value_of code (values ++ value ∷ []) ≡
-    value_over code (value_of code values) value
+value_of_more : (code : ℕ) (values : List (List ℕ)) (value : List ℕ) → combined_value code (values ++ value ∷ []) ≡
+    value_laid_over code (combined_value code values) value
 value_of_more code values value =
     elim (is_toggle (class_of code)) as (λ b. cond b (toggle_of (values ++ value ∷ [])) (last_or None (values ++ value
     ∷ [])) ≡ cond b (toggled (cond b (toggle_of values) (last_or None values)) value) (Some value)) [
@@ -111,19 +111,20 @@ value_of_more code values value =
     ]
   where
     toggle_of : List (List ℕ) → Option (List ℕ)
-    toggle_of vs = value_of 0x0835 vs
+    toggle_of vs = combined_value 0x0835 vs
 
 pub effective_more : (layers : List Properties) (layer : Properties) (code : ℕ) → effective_value (layers ++ layer ∷ [])
     code ≡ layer_over code (effective_value layers code) (get layer code)
 effective_more layers layer code =
     let f : Properties → Option (List ℕ) = λ m. get m code in
     let values = values_at layers code in
-    ap (λ vs. cond (code == tabs_code) None (value_of code vs)) (filter_map-append f layers (layer ∷ []))
-    ∙ elim (get layer code) as (λ o. cond (code == tabs_code) None (value_of code (values ++ cons o)) ≡ layer_over
-    code (cond (code == tabs_code) None (value_of code values)) o) [
-      | None ↦ ap (λ vs. cond (code == tabs_code) None (value_of code vs)) (append-nil values)
-      | Some value ↦ elim (code == tabs_code) as (λ b. cond b None (value_of code (values ++ value ∷ [])) ≡ cond b
-          (cond b None (value_of code values)) (value_over code (cond b None (value_of code values)) value)) [
+    ap (λ vs. cond (code == tabs_code) None (combined_value code vs)) (filter_map-append f layers (layer ∷ []))
+    ∙ elim (get layer code) as (λ o. cond (code == tabs_code) None (combined_value code (values ++ cons o)) ≡ layer_over
+    code (cond (code == tabs_code) None (combined_value code values)) o) [
+      | None ↦ ap (λ vs. cond (code == tabs_code) None (combined_value code vs)) (append-nil values)
+      | Some value ↦ elim (code == tabs_code) as (λ b. cond b None (combined_value code (values ++ value ∷ [])) ≡ cond b
+          (cond b None (combined_value code values)) (value_laid_over code (cond b None (combined_value code values))
+          value)) [
             | true ↦ refl
             | false ↦ value_of_more code values value
           ]

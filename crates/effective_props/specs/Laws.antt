@@ -22,8 +22,8 @@ abbrev pub AreRelative : List (List ℕ) → Type 0
 AreRelative values = All (λ value. is_relative value ≡ true) values
 
 -- a value that was turned round so many times: only whether they are even or odd, and whether there are any, counts
-abbrev pub turned : ℕ → Option (List ℕ) → Option (List ℕ)
-turned times before =
+abbrev pub turned_times : ℕ → Option (List ℕ) → Option (List ℕ)
+turned_times times before =
     if times == 0 then before else
     if times % 2 == 1 then Some (opposite before) else Some (opposite (Some (opposite before)))
 
@@ -32,8 +32,8 @@ turned times before =
 pub record IsSaidByLastValue (values : List (List ℕ)) : Type 0 where
   pub set :
       (front back : List (List ℕ)) (value : List ℕ) → values ≡ front ++ value ∷ back → is_relative value ≡ false →
-      AreRelative back → toggle_value values ≡ turned (count_by is_turn back) (Some value)
-  pub none : AreRelative values → toggle_value values ≡ turned (count_by is_turn values) None
+      AreRelative back → toggle_value values ≡ turned_times (count_by is_turn back) (Some value)
+  pub none : AreRelative values → toggle_value values ≡ turned_times (count_by is_turn values) None
 
 abbrev pub ToggleIsSaidByLastValue : Type 0
 ToggleIsSaidByLastValue = (values : List (List ℕ)) → IsSaidByLastValue values

@@ -6,18 +6,18 @@ use Rattle.doc_bits.specs.Number.{u16_at}
 use Rattle.prop_map.specs.Settings.{Properties}
 use Rattle.style_sheet.specs.declared.styles.Style.{Style}
 use Rattle.style_sheet.specs.Sheet.{Sheet, style_at}
-use Rattle.style_sheet.specs.Chain.{kind_at, IsBaseChain}
-use Rattle.style_sheet.specs.Changes.{characters_of, paragraphs_of}
+use Rattle.style_sheet.specs.Chain.{style_kind_at, IsBaseChain}
+use Rattle.style_sheet.specs.Changes.{kind_characters, pap_of_style}
 
 -- the paragraph properties of a style, where it is there and has some
 abbrev pub paragraph_properties : Option Style → Properties
 paragraph_properties None = empty
-paragraph_properties (Some style) = paragraphs_of style.kind
+paragraph_properties (Some style) = pap_of_style style.kind
 
 -- and its character properties
 abbrev pub character_properties : Option Style → Properties
 character_properties None = empty
-character_properties (Some style) = characters_of style.kind
+character_properties (Some style) = kind_characters style.kind
 
 -- such properties of each of these styles
 abbrev pub properties_of_styles : (Option Style → Properties) → Sheet → List ℕ → List Properties
@@ -43,7 +43,8 @@ named_style direct = option_map (λ value. u16_at value 0) (get direct character
 abbrev pub AreNamedLayers : Sheet → Option ℕ → List Properties → Type 0
 AreNamedLayers sheet None layers = layers ≡ []
 AreNamedLayers sheet (Some istd) layers =
-    (kind_at sheet istd ≡ 2 → AreChainLayers character_properties sheet istd layers) × (kind_at sheet istd ≢ 2 →
+    (style_kind_at sheet istd ≡ 2 → AreChainLayers character_properties sheet istd layers) × (style_kind_at sheet istd ≢
+    2 →
     layers ≡ [])
 
 -- the character properties of the paragraph's style, those of the named character style, and the direct ones

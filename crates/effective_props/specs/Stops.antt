@@ -8,7 +8,7 @@ use Rattle.std.specs.FinMap.{get}
 use Rattle.prop_map.specs.Settings.{Properties}
 use Rattle.effective_props.specs.declared.tabs.Tab.{Tab}
 use Rattle.effective_props.specs.Values.{tabs_code}
-use Rattle.effective_props.specs.TabChange.{IsTabChange, Adds, Mentions}
+use Rattle.effective_props.specs.TabChange.{IsTabChange, AddsTab, Mentions}
 
 -- the layer changes stops by this value
 pub record HasTabChange (layer : Properties) (value : List ℕ) : Type 0 where
@@ -29,7 +29,7 @@ pub record HasStop (layers : List Properties) (tab : Tab) : Type 0 where
   pub there : slice_get layers number ≡ Some layer
   pub value : List ℕ
   pub change : HasTabChange layer value
-  pub adds : Adds value tab
+  pub adds : AddsTab value tab
   pub last :
       (later : ℕ) (other : Properties) → number < later → slice_get layers later ≡ Some other →
       ¬ (MentionsStop other tab.at)

@@ -46,7 +46,7 @@ pub record Deletes (value : List ℕ) (position : ℤ) : Type 0 where
   pub at : deleted_position value number ≡ position
 
 -- the value adds a stop, of this kind where it names the position last
-pub record Adds (value : List ℕ) (tab : Tab) : Type 0 where
+pub record AddsTab (value : List ℕ) (tab : Tab) : Type 0 where
   pub number : ℕ
   pub within : number < added_count value
   pub at : added_position value number ≡ tab.at
@@ -55,4 +55,4 @@ pub record Adds (value : List ℕ) (tab : Tab) : Type 0 where
 
 -- the value says something of the position
 abbrev pub Mentions : List ℕ → ℤ → Type 0
-Mentions value position = Deletes value position ⊎ ((kind : ℕ) × Adds value (record { at = position; kind = kind }))
+Mentions value position = Deletes value position ⊎ ((kind : ℕ) × AddsTab value (record { at = position; kind = kind }))

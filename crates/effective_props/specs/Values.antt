@@ -25,12 +25,12 @@ abbrev pub values_at : List Properties → ℕ → List (List ℕ)
 values_at layers code = filter_map (λ layer. get layer code) layers
 
 -- what values of one code make together: those of a toggle act in turn, and of others the last one counts
-abbrev pub value_of : ℕ → List (List ℕ) → Option (List ℕ)
-value_of code values = if is_toggle (class_of code) then toggle_value values else last_or None values
+abbrev pub combined_value : ℕ → List (List ℕ) → Option (List ℕ)
+combined_value code values = if is_toggle (class_of code) then toggle_value values else last_or None values
 
 -- the effective value at a code; changes of tab stops make stops, and no value
 abbrev pub effective_value : List Properties → ℕ → Option (List ℕ)
-effective_value layers code = if code == tabs_code then None else value_of code (values_at layers code)
+effective_value layers code = if code == tabs_code then None else combined_value code (values_at layers code)
 
 -- the map has the effective value of each code
 abbrev pub IsEffectiveMap : List Properties → Properties → Type 0

@@ -1,7 +1,7 @@
 // Effective properties.
 ghost use Rattle.std.specs.Prelude.{◌≡◌, IfOk};
 ghost use Rattle.prop_map.specs.Formed.{IsPropertyMap, character_groups, paragraph_groups};
-ghost use Rattle.style_sheet.specs.Chain.{kind_at, HasSoundBases};
+ghost use Rattle.style_sheet.specs.Chain.{style_kind_at, HasSoundBases};
 ghost use Rattle.effective_props.specs.Effective.{IsEffectiveCharacter, IsEffectiveParagraph};
 
 use crate::Tabs;
@@ -30,7 +30,7 @@ pub fn effective_char(
     direct: &PropMap,
 ) -> Result<PropMap, Memory>
     requires bases { HasSoundBases sheet.now }
-    requires style { kind_at sheet.now istd ≡ 1 }
+    requires style { style_kind_at sheet.now istd ≡ 1 }
     requires direct { IsPropertyMap character_groups direct.now }
     ensures effective { IfOk result (λ map. IsEffectiveCharacter sheet.now istd direct.now map) }
     ensures formed { IfOk result (λ map. IsPropertyMap character_groups map) }
@@ -50,7 +50,7 @@ pub fn effective_para(
     direct: &PropMap,
 ) -> Result<ParaEffect, Memory>
     requires bases { HasSoundBases sheet.now }
-    requires style { kind_at sheet.now istd ≡ 1 }
+    requires style { style_kind_at sheet.now istd ≡ 1 }
     requires direct { IsPropertyMap paragraph_groups direct.now }
     ensures effective { IfOk result (λ effect. IsEffectiveParagraph sheet.now istd direct.now effect) }
     ensures formed { IfOk result (λ effect. IsPropertyMap paragraph_groups effect.map) }

@@ -2,7 +2,7 @@
 ghost use Rattle.std.specs.Prelude.{◌≡◌, ◌↔◌, ◌<◌, [], ◌∷◌, ◌++◌, IsTrue, IfOk, OnOk};
 ghost use Rattle.std.specs.Option.{option_map};
 ghost use Rattle.prop_map.specs.Formed.{IsPropertyMap, character_groups};
-ghost use Rattle.style_sheet.specs.Chain.{kind_at, HasSoundBases};
+ghost use Rattle.style_sheet.specs.Chain.{style_kind_at, HasSoundBases};
 ghost use Rattle.effective_props.specs.Layers.{named_style, properties_of_styles, AreCharacterLayers};
 ghost use Rattle.effective_props.specs.Layers.{AreParagraphLayers};
 ghost use Rattle.effective_props.specs.LayerParts.{properties_in, AddsChain, AddsNamed};
@@ -28,7 +28,7 @@ pub(crate) fn character_layers(
     direct: &PropMap,
 ) -> Result<Vec<PropMap>, Memory>
     requires bases { HasSoundBases sheet.now }
-    requires style { kind_at sheet.now istd ≡ 1 }
+    requires style { style_kind_at sheet.now istd ≡ 1 }
     requires direct { IsPropertyMap character_groups direct.now }
     ensures { IfOk result (λ layers. AreCharacterLayers sheet.now istd direct.now layers.items) }
 {
@@ -47,7 +47,7 @@ pub(crate) fn paragraph_layers(
     direct: &PropMap,
 ) -> Result<Vec<PropMap>, Memory>
     requires bases { HasSoundBases sheet.now }
-    requires style { kind_at sheet.now istd ≡ 1 }
+    requires style { style_kind_at sheet.now istd ≡ 1 }
     ensures { IfOk result (λ layers. AreParagraphLayers sheet.now istd direct.now layers.items) }
 {
     let mut layers = Vec::new(alloc);
@@ -87,7 +87,7 @@ fn add_named(
 
 /// Whether the slot has a style of characters.
 fn is_character_style(sheet: &StyleSheet, istd: u16) -> bool
-    ensures { IsTrue result ↔ kind_at sheet.now istd ≡ 2 }
+    ensures { IsTrue result ↔ style_kind_at sheet.now istd ≡ 2 }
 {
     match sheet.get(istd) {
         None => false,
@@ -108,7 +108,7 @@ fn add_chain(
     layers: &mut Vec<PropMap>,
 ) -> Result<(), Memory>
     requires bases { HasSoundBases sheet.now }
-    requires style { 0 < kind_at sheet.now istd }
+    requires style { 0 < style_kind_at sheet.now istd }
     ensures { OnOk result (AddsChain part sheet.now istd layers.old.items layers.new.items) }
 {
     let chain = sheet.chain(alloc, istd)?;

@@ -2,7 +2,7 @@
 ghost use Rattle.std.specs.Prelude.{◌≡◌, OnOk, IfOk};
 ghost use Rattle.std.specs.Option.{option_map};
 ghost use Rattle.effective_props.specs.Values.{IsEffectiveMap};
-ghost use Rattle.effective_props.specs.ValueSteps.{value_over, IsValueOver, IsLayerOver};
+ghost use Rattle.effective_props.specs.ValueSteps.{value_laid_over, IsValueOver, IsLayerOver};
 
 use crate::toggles::toggle;
 use doc_bits::{Bytes, Memory};
@@ -47,7 +47,7 @@ fn lay(values: &mut Draft, alloc: Global, code: Code, value: &[u8]) -> Result<()
 
 /// What a value makes of the value so far.
 fn over<'a>(code: Code, before: Option<&'a [u8]>, value: &'a [u8]) -> Option<&'a [u8]>
-    ensures { option_map (λ v. v.now) result ≡ value_over code.0 (option_map (λ v. v.now) before.entry) value.now }
+    ensures { option_map (λ v. v.now) result ≡ value_laid_over code.0 (option_map (λ v. v.now) before.entry) value.now }
 {
     match class(code) {
         Class::Toggle => toggle(before, value),

@@ -18,12 +18,12 @@ use Rattle.doc_bits.specs.declared.places.Story.TheVariants.{Main, Note as NoteT
 use Rattle.sprm_table.specs.Sprm.{Prl}
 use Rattle.prop_map.specs.Settings.{Properties}
 use Rattle.prop_map.proofs.Public.{entries-empty}
-use Rattle.plain_doc.specs.declared.item.Item.{Item}
-use Rattle.plain_doc.specs.declared.item.Mark.{Mark}
-use Rattle.plain_doc.specs.declared.document.Document.{Document}
-use Rattle.plain_doc.specs.Collected.{joined_texts}
-use Rattle.plain_doc.specs.Stretches.{stretches}
-use Rattle.plain_doc.proofs.Public.{empty_joined, length-joined}
+use Rattle.doc_model.specs.declared.item.Item.{Item}
+use Rattle.doc_model.specs.declared.item.Mark.{Mark}
+use Rattle.doc_model.specs.declared.document.Document.{Document}
+use Rattle.doc_model.specs.Collected.{joined_texts}
+use Rattle.doc_model.specs.Stretches.{stretches}
+use Rattle.doc_model.proofs.Public.{empty_joined, length-joined}
 use Rattle.full_save.specs.Text.{extra_mark}
 use Rattle.edit_script.specs.declared.commands.Command.{Command}
 use Rattle.edit_script.specs.declared.commands.Command.TheVariants.{Insert, Erase, Char, Plain, Para, Style, Field}
@@ -42,11 +42,11 @@ use Rattle.edit_ops.specs.Bookmarks.{new_bookmark, with_bookmark, without_bookma
 use Rattle.edit_ops.specs.Edits.{erased, section_changes, changes_of, property_characters, property_paragraphs}
 use Rattle.edit_ops.specs.Edits.{clearing}
 use Rattle.edit_ops.specs.Edits.{naming_style}
-use Rattle.edit_ops.specs.Runs.{run_count, texts_put, most_runs}
+use Rattle.edit_ops.specs.Runs.{run_count, texts_put, reckoned_runs}
 use Rattle.edit_ops.proofs.Public.{few_runs, HasChp, one_run, units_have}
 use Rattle.session_text.specs.AddedText.{marked_block}
-use Rattle.session_text.specs.EditSteps.{HasGrownBy, IsBlockOf, NamesEmptyStory, items_put}
-use Rattle.save_laws.specs.SharedPages.{pages_begun, marks_of, is_bare_mark, page_bound}
+use Rattle.session_text.specs.EditSteps.{HasGrownByBlocks, IsBlockOf, NamesEmptyStory, items_put}
+use Rattle.save_laws.specs.SharedPages.{pages_begun, item_marks, is_bare_mark, page_bound}
 use Rattle.save_laws.proofs.Public.{both_marks, page_bounds_are_fewer, page_bounds_add, bare_marks_share}
 use Rattle.session_text.proofs.Public.{length-marked, length-joined as joined_sum}
 use Rattle.piece_table.proofs.Public.{others_together}
@@ -154,17 +154,17 @@ record AreBareMarks (marks : List Mark) (count : ℕ) : Type 0 where
   bare : All IsBareMark marks
   few : length marks ≤ count
 
-ends_bare : (count : ℕ) → AreBareMarks (marks_of (ends_of count)) count
+ends_bare : (count : ℕ) → AreBareMarks (item_marks (ends_of count)) count
 ends_bare zero = record { bare = All-nil IsBareMark; few = omega arith }
 ends_bare (suc count) =
     let rest = ends_bare count in
     let few = rest.few in
     record {
-      bare = All-cons IsBareMark (mark_with empty) (marks_of (ends_of count)) plain_is_bare rest.bare;
+      bare = All-cons IsBareMark (mark_with empty) (item_marks (ends_of count)) plain_is_bare rest.bare;
       few = omega (arith, few);
     }
 
-unit_marks : (chp : Properties) (units : List ℕ) → marks_of (unit_items chp units) ≡ []
+unit_marks : (chp : Properties) (units : List ℕ) → item_marks (unit_items chp units) ≡ []
 unit_marks chp [] = refl
 unit_marks chp (unit ∷ units) = unit_marks chp units
 
@@ -175,12 +175,12 @@ plain_text units count small =
     let all =
     All-append (HasChp empty) (unit_items empty units) (ends_of count) (units_have empty units) (ends_have count) in
     let one = one_run empty items all in
-    let marks : marks_of items ≡ marks_of (ends_of count) =
+    let marks : item_marks items ≡ item_marks (ends_of count) =
     both_marks (unit_items empty units) (ends_of count)
-    ∙ ap (λ (list : List Mark). list ++ marks_of (ends_of count)) (unit_marks empty units) in
+    ∙ ap (λ (list : List Mark). list ++ item_marks (ends_of count)) (unit_marks empty units) in
     let bare = ends_bare count in
     let few = bare.few in
-    let share = bare_marks_share (marks_of (ends_of count)) bare.bare (omega (arith, few, small)) in
+    let share = bare_marks_share (item_marks (ends_of count)) bare.bare (omega (arith, few, small)) in
     omega (arith, one, ap (λ (list : List Mark). pages_begun 0 (map is_bare_mark list)) marks, share)
 
 one_unit : (item : Item) → item.mark ≡ None → page_bound (item ∷ []) ≤ 1
@@ -325,7 +325,7 @@ reference_bytes document at base block is =
 
 abbrev pub IsWithin : Document → Command → List (List Item) → Type 0
 IsWithin document command blocks =
-    bytes_of (joined_texts blocks) ≤ 2 * (edit_facts document command).units_in + 512 * most_runs command
+    bytes_of (joined_texts blocks) ≤ 2 * (edit_facts document command).units_in + 512 * reckoned_runs command
 
 by_unmarked : (document : Document) (command : Command) (blocks : List (List Item)) →
     AreTogether (IsBlockOf document) (changes_of document command) blocks →
@@ -467,8 +467,8 @@ long_blocks document (change ∷ changes) (block ∷ blocks) together =
 
 -- the runs of added text after a command
 pub runs_after : (document : Document) (command : Command) (old new : List Item) → IsInRange document command →
-    HasGrownBy document (changes_of document command) old new →
-    page_bound new ≤ page_bound old + most_runs command
+    HasGrownByBlocks document (changes_of document command) old new →
+    page_bound new ≤ page_bound old + reckoned_runs command
 runs_after document command old new range grown =
     let within = added_within document command range grown.blocks grown.each in
     let long = long_blocks document (changes_of document command) grown.blocks grown.each in
@@ -477,8 +477,8 @@ runs_after document command old new range grown =
 
 -- what added text takes after a command
 pub bytes_after : (document : Document) (command : Command) (old new : List Item) → IsInRange document command →
-    HasGrownBy document (changes_of document command) old new →
-    bytes_of new ≤ bytes_of old + 2 * (edit_facts document command).units_in + 512 * most_runs command
+    HasGrownByBlocks document (changes_of document command) old new →
+    bytes_of new ≤ bytes_of old + 2 * (edit_facts document command).units_in + 512 * reckoned_runs command
 bytes_after document command old new range grown =
     let within = added_within document command range grown.blocks grown.each in
     let both = bytes-append old (joined_texts grown.blocks) in

@@ -5,12 +5,12 @@ use Rattle.std.proofs.Common.{◌≡◌, ◌∙◌, refl, sym, ap, ℕ, zero, su
 use Rattle.std.proofs.Common.{◌++◌, length, map, Option, Some, None, arith, append_assoc, length-append}
 use Rattle.std.proofs.lemmas.List.Elements.{All-head, All-tail, All-append}
 use Rattle.std.proofs.lemmas.Option.{same_Some, none-some}
-use Rattle.plain_doc.specs.declared.item.Item.{Item}
-use Rattle.plain_doc.specs.declared.document.Document.{Document}
-use Rattle.plain_doc.specs.Collected.{joined_texts}
+use Rattle.doc_model.specs.declared.item.Item.{Item}
+use Rattle.doc_model.specs.declared.document.Document.{Document}
+use Rattle.doc_model.specs.Collected.{joined_texts}
 use Rattle.save_laws.specs.ByRuns.{slot_end, text_ends}
 use Rattle.save_laws.specs.Slots.{Slot, shown, loose, last, StoryEnds, loose_if, story_slots, note_slots, head_slots}
-use Rattle.save_laws.specs.Slots.{last_slots, whole_text, story_counts}
+use Rattle.save_laws.specs.Slots.{last_slots, document_slots, story_counts}
 use Rattle.save_laws.proofs.Public.{story_ends, shown_ends}
 
 -- ---- which marks are behind stories is told by the counts
@@ -62,9 +62,9 @@ last_none (slot ∷ slots) zero s here = ap slot_end (sym (same_Some last s here
 last_none (slot ∷ slots) (suc j) s here = absurd (none-some s here)
 
 pub end_there : (document : Document) (ends : StoryEnds) (k : ℕ) (slot : Slot) (end : Bool) →
-    slice_get (whole_text document ends) k ≡ Some slot → slot_end slot ≡ Some end →
-    slice_get (text_ends (whole_text document ends)) k ≡ Some end
-unfolding whole_text
+    slice_get (document_slots document ends) k ≡ Some slot → slot_end slot ≡ Some end →
+    slice_get (text_ends (document_slots document ends)) k ≡ Some end
+unfolding document_slots
 end_there document ends k slot end here is =
     let main = map shown document.main in
     let notes = note_slots document ends in

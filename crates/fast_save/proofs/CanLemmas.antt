@@ -16,7 +16,7 @@ use Rattle.prop_map.specs.Settings.{Properties}
 use Rattle.cfb_streams.specs.Names.{wd_name, table_name}
 use Rattle.fib_form.specs.Fib.{fib_pair, table_part}
 use Rattle.fib_form.specs.FibFields.{fib_fields}
-use Rattle.fib_form.specs.TableParts.{pair_of}
+use Rattle.fib_form.specs.TableParts.{pair_number}
 use Rattle.fib_form.specs.declared.table_parts.TablePart.TheVariants.{PlcfBteChpx, PlcfBtePapx}
 use Rattle.fkp_pages.specs.declared.kind.PageKind.{PageKind}
 use Rattle.fkp_pages.specs.declared.kind.PageKind.TheVariants.{Chpx, Papx}
@@ -25,22 +25,23 @@ use Rattle.fkp_pages.specs.InARow.{numbered_bins}
 use Rattle.fkp_pages.proofs.Public.{length-printed_bin, length-numbered_bins}
 use Rattle.piece_table.specs.Piece.{ArePieces}
 use Rattle.piece_table.specs.Printing.{IsPrintedClx}
-use Rattle.plain_doc.specs.declared.document.Document.{Document}
-use Rattle.plain_doc.specs.Collected.{sections_of}
-use Rattle.plain_doc.specs.Document.{IsFormedText}
-use Rattle.plain_doc.specs.Formed.{IsFormed}
+use Rattle.doc_model.specs.declared.document.Document.{Document}
+use Rattle.doc_model.specs.Collected.{sections_of}
+use Rattle.doc_model.specs.Document.{IsFormedText}
+use Rattle.doc_model.specs.Formed.{IsFormed}
 use Rattle.file_rules.specs.FileRules.{table_stream_name}
 use Rattle.full_save.specs.WordDocument.{table_stream}
 use Rattle.save_laws.specs.Saves.{HasPropertiesAt}
 use Rattle.save_laws.specs.ClxLengths.{HaveShortPrcs}
 use Rattle.save_laws.specs.FastSizes.{reckoned_sectors}
 use Rattle.save_laws.proofs.Public.{clx_is_short, reckoned_prcs_are_short, tables_are_short}
-use Rattle.fast_save_layout.specs.Appended.{old_stream, old_wd, old_table, old_bins, bins_end, added_pages, page_count}
+use Rattle.fast_save_layout.specs.Appended.{old_stream, old_wd, old_table, old_bins, bins_end, added_pages}
+use Rattle.fast_save_layout.specs.Appended.{added_page_count}
 use Rattle.fast_save_layout.specs.Appended.{first_page}
-use Rattle.fast_save_layout.specs.Appended.{pages_end}
+use Rattle.fast_save_layout.specs.Appended.{added_pages_end}
 use Rattle.fast_save_layout.specs.Appended.{fast_bins, fast_bin_table, fast_text, fast_table}
 use Rattle.fast_save_layout.specs.AppendedLengths.{IsSaveCounted as IsCountedSave}
-use Rattle.fast_save_layout.specs.Kept.{CanBeAppended}
+use Rattle.fast_save_layout.specs.Kept.{CanBeFastSaved}
 use Rattle.fast_save_layout.specs.KeptBins.{bin_of, bins_of, kept_bins}
 use Rattle.fast_save_layout.specs.RenewedStreams.{bytes_named}
 use Rattle.fast_save_layout.specs.Saves.{FastSave}
@@ -184,8 +185,8 @@ module _ {old : List ℕ} (document : Document) (parts : SessionParts) (can : Ca
   pub old_stream_is : old_stream the_save ≡ saved_stream can.session.held
   old_stream_is = λ i. record {
     wd = wd_is i;
-    characters = table_part (wd_is i) (table_is i) (pair_of PlcfBteChpx);
-    paragraphs = table_part (wd_is i) (table_is i) (pair_of PlcfBtePapx);
+    characters = table_part (wd_is i) (table_is i) (pair_number PlcfBteChpx);
+    paragraphs = table_part (wd_is i) (table_is i) (pair_number PlcfBtePapx);
   }
 
   table_short : length (old_table the_save) ≤ 7143936
@@ -203,7 +204,7 @@ module _ {old : List ℕ} (document : Document) (parts : SessionParts) (can : Ca
       let pair = fib_pair (old_wd the_save) 13 in
       omega (arith, range_short (old_table the_save) pair.0 (pair.0 + pair.1), table_short)
 
-  room : parts.text.added.base + 2 * length parts.text.added.items + 512 * page_count the_save ≤ 2 ^ 28
+  room : parts.text.added.base + 2 * length parts.text.added.items + 512 * added_page_count the_save ≤ 2 ^ 28
   room = omega (arith, can.session.base, wd_short, can.counted.text, small.text)
 
   bin_table_short : (kind : PageKind) → length (added_pages kind the_save).starts ≤ 20000 →
@@ -255,7 +256,7 @@ module _ {old : List ℕ} (document : Document) (parts : SessionParts) (can : Ca
   pub table_small : (clx : List ℕ) → IsPrintedClx parts.text.pieces.pieces clx → length (fast_table the_save clx) < 2
       ^ 31
   table_small clx printed =
-      let seds = length-planned_seds 0 (pages_end the_save) parts.text.sections.items (sections_of document.main)
+      let seds = length-planned_seds 0 (added_pages_end the_save) parts.text.sections.items (sections_of document.main)
       properties_of.len in
       let short = tables_are_short document (fast_text the_save clx) seds in
       let text = small.text in
@@ -265,7 +266,7 @@ module _ {old : List ℕ} (document : Document) (parts : SessionParts) (can : Ca
       let within = table_within the_save clx in
       omega (arith, within, short, characters, paragraphs, clx_small clx printed, small.table)
 
-  pub can_append : CanBeAppended the_save
+  pub can_append : CanBeFastSaved the_save
   can_append = record {
     saved = can.session.saved;
     bytes = can.session.bytes;

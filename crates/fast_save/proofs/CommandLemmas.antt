@@ -12,8 +12,8 @@ use Rattle.prop_map.specs.Settings.{Properties}
 use Rattle.prop_map.specs.Modifiers.{no_modifier, printed_modifier}
 use Rattle.prop_map.specs.Printing.{printed_list}
 use Rattle.prop_map.proofs.Public.{entries-empty, length-style, length-clear, modifier_parts}
-use Rattle.plain_doc.specs.declared.item.Item.{Item}
-use Rattle.plain_doc.specs.declared.document.Document.{Document}
+use Rattle.doc_model.specs.declared.item.Item.{Item}
+use Rattle.doc_model.specs.declared.document.Document.{Document}
 use Rattle.edit_script.specs.declared.commands.Command.{Command}
 use Rattle.edit_script.specs.declared.commands.Command.TheVariants.{Insert, Erase, Char, Plain, Para, Style, Field}
 use Rattle.edit_script.specs.declared.commands.Command.TheVariants.{Note, Split, Merge, Sect, Row, StyleChar}
@@ -30,7 +30,7 @@ use Rattle.edit_ops.specs.Bookmarks.{new_bookmark, with_bookmark, without_bookma
 use Rattle.edit_ops.specs.Edits.{erased, section_changes, changes_of, property_characters, property_paragraphs}
 use Rattle.edit_ops.specs.Edits.{clearing, naming_style}
 use Rattle.edit_ops.specs.Codes.{HasValidCodes}
-use Rattle.edit_ops.specs.Runs.{most_runs, most_runs_of_section}
+use Rattle.edit_ops.specs.Runs.{reckoned_runs, most_runs_of_section}
 use Rattle.session_text.specs.SessionText.{section_properties}
 use Rattle.session_text.specs.EditSteps.{ActsOnNone, growth_of, sections_put}
 use Rattle.fast_save.specs.Ledgers.{is_formatting, modifier_growth, sections_set}
@@ -233,7 +233,7 @@ section_runs : (new : Bool) → most_runs_of_section new ≤ 65
 section_runs true = omega arith
 section_runs false = omega arith
 
-pub few_reckoned : (command : Command) → HasValidCodes command → most_runs command ≤ 65
+pub few_reckoned : (command : Command) → HasValidCodes command → reckoned_runs command ≤ 65
 few_reckoned (Insert story at text) right = omega arith
 few_reckoned (Erase story from to) right = omega arith
 few_reckoned (Char story from to set) right = omega arith

@@ -9,28 +9,28 @@ use Rattle.doc_bits.proofs.Public.{get-map, neither}
 use Rattle.std.proofs.Common.{◌≡◌, ◌∙◌, ◌∷◌, ◌+◌, ◌*◌, ◌-◌, ◌^◌, ◌<◌, ◌≤◌, [], refl, sym, ap, subst}
 use Rattle.std.proofs.Common.{false, Some, length, map, arith, All}
 use Rattle.std.proofs.lemmas.List.Elements.{All-nil, All-cons, All-head, All-tail}
-use Rattle.cfb_sectors.specs.Opening.{IsWhole}
+use Rattle.cfb_sectors.specs.Opening.{HasRightLength}
 use Rattle.prop_map.specs.declared.modifiers.Modifier.{Modifier}
 use Rattle.prop_map.specs.Modifiers.{no_modifier, printed_modifier}
 use Rattle.piece_table.specs.Piece.{TextPiece, IsTextPiece, ArePieces, total_length}
 use Rattle.piece_table.proofs.Public.{printed_short}
-use Rattle.plain_doc.specs.declared.document.Document.{Document}
+use Rattle.doc_model.specs.declared.document.Document.{Document}
 use Rattle.edit_script.specs.declared.commands.Command.{Command}
 use Rattle.edit_ops.specs.Codes.{HasValidCodes}
-use Rattle.edit_ops.specs.Runs.{most_runs}
+use Rattle.edit_ops.specs.Runs.{reckoned_runs}
 use Rattle.edit_ops.specs.Edits.{changes_of}
-use Rattle.plain_doc.specs.Stretches.{stretches}
+use Rattle.doc_model.specs.Stretches.{stretches}
 use Rattle.save_laws.specs.SharedPages.{pages_begun, page_bound}
 use Rattle.session_text.specs.SessionText.{HaveFitModifiers, HaveNoModifiers, HaveModifiersWithin, unwritten_count}
 use Rattle.session_text.specs.EditSteps.{growth_of, pieces_added}
 use Rattle.session_text.specs.TextEdits.{IsTextEdit, IsSectionsEdit}
 use Rattle.fast_save.specs.declared.ledgers.Counts.{Counts}
 use Rattle.fast_save.specs.declared.parts.SessionParts.{SessionParts}
-use Rattle.fast_save.specs.Ledgers.{AreCountsOf, most_printed, is_formatting, modifier_growth}
+use Rattle.fast_save.specs.Ledgers.{AreCountsOf, longest_modifier, is_formatting, modifier_growth}
 use Rattle.fast_save.specs.Ledgers.{after_edit}
 use Rattle.cfb_sectors.specs.Header.{sector_count}
 use Rattle.fast_save.specs.Session.{IsSessionCounted, bin_length}
-use Rattle.fast_save.specs.Edited.{HasRoom}
+use Rattle.fast_save.specs.Edited.{HasEditRoom}
 use Rattle.fast_save.proofs.OpenLemmas.{flat_modifiers}
 use Rattle.fast_save.proofs.AddedBytes.{bytes_of}
 use Rattle.fast_save.proofs.CommandLemmas.{sections_few, growth_few, others_act_on_none, few_reckoned, few_sections}
@@ -58,7 +58,7 @@ pub no_pages : page_bound [] ≡ 0
 unfolding stretches pages_begun
 no_pages = refl
 
-pub counted_at_start : (file : List ℕ) (parts : SessionParts) (counts : Counts) → IsWhole file →
+pub counted_at_start : (file : List ℕ) (parts : SessionParts) (counts : Counts) → HasRightLength file →
     AreCountsOf parts.text.pieces.pieces (sector_count file) (bin_length parts.fib) counts →
     parts.text.added.items ≡ [] → unwritten_count parts.text.sections.items ≡ 0 → IsSessionCounted file parts counts
 counted_at_start file parts counts whole is fresh written =
@@ -99,16 +99,16 @@ modifier_at pieces i modifier has =
     record { piece = found.0; there = found.1.0; is = found.1.1 }
 
 pub printed_step : (pieces : List TextPiece) (i : ℕ) (piece : TextPiece) → slice_get pieces i ≡ Some piece →
-    most_printed (take (i + 1) pieces) ≡ max (most_printed (take i pieces)) (printed_at piece)
+    longest_modifier (take (i + 1) pieces) ≡ max (longest_modifier (take i pieces)) (printed_at piece)
 printed_step pieces i piece there =
     let lens : List ℕ = map printed_at pieces in
     let within = slice_get_within pieces i piece there in
     let len = length-map pieces printed_at in
     let got = get_or_from_slice_get lens i (printed_at piece) 0 (get-map printed_at pieces i piece there) in
     let step = fold_more max 0 lens i 0 (omega (arith, within, len)) in
-    let first : most_printed (take (i + 1) pieces) ≡ fold max 0 (take (i + 1) lens) =
+    let first : longest_modifier (take (i + 1) pieces) ≡ fold max 0 (take (i + 1) lens) =
     λ j. fold max 0 (sym (take-map printed_at (i + 1) pieces) j) in
-    let last : max (fold max 0 (take i lens)) (get_or lens i 0) ≡ max (most_printed (take i pieces))
+    let last : max (fold max 0 (take i lens)) (get_or lens i 0) ≡ max (longest_modifier (take i pieces))
     (printed_at piece) =
     λ j. max (fold max 0 (take-map printed_at i pieces j)) (got j) in
     first ∙ (step ∙ last)
@@ -143,7 +143,7 @@ within_more : (less more : ℕ) (pieces : List TextPiece) → less ≤ more → 
 within_more less more pieces upto within = λ k d below. let low = within k d below in omega (arith, low, upto)
 
 module _ (file : List ℕ) (document : Document) (command : Command) (old new : SessionParts) (counts : Counts)
-    (is : IsSessionCounted file old counts) (room : HasRoom counts) (right : HasValidCodes command)
+    (is : IsSessionCounted file old counts) (room : HasEditRoom counts) (right : HasValidCodes command)
     (text : IsTextEdit document (changes_of document command) old.text new.text)
     (sections : IsSectionsEdit document (changes_of document command) old.text.sections.items new.text.sections.items)
   where
@@ -167,9 +167,9 @@ module _ (file : List ℕ) (document : Document) (command : Command) (old new : 
     pub counted_after : HaveFitModifiers new.text.pieces.pieces → length new.text.pieces.pieces ≤ 500001 →
         sum_by pieces_added (changes_of document command) ≤ 4 → new.fib ≡ old.fib →
         (units : ℕ) → units < 2 ^ 32 →
-        length new.text.added.items ≤ length old.text.added.items + units + most_runs command →
-        page_bound new.text.added.items ≤ page_bound old.text.added.items + most_runs command →
-        bytes_of new.text.added.items ≤ bytes_of old.text.added.items + 2 * units + 512 * most_runs command →
+        length new.text.added.items ≤ length old.text.added.items + units + reckoned_runs command →
+        page_bound new.text.added.items ≤ page_bound old.text.added.items + reckoned_runs command →
+        bytes_of new.text.added.items ≤ bytes_of old.text.added.items + 2 * units + 512 * reckoned_runs command →
         IsSessionCounted file new (after units)
     counted_after fit few_pieces added fib units low grown more bytes =
         let pieces = text.pieces in

@@ -4,14 +4,14 @@ use Rattle.std.proofs.Common.{◌≡◌, ◌∙◌, ◌∷◌, ◌+◌, ◌*◌,
 use Rattle.doc_bits.specs.declared.places.Story.{Story}
 use Rattle.doc_bits.specs.declared.places.Story.TheVariants.{Main, Note, Head}
 use Rattle.piece_table.specs.Piece.{TextPiece, flat_pieces}
-use Rattle.plain_doc.specs.declared.item.Item.{Item}
-use Rattle.plain_doc.specs.declared.document.Document.{Document}
+use Rattle.doc_model.specs.declared.item.Item.{Item}
+use Rattle.doc_model.specs.declared.document.Document.{Document}
 use Rattle.edit_script.specs.declared.commands.Command.{Command}
 use Rattle.doc_patch.specs.declared.changes.Change.{Change}
 use Rattle.doc_patch.specs.declared.changes.Change.TheVariants.{SpliceText, ModifyItems, SetSection, SpliceNotes}
 use Rattle.doc_patch.specs.declared.changes.Change.TheVariants.{SpliceHeads, SetStyleCharacters, SetStyleParagraphs}
 use Rattle.doc_patch.specs.declared.changes.Change.TheVariants.{SetBookmarks}
-use Rattle.doc_patch.specs.Changes.{changed, all_changed, with_text, map_range, modified_item}
+use Rattle.doc_patch.specs.Changes.{changed, all_changed, text_changed, map_range, modified_item}
 use Rattle.edit_ops.specs.Causes.{IsAcceptedEdit}
 use Rattle.edit_ops.specs.Edits.{changes_of, document_after}
 use Rattle.std.specs.Prelude.{All}
@@ -24,7 +24,7 @@ use Rattle.save_laws.specs.SharedPages.{page_bound}
 use Rattle.session_text.specs.declared.added.Added.{Added}
 use Rattle.session_text.specs.AddedText.{plan_of}
 use Rattle.session_text.specs.OldUnits.{IsOldBounded, OldUnitsAreBounded}
-use Rattle.save_laws.specs.Slots.{whole_text}
+use Rattle.save_laws.specs.Slots.{document_slots}
 use Rattle.doc_bits.specs.Together.{AreTogether}
 use Rattle.session_text.specs.SessionText.{IsSessionText, IsSameText, HaveFitModifiers, HaveNoModifiers}
 use Rattle.session_text.specs.SessionText.{HaveModifiersWithin, ArePlannedSections, unwritten_count}
@@ -34,14 +34,14 @@ use Rattle.cfb_streams.specs.Names.{wd_name}
 use Rattle.fib_form.specs.FibFields.{fib_fields}
 use Rattle.fast_save.specs.declared.parts.SessionParts.{SessionParts}
 use Rattle.fast_save.specs.Started.{IsReadFile}
-use Rattle.fast_save.specs.Edited.{HasRoom}
+use Rattle.fast_save.specs.Edited.{HasEditRoom}
 use Rattle.fast_save.proofs.OpenLemmas.{named_short}
 use Rattle.fast_save.specs.Session.{IsSession, IsSessionCounted, saved_stream, bin_length}
 
 -- ---- what is carried along stays
 
 text_carried : (change : List Item → List Item) (story : Story) (document : Document) →
-    (with_text change story document).carried ≡ document.carried
+    (text_changed change story document).carried ≡ document.carried
 text_carried change Main document = refl
 text_carried change (Note number) document = refl
 text_carried change (Head number) document = refl
@@ -107,7 +107,7 @@ wd_short file document parts is =
     held.has_parts.has_text.has_wd
 
 pub has_room : (file : List ℕ) (document : Document) (parts : SessionParts) (counts : Counts) →
-    IsSession file document parts → IsSessionCounted file parts counts → HasRoom counts →
+    IsSession file document parts → IsSessionCounted file parts counts → HasEditRoom counts →
     parts.text.added.base + (2 * length parts.text.added.items + 3000000) < 2 ^ 32
 has_room file document parts counts is counted room =
     omega (arith, wd_short file document parts is, is.base, counted.added, room)
@@ -141,15 +141,15 @@ module _ (file : List ℕ) (document : Document) (old new : SessionParts) (same 
   same_bounded stream is =
       subst
       (λ (n : ℕ). AreTogether (IsOldBounded stream n) (flat_pieces new.text.pieces.pieces)
-      (whole_text document (ends_of new.text.ends)))
+      (document_slots document (ends_of new.text.ends)))
       (ap (λ (a : Added). a.base) (sym same.added))
       (subst
       (λ (p : List TextPiece). AreTogether (IsOldBounded stream old.text.added.base) (flat_pieces p)
-      (whole_text document (ends_of new.text.ends)))
+      (document_slots document (ends_of new.text.ends)))
       (sym same.pieces)
       (subst
       (λ (e : Ends). AreTogether (IsOldBounded stream old.text.added.base) (flat_pieces old.text.pieces.pieces)
-      (whole_text document (ends_of e)))
+      (document_slots document (ends_of e)))
       (sym same.ends) is))
 
   pub session_stays : IsSession file document old → IsSession file document new

@@ -10,20 +10,20 @@ use Rattle.fib_form.specs.FibFields.{FibFields, fib_fields}
 use Rattle.fib_form.specs.declared.table_parts.TablePart.TheVariants.{PlcfBteChpx, PlcfBtePapx}
 use Rattle.fkp_pages.specs.declared.kind.PageKind.TheVariants.{Chpx, Papx}
 use Rattle.piece_table.specs.Piece.{TextPiece, ArePieces, flat_pieces}
-use Rattle.plain_doc.specs.declared.document.Document.{Document}
-use Rattle.plain_doc.specs.Document.{IsFormedText}
-use Rattle.plain_doc.specs.Formed.{IsFormed}
+use Rattle.doc_model.specs.declared.document.Document.{Document}
+use Rattle.doc_model.specs.Document.{IsFormedText}
+use Rattle.doc_model.specs.Formed.{IsFormed}
 use Rattle.plain_doc.proofs.Public.{sound_is_valid}
-use Rattle.file_rules.specs.FileRules.{FileText, source_of}
+use Rattle.file_rules.specs.FileRules.{FileText, doc_source_of}
 use Rattle.full_save.specs.WordDocument.{table_stream}
 use Rattle.doc_read.specs.Opened.{OpenedFile}
 use Rattle.save_laws.specs.declared.ends.Ends.{Ends}
 use Rattle.save_laws.specs.Ends.{ends_of}
 use Rattle.save_laws.specs.ByRuns.{IsBounded, AreBounded, text_ends}
-use Rattle.save_laws.specs.GivenFiles.{stream_of}
+use Rattle.save_laws.specs.GivenFiles.{paged_stream_of}
 use Rattle.save_laws.specs.KeptPages.{KeepsBytes}
 use Rattle.save_laws.specs.Places.{PagedStream, fib_end}
-use Rattle.save_laws.specs.Slots.{StoryEnds, whole_text}
+use Rattle.save_laws.specs.Slots.{StoryEnds, document_slots}
 use Rattle.save_laws.specs.Laws.{IsSavedIn}
 use Rattle.save_laws.proofs.Public.{fast_saves_are_saves, slot_there, files_hold, Save as SavedCopy, part_is}
 use Rattle.save_laws.specs.SharedPages.{page_bound}
@@ -42,7 +42,8 @@ use Rattle.fast_save.specs.declared.parts.SessionParts.{SessionParts}
 use Rattle.fast_save.specs.Ledgers.{modifier_bytes, sector_bound, after_fast}
 use Rattle.fast_save.specs.Session.{IsBoundedFile, IsSession, IsSessionCounted, saved_stream, bin_length}
 use Rattle.fast_save.specs.Started.{IsOpenFile}
-use Rattle.fast_save.specs.Fast.{CanSaveFast, IsFastFile, AreFastParts, IsSavedFast, IsBehind, IsWithin, counts_over}
+use Rattle.fast_save.specs.Fast.{CanSaveFast, IsFastFile, AreFastParts, IsSavedFast, GrowsBehindFib, IsWithinBounds}
+use Rattle.fast_save.specs.Fast.{counts_over}
 use Rattle.fast_save.specs.Fast.{KeepsSectors, KeepsOtherSectors, IsInOwnSectors, save_in, save_counts}
 use Rattle.fast_save.proofs.BoundedLemmas.{same_ends}
 use Rattle.fast_save.proofs.CanLemmas.{small, wd_is, old_stream_is, can_append, counted}
@@ -136,7 +137,7 @@ module _ {old : List ℕ} (document : Document) (parts : SessionParts) (can : Ca
     new_wd : read.holds.parts.text.wd ≡ fast_wd save made.clx
     new_wd = ap (λ (t : FileText). t.wd) read.text_is
 
-    behind : IsBehind can.counts can.session.held.parts.text.wd read.holds.parts.text.wd
+    behind : GrowsBehindFib can.counts can.session.held.parts.text.wd read.holds.parts.text.wd
     behind =
         let wd_was = wd_is document parts can formed items pieces in
         let short =
@@ -156,7 +157,7 @@ module _ {old : List ℕ} (document : Document) (parts : SessionParts) (can : Ca
     new_table : read.holds.parts.text.table ≡ fast_table save made.clx
     new_table = ap (λ (t : FileText). t.table) read.text_is
 
-    within : IsWithin own full_table file read.holds.parts.text.wd read.holds.parts.text.table
+    within : IsWithinBounds own full_table file read.holds.parts.text.wd read.holds.parts.text.table
     unfolding can_own
     within =
         let count = counted document parts can_own formed items pieces in
@@ -200,7 +201,7 @@ module _ {old : List ℕ} (document : Document) (parts : SessionParts) (can : Ca
     new_stream_is =
         let chp = part_is saved_as 5 PlcfBteChpx (fast_bin_table Chpx save) refl in
         let pap = part_is saved_as 6 PlcfBtePapx (fast_bin_table Papx save) refl in
-        ap (λ (t : FileText). stream_of (source_of t)) read.text_is
+        ap (λ (t : FileText). paged_stream_of (doc_source_of t)) read.text_is
         ∙ (λ i. record { wd = fast_wd save made.clx; characters = chp i; paragraphs = pap i })
 
     bounded : IsBoundedFile can.session.held → IsBoundedFile read.holds
@@ -213,14 +214,14 @@ module _ {old : List ℕ} (document : Document) (parts : SessionParts) (can : Ca
         let own : read.holds.parts.text.pieces ≡ save.pieces = ap (λ (t : FileText). t.pieces) read.text_is in
         subst
         (λ (e : StoryEnds). AreBounded (saved_stream read.holds) (flat_pieces read.holds.parts.text.pieces)
-        (text_ends (whole_text document e)))
+        (text_ends (document_slots document e)))
         (sym same)
         (subst
         (λ (p : List TextPiece). AreBounded (saved_stream read.holds) (flat_pieces p)
-        (text_ends (whole_text document save.ends)))
+        (text_ends (document_slots document save.ends)))
         (sym own)
         (subst
-        (λ (s : PagedStream). AreBounded s (flat_pieces save.pieces) (text_ends (whole_text document save.ends)))
+        (λ (s : PagedStream). AreBounded s (flat_pieces save.pieces) (text_ends (document_slots document save.ends)))
         (sym new_stream_is) law))
 
     -- where the old stream has sectors of its own it stays in them

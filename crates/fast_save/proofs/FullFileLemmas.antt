@@ -9,15 +9,15 @@ use Rattle.std.proofs.lemmas.List.{get_or_past}
 use Rattle.std.proofs.lemmas.List.Elements.{All-get_or}
 use Rattle.std.proofs.lemmas.List.Sums.{AllPass-from_list_all}
 use Rattle.cfb_streams.specs.Contents.{NamedBytes, Contents, AreStreams}
-use Rattle.cfb_directory.specs.Directory.{AreSameNames, ComesBefore}
+use Rattle.cfb_directory.specs.Directory.{AreSameNames, IsNameBefore}
 use Rattle.cfb_streams.specs.Names.{wd_name, first_table_name, second_table_name, is_same_name}
 use Rattle.cfb_streams.proofs.Public.{same_name-false}
 use Rattle.cfb_layout.specs.Layout.{contents_of}
-use Rattle.cfb_layout.specs.Laws.{IsLayout}
+use Rattle.cfb_layout.specs.Laws.{AreLayoutStreams}
 use Rattle.cfb_layout.proofs.Public.{file_holds, file_contents}
-use Rattle.plain_doc.specs.declared.document.Document.{Document}
-use Rattle.plain_doc.specs.Carried.{IsCarriedName}
-use Rattle.plain_doc.specs.Formed.{IsFormed}
+use Rattle.doc_model.specs.declared.document.Document.{Document}
+use Rattle.doc_model.specs.Carried.{IsCarriedName}
+use Rattle.doc_model.specs.Formed.{IsFormed}
 use Rattle.plain_doc.specs.Sound.{IsSound}
 use Rattle.full_save.specs.WordDocument.{wd_stream, table_stream}
 use Rattle.full_save.specs.Streams.{put_stream}
@@ -26,7 +26,7 @@ use Rattle.doc_read.proofs.Public.{held_formed, wd-not_carried, table-not_carrie
 use Rattle.doc_read.proofs.Public.{files_hold as files_hold_documents}
 use Rattle.doc_read.specs.CarriedParts.{is_carried}
 use Rattle.doc_read.specs.Holds.{HoldsDocument}
-use Rattle.save_laws.specs.Saves.{IsFileOf}
+use Rattle.save_laws.specs.Saves.{IsFileOfContents}
 use Rattle.save_laws.specs.FullSaves.{full_saved_text, HasLayout}
 use Rattle.save_laws.proofs.Public.{files_hold, full_saves_are_saves}
 use Rattle.fast_save.specs.Laws.{IsSavable, FullSavesHold, FullSavesAreRead, FullSavesAreCanonical}
@@ -73,7 +73,7 @@ laid_wd document formed =
 with_wd_order : (document : Document) (formed : IsFormed document) → (i j : ℕ) (stream later : NamedBytes) → i < j →
     slice_get (put_stream (the_wd document) document.carried.streams) i ≡ Some stream →
     slice_get (put_stream (the_wd document) document.carried.streams) j ≡ Some later →
-    ComesBefore stream.name later.name
+    IsNameBefore stream.name later.name
 with_wd_order document formed =
     put_ascend (the_wd document) document.carried.streams (put_stream (the_wd document) document.carried.streams)
     (laid_wd document formed) formed.carried.ordered.order
@@ -131,7 +131,8 @@ are_streams document is =
     (omega arith) (omega arith)
     (omega (arith, total, few, most.wd, most.table))
 
-pub is_layout : (document : Document) → IsSavable document → IsLayout (layout_streams document) document.carried.clsid
+pub is_layout : (document : Document) → IsSavable document → AreLayoutStreams (layout_streams document)
+    document.carried.clsid
 is_layout document is =
     let carried = document.carried.streams in
     let with_wd = put_stream (the_wd document) carried in
@@ -199,7 +200,8 @@ has_layout document formed =
 
 -- ---- the file
 
-file_of : (document : Document) → IsSavable document → IsFileOf (full_save_image document) (the_contents document)
+file_of : (document : Document) → IsSavable document → IsFileOfContents (full_save_image document) (the_contents
+    document)
 unfolding full_save_image
 file_of document is =
     let streams = layout_streams document in

@@ -4,7 +4,7 @@ use Rattle.std.proofs.Common.{◌≡◌, ◌∙◌, ◌^◌, ◌<◌, ◌≤◌,
 use Rattle.std.proofs.Common.{arith}
 use Rattle.std.proofs.lemmas.List.Elements.{All-nil, All-cons}
 use Rattle.doc_bits.specs.Number.{AreBytes}
-use Rattle.doc_bits.specs.Rules.{Hold, IsFirst}
+use Rattle.doc_bits.specs.Rules.{Hold, IsFirstOffset}
 use Rattle.doc_bits.proofs.Public.{hold_or_first}
 use Rattle.cfb_streams.specs.Contents.{Contents, HasNamed}
 use Rattle.cfb_streams.specs.Container.{container_rules, HasContents}
@@ -15,26 +15,26 @@ use Rattle.fib_form.specs.FibRules.{fib_rules}
 use Rattle.prop_map.specs.Modifiers.{no_modifier}
 use Rattle.piece_table.specs.Piece.{TextPiece, one_piece, total_length}
 use Rattle.piece_table.proofs.Public.{length-flat_pieces}
-use Rattle.plain_doc.specs.declared.document.Document.{Document}
+use Rattle.doc_model.specs.declared.document.Document.{Document}
 use Rattle.full_save.specs.Text.{text_items}
-use Rattle.full_save.specs.WordDocument.{wd_stream, table_stream, text_at, full_fib}
+use Rattle.full_save.specs.WordDocument.{wd_stream, table_stream, text_offset, full_fib}
 use Rattle.full_save.specs.Layout.{full_save_image}
 use Rattle.full_save.proofs.Public.{LaidOut, fib_read, few_items}
 use Rattle.plain_doc.proofs.Public.{sound_is_valid}
 use Rattle.fib_form.specs.declared.table_parts.TablePart.TheVariants.{Clx}
-use Rattle.file_rules.specs.FileRules.{FileText, source_of, table_stream_name}
+use Rattle.file_rules.specs.FileRules.{FileText, doc_source_of, table_stream_name}
 use Rattle.file_rules.proofs.Public.{named_one}
 use Rattle.doc_read.proofs.Public.{named_bytes, text_fits, part_bytes_are}
 use Rattle.fast_save.specs.declared.ledgers.Counts.{Counts}
 use Rattle.fast_save.specs.Laws.{IsSavable}
-use Rattle.fast_save.specs.Ledgers.{AreCountsOf, AreUnmodified, most_printed, after_full}
+use Rattle.fast_save.specs.Ledgers.{AreCountsOf, AreUnmodified, longest_modifier, after_full}
 use Rattle.fast_save.specs.Started.{IsOpenFile}
 use Rattle.fast_save.proofs.FullFileLemmas.{full_saves_are_read, within}
 use Rattle.fast_save.proofs.OpenLemmas.{container_holds, table_holds}
 use Rattle.session_text.proofs.Public.{none_printed}
 
 -- a FIB that breaks no rule has no fault
-pub no_fib_fault : (wd : List ℕ) (rule place : ℕ) → Hold (fib_rules wd) → IsFirst (fib_rules wd) rule place → ⊥
+pub no_fib_fault : (wd : List ℕ) (rule place : ℕ) → Hold (fib_rules wd) → IsFirstOffset (fib_rules wd) rule place → ⊥
 no_fib_fault wd rule place holds first =
     hold_or_first (λ a b. a ≤ b) (fib_rules wd) rule place (tt, (tt, (tt, (tt, (tt, (tt, (tt, (tt, tt)))))))) holds
     first
@@ -97,9 +97,9 @@ module _ (document : Document) (is : IsSavable document) (bytes : AreBytes (full
       named_bytes image parts.contents (table_stream_name text.wd) text.table bytes has.has_contents
       has.has_text.has_table in
       let fits =
-      text_fits text.wd text.table text.pieces (part_bytes_are (source_of text) Clx table)
+      text_fits text.wd text.table text.pieces (part_bytes_are (doc_source_of text) Clx table)
       (table_holds image parts read.holds.rules has) has.has_text.has_pieces in
-      let pieces : text.pieces ≡ one_piece text_at (length (text_items document)) =
+      let pieces : text.pieces ≡ one_piece text_offset (length (text_items document)) =
       ap (λ (t : FileText). t.pieces) read.text_is in
       let total = length-flat_pieces text.pieces in
       let one = ap total_length pieces in
@@ -113,7 +113,7 @@ module _ (document : Document) (is : IsSavable document) (bytes : AreBytes (full
   -- it is opened as the streams that it has, the FIB of the layout, and one piece
   abbrev pub full_open : (fib : FibFields) (contents : Contents) (pieces : List TextPiece) → HasContents image
       contents →
-      fib ≡ fib_fields (wd_stream document) → pieces ≡ one_piece text_at (length (text_items document)) →
+      fib ≡ fib_fields (wd_stream document) → pieces ≡ one_piece text_offset (length (text_items document)) →
       IsOpenFile (record { document = document; fib = fib; contents = contents; pieces = pieces })
   full_open fib contents pieces has fib_is pieces_are =
       let read = full_saves_are_read document is in
@@ -141,7 +141,7 @@ one_none at len =
     All-cons (λ (piece : TextPiece). piece.modifier ≡ no_modifier) _ [] refl
     (All-nil (λ (piece : TextPiece). piece.modifier ≡ no_modifier))
 
-one_printed : (at len : ℕ) → most_printed (one_piece at len) ≡ 0
+one_printed : (at len : ℕ) → longest_modifier (one_piece at len) ≡ 0
 one_printed at len = ap (max 0) none_printed
 
 pub counts_in_full : (at len sectors bin_bytes : ℕ) (counts : Counts) →

@@ -9,10 +9,10 @@ use Rattle.std.proofs.lemmas.List.Sums.{sum_by-cons}
 use Rattle.doc_bits.specs.Together.{AreTogether}
 use Rattle.doc_bits.specs.declared.places.Story.{Story}
 use Rattle.doc_bits.specs.declared.places.Story.TheVariants.{Main, Note as NoteText, Head as HeadText}
-use Rattle.plain_doc.specs.declared.item.Item.{Item}
-use Rattle.plain_doc.specs.declared.document.Document.{Document}
-use Rattle.plain_doc.specs.Collected.{joined_texts}
-use Rattle.plain_doc.proofs.Public.{length-joined}
+use Rattle.doc_model.specs.declared.item.Item.{Item}
+use Rattle.doc_model.specs.declared.document.Document.{Document}
+use Rattle.doc_model.specs.Collected.{joined_texts}
+use Rattle.doc_model.proofs.Public.{length-joined}
 use Rattle.full_save.specs.Text.{extra_mark}
 use Rattle.prop_map.specs.Settings.{Properties}
 use Rattle.edit_script.specs.declared.commands.Command.{Command}
@@ -26,8 +26,8 @@ use Rattle.doc_patch.specs.Places.{items_at, mark_place, note_number}
 use Rattle.edit_ops.specs.Fresh.{inserted_items, field_items, base_properties, note_reference, note_items, split_item}
 use Rattle.edit_ops.specs.Fresh.{row_items}
 use Rattle.edit_ops.specs.Edits.{erased, section_changes, changes_of}
-use Rattle.edit_ops.specs.Runs.{most_runs, most_runs_of_section}
-use Rattle.session_text.specs.EditSteps.{HasGrownBy, IsBlockOf, items_put}
+use Rattle.edit_ops.specs.Runs.{reckoned_runs, most_runs_of_section}
+use Rattle.session_text.specs.EditSteps.{HasGrownByBlocks, IsBlockOf, items_put}
 use Rattle.session_text.proofs.Public.{length-joined as joined_sum}
 use Rattle.piece_table.proofs.Public.{others_together}
 
@@ -105,7 +105,7 @@ section_blocks main at true set = omega arith
 
 pub few_blocks : (document : Document) (command : Command) →
     sum_by block_most (changes_of document command)
-    ≤ sum_by items_added (changes_of document command) + most_runs command
+    ≤ sum_by items_added (changes_of document command) + reckoned_runs command
 few_blocks document (Insert story at text) =
     let put = put_block story at at (inserted_items (items_at document story) at text) in omega (arith, put)
 few_blocks document (Erase story from to) = let none = erased_blocks document story from to in omega (arith, none)
@@ -137,8 +137,8 @@ few_blocks document (Unmark name) = omega arith
 few_blocks document (Save full) = omega arith
 
 pub grown_within : (document : Document) (command : Command) (old new : List Item) →
-    HasGrownBy document (changes_of document command) old new →
-    length new ≤ length old + (edit_facts document command).units_in + most_runs command
+    HasGrownByBlocks document (changes_of document command) old new →
+    length new ≤ length old + (edit_facts document command).units_in + reckoned_runs command
 grown_within document command old new grown =
     omega (
       arith,

@@ -8,7 +8,7 @@ use Rattle.cfb_streams.specs.Names.{wd_name}
 use Rattle.cfb_streams.proofs.Public.{contents_unique}
 use Rattle.fib_form.specs.FibFields.{FibFields, fib_fields}
 use Rattle.fib_form.specs.FibRules.{fib_rules}
-use Rattle.plain_doc.specs.declared.document.Document.{Document}
+use Rattle.doc_model.specs.declared.document.Document.{Document}
 use Rattle.fast_save.specs.Fast.{IsHeldFile}
 use Rattle.fast_save.specs.Started.{IsReadFile}
 use Rattle.fast_save.proofs.OpenLemmas.{container_holds, fib_holds, wd_there, wd_is}

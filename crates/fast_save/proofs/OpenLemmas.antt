@@ -15,13 +15,13 @@ use Rattle.cfb_streams.proofs.Public.{container_single, contents_unique}
 use Rattle.cfb_sectors.specs.declared.faults.CfbFault.{CfbFault}
 use Rattle.cfb_sectors.specs.declared.faults.CfbFault.TheVariants.{Rule as Broken}
 use Rattle.cfb_sectors.specs.Judged.{IsCfbFault}
-use Rattle.cfb_sectors.specs.Opening.{IsWhole}
+use Rattle.cfb_sectors.specs.Opening.{HasRightLength}
 use Rattle.cfb_sectors.proofs.Public.{whole_length}
 use Rattle.fib_form.specs.Fib.{fib_size, fib_pair}
-use Rattle.fib_form.specs.FibFields.{FibFields, fib_fields, pair_at, text_length}
+use Rattle.fib_form.specs.FibFields.{FibFields, fib_fields, listed_pair, text_length}
 use Rattle.fib_form.specs.FibRules.{fib_rules}
 use Rattle.fib_form.proofs.Public.{is_fib}
-use Rattle.fib_form.specs.TableParts.{pair_of}
+use Rattle.fib_form.specs.TableParts.{pair_number}
 use Rattle.fib_form.specs.declared.table_parts.TablePart.TheVariants.{Clx, PlcfSed}
 use Rattle.fib_form.specs.declared.stories.StoryKind.TheVariants.{Main}
 use Rattle.doc_parts.specs.declared.lists.Sed.{Sed}
@@ -29,16 +29,16 @@ use Rattle.doc_parts.specs.declared.fault.PartFault.{PartFault}
 use Rattle.doc_parts.specs.declared.fault.PartFault.TheVariants.{Rule as WrongPart}
 use Rattle.doc_parts.specs.Table.{IsPartFault}
 use Rattle.doc_parts.specs.Sections.{AreSections, section_rules}
-use Rattle.file_rules.specs.Source.{part_bytes, part_place, story_length}
+use Rattle.file_rules.specs.Source.{table_part_bytes, part_place, story_length}
 use Rattle.file_rules.specs.SectionRules.{HasSections}
 use Rattle.file_rules.proofs.Public.{pair-read, sections_one, named_one, hold_out}
 use Rattle.prop_map.specs.declared.modifiers.Modifier.{Modifier}
-use Rattle.piece_table.specs.Piece.{TextPiece, UnitPlace, unit_bytes, unit_places, flat_pieces}
+use Rattle.piece_table.specs.Piece.{TextPiece, UnitPlace, unit_bytes, places_of_piece, flat_pieces}
 use Rattle.piece_table.specs.Clx.{ClxParts}
 use Rattle.piece_table.specs.ClxRules.{clx_rules, text_bounds, IsLongPrc, FitsPages}
 use Rattle.piece_table.proofs.Public.{parts_unique, pieces_fit}
-use Rattle.plain_doc.specs.declared.document.Document.{Document}
-use Rattle.file_rules.specs.FileRules.{source_of, clx_of, wd_rules, table_rules, table_stream_name}
+use Rattle.doc_model.specs.declared.document.Document.{Document}
+use Rattle.file_rules.specs.FileRules.{doc_source_of, clx_of, wd_rules, table_rules, table_stream_name}
 use Rattle.file_rules.specs.FileRules.{loading_rules, file_rules}
 use Rattle.doc_read.specs.CarriedParts.{AreWithinBounds}
 use Rattle.doc_read.specs.Holds.{FileParts, HasFileParts, HoldsDocument}
@@ -63,7 +63,7 @@ read_file opened opening = record {
 pub container_holds : (file : List ℕ) → Hold (file_rules file) → Hold (container_rules file)
 container_holds file rules = hold_out File (container_rules file) rules.0
 
-pub file_whole : (file : List ℕ) → Hold (file_rules file) → IsWhole file
+pub file_whole : (file : List ℕ) → Hold (file_rules file) → HasRightLength file
 file_whole file rules = whole_length file (container_holds file rules).0.0
 
 module _ (contents : Contents) (fib : FibFields) (file : IsReadFile contents fib) where
@@ -101,17 +101,17 @@ module _ (contents : Contents) (fib : FibFields) (file : IsReadFile contents fib
   -- the sections that the table stream has by the FIB are those of the file
   pub sections_are : (table plc : List ℕ) (pair : ℕ × ℕ) (count : ℕ) (seds : List Sed) →
       HasNamed contents.streams (table_stream_name file.parts.text.wd) table →
-      pair ≡ pair_at fib.pairs (pair_of PlcfSed) → plc ≡ slice_range table pair.0 (pair.0 + pair.1) →
+      pair ≡ listed_pair fib.pairs (pair_number PlcfSed) → plc ≡ slice_range table pair.0 (pair.0 + pair.1) →
       count ≡ slice_index fib.ccps 0 → AreSections plc count seds → seds ≡ file.parts.lists.sections
   sections_are table plc pair count seds named pair_is plc_is count_is are =
       let wd = file.parts.text.wd in
-      let source = source_of file.parts.text in
+      let source = doc_source_of file.parts.text in
       let t : table ≡ file.parts.text.table = table_is table named in
-      let p : pair ≡ fib_pair wd (pair_of PlcfSed) = pair_is ∙ pair-read wd fib (pair_of PlcfSed) (omega arith)
+      let p : pair ≡ fib_pair wd (pair_number PlcfSed) = pair_is ∙ pair-read wd fib (pair_number PlcfSed) (omega arith)
       file.fib_is in
-      let range : slice_range table pair.0 (pair.0 + pair.1) ≡ part_bytes source PlcfSed =
+      let range : slice_range table pair.0 (pair.0 + pair.1) ≡ table_part_bytes source PlcfSed =
       λ i. slice_range (t i) (p i).0 ((p i).0 + (p i).1) in
-      let bytes : plc ≡ part_bytes source PlcfSed = plc_is ∙ range in
+      let bytes : plc ≡ table_part_bytes source PlcfSed = plc_is ∙ range in
       let count_of : count ≡ story_length source Main =
       count_is ∙ ap (λ (f : FibFields). slice_index f.ccps 0) file.fib_is in
       let has : HasSections source seds =
@@ -122,22 +122,23 @@ module _ (contents : Contents) (fib : FibFields) (file : IsReadFile contents fib
   -- and they break no rule
   pub sections_hold : (table plc : List ℕ) (pair : ℕ × ℕ) (count : ℕ) →
       HasNamed contents.streams (table_stream_name file.parts.text.wd) table →
-      pair ≡ pair_at fib.pairs (pair_of PlcfSed) → plc ≡ slice_range table pair.0 (pair.0 + pair.1) →
+      pair ≡ listed_pair fib.pairs (pair_number PlcfSed) → plc ≡ slice_range table pair.0 (pair.0 + pair.1) →
       count ≡ slice_index fib.ccps 0 → Hold (section_rules plc pair.0 count)
   sections_hold table plc pair count named pair_is plc_is count_is =
       let wd = file.parts.text.wd in
-      let source = source_of file.parts.text in
+      let source = doc_source_of file.parts.text in
       let t : table ≡ file.parts.text.table = table_is table named in
-      let p : pair ≡ fib_pair wd (pair_of PlcfSed) = pair_is ∙ pair-read wd fib (pair_of PlcfSed) (omega arith)
+      let p : pair ≡ fib_pair wd (pair_number PlcfSed) = pair_is ∙ pair-read wd fib (pair_number PlcfSed) (omega arith)
       file.fib_is in
-      let range : slice_range table pair.0 (pair.0 + pair.1) ≡ part_bytes source PlcfSed =
+      let range : slice_range table pair.0 (pair.0 + pair.1) ≡ table_part_bytes source PlcfSed =
       λ i. slice_range (t i) (p i).0 ((p i).0 + (p i).1) in
-      let bytes : plc ≡ part_bytes source PlcfSed = plc_is ∙ range in
+      let bytes : plc ≡ table_part_bytes source PlcfSed = plc_is ∙ range in
       let count_of : count ≡ story_length source Main =
       count_is ∙ ap (λ (f : FibFields). slice_index f.ccps 0) file.fib_is in
       let parts = (held_rules file.file file.parts file.rules file.has).parts_hold in
       let rules =
-      hold_out Table (section_rules (part_bytes source PlcfSed) (part_place source PlcfSed) (story_length source Main))
+      hold_out Table (section_rules (table_part_bytes source PlcfSed) (part_place source PlcfSed) (story_length source
+      Main))
       parts.0.0.0 in
       subst (λ (r : Rules ℕ). Hold r)
       (sym (λ i. section_rules (bytes i) (p i).0 (count_of i))) rules
@@ -159,18 +160,18 @@ no_part_fault plc at count fault rule place holds is same =
 -- ---- modifiers, piece by piece and CP by CP
 
 all_units : (P : Modifier → Type 0) (piece : TextPiece) → P piece.modifier →
-    All (λ (place : UnitPlace). P place.modifier) (unit_places piece)
+    All (λ (place : UnitPlace). P place.modifier) (places_of_piece piece)
 all_units P piece has =
     let place : ℕ → UnitPlace =
     λ j. record { at = piece.at + j * unit_bytes piece.wide; wide = piece.wide; modifier = piece.modifier } in
     All-map (λ (place : UnitPlace). P place.modifier) place (range_with_len 0 piece.len) (λ k d below. has)
 
 flat_units : (P : Modifier → Type 0) (pieces : List TextPiece) → All (λ (piece : TextPiece). P piece.modifier) pieces →
-    All (λ (place : UnitPlace). P place.modifier) (flat_map unit_places pieces)
+    All (λ (place : UnitPlace). P place.modifier) (flat_map places_of_piece pieces)
 flat_units P [] all = All-nil (λ (place : UnitPlace). P place.modifier)
 flat_units P (piece ∷ pieces) all =
     let Has : TextPiece → Type 0 = λ piece. P piece.modifier in
-    All-append (λ (place : UnitPlace). P place.modifier) (unit_places piece) (flat_map unit_places pieces)
+    All-append (λ (place : UnitPlace). P place.modifier) (places_of_piece piece) (flat_map places_of_piece pieces)
     (all_units P piece (All-head Has piece pieces all)) (flat_units P pieces (All-tail Has piece pieces all))
 
 pub flat_modifiers : (P : Modifier → Type 0) (pieces : List TextPiece) →
@@ -217,7 +218,7 @@ given_fit file document held =
     let text = held.parts.text in
     let wd = text.wd in
     let clx = clx_of wd text.table in
-    let at = (fib_pair wd (pair_of Clx)).0 in
+    let at = (fib_pair wd (pair_number Clx)).0 in
     let bounds = text_bounds (fib_size wd) (length wd) in
     let table = table_holds file held.parts held.rules held.has_parts in
     let rules = hold_out Table (clx_rules clx at bounds (text_length (fib_fields wd).ccps)) table.1 in

@@ -2,12 +2,12 @@
 use Rattle.std.specs.Prelude.{Result, Ok, Err, IfOk, MatchResult}
 use Rattle.std.proofs.Common.{◌≡◌, ◌<◌, ◌∙◌, refl, sym, subst, length}
 use Rattle.std.specs.Result.{IsOk}
-use Rattle.doc_bits.specs.Rules.{Hold, IsFirst}
+use Rattle.doc_bits.specs.Rules.{Hold, IsFirstOffset}
 use Rattle.std.specs.Prelude.{ℕ, List}
 use Rattle.fib_form.specs.FibFields.{FibFields, fib_fields}
 use Rattle.fib_form.specs.FibRules.{fib_rules}
 use Rattle.fib_form.specs.declared.fault.FibFault.{FibFault}
-use Rattle.plain_doc.specs.declared.document.Document.{Document}
+use Rattle.doc_model.specs.declared.document.Document.{Document}
 use Rattle.plain_doc.specs.Sound.{IsSound}
 use Rattle.plain_doc.proofs.Public.{main_ends, sound_is_valid}
 use Rattle.fast_save.proofs.FullLemmas.{no_fib_fault}
@@ -23,7 +23,7 @@ sound_copy r inside view same sound copied =
 -- a FIB is read that breaks no rule
 pub fib_is_read : (wd : List ℕ) (r : Result FibFields FibFault) → Hold (fib_rules wd) →
     MatchResult r (λ fib. Hold (fib_rules wd) × (fib ≡ fib_fields wd))
-    (λ fault. IsFirst (fib_rules wd) fault.rule fault.offset) → IsOk r
+    (λ fault. IsFirstOffset (fib_rules wd) fault.rule fault.offset) → IsOk r
 fib_is_read wd (Ok fib) holds read = refl
 fib_is_read wd (Err fault) holds read = absurd (no_fib_fault wd fault.rule fault.offset holds read)
 

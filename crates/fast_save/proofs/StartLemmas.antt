@@ -11,12 +11,12 @@ use Rattle.doc_bits.specs.Number.{AreBytes}
 use Rattle.cfb_streams.specs.Contents.{Contents}
 use Rattle.fib_form.specs.FibFields.{FibFields, fib_fields}
 use Rattle.doc_parts.specs.declared.lists.Sed.{Sed}
-use Rattle.plain_doc.specs.declared.document.Document.{Document}
+use Rattle.doc_model.specs.declared.document.Document.{Document}
 use Rattle.plain_doc.specs.RulesOfItems.{HasShortProperties}
 use Rattle.piece_table.specs.Piece.{TextPiece, flat_pieces}
 use Rattle.doc_read.specs.Opened.{OpenedFile, IsOpened}
 use Rattle.save_laws.specs.GivenFiles.{StandsTogether}
-use Rattle.save_laws.specs.Slots.{StoryEnds, whole_text}
+use Rattle.save_laws.specs.Slots.{StoryEnds, document_slots}
 use Rattle.save_laws.specs.Ends.{ends_of}
 use Rattle.save_laws.specs.FastSaves.{StandsInSession}
 use Rattle.save_laws.proofs.Public.{given_files_stand, given_sections_are_saved}
@@ -94,8 +94,8 @@ module _ (opened : OpenedFile) (opening : IsOpenFile opened) (parts : SessionPar
         let stand = opened_stand opened opening in
         let in_file : slice_get (flat_pieces opening.is.holds.parts.text.pieces) k ≡ Some place =
         subst (λ (p : List TextPiece). slice_get (flat_pieces p) k ≡ Some place) are.pieces here in
-        let own : slice_get (whole_text opened.document stand.ends) k ≡ Some slot =
-        subst (λ (e : StoryEnds). slice_get (whole_text opened.document e) k ≡ Some slot) are.ends there in
+        let own : slice_get (document_slots opened.document stand.ends) k ≡ Some slot =
+        subst (λ (e : StoryEnds). slice_get (document_slots opened.document e) k ≡ Some slot) are.ends there in
         bounded stand.ends stand.counts k place end in_file
         (end_there opened.document stand.ends k slot end own is);
   }

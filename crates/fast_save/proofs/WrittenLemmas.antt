@@ -7,11 +7,11 @@ use Rattle.cfb_streams.specs.Names.{wd_name}
 use Rattle.fib_form.specs.FibFields.{fib_fields}
 use Rattle.fkp_pages.specs.declared.kind.PageKind.TheVariants.{Papx}
 use Rattle.piece_table.specs.Piece.{PieceTable, ArePieces, total_length}
-use Rattle.plain_doc.specs.declared.document.Document.{Document}
-use Rattle.plain_doc.specs.Document.{IsFormedText}
-use Rattle.plain_doc.specs.Formed.{IsFormed}
+use Rattle.doc_model.specs.declared.document.Document.{Document}
+use Rattle.doc_model.specs.Document.{IsFormedText}
+use Rattle.doc_model.specs.Formed.{IsFormed}
 use Rattle.save_laws.specs.Ends.{ends_of}
-use Rattle.save_laws.specs.Slots.{whole_text}
+use Rattle.save_laws.specs.Slots.{document_slots}
 use Rattle.fast_save_layout.specs.AddedPages.{HasParagraphBins, HavePages}
 use Rattle.fast_save_layout.proofs.Public.{Ready, paragraphs_within, paragraphs_named, old_table_is}
 use Rattle.session_text.specs.SessionText.{ArePlannedSections, unwritten_count}
@@ -136,7 +136,7 @@ pieces_chosen (Some text) new old is = ap (λ (o : Option PieceTable). pieces_af
 -- ---- there is room to write the text again
 
 pub written_count : (file : List ℕ) (document : Document) (parts : SessionParts) → IsSession file document parts →
-    total_length parts.text.pieces.pieces ≡ length (whole_text document (ends_of parts.text.ends))
+    total_length parts.text.pieces.pieces ≡ length (document_slots document (ends_of parts.text.ends))
 written_count file document parts session =
     text_counted (saved_stream session.held) document parts.text session.text
 

@@ -1,8 +1,8 @@
 -- The code by which proofs tell sessions apart.
 use Rattle.std.specs.Prelude.{ℕ, List, refl}
 use Rattle.std.specs.Coded.{Coded, code_by, coded×, coded_ℕ, coded_list}
-use Rattle.plain_doc.specs.declared.document.Document.{Document}
-use Rattle.plain_doc.specs.contracts.document.Document as document_row
+use Rattle.doc_model.specs.declared.document.Document.{Document}
+use Rattle.doc_model.specs.contracts.document.Document as document_row
 use Rattle.fast_save.specs.declared.ledgers.Counts.{Counts}
 use Rattle.fast_save.specs.contracts.ledgers.Counts as counts_row
 use Rattle.fast_save.specs.Session.{SessionView}

@@ -1,6 +1,6 @@
 -- A session after an accepted edit: the document and the counts; the file stays.
 use Rattle.std.specs.Prelude.{◌≡◌, ℕ, ◌+◌, ◌*◌, ◌≤◌}
-use Rattle.plain_doc.specs.declared.document.Document.{Document}
+use Rattle.doc_model.specs.declared.document.Document.{Document}
 use Rattle.edit_script.specs.declared.commands.Command.{Command}
 use Rattle.edit_ops.specs.Causes.{IsAcceptedEdit}
 use Rattle.edit_ops.specs.Edits.{changes_of, document_after}
@@ -11,8 +11,8 @@ use Rattle.fast_save.specs.Ledgers.{after_edit}
 use Rattle.fast_save.specs.Session.{SessionView}
 
 -- an edit that is accepted: its changes, the document after them, and what it does
-abbrev pub IsPlanned : Document → Command → Edit → Type 0
-IsPlanned document command edit =
+abbrev pub IsPlannedEdit : Document → Command → Edit → Type 0
+IsPlannedEdit document command edit =
     IsAcceptedEdit document command
     × ((edit.changes ≡ changes_of document command)
     × ((edit.document ≡ document_after document command)
@@ -29,8 +29,8 @@ abbrev pub bytes_added : Counts → ℕ
 bytes_added counts = 2 * counts.units + 512 * counts.runs + 512 * counts.sections
 
 -- Profile: so little was added since the last save that one more edit may be made
-abbrev pub HasRoom : Counts → Type 0
-HasRoom counts = bytes_added counts ≤ 4270000000
+abbrev pub HasEditRoom : Counts → Type 0
+HasEditRoom counts = bytes_added counts ≤ 4270000000
 
 -- the most bytes that an accepted edit adds. 4,096 times as many leave room
 abbrev pub most_added : ℕ

@@ -10,7 +10,7 @@ use Rattle.cfb_in_place.specs.InPlace.{StaysInPlace}
 use Rattle.cfb_layout.specs.Counts.{most_sectors}
 use Rattle.cfb_layout.specs.Sectors.{units_for}
 use Rattle.fib_form.specs.FibFields.{fib_fields}
-use Rattle.plain_doc.specs.declared.document.Document.{Document}
+use Rattle.doc_model.specs.declared.document.Document.{Document}
 use Rattle.plain_doc.specs.Sound.{IsSound}
 use Rattle.full_save.specs.WordDocument.{table_stream}
 use Rattle.doc_read.specs.Holds.{FileParts, HasFileParts, HoldsDocument, IsAccepted}
@@ -149,7 +149,7 @@ pub record AreFastParts {file : List ℕ} {document : Document} (holds : HoldsDo
 
 -- WordDocument keeps the bytes of the old one behind its FIB, and is longer by no more than is reckoned; its FIB tells
 -- of a fast save
-pub record IsBehind (counts : Counts) (old new : List ℕ) : Type 0 where
+pub record GrowsBehindFib (counts : Counts) (old new : List ℕ) : Type 0 where
   pub keeps : KeepsBytes old new
   pub grown : length new ≤ length old + 2048 + 2 * counts.units + 512 * counts.runs + 512 * counts.sections
   pub complex : (fib_fields new).complex ≡ true
@@ -160,7 +160,7 @@ abbrev pub counts_over : (file wd : List ℕ) → Counts → Counts
 counts_over file wd counts = record counts { sectors = sector_count file; bin_bytes = bin_length (fib_fields wd) }
 
 -- a file with these streams is within what is reckoned: its table stream, the bytes of its bin tables, and its sectors
-pub record IsWithin (counts : Counts) (table_bytes : ℕ) (file wd stream : List ℕ) : Type 0 where
+pub record IsWithinBounds (counts : Counts) (table_bytes : ℕ) (file wd stream : List ℕ) : Type 0 where
   pub table :
       length stream
       ≤ table_bytes + counts.bin_bytes + (12 + modifier_bytes counts) * counts.pieces + 16 * counts.runs + 4096
@@ -190,9 +190,9 @@ pub record IsFastFile {old : List ℕ} {document : Document} {parts : SessionPar
   pub held : IsHeldFile file document
   pub pieces : held.holds.parts.text.pieces ≡ parts.text.pieces.pieces
   pub quick_saves : (fib_fields held.holds.parts.text.wd).quick_saves ≡ parts.fib.quick_saves + 1
-  pub behind : IsBehind can.counts can.session.held.parts.text.wd held.holds.parts.text.wd
+  pub behind : GrowsBehindFib can.counts can.session.held.parts.text.wd held.holds.parts.text.wd
   pub within :
-      IsWithin (counts_over old can.session.held.parts.text.wd can.counts) (length (table_stream document)) file
+      IsWithinBounds (counts_over old can.session.held.parts.text.wd can.counts) (length (table_stream document)) file
       held.holds.parts.text.wd held.holds.parts.text.table
   pub bounded : IsBoundedFile can.session.held → IsBoundedFile held.holds
   pub in_place : KeepsSectors old file can.session.held.parts.text.wd
@@ -219,10 +219,10 @@ pub record IsSavedFast (old new : SessionView) : Type 0 where
   pub counts : new.counts ≡ after_fast (sector_bound old.counts (length (table_stream old.document))) old.counts
   pub before : FileParts
   pub has_before : HasFileParts old.bytes before
-  pub behind : IsBehind old.counts before.text.wd holds.parts.text.wd
+  pub behind : GrowsBehindFib old.counts before.text.wd holds.parts.text.wd
   pub count : (fib_fields holds.parts.text.wd).quick_saves ≡ old.quick_saves + 1
   pub within :
-      IsWithin (counts_over old.bytes before.text.wd old.counts) (length (table_stream old.document)) new.bytes
+      IsWithinBounds (counts_over old.bytes before.text.wd old.counts) (length (table_stream old.document)) new.bytes
       holds.parts.text.wd holds.parts.text.table
   pub bounded : StaysBounded old.bytes holds
   pub in_place : KeepsSectors old.bytes new.bytes before.text.wd

@@ -2,8 +2,8 @@
 use Rattle.std.specs.Prelude.{◌≡◌, ◌↔◌, ℕ, List}
 use Rattle.doc_bits.specs.Number.{AreBytes}
 use Rattle.cfb_layout.specs.Layout.{contents_of}
-use Rattle.plain_doc.specs.declared.document.Document.{Document}
-use Rattle.plain_doc.specs.Formed.{IsFormed}
+use Rattle.doc_model.specs.declared.document.Document.{Document}
+use Rattle.doc_model.specs.Formed.{IsFormed}
 use Rattle.plain_doc.specs.Sound.{IsSound}
 use Rattle.full_save.specs.WordDocument.{table_stream}
 use Rattle.full_save.specs.Layout.{layout_streams, full_save_image, FitsCompoundFile}

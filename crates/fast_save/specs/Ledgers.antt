@@ -9,7 +9,7 @@ use Rattle.edit_script.specs.declared.commands.Command.{Command}
 use Rattle.edit_script.specs.declared.commands.Command.TheVariants.{Insert, Erase, Char, Plain, Para, Style, Field}
 use Rattle.edit_script.specs.declared.commands.Command.TheVariants.{Note, Split, Merge, Sect, Row, StyleChar}
 use Rattle.edit_script.specs.declared.commands.Command.TheVariants.{StylePara, Bookmark, Unmark, Save}
-use Rattle.edit_ops.specs.Runs.{most_runs}
+use Rattle.edit_ops.specs.Runs.{reckoned_runs}
 use Rattle.fast_save.specs.declared.ledgers.Counts.{Counts}
 use Rattle.fast_save.specs.declared.ledgers.Ledgers.{Ledgers}
 
@@ -89,7 +89,7 @@ after_edit command units counts = record counts {
   printed = saturating_sum counts.printed (modifier_growth command);
   units = saturating_sum counts.units units;
   sections = saturating_sum counts.sections (sections_set command);
-  runs = saturating_sum counts.runs (most_runs command);
+  runs = saturating_sum counts.runs (reckoned_runs command);
 }
 
 -- after a fast save that is reckoned to have so many sectors: the pieces stay, and the bin tables have grown
@@ -103,8 +103,8 @@ after_fast sectors counts = record counts {
 }
 
 -- the bytes of the longest printed modifier of pieces
-abbrev pub most_printed : List TextPiece → ℕ
-most_printed pieces = fold max 0 (map (λ piece. length (printed_modifier piece.modifier)) pieces)
+abbrev pub longest_modifier : List TextPiece → ℕ
+longest_modifier pieces = fold max 0 (map (λ piece. length (printed_modifier piece.modifier)) pieces)
 
 -- no piece has a modifier
 abbrev pub AreUnmodified : List TextPiece → Type 0
@@ -115,7 +115,7 @@ AreUnmodified pieces = All (λ piece. piece.modifier ≡ no_modifier) pieces
 pub record AreCountsOf (pieces : List TextPiece) (sectors bin_bytes : ℕ) (counts : Counts) : Type 0 where
   pub pieces_are : counts.pieces ≡ length pieces
   pub modified : counts.modified ≡ false ↔ AreUnmodified pieces
-  pub printed : counts.printed ≡ most_printed pieces
+  pub printed : counts.printed ≡ longest_modifier pieces
   pub sectors_are : counts.sectors ≡ sectors
   pub bin_bytes_are : counts.bin_bytes ≡ bin_bytes
   pub units : counts.units ≡ 0

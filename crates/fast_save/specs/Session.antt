@@ -4,18 +4,18 @@ use Rattle.doc_bits.specs.Number.{AreBytes}
 use Rattle.cfb_sectors.specs.Header.{sector_count}
 use Rattle.cfb_layout.specs.Counts.{most_sectors}
 use Rattle.cfb_layout.specs.Sectors.{units_for}
-use Rattle.fib_form.specs.FibFields.{FibFields, fib_fields, pair_at}
+use Rattle.fib_form.specs.FibFields.{FibFields, fib_fields, listed_pair}
 use Rattle.fib_form.specs.declared.table_parts.TablePart.TheVariants.{PlcfBteChpx, PlcfBtePapx}
-use Rattle.fib_form.specs.TableParts.{pair_of}
+use Rattle.fib_form.specs.TableParts.{pair_number}
 use Rattle.piece_table.specs.Piece.{flat_pieces}
-use Rattle.plain_doc.specs.declared.document.Document.{Document}
+use Rattle.doc_model.specs.declared.document.Document.{Document}
 use Rattle.plain_doc.specs.Sound.{IsSound}
-use Rattle.file_rules.specs.FileRules.{source_of}
+use Rattle.file_rules.specs.FileRules.{doc_source_of}
 use Rattle.doc_read.specs.Holds.{HoldsDocument, IsAccepted}
 use Rattle.save_laws.specs.Places.{PagedStream}
-use Rattle.save_laws.specs.GivenFiles.{stream_of}
+use Rattle.save_laws.specs.GivenFiles.{paged_stream_of}
 use Rattle.save_laws.specs.ByRuns.{AreBounded, text_ends}
-use Rattle.save_laws.specs.Slots.{StoryEnds, whole_text, story_counts}
+use Rattle.save_laws.specs.Slots.{StoryEnds, document_slots, story_counts}
 use Rattle.save_laws.specs.SharedPages.{page_bound}
 use Rattle.session_text.specs.OldUnits.{OldUnitsAreBounded}
 use Rattle.session_text.specs.SessionText.{IsSessionText, HaveFitModifiers, HaveNoModifiers, HaveModifiersWithin}
@@ -33,7 +33,8 @@ pub record SessionView : Type 0 where
 
 -- the bytes of the two bin tables of a file, by its FIB
 abbrev pub bin_length : FibFields → ℕ
-bin_length fib = (pair_at fib.pairs (pair_of PlcfBteChpx)).1 + (pair_at fib.pairs (pair_of PlcfBtePapx)).1
+bin_length fib = (listed_pair fib.pairs (pair_number PlcfBteChpx)).1 + (listed_pair fib.pairs (pair_number
+    PlcfBtePapx)).1
 
 -- where text may be added behind a stream of so many bytes: a page begins there
 abbrev pub text_base : ℕ → ℕ
@@ -41,13 +42,13 @@ text_base len = 512 * units_for 512 len
 
 -- WordDocument of a file with its bin tables
 abbrev pub saved_stream : {file : List ℕ} {document : Document} → HoldsDocument file document → PagedStream
-saved_stream held = stream_of (source_of held.parts.text)
+saved_stream held = paged_stream_of (doc_source_of held.parts.text)
 
 -- each unit of the text of a file agrees with the runs of paragraphs at its place
 abbrev pub IsBoundedFile : {file : List ℕ} {document : Document} → HoldsDocument file document → Type 0
 IsBoundedFile {document = document} held =
     (ends : StoryEnds) → (fib_fields held.parts.text.wd).ccps ≡ story_counts document ends →
-    AreBounded (saved_stream held) (flat_pieces held.parts.text.pieces) (text_ends (whole_text document ends))
+    AreBounded (saved_stream held) (flat_pieces held.parts.text.pieces) (text_ends (document_slots document ends))
 
 -- the file is accepted, and holds what the session held at the last save or at the start; the document is sound, and
 -- carries along what that one does; its text and its sections are in the file or are to be written, and where the

@@ -4,7 +4,7 @@ use Rattle.std.specs.Prelude.{◌≡◌, ◌⊎◌, ℕ, ◌+◌, ◌*◌, ◌�
 use Rattle.std.specs.Option.{option_map, unwrap_or}
 use Rattle.cfb_layout.specs.Sectors.{units_for}
 use Rattle.piece_table.specs.Piece.{PieceTable, TextPiece}
-use Rattle.plain_doc.specs.declared.document.Document.{Document}
+use Rattle.doc_model.specs.declared.document.Document.{Document}
 use Rattle.full_save.specs.WordDocument.{table_stream}
 use Rattle.session_text.specs.WrittenAgain.{IsWrittenAgain}
 use Rattle.session_text.specs.declared.old_pieces.OldPieces.{OldPieces}

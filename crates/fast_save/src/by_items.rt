@@ -1,6 +1,6 @@
 // The document of a session, item by item and as a file.
 ghost use Rattle.std.specs.Prelude.{◌≡◌, IfOk, MatchResult};
-ghost use Rattle.plain_doc.specs.Formed.{IsFormed};
+ghost use Rattle.doc_model.specs.Formed.{IsFormed};
 ghost use Rattle.plain_doc.specs.Sound.{IsSound};
 ghost use Rattle.full_save.specs.Layout.{full_save_image, FitsCompoundFile, IsTooLarge};
 

@@ -1,8 +1,8 @@
 // When a fast save is refused, and the file of one.
 ghost use Rattle.std.specs.Prelude.{◌≡◌, ◌<◌, ◌≤◌, ◌+◌, length, MatchResult};
 ghost use Rattle.piece_table.specs.Piece.{ArePieces};
-ghost use Rattle.plain_doc.specs.Document.{IsFormedText};
-ghost use Rattle.plain_doc.specs.Formed.{IsFormed};
+ghost use Rattle.doc_model.specs.Document.{IsFormedText};
+ghost use Rattle.doc_model.specs.Formed.{IsFormed};
 ghost use Rattle.plain_doc.specs.Sound.{IsSound};
 ghost use Rattle.cfb_layout.specs.Counts.{most_sectors};
 ghost use Rattle.full_save.specs.WordDocument.{table_stream};

@@ -6,7 +6,7 @@ ghost use Rattle.piece_table.specs.Piece.{one_piece};
 ghost use Rattle.fib_form.specs.FibFields.{fib_fields};
 ghost use Rattle.fib_form.specs.FibRules.{fib_rules};
 ghost use Rattle.full_save.specs.Text.{text_items};
-ghost use Rattle.full_save.specs.WordDocument.{full_fib, text_at as begin_of_text};
+ghost use Rattle.full_save.specs.WordDocument.{full_fib, text_offset as begin_of_text};
 ghost use Rattle.full_save.specs.Layout.{full_save_image};
 ghost use Rattle.fast_save.specs.Laws.{IsSavable};
 ghost use Rattle.session_text.specs.SessionText.{unwritten_count};

@@ -4,7 +4,7 @@ ghost use Rattle.edit_ops.specs.Codes.{HasValidCodes};
 ghost use Rattle.fast_save.specs.Ledgers.{saturating_sum as raised_count, after_edit as counts_after_edit};
 ghost use Rattle.fast_save.specs.Ledgers.{after_fast as counts_after_fast, sector_bound as bound_of_sectors};
 ghost use Rattle.fast_save.specs.Ledgers.{modifier_bytes as bytes_of_modifier, ledgers_of, AreCountsOf};
-ghost use Rattle.fast_save.specs.Ledgers.{most_printed as longest_printed, AreUnmodified};
+ghost use Rattle.fast_save.specs.Ledgers.{longest_modifier as longest_printed, AreUnmodified};
 
 use crate::reckoned::{is_formatting, modifier_growth, most_runs, sections_set};
 use edit_ops::Command;

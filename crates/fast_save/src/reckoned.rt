@@ -1,6 +1,6 @@
 // What is reckoned for a command, whatever the document is.
 ghost use Rattle.std.specs.Prelude.{◌≡◌};
-ghost use Rattle.edit_ops.specs.Runs.{most_runs as runs_reckoned, most_runs_of_section};
+ghost use Rattle.edit_ops.specs.Runs.{reckoned_runs as runs_reckoned, most_runs_of_section};
 ghost use Rattle.edit_ops.specs.Codes.{HasValidCodes};
 ghost use Rattle.fast_save.specs.Ledgers.{is_formatting as formats, modifier_growth as growth};
 ghost use Rattle.fast_save.specs.Ledgers.{sections_set as settings_put};

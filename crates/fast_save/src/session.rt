@@ -12,7 +12,7 @@ ghost use Rattle.edit_ops.specs.EditFacts.{edit_facts};
 ghost use Rattle.fast_save.specs.Laws.{IsHeldInFull};
 ghost use Rattle.fast_save.specs.Ledgers.{ledgers_of, AreCountsOf};
 ghost use Rattle.fast_save.specs.Session.{bin_length};
-ghost use Rattle.fast_save.specs.Edited.{HasRoom, IsPlanned, session_after};
+ghost use Rattle.fast_save.specs.Edited.{HasEditRoom, IsPlannedEdit, session_after};
 ghost use Rattle.fast_save.specs.Started.{IsStarted, session_after_full};
 ghost use Rattle.fast_save.specs.Fast.{IsFastFault, IsSavedFast};
 
@@ -111,15 +111,15 @@ impl Session {
     /// An edit as `make` takes it, or why it is refused.
     pub fn plan(&self, command: &Command) -> Result<Edit, EditFault>
         ensures { MatchResult result
-            (IsPlanned self.now.document command.now) (IsEditFault self.now.document command.now) }
+            (IsPlannedEdit self.now.document command.now) (IsEditFault self.now.document command.now) }
     {
         edit_of(self.alloc, &self.document, command)
     }
 
     /// Makes a planned edit. The file stays. After want of memory the session is as it was.
     pub fn make(&mut self, command: &Command, edit: Edit) -> Result<(), Memory>
-        requires room { HasRoom self.old.counts }
-        requires planned { IsPlanned self.old.document command.now edit }
+        requires room { HasEditRoom self.old.counts }
+        requires planned { IsPlannedEdit self.old.document command.now edit }
         ensures ok { OnOk result (self.new ≡ session_after command.now self.old) }
         ensures err { OnErr result (self.new ≡ self.old) }
     {
@@ -139,7 +139,7 @@ impl Session {
 
     /// Makes an edit. The file stays. A refused edit leaves the session as it was.
     pub fn edit(&mut self, command: &Command) -> Result<(), EditFault>
-        requires { HasRoom self.old.counts }
+        requires { HasEditRoom self.old.counts }
         ensures ok { OnOk result
             (IsAcceptedEdit self.old.document command.now × (self.new ≡ session_after command.now self.old)) }
         ensures err { IfErr result

@@ -1,7 +1,7 @@
 // Which stories of a file have a mark behind them.
 ghost use Rattle.std.specs.Prelude.{◌≡◌, ◌^◌, ◌<◌, Bool, length};
 ghost use Rattle.plain_doc.specs.Sound.{IsSound};
-ghost use Rattle.plain_doc.specs.Collected.{joined_texts};
+ghost use Rattle.doc_model.specs.Collected.{joined_texts};
 ghost use Rattle.save_laws.specs.Slots.{StoryEnds, story_slots, story_counts};
 ghost use Rattle.save_laws.specs.Ends.{ends_of};
 

@@ -14,12 +14,12 @@ use Rattle.fkp_pages.specs.declared.kind.PageKind.TheVariants.{Chpx, Papx}
 use Rattle.fkp_pages.specs.Bin.{bin_count}
 use Rattle.fkp_pages.specs.Runs.{IsWritableRun, AreRuns}
 use Rattle.fkp_pages.specs.Pages.{first_fc}
-use Rattle.plain_doc.specs.declared.item.Item.{Item}
-use Rattle.plain_doc.specs.Collected.{joined_texts}
-use Rattle.plain_doc.specs.Document.{IsFormedItem, IsFormedText}
+use Rattle.doc_model.specs.declared.item.Item.{Item}
+use Rattle.doc_model.specs.Collected.{joined_texts}
+use Rattle.doc_model.specs.Document.{IsFormedItem, IsFormedText}
 use Rattle.plain_doc.specs.RulesOfItems.{HasShortProperties}
-use Rattle.plain_doc.specs.Stretches.{stretches}
-use Rattle.plain_doc.proofs.Public.{are_stretches}
+use Rattle.doc_model.specs.Stretches.{stretches}
+use Rattle.doc_model.proofs.Public.{are_stretches}
 use Rattle.full_save.specs.Runs.{joins_run, runs_from, text_runs}
 use Rattle.full_save.proofs.Public.{last_fc-text_runs, IsWritableItem, AreTextRuns, text_runs_right}
 use Rattle.fast_save_layout.specs.KeptBins.{kept_end}

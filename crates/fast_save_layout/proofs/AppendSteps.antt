@@ -2,14 +2,14 @@
 use Rattle.std.specs.Prelude.{replicate}
 use Rattle.std.proofs.Common.{◌≡◌, ◌∙◌, ap, ℕ, ◌+◌, ◌-◌, ◌<◌, ◌^◌, true, List, [], ◌++◌, length, map, drop, arith}
 use Rattle.std.proofs.Common.{length-append}
-use Rattle.cfb_layout.specs.Sectors.{filled, padded}
+use Rattle.cfb_layout.specs.Sectors.{filled, padded_to_unit}
 use Rattle.fib_form.specs.FibFields.{FibFields}
 use Rattle.fib_form.specs.FibBytes.{written_fib}
 use Rattle.fkp_pages.specs.declared.kind.PageKind.TheVariants.{Chpx, Papx}
 use Rattle.fkp_pages.specs.Packed.{pages_of}
-use Rattle.plain_doc.specs.declared.document.Document.{Document}
-use Rattle.plain_doc.specs.declared.item.Item.{Item}
-use Rattle.plain_doc.specs.Collected.{sections_of}
+use Rattle.doc_model.specs.declared.document.Document.{Document}
+use Rattle.doc_model.specs.declared.item.Item.{Item}
+use Rattle.doc_model.specs.Collected.{sections_of}
 use Rattle.full_save.specs.Runs.{text_runs}
 use Rattle.full_save.specs.TableStream.{entries_pairs}
 use Rattle.full_save.specs.WordDocument.{units_bytes}
@@ -17,8 +17,8 @@ use Rattle.save_laws.specs.Slots.{story_counts}
 use Rattle.fast_save_layout.specs.declared.saving.EditedText.{EditedText}
 use Rattle.fast_save_layout.specs.declared.saving.SavedFile.{SavedFile}
 use Rattle.fast_save_layout.specs.declared.writing.NewParts.{NewParts}
-use Rattle.fast_save_layout.specs.Saves.{FastSave, save_of}
-use Rattle.fast_save_layout.specs.Kept.{CanBeAppended}
+use Rattle.fast_save_layout.specs.Saves.{FastSave, fast_save_of}
+use Rattle.fast_save_layout.specs.Kept.{CanBeFastSaved}
 use Rattle.fast_save_layout.specs.Bodies.{AreNewParts, streams_by, change_by}
 use Rattle.fast_save_layout.specs.MarkRuns.{mark_runs}
 use Rattle.fast_save_layout.specs.PlannedSections.{planned_sepxes}
@@ -35,12 +35,12 @@ use Rattle.full_save.proofs.Public.{few_collected}
 -- the units and the pages, part by part
 pub pages_made : (save : FastSave) (items : List Item) (old none first second third : List ℕ) → items ≡ save.added →
     old ≡ old_bins Papx save → none ≡ [] →
-    first ≡ none ++ padded 512 0 (units_bytes (map (λ (item : Item). item.unit) items)) →
+    first ≡ none ++ padded_to_unit 512 0 (units_bytes (map (λ (item : Item). item.unit) items)) →
     second ≡ first ++ (pages_of Chpx (text_runs Chpx save.base items)).bytes →
     third ≡ second ++ (pages_of Papx (mark_runs old save.base items)).bytes → third ≡ text_and_pages save
 pages_made save items old none first second third same bins empty one two three =
     let a : first ≡ text_part save =
-    one ∙ (λ i. empty i ++ padded 512 0 (units_bytes (map (λ (item : Item). item.unit) (same i)))) in
+    one ∙ (λ i. empty i ++ padded_to_unit 512 0 (units_bytes (map (λ (item : Item). item.unit) (same i)))) in
     let b = two ∙ (λ i. a i ++ (pages_of Chpx (text_runs Chpx save.base (same i))).bytes) in
     three ∙ (λ i. b i ++ (pages_of Papx (mark_runs (bins i) save.base (same i))).bytes)
 
@@ -83,11 +83,11 @@ fib_made save clx fib mac counts pairs is mac_is counts_is pairs_is = is ∙ (λ
 
 -- the streams that are laid out, and what is changed where the file keeps its own sectors
 pub streams_made : (old : SavedFile) (document : Document) (text : EditedText) (parts : NewParts)
-    (can : CanBeAppended (save_of old document text)) (are : AreNewParts (save_of old document text) parts) →
-    streams_by old text.base parts ≡ fast_streams (save_of old document text) are.clx
+    (can : CanBeFastSaved (fast_save_of old document text)) (are : AreNewParts (fast_save_of old document text) parts) →
+    streams_by old text.base parts ≡ fast_streams (fast_save_of old document text) are.clx
 unfolding fast_streams fast_wd
 streams_made old document text parts can are =
-    let save = save_of old document text in
+    let save = fast_save_of old document text in
     let m = made_of save parts can are in
     let wd = old_wd save in
     let name = table_name_of save in
@@ -98,10 +98,10 @@ streams_made old document text parts can are =
     are.clx) save.contents.streams) (sizes m).fib
 
 pub change_made : (old : SavedFile) (document : Document) (text : EditedText) (parts : NewParts)
-    (are : AreNewParts (save_of old document text) parts) →
-    change_by old text.base parts ≡ change_of (save_of old document text) are.clx
+    (are : AreNewParts (fast_save_of old document text) parts) →
+    change_by old text.base parts ≡ change_of (fast_save_of old document text) are.clx
 change_made old document text parts are =
-    let save = save_of old document text in
+    let save = fast_save_of old document text in
     λ i. record {
       fib = are.fib i;
       tail = replicate (save.base - length (old_wd save)) 0 ++ are.added i;

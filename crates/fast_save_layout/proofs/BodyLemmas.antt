@@ -2,22 +2,22 @@
 use Rattle.std.proofs.Common.{◌≡◌, ◌∙◌, ℕ, ◌+◌, ◌*◌, ◌/◌, ◌<◌, ◌^◌, List, ◌++◌, length, map, arith}
 use Rattle.std.proofs.Common.{append_assoc, length-append}
 use Rattle.std.proofs.lemmas.List.{length-map}
-use Rattle.cfb_layout.specs.Sectors.{padded}
+use Rattle.cfb_layout.specs.Sectors.{padded_to_unit}
 use Rattle.cfb_layout.proofs.Public.{length-padded, length-table}
 use Rattle.fkp_pages.specs.declared.kind.PageKind.TheVariants.{Chpx, Papx}
-use Rattle.plain_doc.specs.declared.item.Item.{Item}
-use Rattle.plain_doc.specs.Collected.{sections_of}
+use Rattle.doc_model.specs.declared.item.Item.{Item}
+use Rattle.doc_model.specs.Collected.{sections_of}
 use Rattle.full_save.specs.WordDocument.{units_bytes}
 use Rattle.fast_save_layout.specs.Saves.{FastSave}
 use Rattle.fast_save_layout.specs.PlannedSections.{planned_sepxes}
-use Rattle.fast_save_layout.specs.Appended.{added_pages, pages_end, added_bytes}
+use Rattle.fast_save_layout.specs.Appended.{added_pages, added_pages_end, added_bytes}
 use Rattle.fast_save_layout.proofs.ReadyLemmas.{Ready, base_is, pages_whole, have_room}
 
 abbrev pub units_of : FastSave → List ℕ
 units_of save = map (λ (item : Item). item.unit) save.added
 
 abbrev pub text_part : FastSave → List ℕ
-text_part save = padded 512 0 (units_bytes (units_of save))
+text_part save = padded_to_unit 512 0 (units_bytes (units_of save))
 
 -- the units and the pages
 abbrev pub text_and_pages : FastSave → List ℕ
@@ -44,7 +44,7 @@ body_sizes r =
     record { units = units; text = omega (arith, text, units); all = omega (arith, a1, a2, chp, pap) }
 
 -- they end where the Sepxes begin
-pub body_end : (r : Ready) → r.save.base + length (text_and_pages r.save) ≡ pages_end r.save
+pub body_end : (r : Ready) → r.save.base + length (text_and_pages r.save) ≡ added_pages_end r.save
 body_end r =
     let size = body_sizes r in
     let whole = (base_is r).whole in

@@ -13,31 +13,31 @@ use Rattle.fkp_pages.specs.declared.kind.PageKind.TheVariants.{Chpx, Papx}
 use Rattle.fkp_pages.specs.declared.lists.Bin.{Bin}
 use Rattle.fkp_pages.specs.declared.lists.Run.{Run}
 use Rattle.fkp_pages.specs.Bin.{IsBinTable}
-use Rattle.fkp_pages.specs.Rows.{IsInRun, IsRow}
+use Rattle.fkp_pages.specs.Rows.{IsInRun, IsPageRow}
 use Rattle.fkp_pages.specs.Runs.{IsWritableRun}
 use Rattle.fkp_pages.specs.PageBytes.{last_fc}
 use Rattle.fkp_pages.specs.Pages.{first_fc}
 use Rattle.fkp_pages.proofs.Public.{printed_table}
 use Rattle.piece_table.specs.Piece.{UnitPlace, unit_bytes}
-use Rattle.plain_doc.specs.declared.item.Mark.{Mark}
-use Rattle.plain_doc.specs.declared.item.Item.{Item}
-use Rattle.plain_doc.specs.Document.{IsFormedText}
-use Rattle.plain_doc.specs.Formed.{IsFormed}
+use Rattle.doc_model.specs.declared.item.Mark.{Mark}
+use Rattle.doc_model.specs.declared.item.Item.{Item}
+use Rattle.doc_model.specs.Document.{IsFormedText}
+use Rattle.doc_model.specs.Formed.{IsFormed}
 use Rattle.full_save.specs.Runs.{text_runs}
-use Rattle.save_laws.specs.ByRuns.{IsRunAt, ranges_end, BeginsRun, IsBounded, slot_end}
+use Rattle.save_laws.specs.ByRuns.{IsPageRunAt, ranges_end, BeginsRun, IsBounded, slot_end}
 use Rattle.save_laws.specs.FastSaves.{StandsInEither, IsGivenBy}
 use Rattle.save_laws.specs.KeptPages.{KeepsPages}
-use Rattle.save_laws.specs.Places.{PagedStream, Given, given_of, IsMarkedAfter}
+use Rattle.save_laws.specs.Places.{PagedStream, GivenUnit, given_of, IsMarkedAfter}
 use Rattle.save_laws.specs.Plans.{Plan}
-use Rattle.save_laws.specs.Slots.{Slot, shown, loose, last, IsPlaced}
+use Rattle.save_laws.specs.Slots.{Slot, shown, loose, last, IsPlaceForSlot}
 use Rattle.save_laws.proofs.Public.{slot_there, stream_of_row, ends_with_runs, run_told, told_as, upto_last}
 use Rattle.save_laws.proofs.Public.{ending_bounded, inner_bounded}
 use Rattle.fast_save_layout.specs.Saves.{FastSave, plan_of}
-use Rattle.fast_save_layout.specs.MarkRuns.{leaves_open, longer, begun, runs_end}
-use Rattle.fast_save_layout.specs.MarkEnds.{EndsWithMark}
+use Rattle.fast_save_layout.specs.MarkRuns.{leaves_open, longer, runs_begun_at, runs_end}
+use Rattle.fast_save_layout.specs.MarkEnds.{RunEndsWithMark}
 use Rattle.fast_save_layout.specs.Appended.{old_stream, old_bins, added_runs, runs_begin, bins_end}
 use Rattle.fast_save_layout.specs.Appended.{fast_bins, fast_bin_table, fast_saved_text}
-use Rattle.fast_save_layout.specs.Kept.{CanBeAppended}
+use Rattle.fast_save_layout.specs.Kept.{CanBeFastSaved}
 use Rattle.fast_save_layout.specs.Answers.{IsAppended}
 use Rattle.fast_save_layout.specs.FastByRuns.{FastSavesAreBounded}
 use Rattle.fast_save_layout.proofs.AddedRuns.{text_right, text_first, kept_end_low}
@@ -55,7 +55,7 @@ use Rattle.fast_save_layout.proofs.RunTransfer.{row_begins_back, row_run_back, r
 -- ---- the first run
 
 first_longer : (place : ℕ) (more : Bool) (runs : List Run) (run : Run) → All (IsWritableRun Papx) runs →
-    slice_get (begun place (cond more (longer runs) runs)) 0 ≡ Some run → first_fc runs < run.to
+    slice_get (runs_begun_at place (cond more (longer runs) runs)) 0 ≡ Some run → first_fc runs < run.to
 unfolding longer
 first_longer place true [] run all here = absurd (none-some run here)
 first_longer place true (one ∷ []) run all here =
@@ -150,7 +150,7 @@ module _ (m : Made) (some : 0 < length (the_save m).added) where
   abbrev number : ℕ
   number = (have_row Papx m some_runs).0
 
-  abbrev row : IsRow Papx (new_wd m) runs number
+  abbrev row : IsPageRow Papx (new_wd m) runs number
   row = (have_row Papx m some_runs).1.0
 
   abbrev row_stream : PagedStream
@@ -167,10 +167,10 @@ module _ (m : Made) (some : 0 < length (the_save m).added) where
     end = table_ends m ∙ (sym (added_are Papx m.ready some).last ∙ sym row_ends);
   }
 
-  told : (fc : ℕ) (run : Run) → IsInRun runs fc run → IsRunAt row_stream fc run.from run.to
+  told : (fc : ℕ) (run : Run) → IsInRun runs fc run → IsPageRunAt row_stream fc run.from run.to
   told fc run is = run_told (new_wd m) (fast_bin_table Chpx save_here) runs number row fc run is
 
-  as_told : (fc first lim : ℕ) (run : Run) → IsInRun runs fc run → IsRunAt row_stream fc first lim →
+  as_told : (fc first lim : ℕ) (run : Run) → IsInRun runs fc run → IsPageRunAt row_stream fc first lim →
       (first ≡ run.from) × (lim ≡ run.to)
   as_told fc first lim run is at =
       told_as (new_wd m) (fast_bin_table Chpx save_here) runs number row fc first lim run is at
@@ -230,14 +230,14 @@ module _ (m : Made) (some : 0 < length (the_save m).added) where
 
   one_run_some : (fc later begin lim : ℕ) → ranges_end (old_stream save_here) ≤ fc → fc < save_here.base →
       ranges_end (old_stream save_here) ≤ later → later < save_here.base →
-      IsRunAt (new_stream m) fc begin lim → IsRunAt (new_stream m) later begin lim
+      IsPageRunAt (new_stream m) fc begin lim → IsPageRunAt (new_stream m) later begin lim
   one_run_some fc later begin lim high below later_high later_below run =
       let back = row_run_back row_stream (new_stream m) row_pages fc (row_has fc high below) begin lim run in
       let same = as_told fc begin lim first.run (behind_run fc high below) back in
       let there = row_run row_stream (new_stream m) row_pages later first.run.from first.run.to
       (told later first.run (behind_run later later_high later_below)) in
-      subst (λ (f : ℕ). IsRunAt (new_stream m) later f lim) (sym same.0)
-      (subst (λ (l : ℕ). IsRunAt (new_stream m) later first.run.from l) (sym same.1) there)
+      subst (λ (f : ℕ). IsPageRunAt (new_stream m) later f lim) (sym same.0)
+      (subst (λ (l : ℕ). IsPageRunAt (new_stream m) later first.run.from l) (sym same.1) there)
 
   -- an added unit
   added_bounded : (k : ℕ) (item : Item) (end : Bool) → slice_get save_here.added k ≡ Some item →
@@ -245,7 +245,7 @@ module _ (m : Made) (some : 0 < length (the_save m).added) where
   added_bounded k item end here is =
       row_bounded row_stream (new_stream m) row_pages (save_here.base + 2 * k) true end (by_end end is)
     where
-      law : EndsWithMark runs (save_here.base + 2 * k) item
+      law : RunEndsWithMark runs (save_here.base + 2 * k) item
       law = runs_end_with_marks (old_bins Papx save_here) save_here.base save_here.added k item here
 
       inside : save_here.base + 2 * k + 2 < length (new_wd m)
@@ -284,7 +284,7 @@ module _ (m : Made) (none : length (the_save m).added ≤ 0) where
       inl (omega (arith, ends_none, e, high), sym (ends_none ∙ e))
 
   one_run_none : (fc later begin lim : ℕ) → ranges_end (old_stream (the_save m)) ≤ fc → fc < (the_save m).base →
-      IsRunAt (new_stream m) fc begin lim → IsRunAt (new_stream m) later begin lim
+      IsPageRunAt (new_stream m) fc begin lim → IsPageRunAt (new_stream m) later begin lim
   one_run_none fc later begin lim high below run =
       let low = named_low (fast_bin_table Papx (the_save m)) fc run.number (new_table m) run.named in
       let e = begin_is m (omega (arith, high, below)) in
@@ -336,12 +336,12 @@ mark_same modifier (Some old) (Some new) after = refl
 
 -- the place has a mark exactly where the slot ends a paragraph
 record IsGivenEnd (old : PagedStream) (plan : Plan) (place : UnitPlace) (end : Bool) : Type 0 where
-  given : Given
+  given : GivenUnit
   gives : IsGivenBy old plan place.at place.wide given
   is : is_some given.mark ≡ end
 
 given_end : (old : PagedStream) (plan : Plan) (place : UnitPlace) (slot : Slot) (end : Bool) →
-    IsPlaced (StandsInEither old plan) (IsGivenBy old plan) place slot → slot_end slot ≡ Some end →
+    IsPlaceForSlot (StandsInEither old plan) (IsGivenBy old plan) place slot → slot_end slot ≡ Some end →
     IsGivenEnd old plan place end
 given_end old plan place (shown item) end placed is = record {
   given = placed.before;
@@ -359,7 +359,7 @@ unit_some : (wide : Bool) → 1 ≤ unit_bytes wide
 unit_some true = omega arith
 unit_some false = omega arith
 
-made_by : (save : FastSave) (file : List ℕ) → CanBeAppended save → IsFormed save.document → IsFormedText save.added →
+made_by : (save : FastSave) (file : List ℕ) → CanBeFastSaved save → IsFormed save.document → IsFormedText save.added →
     IsAppended save file → Made
 made_by save file can formed items made = record {
   ready = record { save = save; can = can; formed = formed; items = items };
@@ -386,7 +386,7 @@ fast_saves_are_bounded save file can formed items made before k place end here t
           let found = from_map given_of save.added planned.number given.given planned.there in
           let some : 0 < length save.added =
           let within = slice_get_within save.added planned.number found.0 found.1.0 in omega (arith, within) in
-          let marked : is_some found.0.mark ≡ end = ap (λ (g : Given). is_some g.mark) found.1.1 ∙ given.is in
+          let marked : is_some found.0.mark ≡ end = ap (λ (g : GivenUnit). is_some g.mark) found.1.1 ∙ given.is in
           let bounded = added_bounded m some planned.number found.0 end found.1.0 marked in
           subst (λ (at : ℕ). IsBounded (new_stream m) at place.wide end) (sym planned.here)
           (subst (λ (wide : Bool). IsBounded (new_stream m) (save.base + 2 * planned.number) wide end)

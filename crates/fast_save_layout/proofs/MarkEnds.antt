@@ -10,15 +10,15 @@ use Rattle.fkp_pages.specs.declared.kind.PageKind.TheVariants.{Papx}
 use Rattle.fkp_pages.specs.declared.lists.Run.{Run}
 use Rattle.fkp_pages.specs.PageBytes.{last_fc}
 use Rattle.fkp_pages.specs.Pages.{first_fc}
-use Rattle.plain_doc.specs.declared.item.Mark.{Mark}
-use Rattle.plain_doc.specs.declared.item.Item.{Item}
-use Rattle.plain_doc.specs.Settings.{is_inside}
-use Rattle.plain_doc.specs.Stretches.{stretch_from, stretches}
+use Rattle.doc_model.specs.declared.item.Mark.{Mark}
+use Rattle.doc_model.specs.declared.item.Item.{Item}
+use Rattle.doc_model.specs.Settings.{is_inside}
+use Rattle.doc_model.specs.Stretches.{stretch_from, stretches}
 use Rattle.full_save.specs.Runs.{run_at, runs_from, text_runs}
 use Rattle.full_save.proofs.Public.{last_fc-text_runs, length-runs_from}
-use Rattle.plain_doc.proofs.Public.{Leads, leads}
+use Rattle.doc_model.proofs.Public.{Leads, leads}
 use Rattle.fast_save_layout.specs.KeptBins.{kept_end}
-use Rattle.fast_save_layout.specs.MarkRuns.{is_open, leaves_open, longer, reached, begun}
+use Rattle.fast_save_layout.specs.MarkRuns.{is_open_item, leaves_open, longer, longer_if_open, runs_begun_at}
 use Rattle.fast_save_layout.specs.MarkEnds.{RunsEndWithMarks}
 use Rattle.fast_save_layout.proofs.AddedRuns.{text_first, kept_end_low}
 use Rattle.fast_save_layout.proofs.MarkLemmas.{reached_first}
@@ -241,7 +241,8 @@ last_ends runs n run here last =
 -- ---- the first one begins earlier
 
 begun_at : (place : ℕ) (runs : List Run) (n : ℕ) (run : Run) → slice_get runs n ≡ Some run → place ≤ first_fc runs →
-    (found : Run) × ((slice_get (begun place runs) n ≡ Some found) × ((found.from ≤ run.from) × (found.to ≡ run.to)))
+    (found : Run) × ((slice_get (runs_begun_at place runs) n ≡ Some found) × ((found.from ≤ run.from) × (found.to ≡
+    run.to)))
 begun_at place [] n run here low = absurd (none-some run here)
 begun_at place (one ∷ runs) zero run here low =
     let same = same_Some one run here in
@@ -280,7 +281,7 @@ module _ (base : ℕ) (items : List Item) (k : ℕ) (item : Item) (here : slice_
       let all = last_ends runs own.number own.run own.there last in
       let text = last_fc-text_runs Papx base items (omega (arith, within)) in
       let e : k ≡ length items - 1 = omega (arith, ends, all, text, within) in
-      ap is_open (subst (λ (n : ℕ). slice_get items n ≡ Some item) e here)
+      ap is_open_item (subst (λ (n : ℕ). slice_get items n ≡ Some item) e here)
 
   ends_by : (open_end : Bool) → leaves_open items ≡ open_end →
       IsBounded (cond open_end (longer runs) runs) place item.mark
@@ -330,13 +331,14 @@ module _ (base : ℕ) (items : List Item) (k : ℕ) (item : Item) (here : slice_
 
 pub runs_end_with_marks : RunsEndWithMarks
 runs_end_with_marks table base items k item here =
-    let is : IsBounded (reached items (text_runs Papx base items)) (base + 2 * k) item.mark =
+    let is : IsBounded (longer_if_open items (text_runs Papx base items)) (base + 2 * k) item.mark =
     ends_by base items k item here (leaves_open items) refl in
     let within = slice_get_within items k item here in
     let first = text_first Papx base items (omega (arith, within)) in
     let same = reached_first items (text_runs Papx base items) in
     let low = kept_end_low table base in
-    let found = begun_at (kept_end table base) (reached items (text_runs Papx base items)) is.number is.run is.there
+    let found = begun_at (kept_end table base) (longer_if_open items (text_runs Papx base items)) is.number is.run
+    is.there
     (omega (arith, first, same, low)) in
     let from = is.from in
     let to = is.to in

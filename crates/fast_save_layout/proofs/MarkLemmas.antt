@@ -8,13 +8,13 @@ use Rattle.std.proofs.lemmas.Option.{same_Some, none-some}
 use Rattle.fkp_pages.specs.declared.kind.PageKind.{PageKind}
 use Rattle.fkp_pages.specs.declared.kind.PageKind.TheVariants.{Papx}
 use Rattle.fkp_pages.specs.declared.lists.Run.{Run}
-use Rattle.fkp_pages.specs.Runs.{IsWritableRun, AreRuns, HasFileNumbers}
+use Rattle.fkp_pages.specs.Runs.{IsWritableRun, AreRuns, HasRunNumbers}
 use Rattle.fkp_pages.specs.Rows.{IsInRun}
-use Rattle.fkp_pages.specs.Written.{is_bare}
+use Rattle.fkp_pages.specs.Written.{is_bare_run}
 use Rattle.fkp_pages.specs.PageBytes.{last_fc}
 use Rattle.fkp_pages.specs.Pages.{first_fc}
-use Rattle.plain_doc.specs.declared.item.Item.{Item}
-use Rattle.fast_save_layout.specs.MarkRuns.{leaves_open, longer, reached, begun, runs_end}
+use Rattle.doc_model.specs.declared.item.Item.{Item}
+use Rattle.fast_save_layout.specs.MarkRuns.{leaves_open, longer, longer_if_open, runs_begun_at, runs_end}
 
 -- the run that holds a place has the style and the properties of another
 pub record HoldsIt (runs : List Run) (fc : ℕ) (run : Run) : Type 0 where
@@ -26,7 +26,7 @@ pub record HoldsIt (runs : List Run) (fc : ℕ) (run : Run) : Type 0 where
 -- what runs that are made of others have of them: the places, and a unit more at most
 pub record AreMade (kind : PageKind) (runs made : List Run) : Type 0 where
   pub right : AreRuns kind made
-  pub numbers : All HasFileNumbers made
+  pub numbers : All HasRunNumbers made
   pub some : 0 < length made
   pub high : last_fc made ≤ last_fc runs + 2
   pub holds : (fc : ℕ) (run : Run) → IsInRun runs fc run → HoldsIt made fc run
@@ -93,18 +93,18 @@ last_more run runs some =
     let e : suc (length runs) - 1 ≡ suc (length runs - 1) = omega (arith, some) in
     ap (λ (n : ℕ). slice_index (map (λ (r : Run). r.to) (run ∷ runs)) n) e
 
-longer_numbers : (runs : List Run) → last_fc runs + 2 < 2 ^ 32 → All HasFileNumbers runs →
-    All HasFileNumbers (longer runs)
+longer_numbers : (runs : List Run) → last_fc runs + 2 < 2 ^ 32 → All HasRunNumbers runs →
+    All HasRunNumbers (longer runs)
 unfolding longer
 longer_numbers [] small all = all
 longer_numbers (run ∷ []) small all =
-    let own = All-head HasFileNumbers run [] all in
-    All-cons HasFileNumbers (longer_run run) []
-    (record { from = own.from; to = omega (arith, small); istd = own.istd }) (All-tail HasFileNumbers run [] all)
+    let own = All-head HasRunNumbers run [] all in
+    All-cons HasRunNumbers (longer_run run) []
+    (record { from = own.from; to = omega (arith, small); istd = own.istd }) (All-tail HasRunNumbers run [] all)
 longer_numbers (run ∷ (next ∷ runs)) small all =
     let last = last_more run (next ∷ runs) (omega arith) in
-    All-cons HasFileNumbers run (longer (next ∷ runs)) (All-head HasFileNumbers run (next ∷ runs) all)
-    (longer_numbers (next ∷ runs) (omega (arith, small, last)) (All-tail HasFileNumbers run (next ∷ runs) all))
+    All-cons HasRunNumbers run (longer (next ∷ runs)) (All-head HasRunNumbers run (next ∷ runs) all)
+    (longer_numbers (next ∷ runs) (omega (arith, small, last)) (All-tail HasRunNumbers run (next ∷ runs) all))
 
 longer_last : (runs : List Run) → last_fc (longer runs) ≤ last_fc runs + 2
 unfolding longer
@@ -166,11 +166,11 @@ longer_holds (one ∷ (next ∷ runs)) fc zero run here from to =
 longer_holds (one ∷ (next ∷ runs)) fc (suc k) run here from to =
     behind_one one (longer (next ∷ runs)) fc run (longer_holds (next ∷ runs) fc k run here from to)
 
-longer_bare : (runs : List Run) → map (is_bare Papx) (longer runs) ≡ map (is_bare Papx) runs
+longer_bare : (runs : List Run) → map (is_bare_run Papx) (longer runs) ≡ map (is_bare_run Papx) runs
 unfolding longer
 longer_bare [] = refl
 longer_bare (run ∷ []) = refl
-longer_bare (run ∷ (next ∷ runs)) = ap (λ (rest : List Bool). is_bare Papx run ∷ rest) (longer_bare (next ∷ runs))
+longer_bare (run ∷ (next ∷ runs)) = ap (λ (rest : List Bool). is_bare_run Papx run ∷ rest) (longer_bare (next ∷ runs))
 
 longer_begins : (runs : List Run) → first_fc (longer runs) ≡ first_fc runs
 unfolding longer
@@ -178,7 +178,7 @@ longer_begins [] = refl
 longer_begins (run ∷ []) = refl
 longer_begins (run ∷ (next ∷ runs)) = refl
 
-longer_are : (kind : PageKind) (runs : List Run) → AreRuns kind runs → All HasFileNumbers runs → 0 < length runs →
+longer_are : (kind : PageKind) (runs : List Run) → AreRuns kind runs → All HasRunNumbers runs → 0 < length runs →
     last_fc runs + 2 < 2 ^ 32 → AreMade kind runs (longer runs)
 longer_are kind runs right numbers some small =
     let len = length-longer runs in
@@ -193,7 +193,7 @@ longer_are kind runs right numbers some small =
       holds = λ fc run in_run. longer_holds runs fc in_run.number run in_run.there in_run.from in_run.to;
     }
 
-same_are : (kind : PageKind) (runs : List Run) → AreRuns kind runs → All HasFileNumbers runs → 0 < length runs →
+same_are : (kind : PageKind) (runs : List Run) → AreRuns kind runs → All HasRunNumbers runs → 0 < length runs →
     AreMade kind runs runs
 same_are kind runs right numbers some = record {
   right = right;
@@ -203,29 +203,29 @@ same_are kind runs right numbers some = record {
   holds = λ fc run in_run. record { wide = run; in_run = in_run; istd = refl; maps = refl };
 }
 
-reached_are : (kind : PageKind) (items : List Item) (runs : List Run) → AreRuns kind runs → All HasFileNumbers runs →
-    0 < length runs → last_fc runs + 2 < 2 ^ 32 → AreMade kind runs (reached items runs)
+reached_are : (kind : PageKind) (items : List Item) (runs : List Run) → AreRuns kind runs → All HasRunNumbers runs →
+    0 < length runs → last_fc runs + 2 < 2 ^ 32 → AreMade kind runs (longer_if_open items runs)
 reached_are kind items runs right numbers some small =
     elim (leaves_open items) as (λ b. AreMade kind runs (cond b (longer runs) runs)) [
       | true ↦ longer_are kind runs right numbers some small
       | false ↦ same_are kind runs right numbers some
     ]
 
-pub reached_first : (items : List Item) (runs : List Run) → first_fc (reached items runs) ≡ first_fc runs
+pub reached_first : (items : List Item) (runs : List Run) → first_fc (longer_if_open items runs) ≡ first_fc runs
 reached_first items runs = elim (leaves_open items) as (λ b. first_fc (cond b (longer runs) runs) ≡ first_fc runs) [
   | true ↦ longer_begins runs
   | false ↦ refl
 ]
 
 reached_bare : (items : List Item) (runs : List Run) →
-    map (is_bare Papx) (reached items runs) ≡ map (is_bare Papx) runs
+    map (is_bare_run Papx) (longer_if_open items runs) ≡ map (is_bare_run Papx) runs
 reached_bare items runs =
-    elim (leaves_open items) as (λ b. map (is_bare Papx) (cond b (longer runs) runs) ≡ map (is_bare Papx) runs) [
+    elim (leaves_open items) as (λ b. map (is_bare_run Papx) (cond b (longer runs) runs) ≡ map (is_bare_run Papx) runs) [
       | true ↦ longer_bare runs
       | false ↦ refl
     ]
 
-length-reached : (items : List Item) (runs : List Run) → length (reached items runs) ≡ length runs
+length-reached : (items : List Item) (runs : List Run) → length (longer_if_open items runs) ≡ length runs
 length-reached items runs = elim (leaves_open items) as (λ b. length (cond b (longer runs) runs) ≡ length runs) [
   | true ↦ length-longer runs
   | false ↦ refl
@@ -236,16 +236,17 @@ length-reached items runs = elim (leaves_open items) as (λ b. length (cond b (l
 abbrev pub begun_run : ℕ → Run → Run
 begun_run place run = record { from = place; to = run.to; istd = run.istd; map = run.map }
 
-length-begun : (place : ℕ) (runs : List Run) → length (begun place runs) ≡ length runs
+length-begun : (place : ℕ) (runs : List Run) → length (runs_begun_at place runs) ≡ length runs
 length-begun place [] = refl
 length-begun place (run ∷ runs) = refl
 
-begun_bare : (place : ℕ) (runs : List Run) → map (is_bare Papx) (begun place runs) ≡ map (is_bare Papx) runs
+begun_bare : (place : ℕ) (runs : List Run) → map (is_bare_run Papx) (runs_begun_at place runs) ≡ map (is_bare_run Papx)
+    runs
 begun_bare place [] = refl
 begun_bare place (run ∷ runs) = refl
 
 begun_writable : (kind : PageKind) (place : ℕ) (runs : List Run) → place ≤ first_fc runs →
-    All (IsWritableRun kind) runs → All (IsWritableRun kind) (begun place runs)
+    All (IsWritableRun kind) runs → All (IsWritableRun kind) (runs_begun_at place runs)
 begun_writable kind place [] low all = all
 begun_writable kind place (run ∷ runs) low all =
     let own = All-head (IsWritableRun kind) run runs all in
@@ -257,8 +258,8 @@ begun_writable kind place (run ∷ runs) low all =
 begun_touch : (place : ℕ) (runs : List Run) →
     ((k : ℕ) (run next : Run) → slice_get runs k ≡ Some run → slice_get runs (k + 1) ≡ Some next →
     run.to ≡ next.from) →
-    (k : ℕ) (run next : Run) → slice_get (begun place runs) k ≡ Some run →
-    slice_get (begun place runs) (k + 1) ≡ Some next → run.to ≡ next.from
+    (k : ℕ) (run next : Run) → slice_get (runs_begun_at place runs) k ≡ Some run →
+    slice_get (runs_begun_at place runs) (k + 1) ≡ Some next → run.to ≡ next.from
 begun_touch place [] touch k run next here there = absurd (none-some run here)
 begun_touch place (one ∷ runs) touch zero run next here there =
     ap (λ (r : Run). r.to) (sym (same_Some (begun_run place one) run here)) ∙ touch 0 one next refl there
@@ -268,29 +269,29 @@ begun_touch place (one ∷ runs) touch (suc k) run next here there =
     (subst (λ m. slice_get (one ∷ runs) m ≡ Some next) (sym e)
     (subst (λ m. slice_get (begun_run place one ∷ runs) m ≡ Some next) e there))
 
-begun_numbers : (place : ℕ) (runs : List Run) → place ≤ first_fc runs → All HasFileNumbers runs →
-    All HasFileNumbers (begun place runs)
+begun_numbers : (place : ℕ) (runs : List Run) → place ≤ first_fc runs → All HasRunNumbers runs →
+    All HasRunNumbers (runs_begun_at place runs)
 begun_numbers place [] low all = all
 begun_numbers place (run ∷ runs) low all =
-    let own = All-head HasFileNumbers run runs all in
+    let own = All-head HasRunNumbers run runs all in
     let from = own.from in
-    All-cons HasFileNumbers (begun_run place run) runs
-    (record { from = omega (arith, low, from); to = own.to; istd = own.istd }) (All-tail HasFileNumbers run runs all)
+    All-cons HasRunNumbers (begun_run place run) runs
+    (record { from = omega (arith, low, from); to = own.to; istd = own.istd }) (All-tail HasRunNumbers run runs all)
 
 pub end_is : (place : ℕ) (runs : List Run) → 0 < length runs → last_fc runs ≡ runs_end place runs
 end_is place [] some = absurd (omega (arith, some))
 end_is place (run ∷ runs) some = refl
 
-begun_first : (place : ℕ) (runs : List Run) → 0 < length runs → first_fc (begun place runs) ≡ place
+begun_first : (place : ℕ) (runs : List Run) → 0 < length runs → first_fc (runs_begun_at place runs) ≡ place
 begun_first place [] some = absurd (omega (arith, some))
 begun_first place (run ∷ runs) some = refl
 
-begun_last : (place : ℕ) (runs : List Run) → last_fc (begun place runs) ≡ last_fc runs
+begun_last : (place : ℕ) (runs : List Run) → last_fc (runs_begun_at place runs) ≡ last_fc runs
 begun_last place [] = refl
 begun_last place (run ∷ runs) = refl
 
 begun_holds : (place : ℕ) (runs : List Run) (fc k : ℕ) (run : Run) → place ≤ first_fc runs →
-    slice_get runs k ≡ Some run → run.from ≤ fc → fc < run.to → HoldsIt (begun place runs) fc run
+    slice_get runs k ≡ Some run → run.from ≤ fc → fc < run.to → HoldsIt (runs_begun_at place runs) fc run
 begun_holds place [] fc k run low here from to = absurd (none-some run here)
 begun_holds place (one ∷ runs) fc zero run low here from to =
     let same = same_Some one run here in
@@ -314,7 +315,7 @@ begun_holds place (one ∷ runs) fc (suc k) run low here from to = record {
 }
 
 begun_are : (kind : PageKind) (place : ℕ) (runs : List Run) → place ≤ first_fc runs → AreRuns kind runs →
-    All HasFileNumbers runs → 0 < length runs → AreMade kind runs (begun place runs)
+    All HasRunNumbers runs → 0 < length runs → AreMade kind runs (runs_begun_at place runs)
 begun_are kind place runs low right numbers some =
     let len = length-begun place runs in
     let last = begun_last place runs in
@@ -332,13 +333,14 @@ begun_are kind place runs low right numbers some =
 -- ---- both
 
 pub made_are : (kind : PageKind) (place : ℕ) (items : List Item) (runs : List Run) → place ≤ first_fc runs →
-    AreRuns kind runs → All HasFileNumbers runs → 0 < length runs → last_fc runs + 2 < 2 ^ 32 →
-    AreMade kind runs (begun place (reached items runs))
+    AreRuns kind runs → All HasRunNumbers runs → 0 < length runs → last_fc runs + 2 < 2 ^ 32 →
+    AreMade kind runs (runs_begun_at place (longer_if_open items runs))
 made_are kind place items runs low right numbers some small =
     let long = reached_are kind items runs right numbers some small in
     let first = reached_first items runs in
-    let all = begun_are kind place (reached items runs) (omega (arith, low, first)) long.right long.numbers long.some in
-    let last = begun_last place (reached items runs) in
+    let all = begun_are kind place (longer_if_open items runs) (omega (arith, low, first)) long.right long.numbers
+    long.some in
+    let last = begun_last place (longer_if_open items runs) in
     let high = long.high in
     record {
       right = all.right;
@@ -357,14 +359,14 @@ made_are kind place items runs low right numbers some small =
     }
 
 pub made_first : (place : ℕ) (items : List Item) (runs : List Run) → 0 < length runs →
-    first_fc (begun place (reached items runs)) ≡ place
+    first_fc (runs_begun_at place (longer_if_open items runs)) ≡ place
 made_first place items runs some =
-    let len = length-reached items runs in begun_first place (reached items runs) (omega (arith, some, len))
+    let len = length-reached items runs in begun_first place (longer_if_open items runs) (omega (arith, some, len))
 
 pub length-made : (place : ℕ) (items : List Item) (runs : List Run) →
-    length (begun place (reached items runs)) ≡ length runs
-length-made place items runs = length-begun place (reached items runs) ∙ length-reached items runs
+    length (runs_begun_at place (longer_if_open items runs)) ≡ length runs
+length-made place items runs = length-begun place (longer_if_open items runs) ∙ length-reached items runs
 
 pub made_bare : (place : ℕ) (items : List Item) (runs : List Run) →
-    map (is_bare Papx) (begun place (reached items runs)) ≡ map (is_bare Papx) runs
-made_bare place items runs = begun_bare place (reached items runs) ∙ reached_bare items runs
+    map (is_bare_run Papx) (runs_begun_at place (longer_if_open items runs)) ≡ map (is_bare_run Papx) runs
+made_bare place items runs = begun_bare place (longer_if_open items runs) ∙ reached_bare items runs

@@ -3,8 +3,8 @@ use Rattle.std.proofs.Common.{◌≡◌, subst, ℕ, zero, suc, ◌+◌, ◌*◌
 use Rattle.std.proofs.Common.{take, Option, Some, None, arith, length-append}
 use Rattle.std.proofs.lemmas.List.{length-take}
 use Rattle.doc_bits.proofs.Public.{there_is}
-use Rattle.plain_doc.specs.declared.item.Mark.{Mark}
-use Rattle.plain_doc.specs.declared.item.Item.{Item}
+use Rattle.doc_model.specs.declared.item.Mark.{Mark}
+use Rattle.doc_model.specs.declared.item.Item.{Item}
 use Rattle.full_save.specs.Alike.{HaveAlike}
 use Rattle.full_save.proofs.Public.{alike_fewer, text_next}
 use Rattle.fast_save_layout.specs.declared.runs.ParagraphRuns.{ParagraphRuns}

@@ -9,13 +9,14 @@ use Rattle.std.proofs.lemmas.Option.{none-some}
 use Rattle.doc_bits.proofs.Public.{slice_get_push}
 use Rattle.fkp_pages.specs.declared.kind.PageKind.TheVariants.{Papx}
 use Rattle.fkp_pages.specs.declared.lists.Run.{Run}
-use Rattle.plain_doc.specs.declared.item.Mark.{Mark}
-use Rattle.plain_doc.specs.declared.item.Item.{Item}
-use Rattle.plain_doc.specs.Stretches.{stretches}
+use Rattle.doc_model.specs.declared.item.Mark.{Mark}
+use Rattle.doc_model.specs.declared.item.Item.{Item}
+use Rattle.doc_model.specs.Stretches.{stretches}
 use Rattle.full_save.specs.Runs.{joins_run, runs_from, text_runs}
 use Rattle.full_save.proofs.Public.{paragraphs_go_on, paragraphs_end, paragraphs_none_left, paragraphs_left}
 use Rattle.fast_save_layout.specs.declared.runs.ParagraphRuns.{ParagraphRuns}
-use Rattle.fast_save_layout.specs.MarkRuns.{is_open, leaves_open, longer, reached, begun, begin_after}
+use Rattle.fast_save_layout.specs.MarkRuns.{is_open_item, leaves_open, longer, longer_if_open, runs_begun_at}
+use Rattle.fast_save_layout.specs.MarkRuns.{begin_after}
 use Rattle.fast_save_layout.specs.RunsSoFar.{AreMarksSoFar}
 use Rattle.fast_save_layout.proofs.MarkLemmas.{longer-push, begun_run}
 
@@ -23,15 +24,16 @@ use Rattle.fast_save_layout.proofs.MarkLemmas.{longer-push, begun_run}
 leaves_open-push : (items : List Item) (item : Item) → leaves_open (items ++ item ∷ []) ≡ not (is_some item.mark)
 leaves_open-push items item =
     let at : length (items ++ item ∷ []) - 1 ≡ length items = omega (arith, length-append items (item ∷ [])) in
-    ap (λ (n : ℕ). is_open (slice_get (items ++ item ∷ []) n)) at ∙ ap is_open (slice_get_push items item)
+    ap (λ (n : ℕ). is_open_item (slice_get (items ++ item ∷ []) n)) at ∙ ap is_open_item (slice_get_push items item)
 
 begun-push : (place : ℕ) (runs : List Run) (run : Run) →
-    begun place (runs ++ run ∷ []) ≡ begun place runs ++ begun_run (begin_after place runs run.from) run ∷ []
+    runs_begun_at place (runs ++ run ∷ []) ≡ runs_begun_at place runs ++ begun_run (begin_after place runs run.from) run
+    ∷ []
 begun-push place [] run = refl
 begun-push place (one ∷ runs) run = refl
 
 begin_after-begun : (place : ℕ) (runs : List Run) (from : ℕ) →
-    begin_after place (begun place runs) from ≡ begin_after place runs from
+    begin_after place (runs_begun_at place runs) from ≡ begin_after place runs from
 begin_after-begun place [] from = refl
 begin_after-begun place (run ∷ runs) from = refl
 
@@ -92,7 +94,7 @@ one_ended at end begin done item mark old new here marked begins closed from sta
       closed_are =
           closed
           ∙ ((λ i. so.closed_are i ++ begun_run (place i) run ∷ [])
-          ∙ (sym (begun-push old.start so.text run) ∙ ap (λ (n : ℕ). begun n text) (sym start)));
+          ∙ (sym (begun-push old.start so.text run) ∙ ap (λ (n : ℕ). runs_begun_at n text) (sym start)));
       open_ends = λ more. absurd (true≢false (sym more ∙ ended));
       mark_ends = λ is. omega (arith, from, here);
     }
@@ -100,7 +102,7 @@ one_ended at end begin done item mark old new here marked begins closed from sta
 -- at the end, where all items have a run
 pub all_ended : (at end : ℕ) (done : List Item) (runs : ParagraphRuns) → end ≡ at + 2 * length done →
     runs.from ≡ end → AreMarksSoFar at done runs →
-    runs.closed ≡ begun runs.start (reached done (text_runs Papx at done))
+    runs.closed ≡ runs_begun_at runs.start (longer_if_open done (text_runs Papx at done))
 all_ended at end done runs here from so =
     let closed_end : leaves_open done ≡ false = elim (cases_Bool (leaves_open done)) [
       | inl more ↦
@@ -111,14 +113,15 @@ all_ended at end done runs here from so =
     let all : so.text ≡ text_runs Papx at done =
     paragraphs_none_left at end done (record { closed = so.text; from = runs.from }) here from so.paragraphs in
     so.closed_are
-    ∙ (ap (begun runs.start) all
-    ∙ ap (λ b. begun runs.start (cond b (longer (text_runs Papx at done)) (text_runs Papx at done))) (sym closed_end))
+    ∙ (ap (runs_begun_at runs.start) all
+    ∙ ap (λ b. runs_begun_at runs.start (cond b (longer (text_runs Papx at done)) (text_runs Papx at done))) (sym
+    closed_end))
 
 -- and where no mark ends the last ones
 pub rest_ended : (at end begin : ℕ) (done : List Item) (runs : ParagraphRuns) (all : List Run) →
     end ≡ at + 2 * length done → runs.from ≢ end → begin ≡ begin_after runs.start runs.closed runs.from →
     all ≡ runs.closed ++ (record { from = begin; to = end + 2; istd = 0; map = empty }) ∷ [] →
-    AreMarksSoFar at done runs → all ≡ begun runs.start (reached done (text_runs Papx at done))
+    AreMarksSoFar at done runs → all ≡ runs_begun_at runs.start (longer_if_open done (text_runs Papx at done))
 rest_ended at end begin done runs all here apart begins closed so =
     let unmarked : leaves_open done ≡ true = elim (cases_Bool (leaves_open done)) [
       | inl more ↦ more
@@ -138,6 +141,7 @@ rest_ended at end begin done runs all here apart begins closed so =
     closed
     ∙ ((λ i. so.closed_are i ++ begun_run (place i) more ∷ [])
     ∙ (sym (begun-push runs.start so.text more)
-    ∙ (ap (begun runs.start) (sym (longer-push so.text rest))
-    ∙ (ap (λ (list : List Run). begun runs.start (longer list)) whole
-    ∙ ap (λ b. begun runs.start (cond b (longer (text_runs Papx at done)) (text_runs Papx at done))) (sym unmarked)))))
+    ∙ (ap (runs_begun_at runs.start) (sym (longer-push so.text rest))
+    ∙ (ap (λ (list : List Run). runs_begun_at runs.start (longer list)) whole
+    ∙ ap (λ b. runs_begun_at runs.start (cond b (longer (text_runs Papx at done)) (text_runs Papx at done))) (sym
+    unmarked)))))

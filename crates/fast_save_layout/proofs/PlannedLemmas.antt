@@ -8,9 +8,9 @@ use Rattle.std.proofs.lemmas.Option.{same_Some, none-some, get_or_from_slice_get
 use Rattle.doc_bits.specs.Together.{AreTogether}
 use Rattle.prop_map.specs.Settings.{Properties}
 use Rattle.doc_parts.specs.declared.lists.Sed.{Sed}
-use Rattle.plain_doc.specs.declared.item.Item.{Item}
-use Rattle.plain_doc.specs.Collected.{collected, entry_before, sections_of}
-use Rattle.plain_doc.specs.TextLists.{starts_from}
+use Rattle.doc_model.specs.declared.item.Item.{Item}
+use Rattle.doc_model.specs.Collected.{collected, entry_before, sections_of}
+use Rattle.doc_model.specs.TextLists.{starts_from}
 use Rattle.full_save.specs.Sections.{sepx_bytes, fc_sepx, seds_from, left_from}
 use Rattle.full_save.proofs.Public.{drop_here, length-sepx, left_here}
 use Rattle.prop_map.specs.Printing.{printed_list}

@@ -9,28 +9,28 @@ use Rattle.doc_bits.specs.Rules.{Hold, Nowhere}
 use Rattle.cfb_streams.specs.Contents.{Contents}
 use Rattle.cfb_streams.specs.Names.{wd_name, table_name}
 use Rattle.fib_form.specs.Fib.{form_size, fib_form, fib_size, fib_pair, table_part}
-use Rattle.fib_form.specs.FibFields.{FibFields, pair_at}
+use Rattle.fib_form.specs.FibFields.{FibFields, listed_pair}
 use Rattle.fib_form.specs.FibRules.{fib_rules}
 use Rattle.fib_form.proofs.Public.{form_size-least}
-use Rattle.fib_form.specs.TableParts.{pair_of}
+use Rattle.fib_form.specs.TableParts.{pair_number}
 use Rattle.fib_form.specs.declared.table_parts.TablePart.{TablePart}
 use Rattle.fib_form.specs.declared.table_parts.TablePart.TheVariants.{PlcfBteChpx, PlcfBtePapx}
 use Rattle.fkp_pages.specs.declared.kind.PageKind.{PageKind}
 use Rattle.fkp_pages.specs.declared.kind.PageKind.TheVariants.{Chpx, Papx}
 use Rattle.fkp_pages.specs.Bin.{IsBinTable}
-use Rattle.fkp_pages.specs.Runs.{AreRuns, HasFileNumbers}
+use Rattle.fkp_pages.specs.Runs.{AreRuns, HasRunNumbers}
 use Rattle.fkp_pages.specs.PageBytes.{last_fc}
 use Rattle.fkp_pages.specs.Pages.{first_fc, ArePagesOf, AreWholePages}
 use Rattle.fkp_pages.proofs.Public.{runs_have_pages, pages_are_whole}
-use Rattle.plain_doc.specs.declared.item.Item.{Item}
-use Rattle.plain_doc.specs.Document.{IsFormedText}
-use Rattle.plain_doc.specs.Formed.{IsFormed}
+use Rattle.doc_model.specs.declared.item.Item.{Item}
+use Rattle.doc_model.specs.Document.{IsFormedText}
+use Rattle.doc_model.specs.Formed.{IsFormed}
 use Rattle.plain_doc.specs.RightDocument.{IsValidDocument}
-use Rattle.plain_doc.specs.Stretches.{stretches}
+use Rattle.doc_model.specs.Stretches.{stretches}
 use Rattle.plain_doc.proofs.Public.{sound_is_valid}
-use Rattle.file_rules.specs.Source.{part_bytes}
+use Rattle.file_rules.specs.Source.{table_part_bytes}
 use Rattle.file_rules.specs.PairRules.{BreaksPairs, IsReadPair}
-use Rattle.file_rules.specs.FileRules.{FileText, source_of, wd_rules, table_rules}
+use Rattle.file_rules.specs.FileRules.{FileText, doc_source_of, wd_rules, table_rules}
 use Rattle.file_rules.specs.FileRules.{table_stream_name}
 use Rattle.file_rules.proofs.Public.{named_one, part-inside, pair-read, table_part-empty, bin_tables, hold_out}
 use Rattle.doc_read.proofs.Public.{text_held}
@@ -38,14 +38,14 @@ use Rattle.full_save.specs.Runs.{joins_run, text_runs}
 use Rattle.full_save.proofs.Public.{last_fc-text_runs, IsWritableItem, length-runs_from}
 use Rattle.save_laws.proofs.Public.{few_stretches, AreHeld, held_rules}
 use Rattle.save_laws.specs.Places.{PagedStream}
-use Rattle.save_laws.specs.GivenFiles.{stream_of}
+use Rattle.save_laws.specs.GivenFiles.{paged_stream_of}
 use Rattle.fast_save_layout.specs.Saves.{FastSave}
 use Rattle.fast_save_layout.specs.MarkRuns.{mark_runs, runs_end}
 use Rattle.fast_save_layout.specs.RenewedStreams.{bytes_named}
 use Rattle.fast_save_layout.specs.OldParts.{StaysWithin, named_part}
 use Rattle.fast_save_layout.specs.Appended.{old_wd, old_table, old_bins, old_stream, added_end, added_runs, added_pages}
-use Rattle.fast_save_layout.specs.Appended.{page_count, runs_begin, bins_end, first_page, fast_fib}
-use Rattle.fast_save_layout.specs.Kept.{CanBeAppended}
+use Rattle.fast_save_layout.specs.Appended.{added_page_count, runs_begin, bins_end, first_page, fast_fib}
+use Rattle.fast_save_layout.specs.Kept.{CanBeFastSaved}
 use Rattle.fast_save_layout.proofs.MarkLemmas.{AreMade, made_first, length-made, end_is}
 use Rattle.fast_save_layout.proofs.AddedRuns.{writable_items, text_right, text_first, kept_end_low, marks_made, no_text}
 use Rattle.fast_save_layout.proofs.AddedRuns.{no_marks, characters_right, marks_right}
@@ -54,11 +54,11 @@ use Rattle.fast_save_layout.proofs.StreamLemmas.{named_is}
 -- a save that can be appended, of a well-formed document, with well-formed items
 pub record Ready : Type 0 where
   pub save : FastSave
-  pub can : CanBeAppended save
+  pub can : CanBeFastSaved save
   pub formed : IsFormed save.document
   pub items : IsFormedText save.added
 
-abbrev pub ready : (save : FastSave) → CanBeAppended save → IsFormed save.document → IsFormedText save.added → Ready
+abbrev pub ready : (save : FastSave) → CanBeFastSaved save → IsFormed save.document → IsFormedText save.added → Ready
 ready save can formed items = record { save = save; can = can; formed = formed; items = items }
 
 pub is_valid : (r : Ready) → IsValidDocument r.save.document
@@ -87,11 +87,11 @@ table_is r =
     ∙ named_is r.save.file r.can.held.parts.contents (table_stream_name (the_text r).wd) (the_text r).table
     has.has_contents has.has_text.has_table
 
-pub stream_is : (r : Ready) → old_stream r.save ≡ stream_of (source_of (the_text r))
+pub stream_is : (r : Ready) → old_stream r.save ≡ paged_stream_of (doc_source_of (the_text r))
 stream_is r = λ i. record {
   wd = wd_is r i;
-  characters = table_part (wd_is r i) (table_is r i) (pair_of PlcfBteChpx);
-  paragraphs = table_part (wd_is r i) (table_is r i) (pair_of PlcfBtePapx);
+  characters = table_part (wd_is r i) (table_is r i) (pair_number PlcfBteChpx);
+  paragraphs = table_part (wd_is r i) (table_is r i) (pair_number PlcfBtePapx);
 }
 
 tables_hold : (r : Ready) → Hold (table_rules (the_text r).wd (the_text r).table)
@@ -99,9 +99,9 @@ tables_hold r =
     let has = r.can.held.has_parts in
     text_held r.save.file r.can.held.parts.contents (the_text r) (rules_held r).loading has.has_contents has.has_text
 
-bins_are : (r : Ready) → IsBinTable (part_bytes (source_of (the_text r)) PlcfBteChpx)
-    × IsBinTable (part_bytes (source_of (the_text r)) PlcfBtePapx)
-bins_are r = bin_tables (source_of (the_text r)) (rules_held r).parts_hold.0.1
+bins_are : (r : Ready) → IsBinTable (table_part_bytes (doc_source_of (the_text r)) PlcfBteChpx)
+    × IsBinTable (table_part_bytes (doc_source_of (the_text r)) PlcfBtePapx)
+bins_are r = bin_tables (doc_source_of (the_text r)) (rules_held r).parts_hold.0.1
 
 pub old_table_is : (kind : PageKind) (r : Ready) → IsBinTable (old_bins kind r.save)
 old_table_is Chpx r = subst (λ (s : PagedStream). IsBinTable s.characters) (sym (stream_is r)) (bins_are r).0
@@ -138,24 +138,24 @@ long_wd r =
 -- ---- the parts of its table stream
 
 -- a pair by the fields of the FIB
-pair_is : (r : Ready) (part : TablePart) → pair_of part < 93 →
-    pair_at r.save.fib.pairs (pair_of part) ≡ fib_pair (old_wd r.save) (pair_of part)
+pair_is : (r : Ready) (part : TablePart) → pair_number part < 93 →
+    listed_pair r.save.fib.pairs (pair_number part) ≡ fib_pair (old_wd r.save) (pair_number part)
 pair_is r part below =
-    pair-read (the_text r).wd r.save.fib (pair_of part) below r.can.fib
-    ∙ ap (λ wd. fib_pair wd (pair_of part)) (sym (wd_is r))
+    pair-read (the_text r).wd r.save.fib (pair_number part) below r.can.fib
+    ∙ ap (λ wd. fib_pair wd (pair_number part)) (sym (wd_is r))
 
-bins_within : (r : Ready) (part : TablePart) → pair_of part < 93 → IsReadPair (pair_of part) →
-    IsBinTable (part_bytes (source_of (the_text r)) part) → StaysWithin r.save.fib (old_table r.save) part
+bins_within : (r : Ready) (part : TablePart) → pair_number part < 93 → IsReadPair (pair_number part) →
+    IsBinTable (table_part_bytes (doc_source_of (the_text r)) part) → StaysWithin r.save.fib (old_table r.save) part
 bins_within r part below read is =
     let wd = (the_text r).wd in
     let table = (the_text r).table in
     let none : Nowhere (BreaksPairs wd (length table)) = λ p b. (tables_hold r).0 (Wd, p) (refl, b) in
     let long = is.table in
-    let some : ¬ ((fib_pair wd (pair_of part)).1 ≡ 0) = λ e.
-    let empty = table_part-empty wd table (pair_of part) e in
+    let some : ¬ ((fib_pair wd (pair_number part)).1 ≡ 0) = λ e.
+    let empty = table_part-empty wd table (pair_number part) e in
     omega (arith, empty, long) in
     let inside = part-inside wd (length table) part read none some in
-    let pair = pair-read wd r.save.fib (pair_of part) below r.can.fib in
+    let pair = pair-read wd r.save.fib (pair_number part) below r.can.fib in
     let one = ap (λ (p : ℕ × ℕ). p.0) pair in
     let two = ap (λ (p : ℕ × ℕ). p.1) pair in
     let len = ap length (table_is r) in
@@ -167,8 +167,8 @@ characters_within r = bins_within r PlcfBteChpx (omega arith) (5, (lit< tt, refl
 pub paragraphs_within : (r : Ready) → StaysWithin r.save.fib (old_table r.save) PlcfBtePapx
 paragraphs_within r = bins_within r PlcfBtePapx (omega arith) (6, (lit< tt, refl)) (bins_are r).1
 
-part_named : (r : Ready) (part : TablePart) → pair_of part < 93 →
-    named_part r.save.fib (old_table r.save) part ≡ table_part (old_wd r.save) (old_table r.save) (pair_of part)
+part_named : (r : Ready) (part : TablePart) → pair_number part < 93 →
+    named_part r.save.fib (old_table r.save) part ≡ table_part (old_wd r.save) (old_table r.save) (pair_number part)
 part_named r part below =
     ap (λ (pair : ℕ × ℕ). slice_range (old_table r.save) pair.0 (pair.0 + pair.1)) (pair_is r part below)
 
@@ -210,7 +210,7 @@ items_writable r = writable_items r.save.added r.items r.can.short
 -- runs of items, of which there are some
 pub record AreAdded (kind : PageKind) (r : Ready) : Type 0 where
   pub right : AreRuns kind (added_runs kind r.save)
-  pub numbers : All HasFileNumbers (added_runs kind r.save)
+  pub numbers : All HasRunNumbers (added_runs kind r.save)
   pub some : 0 < length (added_runs kind r.save)
   pub first : first_fc (added_runs kind r.save) ≡ runs_begin kind r.save
   pub last : last_fc (added_runs kind r.save) ≡ bins_end kind r.save
@@ -314,7 +314,7 @@ pub record HaveRoom (r : Ready) : Type 0 where
   pub low : 2 ≤ first_page Chpx r.save
   pub pages :
       512 * (first_page Papx r.save + length (added_pages Papx r.save).starts)
-      ≤ r.save.base + 2 * length r.save.added + 511 + 512 * page_count r.save
+      ≤ r.save.base + 2 * length r.save.added + 511 + 512 * added_page_count r.save
 
 pub have_room : (r : Ready) → HaveRoom r
 have_room r =

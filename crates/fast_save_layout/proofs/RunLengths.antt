@@ -6,9 +6,9 @@ use Rattle.std.proofs.lemmas.List.Sums.{sum_by-cons}
 use Rattle.prop_map.specs.Settings.{Properties}
 use Rattle.prop_map.specs.Printing.{printed_list}
 use Rattle.fkp_pages.specs.declared.kind.PageKind.TheVariants.{Chpx, Papx}
-use Rattle.plain_doc.specs.declared.item.Item.{Item}
-use Rattle.plain_doc.specs.Settings.{is_alike}
-use Rattle.plain_doc.specs.Stretches.{stretches}
+use Rattle.doc_model.specs.declared.item.Item.{Item}
+use Rattle.doc_model.specs.Settings.{is_alike}
+use Rattle.doc_model.specs.Stretches.{stretches}
 use Rattle.full_save.specs.Sections.{sepx_bytes}
 use Rattle.full_save.specs.Runs.{joins_run, text_runs}
 use Rattle.full_save.proofs.Public.{length-sepx, length-runs_from}
@@ -18,14 +18,14 @@ use Rattle.fast_save_layout.specs.Saves.{FastSave}
 use Rattle.fast_save_layout.specs.KeptBins.{kept_end}
 use Rattle.fast_save_layout.specs.MarkRuns.{mark_runs}
 use Rattle.fast_save_layout.specs.PlannedSections.{planned_sepxes}
-use Rattle.fast_save_layout.specs.Appended.{runs_begin, added_runs, page_count}
+use Rattle.fast_save_layout.specs.Appended.{runs_begin, added_runs, added_page_count}
 use Rattle.fast_save_layout.specs.AppendedLengths.{unwritten_count}
 use Rattle.fast_save_layout.proofs.MarkLemmas.{length-made, made_bare}
 
 -- ---- pages
 
 -- they are no more than the added text is reckoned to take, but for one that its end may begin
-pub pages_are_few : (save : FastSave) → page_count save ≤ page_bound save.added + 1
+pub pages_are_few : (save : FastSave) → added_page_count save ≤ page_bound save.added + 1
 pages_are_few save =
     let runs = text_runs Papx save.base save.added in
     omega (

@@ -4,13 +4,13 @@ use Rattle.std.proofs.Common.{List, length, arith}
 use Rattle.std.proofs.lemmas.Bool.{cases_lt}
 use Rattle.doc_bits.specs.Plc.{plc_cp}
 use Rattle.fkp_pages.specs.Bin.{bin_count, IsBinTable, IsBinPage, page_at}
-use Rattle.fkp_pages.specs.Fkp.{HoldsFc, page_count, page_fc}
+use Rattle.fkp_pages.specs.Fkp.{HoldsFc, page_run_count, page_fc}
 use Rattle.fkp_pages.specs.Rows.{KeepsRanges}
 use Rattle.fkp_pages.proofs.Public.{bin_fcs_ascend, bin_page_one}
 use Rattle.piece_table.specs.Piece.{unit_bytes}
 use Rattle.save_laws.specs.Places.{PagedStream}
 use Rattle.save_laws.specs.KeptPages.{KeepsBytes}
-use Rattle.save_laws.specs.ByRuns.{IsRunAt, ranges_end, BeginsRun, HasBegin, StaysInRun, MeetsRuns, IsBounded}
+use Rattle.save_laws.specs.ByRuns.{IsPageRunAt, ranges_end, BeginsRun, HasRunBegin, StaysInRun, MeetsRuns, IsBounded}
 use Rattle.save_laws.proofs.Public.{page_kept, named_kept}
 
 -- a place with a page is before the end of all ranges
@@ -27,10 +27,10 @@ record TellAlike (old new : PagedStream) (at end : ℕ) : Type 0 where
   held : at < ranges_end old → at < ranges_end new
   here : (first : ℕ) → BeginsRun old at first → BeginsRun new at first
   here_back : (first : ℕ) → BeginsRun new at first → BeginsRun old at first
-  run_back : (first lim : ℕ) → IsRunAt new at first lim → IsRunAt old at first lim
+  run_back : (first lim : ℕ) → IsPageRunAt new at first lim → IsPageRunAt old at first lim
   there : (first : ℕ) → BeginsRun old end first → BeginsRun new end first
   there_back : (first : ℕ) → BeginsRun new end first → BeginsRun old end first
-  run_there : (first lim : ℕ) → IsRunAt old end first lim → IsRunAt new end first lim
+  run_there : (first lim : ℕ) → IsPageRunAt old end first lim → IsPageRunAt new end first lim
 
 meets_alike : (ends : Bool) (old new : PagedStream) (at end : ℕ) → TellAlike old new at end →
     MeetsRuns ends old at end → MeetsRuns ends new at end
@@ -66,8 +66,8 @@ record KeepsPage (old new : PagedStream) (fc : ℕ) : Type 0 where
       page_at new.wd number ≡ page_at old.wd number
   longer : length old.wd ≤ length new.wd
 
-run_kept : (old new : PagedStream) (fc first lim : ℕ) → KeepsPage old new fc → IsRunAt old fc first lim →
-    IsRunAt new fc first lim
+run_kept : (old new : PagedStream) (fc first lim : ℕ) → KeepsPage old new fc → IsPageRunAt old fc first lim →
+    IsPageRunAt new fc first lim
 run_kept old new fc first lim keeps run =
     let page = sym (keeps.page run.number run.low run.within) in
     let within = run.within in
@@ -78,7 +78,7 @@ run_kept old new fc first lim keeps run =
       low = run.low;
       within = omega (arith, within, longer);
       run = run.run;
-      below = subst (λ (p : List ℕ). run.run < page_count p) page run.below;
+      below = subst (λ (p : List ℕ). run.run < page_run_count p) page run.below;
       holds = subst (λ (p : List ℕ). HoldsFc p run.run fc) page run.holds;
       first_is = run.first_is ∙ ap (λ (p : List ℕ). page_fc p run.run) page;
       lim_is = run.lim_is ∙ ap (λ (p : List ℕ). page_fc p (run.run + 1)) page;
@@ -86,7 +86,8 @@ run_kept old new fc first lim keeps run =
 
 -- what the new one tells there the old one does, where it tells something
 run_was : (old new : PagedStream) (fc first lim some_first some_lim : ℕ) → IsBinTable new.paragraphs →
-    KeepsPage old new fc → IsRunAt old fc some_first some_lim → IsRunAt new fc first lim → IsRunAt old fc first lim
+    KeepsPage old new fc → IsPageRunAt old fc some_first some_lim → IsPageRunAt new fc first lim → IsPageRunAt old fc
+    first lim
 run_was old new fc first lim some_first some_lim table keeps some run =
     let same : run.number ≡ some.number =
     bin_page_one new.paragraphs fc run.number some.number table run.named (keeps.named some.number some.named) in
@@ -98,21 +99,21 @@ run_was old new fc first lim some_first some_lim table keeps some run =
       low = some.low;
       within = some.within;
       run = run.run;
-      below = subst (λ (p : List ℕ). run.run < page_count p) page run.below;
+      below = subst (λ (p : List ℕ). run.run < page_run_count p) page run.below;
       holds = subst (λ (p : List ℕ). HoldsFc p run.run fc) page run.holds;
       first_is = run.first_is ∙ ap (λ (p : List ℕ). page_fc p run.run) page;
       lim_is = run.lim_is ∙ ap (λ (p : List ℕ). page_fc p (run.run + 1)) page;
     }
 
 -- a run of a place before the end of all ranges
-run_here : (from : PagedStream) (fc : ℕ) → fc < ranges_end from → HasBegin from fc →
-    (first : ℕ) × ((lim : ℕ) × IsRunAt from fc first lim)
+run_here : (from : PagedStream) (fc : ℕ) → fc < ranges_end from → HasRunBegin from fc →
+    (first : ℕ) × ((lim : ℕ) × IsPageRunAt from fc first lim)
 run_here from fc low (first, inl (behind, is)) = absurd (omega (arith, low, behind))
 run_here from fc low (first, inr (lim, run)) = (first, (lim, run))
 
 module _ (old new : PagedStream) (fc : ℕ) (table : IsBinTable new.paragraphs) (keeps : KeepsPage old new fc)
-    (low : fc < ranges_end old) (below : fc < ranges_end new) (has : HasBegin old fc) where
-  kept_run_back : (first lim : ℕ) → IsRunAt new fc first lim → IsRunAt old fc first lim
+    (low : fc < ranges_end old) (below : fc < ranges_end new) (has : HasRunBegin old fc) where
+  kept_run_back : (first lim : ℕ) → IsPageRunAt new fc first lim → IsPageRunAt old fc first lim
   kept_run_back first lim run =
       let some = run_here old fc low has in run_was old new fc first lim some.0 some.1.0 table keeps some.1.1 run
 
@@ -139,7 +140,7 @@ pub record HasOldPages (old new : PagedStream) (before : ℕ) : Type 0 where
   pub has : (fc : ℕ) → ranges_end old ≤ fc → fc < before → BeginsRun new fc (ranges_end old)
   pub one_run :
       (fc later first lim : ℕ) → ranges_end old ≤ fc → fc < before → ranges_end old ≤ later → later < before →
-      IsRunAt new fc first lim → IsRunAt new later first lim
+      IsPageRunAt new fc first lim → IsPageRunAt new later first lim
 
 module _ (old new : PagedStream) (before : ℕ) (has : HasOldPages old new before) where
   keeps_page : (fc : ℕ) → fc < before → KeepsPage old new fc
@@ -159,12 +160,12 @@ module _ (old new : PagedStream) (before : ℕ) (has : HasOldPages old new befor
   behind_back : (fc first : ℕ) → ranges_end old ≤ fc → fc < before → BeginsRun new fc first → BeginsRun old fc first
   behind_back fc first high below begins = inl (high, has.begins fc first high below begins)
 
-  no_old_run : (fc first lim : ℕ) → ranges_end old ≤ fc → IsRunAt old fc first lim → ⊥
+  no_old_run : (fc first lim : ℕ) → ranges_end old ≤ fc → IsPageRunAt old fc first lim → ⊥
   no_old_run fc first lim high run =
       let low = named_low old.paragraphs fc run.number has.old_table run.named in omega (arith, low, high)
 
   -- a unit whose place is in the old ranges
-  tell_by : (at end : ℕ) → at < ranges_end old → at < before → end < before → HasBegin old at → HasBegin old end →
+  tell_by : (at end : ℕ) → at < ranges_end old → at < before → end < before → HasRunBegin old at → HasRunBegin old end →
       TellAlike old new at end
   tell_by at end low below end_below here there =
       let held = has.held at low below in
@@ -260,19 +261,20 @@ module _ (row new : PagedStream) (has : HasRowPages row new) where
   row_begins fc first (inl (behind, is)) = inl (omega (arith, behind, has.end), is ∙ sym has.end)
   row_begins fc first (inr (lim, run)) = inr (lim, run_kept row new fc first lim (row_page fc) run)
 
-  pub row_run : (fc first lim : ℕ) → IsRunAt row fc first lim → IsRunAt new fc first lim
+  pub row_run : (fc first lim : ℕ) → IsPageRunAt row fc first lim → IsPageRunAt new fc first lim
   row_run fc first lim run = run_kept row new fc first lim (row_page fc) run
 
-  new_low : (fc first lim : ℕ) → IsRunAt new fc first lim → fc < ranges_end row
+  new_low : (fc first lim : ℕ) → IsPageRunAt new fc first lim → fc < ranges_end row
   new_low fc first lim run =
       let low = named_low new.paragraphs fc run.number has.new_table run.named in omega (arith, low, has.end)
 
-  pub row_run_back : (fc : ℕ) → HasBegin row fc → (first lim : ℕ) → IsRunAt new fc first lim → IsRunAt row fc first lim
+  pub row_run_back : (fc : ℕ) → HasRunBegin row fc → (first lim : ℕ) → IsPageRunAt new fc first lim → IsPageRunAt row fc
+      first lim
   row_run_back fc begin first lim run =
       let some = run_here row fc (new_low fc first lim run) begin in
       run_was row new fc first lim some.0 some.1.0 has.new_table (row_page fc) some.1.1 run
 
-  pub row_begins_back : (fc : ℕ) → HasBegin row fc → (first : ℕ) → BeginsRun new fc first → BeginsRun row fc first
+  pub row_begins_back : (fc : ℕ) → HasRunBegin row fc → (first : ℕ) → BeginsRun new fc first → BeginsRun row fc first
   row_begins_back fc begin first (inl (behind, is)) = inl (omega (arith, behind, has.end), is ∙ has.end)
   row_begins_back fc begin first (inr (lim, run)) = inr (lim, row_run_back fc begin first lim run)
 

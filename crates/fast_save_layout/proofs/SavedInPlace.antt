@@ -8,7 +8,7 @@ use Rattle.cfb_streams.specs.Contents.{HasNamed}
 use Rattle.cfb_streams.specs.Names.{wd_name}
 use Rattle.cfb_layout.specs.Sectors.{filled}
 use Rattle.cfb_in_place.specs.Change.{OldChains, grown_bytes, added_sectors, added_for, sectors_after}
-use Rattle.cfb_in_place.specs.Contract.{CanBeAppended, AreNamedChains, IsSavedInPlace, NeedsTooMany as NeedTooMany}
+use Rattle.cfb_in_place.specs.Contract.{CanBePutInPlace, AreNamedChains, IsSavedInPlace, NeedsTooMany as NeedTooMany}
 use Rattle.cfb_in_place.proofs.Public.{added_is, grown_bytes_are, can_append, named_bytes, has_grown}
 use Rattle.cfb_in_place.proofs.Public.{has_table as has_new_table, stays_in_place}
 use Rattle.cfb_in_place.specs.InPlace.{StaysInPlace}
@@ -48,7 +48,7 @@ grown_is m =
 
 -- the change may be put into the file
 pub can_change : (m : Made) → 4096 ≤ length (old_wd (the_save m)) →
-    CanBeAppended (the_save m).contents (change_of (the_save m) m.clx) (table_name_of (the_save m))
+    CanBePutInPlace (the_save m).contents (change_of (the_save m) m.clx) (table_name_of (the_save m))
 can_change m long =
     let r = m.ready in
     let save = the_save m in

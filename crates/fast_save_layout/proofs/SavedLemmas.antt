@@ -11,17 +11,17 @@ use Rattle.cfb_streams.specs.Container.{container_rules, HasContents}
 use Rattle.cfb_streams.specs.Names.{wd_name, table_name}
 use Rattle.cfb_layout.specs.Counts.{Fits}
 use Rattle.cfb_layout.specs.Layout.{lengths_of, compound_file}
-use Rattle.cfb_layout.specs.Laws.{IsLayout}
+use Rattle.cfb_layout.specs.Laws.{AreLayoutStreams}
 use Rattle.cfb_layout.proofs.Public.{file_holds, file_contents}
 use Rattle.fib_form.specs.Fib.{fib_pair, fib_which_table}
-use Rattle.fib_form.specs.FibFields.{FibFields, fib_fields, pair_at}
+use Rattle.fib_form.specs.FibFields.{FibFields, fib_fields, listed_pair}
 use Rattle.fib_form.specs.TableEntries.{TableEntry, IsPartAt}
 use Rattle.fib_form.proofs.Public.{pair_at-fib_pairs}
 use Rattle.fkp_pages.specs.declared.kind.PageKind.TheVariants.{Chpx, Papx}
 use Rattle.piece_table.specs.Piece.{TextPiece, UnitPlace, IsTextPiece, flat_pieces, place_of_cp, total_length}
 use Rattle.piece_table.specs.ClxRules.{FitsPages}
 use Rattle.piece_table.specs.Printing.{IsPrintable}
-use Rattle.plain_doc.specs.Collected.{sections_of}
+use Rattle.doc_model.specs.Collected.{sections_of}
 use Rattle.doc_read.specs.CarriedParts.{AreWithinBounds, carried_streams}
 use Rattle.doc_read.proofs.Public.{contents-bounded, place_at, place_in_piece}
 use Rattle.file_rules.proofs.Public.{hold_out}
@@ -29,16 +29,16 @@ use Rattle.full_save.specs.TableStream.{entries_bytes, entries_pairs}
 use Rattle.full_save.proofs.Public.{AreNumbered, entry_stands, table_numbered}
 use Rattle.doc_bits.specs.Together.{AreTogether}
 use Rattle.fib_form.specs.declared.fib.KeptFib.{KeptFib}
-use Rattle.plain_doc.specs.declared.carried.Carried.{Carried}
-use Rattle.save_laws.specs.Places.{Given, given_of}
-use Rattle.save_laws.specs.Slots.{Slot, shown, loose, last, IsPlaced, whole_text}
-use Rattle.save_laws.specs.Saves.{saved_entries, KeepsFields, IsFileOf}
+use Rattle.doc_model.specs.declared.carried.Carried.{Carried}
+use Rattle.save_laws.specs.Places.{GivenUnit, given_of}
+use Rattle.save_laws.specs.Slots.{Slot, shown, loose, last, IsPlaceForSlot, document_slots}
+use Rattle.save_laws.specs.Saves.{saved_entries, KeepsFields, IsFileOfContents}
 use Rattle.save_laws.specs.FastSaves.{StandsInEither, IsGivenBy, IsFastSaved}
 use Rattle.save_laws.proofs.Public.{name_six}
 use Rattle.fast_save_layout.specs.Saves.{plan_of}
 use Rattle.fast_save_layout.specs.Answers.{IsAppended}
 use Rattle.fast_save_layout.specs.PlannedSections.{planned_seds}
-use Rattle.fast_save_layout.specs.Appended.{table_name_of, old_wd, old_stream, pages_end, fast_seds}
+use Rattle.fast_save_layout.specs.Appended.{table_name_of, old_wd, old_stream, added_pages_end, fast_seds}
 use Rattle.fast_save_layout.specs.Appended.{fast_entries, fast_table, fast_fib, fast_streams, fast_contents}
 use Rattle.fast_save_layout.specs.Appended.{fast_text, fast_saved_text}
 use Rattle.fast_save_layout.proofs.StreamLemmas.{renewed_wd, renewed_table, renewed_carried, renewed_are_streams}
@@ -70,7 +70,7 @@ place_small r at wide (inr planned) =
     omega (arith, here, below, len, small)
 
 -- what gives something there is there
-stands_by : (r : Ready) (at : ℕ) (wide : Bool) (given : Given) →
+stands_by : (r : Ready) (at : ℕ) (wide : Bool) (given : GivenUnit) →
     IsGivenBy (old_stream r.save) (plan_of r.save) at wide given →
     StandsInEither (old_stream r.save) (plan_of r.save) at wide
 stands_by r at wide given (inl gives) = inl gives.stands
@@ -82,7 +82,8 @@ stands_by r at wide given (inr planned) = inr (record {
 })
 
 stands_placed : (r : Ready) (place : UnitPlace) (slot : Slot) →
-    IsPlaced (StandsInEither (old_stream r.save) (plan_of r.save)) (IsGivenBy (old_stream r.save) (plan_of r.save))
+    IsPlaceForSlot (StandsInEither (old_stream r.save) (plan_of r.save)) (IsGivenBy (old_stream r.save) (plan_of
+    r.save))
     place
     slot → StandsInEither (old_stream r.save) (plan_of r.save) place.at place.wide
 stands_placed r place (shown item) placed = stands_by r place.at place.wide placed.before placed.gives
@@ -104,7 +105,7 @@ piece_fits r k piece here =
     let flat = flat_pieces r.save.pieces in
     let place = place_at piece 0 in
     let text = text_stands r in
-    let whole = whole_text r.save.document r.save.ends in
+    let whole = document_slots r.save.document r.save.ends in
     let below = slice_get_within flat first.0 place first.1 in
     let len = text.len in
     let slot = there_is whole first.0 (omega (arith, below, len)) in
@@ -134,8 +135,8 @@ unfolding fast_fib
 part_there m k part here =
     let entries = fast_entries (the_save m) m.clx in
     let stands = entry_stands entries k part (numbered m) here in
-    let pairs : pair_at (entries_pairs entries) part.number ≡ fib_pair (new_wd m) part.number =
-    ap (λ (fib : FibFields). pair_at fib.pairs part.number) (sym (fib_read m).fields)
+    let pairs : listed_pair (entries_pairs entries) part.number ≡ fib_pair (new_wd m) part.number =
+    ap (λ (fib : FibFields). listed_pair fib.pairs part.number) (sym (fib_read m).fields)
     ∙ pair_at-fib_pairs (new_wd m) part.number stands.below in
     part_in_table (the_save m) m.clx (fib_pair (new_wd m) part.number) part
     (subst (λ pair. IsPartAt (entries_bytes entries) pair part) pairs stands.there)
@@ -259,7 +260,7 @@ fast_saved m contents has =
       written = written_plan m;
       characters = has_ranges Chpx r;
       paragraphs = has_ranges Papx r;
-      starts = planned_starts 0 (pages_end save) save.places (sections_of save.document.main) r.can.sections.len;
+      starts = planned_starts 0 (added_pages_end save) save.places (sections_of save.document.main) r.can.sections.len;
       properties = sections_there m;
       pieces = r.can.pieces;
       printable = printable r;
@@ -305,7 +306,7 @@ names_small m =
     m.ready.can.bytes (has_contents m.ready)
 
 pub layout_is : (m : Made) → Fits (lengths_of (fast_streams (the_save m) m.clx)) →
-    IsLayout (fast_streams (the_save m) m.clx) (the_save m).contents.clsid
+    AreLayoutStreams (fast_streams (the_save m) m.clx) (the_save m).contents.clsid
 layout_is m fits =
     let save = the_save m in
     let clsid = ap length (clsid_is m.ready) in
@@ -318,7 +319,7 @@ layout_is m fits =
     }
 
 file_is : (m : Made) → Fits (lengths_of (fast_streams (the_save m) m.clx)) →
-    IsFileOf (compound_file (fast_streams (the_save m) m.clx) (the_save m).contents.clsid)
+    IsFileOfContents (compound_file (fast_streams (the_save m) m.clx) (the_save m).contents.clsid)
     (fast_contents (the_save m) m.clx)
 file_is m fits =
     let streams = fast_streams (the_save m) m.clx in
@@ -340,5 +341,5 @@ appended_anew m file short fits is = record {
   few_saves = m.few_saves;
   fib = (fib_read m).fields;
   saved = fast_saved m (fast_contents (the_save m) m.clx) (streams_anew m);
-  container = subst (λ (f : List ℕ). IsFileOf f (fast_contents (the_save m) m.clx)) (sym is) (file_is m fits);
+  container = subst (λ (f : List ℕ). IsFileOfContents f (fast_contents (the_save m) m.clx)) (sym is) (file_is m fits);
 }

@@ -9,7 +9,7 @@ use Rattle.cfb_layout.proofs.Public.{no_file_shorter}
 use Rattle.fib_form.specs.Fib.{fib_pair, kept_pairs}
 use Rattle.fib_form.specs.FibFields.{fib_fields}
 use Rattle.fib_form.specs.TableEntries.{entry, IsPartAt}
-use Rattle.fib_form.specs.TableParts.{pair_of}
+use Rattle.fib_form.specs.TableParts.{pair_number}
 use Rattle.fib_form.specs.declared.table_parts.TablePart.{TablePart}
 use Rattle.fib_form.specs.declared.table_parts.TablePart.TheVariants.{PlcfBteChpx, PlcfBtePapx}
 use Rattle.fib_form.proofs.Public.{pair_at-fib_pairs}
@@ -124,11 +124,12 @@ few_written counts save file is made =
 
 -- the pair of a part has the length of its bytes
 pair_length : (save : FastSave) (file : List ℕ) (made : IsAppended save file) (part : TablePart) (bytes : List ℕ) →
-    pair_of part < kept_pairs →
-    IsPartAt (fast_table save made.clx) (fib_pair (fast_wd save made.clx) (pair_of part)) (entry (pair_of part) bytes) →
+    pair_number part < kept_pairs →
+    IsPartAt (fast_table save made.clx) (fib_pair (fast_wd save made.clx) (pair_number part)) (entry (pair_number part)
+    bytes) →
     (named_pair (fib_fields (fast_wd save made.clx)) part).1 ≡ length bytes
 pair_length save file made part bytes below is =
-    ap (λ (pair : ℕ × ℕ). pair.1) (pair_at-fib_pairs (fast_wd save made.clx) (pair_of part) below) ∙ is.len
+    ap (λ (pair : ℕ × ℕ). pair.1) (pair_at-fib_pairs (fast_wd save made.clx) (pair_number part) below) ∙ is.len
 
 pub appended_files_are_short : AppendedFilesAreShort
 appended_files_are_short counts save file is made =

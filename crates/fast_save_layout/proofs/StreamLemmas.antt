@@ -12,7 +12,7 @@ use Rattle.doc_bits.proofs.Public.{map-map, from_map, get-map, All-from_slice_ge
 use Rattle.doc_bits.specs.Number.{AreBytes}
 use Rattle.cfb_streams.specs.Contents.{Stream, Contents, NamedBytes, HasNamed, AreStreams}
 use Rattle.cfb_streams.specs.Container.{HasContents}
-use Rattle.cfb_directory.specs.Directory.{AreSameNames, ComesBefore}
+use Rattle.cfb_directory.specs.Directory.{AreSameNames, IsNameBefore}
 use Rattle.cfb_directory.specs.Reach.{entry_place}
 use Rattle.cfb_streams.specs.Names.{wd_name, first_table_name, second_table_name, is_same_name}
 use Rattle.cfb_streams.proofs.Public.{same_name-is}
@@ -257,8 +257,8 @@ renewed_are_streams name wd table contents bounds short_wd short_table =
       order = λ i j s later less here there.
           let one = from_map f old i s here in
           let two = from_map f old j later there in
-          subst (λ (t : NamedBytes). ComesBefore t.name later.name) one.1.1
-          (subst (λ (t : NamedBytes). ComesBefore one.0.name t.name) two.1.1
+          subst (λ (t : NamedBytes). IsNameBefore t.name later.name) one.1.1
+          (subst (λ (t : NamedBytes). IsNameBefore one.0.name t.name) two.1.1
           (bounds.order i j one.0 two.0 less one.1.0 two.1.0));
       total = omega (arith, sum, count, few);
     }

@@ -23,13 +23,13 @@ use Rattle.fib_form.proofs.Public.{length-written_fib}
 use Rattle.fkp_pages.specs.declared.kind.PageKind.{PageKind}
 use Rattle.fkp_pages.specs.declared.kind.PageKind.TheVariants.{Chpx, Papx}
 use Rattle.piece_table.specs.Printing.{IsPrintedClx}
-use Rattle.plain_doc.specs.Collected.{sections_of}
+use Rattle.doc_model.specs.Collected.{sections_of}
 use Rattle.file_rules.proofs.Public.{hold_out}
 use Rattle.full_save.specs.WordDocument.{table_stream}
 use Rattle.full_save.proofs.Public.{entries_are_pairs, table_allowed}
-use Rattle.save_laws.specs.Saves.{IsFileOf}
+use Rattle.save_laws.specs.Saves.{IsFileOfContents}
 use Rattle.save_laws.specs.SectorCounts.{TwoStreams, HasBytesAnew, AreAnew, lengths_of_two}
-use Rattle.save_laws.specs.FastSizes.{SaveCounts, WrittenLengths, AreCounted, AreAppended}
+use Rattle.save_laws.specs.FastSizes.{SaveCounts, WrittenLengths, AreWithinCounts, AreAppended}
 use Rattle.save_laws.specs.FastFiles.{AreFastStreams}
 use Rattle.save_laws.proofs.Public.{longer_tables_are_short, clx_is_short, name_six, tables_are_short}
 use Rattle.fast_save_layout.specs.Saves.{FastSave}
@@ -38,7 +38,8 @@ use Rattle.fast_save_layout.specs.PlannedSections.{planned_sepxes}
 use Rattle.fast_save_layout.specs.RenewedStreams.{renewed_bytes, renewed_streams}
 use Rattle.fast_save_layout.specs.Appended.{table_name_of, old_wd, old_table, old_bins, bins_end, added_pages}
 use Rattle.fast_save_layout.specs.Appended.{first_page}
-use Rattle.fast_save_layout.specs.Appended.{page_count, pages_end, added_bytes, fast_bin_table, fast_text, fast_entries}
+use Rattle.fast_save_layout.specs.Appended.{added_page_count, added_pages_end, added_bytes, fast_bin_table, fast_text}
+use Rattle.fast_save_layout.specs.Appended.{fast_entries}
 use Rattle.fast_save_layout.specs.Appended.{fast_table, fast_fib, fast_wd, fast_streams}
 use Rattle.fast_save_layout.specs.KeptBins.{kept_bins}
 use Rattle.fast_save_layout.specs.AppendedLengths.{bin_bytes_of, IsSaveCounted}
@@ -60,7 +61,7 @@ sepxes r = planned_sepxes r.save.places (sections_of r.save.document.main)
 
 pub length-added : (r : Ready) →
     length (added_bytes r.save)
-    ≡ 512 * ((2 * length r.save.added + 511) / 512) + 512 * page_count r.save + length (sepxes r)
+    ≡ 512 * ((2 * length r.save.added + 511) / 512) + 512 * added_page_count r.save + length (sepxes r)
 length-added r =
     let size = body_sizes r in
     omega (
@@ -125,7 +126,7 @@ table_longer kind r =
 abbrev pub new_bin_bytes : Ready → ℕ
 new_bin_bytes r = length (fast_bin_table Chpx r.save) + length (fast_bin_table Papx r.save)
 
-new_bins_length : (r : Ready) → new_bin_bytes r ≤ bin_bytes_of r.save.fib + 8 * page_count r.save
+new_bins_length : (r : Ready) → new_bin_bytes r ≤ bin_bytes_of r.save.fib + 8 * added_page_count r.save
 new_bins_length r = omega (arith, table_longer Chpx r, table_longer Papx r, old_bins_length r)
 
 -- ---- the table stream
@@ -134,7 +135,8 @@ table_short : (r : Ready) (clx : List ℕ) →
     length (table_parts r.save clx) ≤ length (table_stream r.save.document) + new_bin_bytes r + length clx
 table_short r clx =
     let save = r.save in
-    let seds = length-planned_seds 0 (pages_end save) save.places (sections_of save.document.main) r.can.sections.len in
+    let seds = length-planned_seds 0 (added_pages_end save) save.places (sections_of save.document.main)
+    r.can.sections.len in
     let short = tables_are_short save.document (fast_text save clx) seds in
     omega (arith, short)
 
@@ -146,14 +148,14 @@ ready_of counts save is = ready save is.can is.formed is.items
 abbrev pub written_of : Ready → List ℕ → WrittenLengths
 written_of r clx = record {
   units = length r.save.added;
-  pages = page_count r.save;
+  pages = added_page_count r.save;
   sepx_bytes = length (sepxes r);
   bin_bytes = new_bin_bytes r;
   clx_bytes = length clx;
 }
 
 pub is_counted : (counts : SaveCounts) (save : FastSave) (clx : List ℕ) (is : IsSaveCounted counts save) →
-    IsPrintedClx save.pieces clx → AreCounted counts (written_of (ready_of counts save is) clx)
+    IsPrintedClx save.pieces clx → AreWithinCounts counts (written_of (ready_of counts save is) clx)
 is_counted counts save clx is printed =
     let r = ready_of counts save is in
     let text = is.text in
@@ -180,7 +182,7 @@ streams_before r = record { wd = old_wd r.save; table = old_table r.save }
 abbrev pub streams_after : Ready → List ℕ → TwoStreams
 streams_after r clx = record { wd = fast_wd r.save clx; table = table_parts r.save clx }
 
-pub file_of : (r : Ready) → IsFileOf r.save.file r.save.contents
+pub file_of : (r : Ready) → IsFileOfContents r.save.file r.save.contents
 file_of r = record {
   rules = hold_out File (container_rules r.save.file) r.can.held.rules.0;
   has_contents = subst (HasContents r.save.file) (sym r.can.contents) r.can.held.has_parts.has_contents;

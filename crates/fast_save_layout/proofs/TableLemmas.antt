@@ -14,13 +14,13 @@ use Rattle.fkp_pages.specs.InARow.{numbered_bins}
 use Rattle.fkp_pages.specs.Rows.{KeepsRanges}
 use Rattle.fkp_pages.proofs.Public.{row_is_printable, length-numbered_bins, ranges_kept, printed_table}
 use Rattle.piece_table.specs.Piece.{UnitPlace}
-use Rattle.plain_doc.specs.declared.item.Mark.{Mark}
-use Rattle.plain_doc.specs.declared.item.Item.{Item}
+use Rattle.doc_model.specs.declared.item.Mark.{Mark}
+use Rattle.doc_model.specs.declared.item.Item.{Item}
 use Rattle.plain_doc.proofs.Public.{main_ends, last_marked}
 use Rattle.prop_map.specs.Settings.{Properties}
 use Rattle.piece_table.specs.Piece.{flat_pieces, unit_bytes}
-use Rattle.save_laws.specs.Places.{Given, given_of, GivesAt, GivesCharacters, GivesMark, IsMarkedAfter}
-use Rattle.save_laws.specs.Slots.{shown, IsPlaced, ReadsAfter, whole_text}
+use Rattle.save_laws.specs.Places.{GivenUnit, given_of, GivesAt, GivesCharacters, GivesMark, IsMarkedAfter}
+use Rattle.save_laws.specs.Slots.{shown, IsPlaceForSlot, ReadsAfter, document_slots}
 use Rattle.save_laws.specs.Saves.{HasRanges}
 use Rattle.save_laws.specs.FastSaves.{StandsInEither, IsGivenBy, StandsInSession}
 use Rattle.save_laws.proofs.Public.{mark_before, main_slot}
@@ -79,7 +79,7 @@ range_kept kind r at number page below =
     ]
 
 -- where nothing is added, each place is in the old stream
-old_gives : (r : Ready) (at : ℕ) (wide : Bool) (given : Given) → length r.save.added ≤ 0 →
+old_gives : (r : Ready) (at : ℕ) (wide : Bool) (given : GivenUnit) → length r.save.added ≤ 0 →
     IsGivenBy (old_stream r.save) (plan_of r.save) at wide given → GivesAt (old_stream r.save) at wide given
 old_gives r at wide given none (inl gives) = gives
 old_gives r at wide given none (inr planned) =
@@ -91,7 +91,7 @@ old_gives r at wide given none (inr planned) =
 record IsLastMark (r : Ready) : Type 0 where
   at : ℕ
   wide : Bool
-  given : Given
+  given : GivenUnit
   mark : Mark
   gives : IsGivenBy (old_stream r.save) (plan_of r.save) at wide given
   marked : given.mark ≡ Some mark
@@ -117,10 +117,11 @@ last_mark r =
     let d = r.save.document in
     let last = main_ends d (is_valid r) in
     let slot = main_slot d r.save.ends (length d.main - 1) last.item last.here in
-    let P = IsPlaced (StandsInEither (old_stream r.save) (plan_of r.save)) (IsGivenBy (old_stream r.save)
+    let P = IsPlaceForSlot (StandsInEither (old_stream r.save) (plan_of r.save)) (IsGivenBy (old_stream r.save)
     (plan_of r.save)) in
     let found =
-    beside P (flat_pieces r.save.pieces) (whole_text d r.save.ends) (length d.main - 1) (shown last.item) (text_stands
+    beside P (flat_pieces r.save.pieces) (document_slots d r.save.ends) (length d.main - 1) (shown last.item)
+    (text_stands
     r)
     slot in
     marked_by r found.other last.item last.item.mark refl (last_marked d (is_valid r)) found.is

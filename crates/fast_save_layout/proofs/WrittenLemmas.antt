@@ -10,10 +10,10 @@ use Rattle.std.proofs.lemmas.Option.{slice_get_within, get_or_from_slice_get}
 use Rattle.doc_bits.proofs.Public.{All_at, get-map, from_map, number_at-after, number_at-before}
 use Rattle.doc_bits.specs.Number.{u16_at}
 use Rattle.doc_bits.specs.Rules.{Hold}
-use Rattle.cfb_layout.specs.Sectors.{units_for, filled, padded}
+use Rattle.cfb_layout.specs.Sectors.{units_for, filled, padded_to_unit}
 use Rattle.cfb_layout.proofs.Public.{length-filled, entry_at, filled_at}
 use Rattle.fib_form.specs.Fib.{kept_pairs, form_size, fib_form, fib_size}
-use Rattle.fib_form.specs.FibFields.{FibFields, fib_fields, IsFib, AreCounts, IsKeptFlags}
+use Rattle.fib_form.specs.FibFields.{FibFields, fib_fields, IsFib, AreFibCcps, IsKeptFlags}
 use Rattle.fib_form.specs.FibBytes.{written_fib}
 use Rattle.fib_form.specs.FibRules.{fib_rules}
 use Rattle.fib_form.proofs.Public.{read_back, sum-three, form_size-most, length-written_fib}
@@ -23,36 +23,38 @@ use Rattle.fkp_pages.specs.declared.lists.Bin.{Bin}
 use Rattle.fkp_pages.specs.declared.packing.Pages.{Pages}
 use Rattle.fkp_pages.specs.Bin.{ArePrintableBins, bin_fcs, printed_bin}
 use Rattle.fkp_pages.specs.InARow.{numbered_bins}
-use Rattle.fkp_pages.specs.Rows.{IsRow, NamesRow, row_bins}
+use Rattle.fkp_pages.specs.Rows.{IsPageRow, NamesRow, row_bins}
 use Rattle.fkp_pages.specs.PageBytes.{last_fc}
 use Rattle.fkp_pages.proofs.Public.{longer_tables_name_both}
 use Rattle.piece_table.specs.Printing.{IsPrintedClx}
-use Rattle.plain_doc.specs.declared.item.Item.{Item}
+use Rattle.doc_model.specs.declared.item.Item.{Item}
 use Rattle.doc_bits.specs.declared.places.Where.TheVariants.{Main}
 use Rattle.fib_form.specs.declared.fib.KeptFib.{KeptFib}
 use Rattle.prop_map.specs.Settings.{Properties}
-use Rattle.plain_doc.specs.declared.carried.Carried.{Carried}
-use Rattle.plain_doc.specs.Collected.{sections_of}
-use Rattle.plain_doc.specs.Document.{IsFormedItem}
-use Rattle.plain_doc.proofs.Public.{collected_from, main_ends}
+use Rattle.doc_model.specs.declared.carried.Carried.{Carried}
+use Rattle.doc_model.specs.Collected.{sections_of}
+use Rattle.doc_model.specs.Document.{IsFormedItem}
+use Rattle.plain_doc.proofs.Public.{main_ends}
+use Rattle.doc_model.proofs.Public.{collected_from}
 use Rattle.save_laws.proofs.Public.{FitsSepx, length-story_slots, length-loose_if}
 use Rattle.std.proofs.lemmas.List.Concat.{length-flat_map}
 use Rattle.full_save.specs.WordDocument.{units_bytes}
 use Rattle.full_save.proofs.Public.{IsWritableItem, character_run, paragraph_run, AreAllowed, entries_are_pairs}
 use Rattle.full_save.proofs.Public.{entries_are_wide, table_allowed, few_collected}
-use Rattle.save_laws.specs.Places.{Given, given_of, fib_end}
+use Rattle.save_laws.specs.Places.{GivenUnit, given_of, fib_end}
 use Rattle.save_laws.specs.Plans.{AreRunsOf, HaveRow, IsWrittenPlan}
 use Rattle.save_laws.specs.KeptPages.{KeepsBytes, KeepsPages}
 use Rattle.save_laws.specs.Slots.{story_counts}
 use Rattle.fast_save_layout.specs.Saves.{FastSave, plan_of}
 use Rattle.fast_save_layout.specs.KeptBins.{kept_bins}
-use Rattle.fast_save_layout.specs.Kept.{CanBeAppended}
+use Rattle.fast_save_layout.specs.Kept.{CanBeFastSaved}
 use Rattle.fast_save_layout.specs.Bodies.{AreNewParts}
 use Rattle.fast_save_layout.specs.declared.writing.NewParts.{NewParts}
 use Rattle.fast_save_layout.specs.PlannedSections.{planned_sepxes}
 use Rattle.fast_save_layout.specs.Appended.{old_wd, old_bins, old_stream, runs_begin, bins_end, added_runs}
 use Rattle.fast_save_layout.specs.Appended.{added_pages, first_page}
-use Rattle.fast_save_layout.specs.Appended.{pages_end, added_bytes, fast_bin_table, fast_text, fast_entries, fast_table}
+use Rattle.fast_save_layout.specs.Appended.{added_pages_end, added_bytes, fast_bin_table, fast_text, fast_entries}
+use Rattle.fast_save_layout.specs.Appended.{fast_table}
 use Rattle.fast_save_layout.specs.Appended.{fast_fib, fast_wd, fast_saved_text}
 use Rattle.fast_save_layout.proofs.FilledTable.{table_parts, parts_within}
 use Rattle.fast_save_layout.proofs.PlannedLemmas.{length-planned}
@@ -72,7 +74,7 @@ pub record Made : Type 0 where
   pub few_saves : ready.save.fib.quick_saves < 15
 
 -- that of new parts
-abbrev pub made_of : (save : FastSave) (parts : NewParts) → CanBeAppended save → AreNewParts save parts → Made
+abbrev pub made_of : (save : FastSave) (parts : NewParts) → CanBeFastSaved save → AreNewParts save parts → Made
 made_of save parts can is = record {
   ready = ready save can is.formed is.items;
   clx = is.clx;
@@ -112,7 +114,7 @@ added_units m = map (λ (item : Item). item.unit) (the_save m).added
 abbrev pub parts_of : Made → Parts
 parts_of m = record {
   front = filled (the_save m).base 0 (written_fib (new_fib m) ++ old_rest m);
-  text = padded 512 0 (units_bytes (added_units m));
+  text = padded_to_unit 512 0 (units_bytes (added_units m));
   chp = (added_pages Chpx (the_save m)).bytes;
   pap = (added_pages Papx (the_save m)).bytes;
   sepx = planned_sepxes (the_save m).places (sections_of (the_save m).document.main);
@@ -142,7 +144,7 @@ table_small m = m.ready.can.table m.clx m.printed
 parts_small : (m : Made) → length (table_parts (the_save m) m.clx) < 2 ^ 32
 parts_small m = omega (arith, table_small m, parts_within (the_save m) m.clx)
 
-pub counts_by : (r : Ready) → AreCounts (story_counts r.save.document r.save.ends)
+pub counts_by : (r : Ready) → AreFibCcps (story_counts r.save.document r.save.ends)
 counts_by r =
     let d = r.save.document in
     let ends = r.save.ends in
@@ -171,7 +173,7 @@ counts_by r =
       );
     }
 
-counts_are : (m : Made) → AreCounts (story_counts (the_save m).document (the_save m).ends)
+counts_are : (m : Made) → AreFibCcps (story_counts (the_save m).document (the_save m).ends)
 counts_are m = counts_by m.ready
 
 pub pairs_count : (m : Made) → length (new_fib m).pairs ≡ kept_pairs
@@ -219,7 +221,7 @@ pub record Places (m : Made) : Type 0 where
       length ((parts_of m).front ++ ((parts_of m).text ++ (parts_of m).chp)) ≡ 512 * first_page Papx (the_save m)
   pub sections :
       length ((parts_of m).front ++ ((parts_of m).text ++ ((parts_of m).chp ++ (parts_of m).pap)))
-      ≡ pages_end (the_save m)
+      ≡ added_pages_end (the_save m)
 
 pub places : (m : Made) → Places m
 places m =
@@ -393,7 +395,7 @@ keeps_pages m = record {
 
 unit_there : (m : Made) (k : ℕ) (item : Item) → slice_get (the_save m).added k ≡ Some item →
     u16_at (new_wd m) ((the_save m).base + 2 * k) ≡ item.unit
-unfolding padded
+unfolding padded_to_unit
 unit_there m k item here =
     let save = the_save m in
     let p = parts_of m in
@@ -422,10 +424,10 @@ runs_of m =
       character = λ k given here.
           let found = from_map given_of items k given here in
           let run = character_run save.base items k found.0 found.1.0 in
-          (run.0, (run.1.0, run.1.1 ∙ ap (λ (g : Given). g.chp) found.1.1));
+          (run.0, (run.1.0, run.1.1 ∙ ap (λ (g : GivenUnit). g.chp) found.1.1));
       paragraph = λ k given mark here marked.
           let found = from_map given_of items k given here in
-          let own = ap (λ (g : Given). g.mark) found.1.1 ∙ marked in
+          let own = ap (λ (g : GivenUnit). g.mark) found.1.1 ∙ marked in
           let run = paragraph_run save.base items k found.0 mark found.1.0 own in
           let some : 0 < length items = omega (arith, slice_get_within items k found.0 found.1.0) in
           let holds = (marks_added m.ready some).holds (save.base + 2 * k) run.0 run.1.0 in
@@ -441,7 +443,7 @@ some_items kind r some = elim (cases_lt 0 (length r.save.added)) [
 ]
 
 row_there : (kind : PageKind) (m : Made) → 0 < length (added_runs kind (the_save m)) →
-    IsRow kind (new_wd m) (added_runs kind (the_save m)) (first_page kind (the_save m))
+    IsPageRow kind (new_wd m) (added_runs kind (the_save m)) (first_page kind (the_save m))
 row_there Chpx m some =
     let added = added_are Chpx m.ready (some_items Chpx m.ready some) in
     let p = parts_of m in
@@ -482,7 +484,7 @@ row_there Papx m some =
 
 -- the table names the pages of the row
 named : (kind : PageKind) (m : Made) → 0 < length (added_runs kind (the_save m)) →
-    (row : IsRow kind (new_wd m) (added_runs kind (the_save m)) (first_page kind (the_save m))) →
+    (row : IsPageRow kind (new_wd m) (added_runs kind (the_save m)) (first_page kind (the_save m))) →
     row.pages ≡ added_pages kind (the_save m) → NamesRow row (fast_bin_table kind (the_save m))
 unfolding fast_bin_table
 named kind m some row same =
@@ -534,7 +536,7 @@ written_plan m =
       within = omega (arith, len, a1, a2, count, size.front, size.text);
       units = λ k given here.
           let found = from_map given_of save.added k given here in
-          unit_there m k found.0 found.1.0 ∙ ap (λ (g : Given). g.unit) found.1.1;
+          unit_there m k found.0 found.1.0 ∙ ap (λ (g : GivenUnit). g.unit) found.1.1;
       characters = added_runs Chpx save;
       paragraphs = added_runs Papx save;
       runs = runs_of m;

@@ -4,11 +4,11 @@ use Rattle.cfb_streams.specs.Contents.{Contents}
 use Rattle.cfb_streams.specs.Names.{wd_name, table_name}
 use Rattle.fib_form.specs.Fib.{table_part}
 use Rattle.fib_form.specs.FibFields.{FibFields}
-use Rattle.fib_form.specs.TableParts.{pair_of}
+use Rattle.fib_form.specs.TableParts.{pair_number}
 use Rattle.fib_form.specs.declared.table_parts.TablePart.TheVariants.{PlcfBtePapx}
 use Rattle.fkp_pages.specs.declared.kind.PageKind.TheVariants.{Chpx, Papx}
 use Rattle.fkp_pages.specs.Bin.{IsBinTable}
-use Rattle.plain_doc.specs.declared.item.Item.{Item}
+use Rattle.doc_model.specs.declared.item.Item.{Item}
 use Rattle.plain_doc.specs.RulesOfItems.{HasShortProperties}
 use Rattle.full_save.specs.Runs.{text_runs}
 use Rattle.save_laws.specs.SharedPages.{pages_taken}
@@ -22,7 +22,7 @@ table_stream_of fib contents = bytes_named contents.streams (table_name fib.whic
 
 abbrev pub paragraph_bins : FibFields → Contents → List ℕ
 paragraph_bins fib contents =
-    table_part (bytes_named contents.streams wd_name) (table_stream_of fib contents) (pair_of PlcfBtePapx)
+    table_part (bytes_named contents.streams wd_name) (table_stream_of fib contents) (pair_number PlcfBtePapx)
 
 -- the file has that bin table, where its FIB says so
 pub record HasParagraphBins (fib : FibFields) (contents : Contents) : Type 0 where

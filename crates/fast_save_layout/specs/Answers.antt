@@ -9,7 +9,7 @@ use Rattle.cfb_in_place.specs.Contract.{IsSavedInPlace}
 use Rattle.fib_form.specs.FibFields.{fib_fields}
 use Rattle.piece_table.specs.Printing.{IsPrintedClx}
 use Rattle.save_laws.specs.FastSaves.{IsFastSaved}
-use Rattle.save_laws.specs.Saves.{IsFileOf}
+use Rattle.save_laws.specs.Saves.{IsFileOfContents}
 use Rattle.fast_save_layout.specs.declared.fault.AppendFault.{AppendFault}
 use Rattle.fast_save_layout.specs.declared.fault.AppendFault.TheVariants.{Sixteenth, TooLarge, Memory}
 use Rattle.fast_save_layout.specs.Saves.{FastSave, plan_of}
@@ -58,7 +58,7 @@ pub record IsAppended (save : FastSave) (file : List ℕ) : Type 0 where
   pub saved :
       IsFastSaved save.document (old_stream save) (plan_of save) (fast_saved_text save clx) (fast_table save clx)
       contents
-  pub container : IsFileOf file contents
+  pub container : IsFileOfContents file contents
 
 -- too many sectors are needed, with their number
 pub record NeedsTooMany (save : FastSave) (sectors : ℕ) : Type 0 where

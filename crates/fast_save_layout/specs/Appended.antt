@@ -4,13 +4,13 @@ use Rattle.std.specs.Prelude.{ℕ, ◌+◌, ◌-◌, ◌*◌, nat_lt, true, List
 use Rattle.std.specs.Prelude.{if◌then◌else◌}
 use Rattle.cfb_streams.specs.Contents.{NamedBytes, Contents}
 use Rattle.cfb_streams.specs.Names.{wd_name, table_name}
-use Rattle.cfb_layout.specs.Sectors.{units_for, filled, padded}
+use Rattle.cfb_layout.specs.Sectors.{units_for, filled, padded_to_unit}
 use Rattle.cfb_layout.specs.Layout.{contents_of}
 use Rattle.cfb_in_place.specs.Change.{StreamChange}
 use Rattle.fib_form.specs.Fib.{form_size, table_part}
 use Rattle.fib_form.specs.FibFields.{FibFields}
 use Rattle.fib_form.specs.FibBytes.{written_fib}
-use Rattle.fib_form.specs.TableParts.{pair_of}
+use Rattle.fib_form.specs.TableParts.{pair_number}
 use Rattle.fib_form.specs.TableEntries.{TableEntry}
 use Rattle.fib_form.specs.declared.table_parts.TablePart.TheVariants.{PlcfBteChpx, PlcfBtePapx}
 use Rattle.fkp_pages.specs.declared.kind.PageKind.{PageKind}
@@ -21,7 +21,7 @@ use Rattle.fkp_pages.specs.declared.packing.Pages.{Pages}
 use Rattle.fkp_pages.specs.Bin.{printed_bin}
 use Rattle.fkp_pages.specs.Packed.{pages_of}
 use Rattle.fkp_pages.specs.InARow.{numbered_bins}
-use Rattle.plain_doc.specs.Collected.{sections_of}
+use Rattle.doc_model.specs.Collected.{sections_of}
 use Rattle.doc_parts.specs.declared.lists.Sed.{Sed}
 use Rattle.full_save.specs.declared.table_text.TableText.{TableText}
 use Rattle.full_save.specs.Runs.{text_runs}
@@ -51,8 +51,8 @@ old_table save = bytes_named save.contents.streams (table_name_of save)
 
 -- the bin table of a kind of pages
 abbrev pub old_bins : PageKind → FastSave → List ℕ
-old_bins Chpx save = table_part (old_wd save) (old_table save) (pair_of PlcfBteChpx)
-old_bins Papx save = table_part (old_wd save) (old_table save) (pair_of PlcfBtePapx)
+old_bins Chpx save = table_part (old_wd save) (old_table save) (pair_number PlcfBteChpx)
+old_bins Papx save = table_part (old_wd save) (old_table save) (pair_number PlcfBtePapx)
 
 abbrev pub old_stream : FastSave → PagedStream
 old_stream save = record { wd = old_wd save; characters = old_bins Chpx save; paragraphs = old_bins Papx save }
@@ -81,8 +81,8 @@ abbrev pub added_pages : PageKind → FastSave → Pages
 added_pages kind save = pages_of kind (added_runs kind save)
 
 -- how many they are
-abbrev pub page_count : FastSave → ℕ
-page_count save = length (added_pages Chpx save).starts + length (added_pages Papx save).starts
+abbrev pub added_page_count : FastSave → ℕ
+added_page_count save = length (added_pages Chpx save).starts + length (added_pages Papx save).starts
 
 -- the number of the first page of a kind: a page is at 512 times its number
 abbrev pub first_page : PageKind → FastSave → ℕ
@@ -90,13 +90,13 @@ first_page Chpx save = units_for 512 (added_end save)
 first_page Papx save = units_for 512 (added_end save) + length (added_pages Chpx save).starts
 
 -- where the pages end and Sepxes begin
-abbrev pub pages_end : FastSave → ℕ
-pages_end save = 512 * (first_page Papx save + length (added_pages Papx save).starts)
+abbrev pub added_pages_end : FastSave → ℕ
+added_pages_end save = 512 * (first_page Papx save + length (added_pages Papx save).starts)
 
 -- WordDocument from the added text on: the units and zeros up to a page, the pages, the Sepxes that are written
 unfoldable pub added_bytes : FastSave → List ℕ
 added_bytes save =
-    padded 512 0 (units_bytes (map (λ item. item.unit) save.added))
+    padded_to_unit 512 0 (units_bytes (map (λ item. item.unit) save.added))
     ++ ((added_pages Chpx save).bytes
     ++ ((added_pages Papx save).bytes ++ planned_sepxes save.places (sections_of save.document.main)))
 
@@ -112,7 +112,7 @@ unfoldable pub fast_bin_table : PageKind → FastSave → List ℕ
 fast_bin_table kind save = printed_bin (fast_bins kind save) (bins_end kind save)
 
 abbrev pub fast_seds : FastSave → List Sed
-fast_seds save = planned_seds 0 (pages_end save) save.places (sections_of save.document.main)
+fast_seds save = planned_seds 0 (added_pages_end save) save.places (sections_of save.document.main)
 
 -- what the table stream has beside the document
 abbrev pub fast_text : FastSave → List ℕ → TableText

@@ -8,16 +8,16 @@ use Rattle.fib_form.specs.FibFields.{FibFields, fib_fields}
 use Rattle.fib_form.specs.declared.table_parts.TablePart.TheVariants.{PlcfBteChpx, PlcfBtePapx}
 use Rattle.fkp_pages.specs.declared.kind.PageKind.TheVariants.{Chpx, Papx}
 use Rattle.piece_table.specs.Printing.{IsPrintedClx}
-use Rattle.plain_doc.specs.Document.{IsFormedText}
-use Rattle.plain_doc.specs.Formed.{IsFormed}
+use Rattle.doc_model.specs.Document.{IsFormedText}
+use Rattle.doc_model.specs.Formed.{IsFormed}
 use Rattle.full_save.specs.WordDocument.{table_stream}
 use Rattle.save_laws.specs.ClxLengths.{HaveShortPrcs}
 use Rattle.save_laws.specs.FastSizes.{SaveCounts, reckoned_sectors}
 use Rattle.fast_save_layout.specs.declared.fault.AppendFault.TheVariants.{TooLarge}
 use Rattle.fast_save_layout.specs.Saves.{FastSave}
 use Rattle.fast_save_layout.specs.OldParts.{named_pair}
-use Rattle.fast_save_layout.specs.Appended.{page_count, old_wd, fast_bin_table, fast_table, fast_wd}
-use Rattle.fast_save_layout.specs.Kept.{CanBeAppended}
+use Rattle.fast_save_layout.specs.Appended.{added_page_count, old_wd, fast_bin_table, fast_table, fast_wd}
+use Rattle.fast_save_layout.specs.Kept.{CanBeFastSaved}
 use Rattle.fast_save_layout.specs.Answers.{IsAppended, IsAppendFault, sectors_of}
 
 -- the bytes of the two bin tables, as a FIB counts them
@@ -32,13 +32,13 @@ unwritten_count places = count_by (λ place. not (is_some place)) places
 -- and these pages; the sections to be written; the pieces with their modifiers; the table stream of the full save; and
 -- of the file that is there the bytes of the bin tables and the sectors
 pub record IsSaveCounted (counts : SaveCounts) (save : FastSave) : Type 0 where
-  pub can : CanBeAppended save
+  pub can : CanBeFastSaved save
   pub formed : IsFormed save.document
   pub items : IsFormedText save.added
   pub text :
-      512 * units_for 512 (2 * length save.added) + 512 * page_count save
+      512 * units_for 512 (2 * length save.added) + 512 * added_page_count save
       ≤ 2 * counts.units + 512 * counts.runs + 1536
-  pub runs : 8 * page_count save ≤ 16 * counts.runs + 256
+  pub runs : 8 * added_page_count save ≤ 16 * counts.runs + 256
   pub sections : unwritten_count save.places ≤ counts.sections
   pub pieces : length save.pieces ≤ counts.pieces
   pub prcs : HaveShortPrcs counts.prc_bytes save.pieces

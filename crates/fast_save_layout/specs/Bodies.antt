@@ -10,11 +10,11 @@ use Rattle.cfb_layout.specs.Layout.{lengths_of, compound_file}
 use Rattle.cfb_layout.specs.Sectors.{filled}
 use Rattle.cfb_layout.specs.declared.faults.LayoutFault.{LayoutFault}
 use Rattle.cfb_in_place.specs.Change.{StreamChange}
-use Rattle.cfb_in_place.specs.Contract.{CanBeAppended, IsSavedInPlace, IsInPlaceFault}
+use Rattle.cfb_in_place.specs.Contract.{CanBePutInPlace, IsSavedInPlace, IsInPlaceFault}
 use Rattle.fib_form.specs.FibBytes.{written_fib}
 use Rattle.piece_table.specs.Printing.{IsPrintedClx}
-use Rattle.plain_doc.specs.Document.{IsFormedText}
-use Rattle.plain_doc.specs.Formed.{IsFormed}
+use Rattle.doc_model.specs.Document.{IsFormedText}
+use Rattle.doc_model.specs.Formed.{IsFormed}
 use Rattle.fast_save_layout.specs.declared.added.AddedBody.{AddedBody}
 use Rattle.fast_save_layout.specs.declared.saving.SavedFile.{SavedFile}
 use Rattle.fast_save_layout.specs.declared.writing.NewParts.{NewParts}
@@ -74,7 +74,7 @@ pub record CanBeLaidOut (old : SavedFile) (base : ℕ) (parts : NewParts) : Type
 pub record CanBePutBehind (old : SavedFile) (base : ℕ) (parts : NewParts) : Type 0 where
   pub rules : Hold (container_rules old.bytes.now)
   pub contents : HasContents old.bytes.now old.container.now
-  pub change : CanBeAppended old.container.now (change_by old base parts) (name_there old)
+  pub change : CanBePutInPlace old.container.now (change_by old base parts) (name_there old)
 
 -- and are written in that of the old WordDocument
 pub record CanBeWritten (old : SavedFile) (base : ℕ) (parts : NewParts) : Type 0 where

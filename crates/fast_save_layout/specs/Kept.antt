@@ -8,23 +8,23 @@ use Rattle.fib_form.specs.FibFields.{fib_fields}
 use Rattle.piece_table.specs.Piece.{flat_pieces, ArePieces}
 use Rattle.piece_table.specs.ClxRules.{FitsPages}
 use Rattle.piece_table.specs.Printing.{IsPrintedClx}
-use Rattle.plain_doc.specs.declared.document.Document.{Document}
-use Rattle.plain_doc.specs.Collected.{sections_of}
+use Rattle.doc_model.specs.declared.document.Document.{Document}
+use Rattle.doc_model.specs.Collected.{sections_of}
 use Rattle.plain_doc.specs.RulesOfItems.{HasShortProperties}
 use Rattle.plain_doc.specs.Sound.{IsSound}
-use Rattle.file_rules.specs.FileRules.{source_of}
+use Rattle.file_rules.specs.FileRules.{doc_source_of}
 use Rattle.doc_read.specs.Holds.{HoldsDocument}
-use Rattle.save_laws.specs.GivenFiles.{stream_of}
+use Rattle.save_laws.specs.GivenFiles.{paged_stream_of}
 use Rattle.save_laws.specs.Saves.{HasPropertiesAt}
 use Rattle.save_laws.specs.FastSaves.{StandsInSession}
 use Rattle.fast_save_layout.specs.Saves.{FastSave, plan_of}
-use Rattle.fast_save_layout.specs.Appended.{page_count, fast_table}
+use Rattle.fast_save_layout.specs.Appended.{added_page_count, fast_table}
 
 -- the old file holds a document, which has what this one carries along; each unit of the text is in its
 -- WordDocument
 -- or in the added text, which begins at the next page; the properties of each section are there or are to be written;
 -- and nothing is too large for the places in a file
-pub record CanBeAppended (save : FastSave) : Type 0 where
+pub record CanBeFastSaved (save : FastSave) : Type 0 where
   pub saved : Document
   pub bytes : AreBytes save.file
   pub held : HoldsDocument save.file saved
@@ -34,7 +34,8 @@ pub record CanBeAppended (save : FastSave) : Type 0 where
   pub sound : IsSound save.document
   pub base : save.base ≡ 512 * units_for 512 (length held.parts.text.wd)
   pub text :
-      StandsInSession (stream_of (source_of held.parts.text)) (plan_of save) save.pieces save.document save.ends
+      StandsInSession (paged_stream_of (doc_source_of held.parts.text)) (plan_of save) save.pieces save.document
+      save.ends
   pub short : All HasShortProperties save.added
   pub fit : All (λ place. FitsPages place.modifier) (flat_pieces save.pieces)
   pub sections :
@@ -43,5 +44,5 @@ pub record CanBeAppended (save : FastSave) : Type 0 where
   pub pieces : ArePieces save.pieces
   pub few : length save.pieces ≤ 16384
   pub few_added : length save.added ≤ 3600000
-  pub room : save.base + 2 * length save.added + 512 * page_count save ≤ 2 ^ 28
+  pub room : save.base + 2 * length save.added + 512 * added_page_count save ≤ 2 ^ 28
   pub table : (clx : List ℕ) → IsPrintedClx save.pieces clx → length (fast_table save clx) < 2 ^ 31

@@ -1,11 +1,11 @@
 -- The parts of a table stream by the fields of a FIB.
 use Rattle.std.specs.Prelude.{ℕ, ◌+◌, ◌≤◌, List, length, slice_range}
-use Rattle.fib_form.specs.FibFields.{FibFields, pair_at}
-use Rattle.fib_form.specs.TableParts.{pair_of}
+use Rattle.fib_form.specs.FibFields.{FibFields, listed_pair}
+use Rattle.fib_form.specs.TableParts.{pair_number}
 use Rattle.fib_form.specs.declared.table_parts.TablePart.{TablePart}
 
 abbrev pub named_pair : FibFields → TablePart → ℕ × ℕ
-named_pair fib part = pair_at fib.pairs (pair_of part)
+named_pair fib part = listed_pair fib.pairs (pair_number part)
 
 -- the part ends within the stream
 abbrev pub StaysWithin : FibFields → List ℕ → TablePart → Type 0

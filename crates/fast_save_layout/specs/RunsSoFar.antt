@@ -3,20 +3,20 @@ use Rattle.std.specs.Prelude.{◌≡◌, ℕ, ◌+◌, ◌*◌, ◌<◌, true, f
 use Rattle.fkp_pages.specs.declared.lists.Run.{Run}
 use Rattle.run_lists.specs.declared.runs.Run.{Run as ValueRun}
 use Rattle.run_lists.specs.Spread.{expanded}
-use Rattle.plain_doc.specs.declared.item.Mark.{Mark}
-use Rattle.plain_doc.specs.declared.item.Item.{Item}
+use Rattle.doc_model.specs.declared.item.Mark.{Mark}
+use Rattle.doc_model.specs.declared.item.Item.{Item}
 use Rattle.doc_columns.specs.declared.attached.Attached.{Attached}
 use Rattle.doc_columns.specs.Attached.{attached_of}
 use Rattle.full_save.specs.Alike.{HaveAlike}
 use Rattle.full_save.specs.RunsSoFar.{AreParagraphsSoFar}
 use Rattle.fast_save_layout.specs.declared.runs.ParagraphRuns.{ParagraphRuns}
-use Rattle.fast_save_layout.specs.MarkRuns.{leaves_open, begun}
+use Rattle.fast_save_layout.specs.MarkRuns.{leaves_open, runs_begun_at}
 
 -- no mark ends the last item exactly where some items have no run yet
 pub record AreMarksSoFar (at : ℕ) (done : List Item) (runs : ParagraphRuns) : Type 0 where
   pub text : List Run
   pub paragraphs : AreParagraphsSoFar at done (record { closed = text; from = runs.from })
-  pub closed_are : runs.closed ≡ begun runs.start text
+  pub closed_are : runs.closed ≡ runs_begun_at runs.start text
   pub open_ends : leaves_open done ≡ true → runs.from < at + 2 * length done
   pub mark_ends : leaves_open done ≡ false → runs.from ≡ at + 2 * length done
 

@@ -3,8 +3,8 @@ use Rattle.std.specs.Prelude.{ℕ, List, map, Option}
 use Rattle.cfb_streams.specs.Contents.{Contents}
 use Rattle.fib_form.specs.FibFields.{FibFields}
 use Rattle.piece_table.specs.Piece.{TextPiece}
-use Rattle.plain_doc.specs.declared.item.Item.{Item}
-use Rattle.plain_doc.specs.declared.document.Document.{Document}
+use Rattle.doc_model.specs.declared.item.Item.{Item}
+use Rattle.doc_model.specs.declared.document.Document.{Document}
 use Rattle.save_laws.specs.Places.{given_of}
 use Rattle.save_laws.specs.Plans.{Plan}
 use Rattle.save_laws.specs.Slots.{StoryEnds}
@@ -27,8 +27,8 @@ pub record FastSave : Type 0 where
   pub added : List Item
   pub places : List (Option ℕ)
 
-abbrev pub save_of : SavedFile → Document → EditedText → FastSave
-save_of old document text = record {
+abbrev pub fast_save_of : SavedFile → Document → EditedText → FastSave
+fast_save_of old document text = record {
   file = old.bytes.now;
   fib = old.fib.now;
   contents = old.container.now;

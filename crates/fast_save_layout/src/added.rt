@@ -5,17 +5,17 @@ ghost use Rattle.fkp_pages.specs.Bin.{IsBinTable, ArePrintableBins, printed_bin}
 ghost use Rattle.fkp_pages.specs.Runs.{AreRuns};
 ghost use Rattle.fkp_pages.specs.Packed.{pages_of};
 ghost use Rattle.fkp_pages.specs.InARow.{numbered_bins};
-ghost use Rattle.cfb_layout.specs.Sectors.{padded};
+ghost use Rattle.cfb_layout.specs.Sectors.{padded_to_unit};
 ghost use Rattle.full_save.specs.WordDocument.{units_bytes};
 ghost use Rattle.full_save.specs.Runs.{text_runs};
-ghost use Rattle.plain_doc.specs.Collected.{joined_texts};
-ghost use Rattle.plain_doc.specs.Formed.{IsFormed};
+ghost use Rattle.doc_model.specs.Collected.{joined_texts};
+ghost use Rattle.doc_model.specs.Formed.{IsFormed};
 ghost use Rattle.save_laws.specs.Ends.{ends_of};
 ghost use Rattle.save_laws.specs.Slots.{story_counts};
-ghost use Rattle.fast_save_layout.specs.Saves.{save_of};
+ghost use Rattle.fast_save_layout.specs.Saves.{fast_save_of};
 ghost use Rattle.fast_save_layout.specs.KeptBins.{kept_bins};
 ghost use Rattle.fast_save_layout.specs.MarkRuns.{mark_runs, mark_runs_end};
-ghost use Rattle.fast_save_layout.specs.Kept.{CanBeAppended};
+ghost use Rattle.fast_save_layout.specs.Kept.{CanBeFastSaved};
 ghost use Rattle.fast_save_layout.specs.Bodies.{IsAddedBody};
 
 use crate::kept_bins::{keep_bins, kept_end};
@@ -50,8 +50,8 @@ impl AddedBody {
         text: &EditedText<'_>,
     ) -> Result<AddedBody, Memory>
         requires formed { IsFormed document.now }
-        requires kept { CanBeAppended (save_of old.now document.now text.now) }
-        ensures { IfOk result (IsAddedBody (save_of old.now document.now text.now)) }
+        requires kept { CanBeFastSaved (fast_save_of old.now document.now text.now) }
+        ensures { IfOk result (IsAddedBody (fast_save_of old.now document.now text.now)) }
     {
         let items = text.added;
         let base = text.base;
@@ -154,7 +154,7 @@ fn add_paragraphs(
 /// Appends the units of items, and zeros up to a page.
 fn add_text(out: &mut Bytes, items: &Columns) -> Result<(), Memory>
     requires { length items.now < 2 ^ 31 }
-    ensures { OnOk result (out.new ≡ out.old ++ padded 512 0 (units_bytes (map (λ item. item.unit) items.now))) }
+    ensures { OnOk result (out.new ≡ out.old ++ padded_to_unit 512 0 (units_bytes (map (λ item. item.unit) items.now))) }
 {
     append_text(out, items.units())?;
     Ok(())

@@ -1,9 +1,9 @@
 // The runs of items whose units are one after the other.
 ghost use Rattle.std.specs.Prelude.{◌≡◌, ◌+◌, ◌*◌, ◌^◌, ◌<◌, ℕ, List, [], length, Some, OnOk, IfOk};
 ghost use Rattle.fkp_pages.specs.declared.kind.PageKind.{PageKind};
-ghost use Rattle.plain_doc.specs.declared.item.Item.{Item as TextItem};
+ghost use Rattle.doc_model.specs.declared.item.Item.{Item as TextItem};
 ghost use Rattle.full_save.specs.Runs.{text_runs};
-ghost use Rattle.fast_save_layout.specs.MarkRuns.{reached, begun, begin_after, runs_end};
+ghost use Rattle.fast_save_layout.specs.MarkRuns.{longer_if_open, runs_begun_at, begin_after, runs_end};
 ghost use Rattle.fast_save_layout.specs.RunsSoFar.{AreMarksSoFar, MarkEnds, MarksGoOn, MarksGoOnBy};
 ghost use Rattle.run_lists.specs.Spread.{total_len};
 
@@ -26,7 +26,7 @@ pub(crate) fn paragraph_runs(
 ) -> Result<PapRuns, Memory>
     requires { base + 2 * length items.now + 2 < 2 ^ 32 }
     ensures { IfOk result (λ runs.
-        runs ≡ begun start (reached items.now (text_runs PageKind.Papx base items.now))) }
+        runs ≡ runs_begun_at start (longer_if_open items.now (text_runs PageKind.Papx base items.now))) }
 {
     let end = base + UNIT_LEN * items.len() as u32;
     let mut runs = ParagraphRuns::new(alloc, base, start);
@@ -142,7 +142,8 @@ impl ParagraphRuns {
     fn finish(self, alloc: Global, end: u32) -> Result<PapRuns, Memory>
         requires { end + 2 < 2 ^ 32 }
         ensures { IfOk result (λ runs. (at : ℕ) (done : List TextItem) → end ≡ at + 2 * length done →
-            AreMarksSoFar at done self → runs ≡ begun self.start (reached done (text_runs PageKind.Papx at done))) }
+            AreMarksSoFar at done self → runs ≡ runs_begun_at self.start (longer_if_open done (text_runs PageKind.Papx
+            at done))) }
     {
         let begin = self.begin();
         let ParagraphRuns {

@@ -1,9 +1,9 @@
 // A save behind the stream that is there.
 ghost use Rattle.std.specs.Prelude.{◌≡◌, ◌+◌, ◌<◌, true, MatchResult};
-ghost use Rattle.fib_form.specs.FibFields.{AreCounts, ArePairs};
+ghost use Rattle.fib_form.specs.FibFields.{AreFibCcps, ArePairs};
 ghost use Rattle.fast_save_layout.specs.declared.fault.AppendFault.TheVariants.{Sixteenth};
-ghost use Rattle.fast_save_layout.specs.Saves.{save_of};
-ghost use Rattle.fast_save_layout.specs.Kept.{CanBeAppended};
+ghost use Rattle.fast_save_layout.specs.Saves.{fast_save_of};
+ghost use Rattle.fast_save_layout.specs.Kept.{CanBeFastSaved};
 ghost use Rattle.fast_save_layout.specs.Bodies.{AreNewParts};
 ghost use Rattle.fast_save_layout.specs.Answers.{IsAppended, IsAppendFault};
 
@@ -43,7 +43,7 @@ pub struct EditedText<'a> {
 
 /// The FIB after one more quick save, unless there were fifteen.
 fn next_fib(fib: &Fib, cb_mac: u32, counts: [u32; 3], pairs: &Pairs) -> Result<Fib, AppendFault>
-    requires counts { AreCounts counts }
+    requires counts { AreFibCcps counts }
     requires pairs { ArePairs pairs.now }
     ensures { MatchResult result
         (λ made. (fib.now.quick_saves < 15) × (made ≡ record fib.now {
@@ -68,10 +68,10 @@ fn new_parts(
     document: &ColumnDocument,
     text: &EditedText<'_>,
 ) -> Result<NewParts, AppendFault>
-    requires { CanBeAppended (save_of old.now document.now text.now) }
+    requires { CanBeFastSaved (fast_save_of old.now document.now text.now) }
     ensures { MatchResult result
-        (AreNewParts (save_of old.now document.now text.now))
-        (IsAppendFault (save_of old.now document.now text.now)) }
+        (AreNewParts (fast_save_of old.now document.now text.now))
+        (IsAppendFault (fast_save_of old.now document.now text.now)) }
 {
     columns_are_formed(document);
     let body = AddedBody::of(alloc, old, document, text)?;
@@ -97,10 +97,10 @@ pub fn append(
     document: &ColumnDocument,
     text: &EditedText<'_>,
 ) -> Result<Bytes, AppendFault>
-    requires { CanBeAppended (save_of old.now document.now text.now) }
+    requires { CanBeFastSaved (fast_save_of old.now document.now text.now) }
     ensures { MatchResult result
-        (IsAppended (save_of old.now document.now text.now))
-        (IsAppendFault (save_of old.now document.now text.now)) }
+        (IsAppended (fast_save_of old.now document.now text.now))
+        (IsAppendFault (fast_save_of old.now document.now text.now)) }
 {
     let parts = new_parts(alloc, old, document, text)?;
     match saved_by(alloc, old, text.base, parts) {

@@ -1,7 +1,7 @@
 // The Sepxes that a save writes, and the Seds of all sections.
 ghost use Rattle.std.specs.Prelude.{◌≡◌, ◌≤◌, ◌+◌, ◌*◌, ◌^◌, ◌<◌, ◌++◌, length, All, IsSome, OnOk, IfOk};
 ghost use Rattle.std.specs.Option.{ForSome};
-ghost use Rattle.plain_doc.specs.Collected.{sections_of};
+ghost use Rattle.doc_model.specs.Collected.{sections_of};
 ghost use Rattle.full_save.specs.Sections.{sepx_bytes, fc_sepx, HasSavableSection, IsSavableSection};
 ghost use Rattle.fast_save_layout.specs.PlannedSections.{new_sepx, planned_fc, planned_sepxes, planned_seds};
 ghost use Rattle.fast_save_layout.specs.PlannedSections.{PlannedGoOn};

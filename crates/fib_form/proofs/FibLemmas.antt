@@ -11,9 +11,9 @@ use Rattle.fib_form.specs.Fib.{CswNew, LaterCswNew, NFibNew, CQuickSavesNew, for
 use Rattle.fib_form.specs.Fib.{quick_saves_in}
 use Rattle.fib_form.specs.declared.form.Form.{Form}
 use Rattle.fib_form.specs.declared.form.Form.TheVariants.{Early, Later}
-use Rattle.fib_form.specs.FibFields.{FibFields, IsWidePair, fib_fields, pair_at, IsFib}
+use Rattle.fib_form.specs.FibFields.{FibFields, IsWidePair, fib_fields, listed_pair, IsFib}
 use Rattle.fib_form.specs.FibRules.{fib_rules, IsOtherForm, IsWrongTail}
-use Rattle.fib_form.specs.FibBytes.{written_fib, written_fields, written_flags, spelled, pair_bytes, field, Field}
+use Rattle.fib_form.specs.FibBytes.{written_fib, written_fields, written_flags, spelled, fc_lcb_bytes, field, Field}
 use Rattle.fib_form.specs.FibBytes.{base_saves, tail_fields}
 use Rattle.fib_form.proofs.FlagLemmas.{ReadsFlags, reads_flags}
 use Rattle.fib_form.proofs.FieldLemmas.{Follow, Has, read_field, read_gap, length-spelled}
@@ -53,7 +53,7 @@ pub record IsWritten (fib : FibFields) (wd : List ℕ) : Type 0 where
   pub heads : u32_at wd 84 ≡ slice_index fib.ccps 2
   pub others : (k : ℕ) → k < 4 → u32_at wd (92 + 4 * k) ≡ 0
   pub sizes : u16_at wd 152 ≡ form_pairs fib.form
-  pub pairs : (n : ℕ) → n < 93 → fib_pair wd n ≡ pair_at fib.pairs n
+  pub pairs : (n : ℕ) → n < 93 → fib_pair wd n ≡ listed_pair fib.pairs n
   pub tail : HasTail fib.form fib.quick_saves wd
 
 -- the fields are in order
@@ -162,14 +162,14 @@ flags_of fib is = reads_flags fib.kept.flags (base_saves fib.form fib.quick_save
 
 -- a pair of a written FIB
 pair_written : (pairs : List (ℕ × ℕ)) (n : ℕ) (front tail : List ℕ) → length front ≡ 154 → length pairs ≡ 93 →
-    n < 93 → All IsWidePair pairs → fib_pair (front ++ (flat_map pair_bytes pairs ++ tail)) n ≡ pair_at pairs n
+    n < 93 → All IsWidePair pairs → fib_pair (front ++ (flat_map fc_lcb_bytes pairs ++ tail)) n ≡ listed_pair pairs n
 pair_written pairs n front tail size count h wide =
-    let wd = front ++ (flat_map pair_bytes pairs ++ tail) in
+    let wd = front ++ (flat_map fc_lcb_bytes pairs ++ tail) in
     let read = read_pair pairs n front tail (omega arith) wide in
-    let fc : number_at wd (154 + 8 * n) 4 ≡ (pair_at pairs n).0 = subst (λ l. number_at wd (l + 8 * n) 4 ≡
-    (pair_at pairs n).0) size read.0 in
-    let lcb : number_at wd (154 + 8 * n + 4) 4 ≡ (pair_at pairs n).1 = subst (λ l. number_at wd (l + 8 * n + 4) 4 ≡
-    (pair_at pairs n).1) size read.1 in
+    let fc : number_at wd (154 + 8 * n) 4 ≡ (listed_pair pairs n).0 = subst (λ l. number_at wd (l + 8 * n) 4 ≡
+    (listed_pair pairs n).0) size read.0 in
+    let lcb : number_at wd (154 + 8 * n + 4) 4 ≡ (listed_pair pairs n).1 = subst (λ l. number_at wd (l + 8 * n + 4) 4 ≡
+    (listed_pair pairs n).1) size read.1 in
     rw (fc, lcb) refl
 
 form_pairs-bound : (form : Form) → form_pairs form < 256 ^ 2
@@ -180,7 +180,7 @@ pub is_written : (fib : FibFields) (more : List ℕ) → IsFib fib → IsWritten
 unfolding written_fib
 is_written fib more is =
     let fields = written_fields fib in
-    let pairs = flat_map pair_bytes fib.pairs in
+    let pairs = flat_map fc_lcb_bytes fib.pairs in
     let last = spelled 898 (tail_fields fib.form fib.quick_saves) in
     let tail = pairs ++ (last ++ more) in
     let whole : (spelled 0 fields ++ (pairs ++ last)) ++ more ≡ spelled 0 fields ++ tail = simp append_assoc in
@@ -259,7 +259,7 @@ hold_written fib wd is w =
     let text = w.text in
     let notes = w.notes in
     let heads = w.heads in
-    let lcb : (n : ℕ) → n < 93 → (fib_pair wd n).1 ≡ (pair_at fib.pairs n).1 = λ n h. ap (λ pair. pair.1)
+    let lcb : (n : ℕ) → n < 93 → (fib_pair wd n).1 ≡ (listed_pair fib.pairs n).1 = λ n h. ap (λ pair. pair.1)
     (w.pairs n h) in (
       λ p h. let short : length wd < form_size fib.form = subst (λ form. length wd < form_size form) form h.1 in
           let long = w.long in omega arith,

@@ -6,8 +6,8 @@ use Rattle.std.proofs.lemmas.List.Elements.{All-from_get_or}
 use Rattle.doc_bits.specs.Number.{u16_at}
 use Rattle.doc_bits.specs.Rules.{Hold, IsSingle, Ascends, LeastOrNone}
 use Rattle.doc_bits.proofs.Public.{least_same, number_at-bound}
-use Rattle.fib_form.specs.Fib.{fib_pair, fib_pairs, fib_flags, fib_ccp_text, fib_ccp_ftn, fib_ccp_hdd, pair_place}
-use Rattle.fib_form.specs.FibFields.{fib_fields, pair_at, IsWidePair, IsFib}
+use Rattle.fib_form.specs.Fib.{fib_pair, fib_pairs, fib_flags, fib_ccp_text, fib_ccp_ftn, fib_ccp_hdd, fib_pair_place}
+use Rattle.fib_form.specs.FibFields.{fib_fields, listed_pair, IsWidePair, IsFib}
 use Rattle.fib_form.specs.Fib.{form_pairs, fib_form, quick_saves_in}
 use Rattle.fib_form.specs.FibRules.{fib_rules, IsWrongTail, IsWrongForm, IsWrongSize}
 use Rattle.fib_form.specs.declared.form.Form.{Form}
@@ -134,8 +134,8 @@ quick_saves_in-bound Later wd right = elim (cases_lt 15 (quick_saves_in Later wd
 -- the fields of a stream that breaks no rule are those of a FIB
 pub is_fib : (wd : List ℕ) → ((i : ℕ) → slice_index wd i < 256) → Hold (fib_rules wd) → IsFib (fib_fields wd)
 is_fib wd bytes (_, (_, (_, (_, (_, (sizes, (_, (lengths, parts)))))))) =
-    let pair : (n : ℕ) → n < 93 → pair_at (fib_pairs wd) n ≡ fib_pair wd n = λ n h. pair_at-fib_pairs wd n h in
-    let most : (n limit : ℕ) → n < 93 → (limit < (fib_pair wd n).1 → ⊥) → (pair_at (fib_pairs wd) n).1 ≤ limit =
+    let pair : (n : ℕ) → n < 93 → listed_pair (fib_pairs wd) n ≡ fib_pair wd n = λ n h. pair_at-fib_pairs wd n h in
+    let most : (n limit : ℕ) → n < 93 → (limit < (fib_pair wd n).1 → ⊥) → (listed_pair (fib_pairs wd) n).1 ≤ limit =
     λ n limit h not_over. rw (pair n h) (elim (cases_lt limit (fib_pair wd n).1) [
       | inl over ↦ absurd (not_over over)
       | inr at_most ↦ at_most
@@ -163,16 +163,16 @@ is_fib wd bytes (_, (_, (_, (_, (_, (sizes, (_, (lengths, parts)))))))) =
       };
       pairs = record {
         count = length-fib_pairs wd;
-        main_drawings = most 40 4 (lit< tt) (λ over. parts (pair_place 40) (inl (refl, over)));
-        header_drawings = most 41 4 (lit< tt) (λ over. parts (pair_place 41) (inr (inl (refl, over))));
-        endnotes = most 46 4 (lit< tt) (λ over. parts (pair_place 46) (inr (inr (refl, over))));
+        main_drawings = most 40 4 (lit< tt) (λ over. parts (fib_pair_place 40) (inl (refl, over)));
+        header_drawings = most 41 4 (lit< tt) (λ over. parts (fib_pair_place 41) (inr (inl (refl, over))));
+        endnotes = most 46 4 (lit< tt) (λ over. parts (fib_pair_place 46) (inr (inr (refl, over))));
       };
       wide = All-from_get_or IsWidePair (fib_pairs wd) (0, 0) (λ n h. let low : n < 93 = omega (
         arith,
         length-fib_pairs wd,
       ) in rw (pair n low) (
-        number_at-bound wd (pair_place n) 4 bytes,
+        number_at-bound wd (fib_pair_place n) 4 bytes,
         number_at-bound wd
-            (pair_place n + 4) 4 bytes,
+            (fib_pair_place n + 4) 4 bytes,
       ));
     }

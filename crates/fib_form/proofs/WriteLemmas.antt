@@ -8,7 +8,7 @@ use Rattle.fib_form.specs.Fib.{kept_pairs, form_size}
 use Rattle.fib_form.specs.declared.form.Form.{Form}
 use Rattle.fib_form.specs.declared.form.Form.TheVariants.{Early, Later}
 use Rattle.fib_form.specs.FibFields.{FibFields}
-use Rattle.fib_form.specs.FibBytes.{written_fib, written_fields, tail_fields, spelled, pair_bytes, zeros}
+use Rattle.fib_form.specs.FibBytes.{written_fib, written_fields, tail_fields, spelled, fc_lcb_bytes, zeros}
 use Rattle.fib_form.proofs.FieldLemmas.{Puts, end_of, puts-spelled, no_zeros, zeros-add, length-zeros, length-spelled}
 use Rattle.fib_form.proofs.FibLemmas.{followed, followed_tail, form_size-least, length-tail_fields}
 use Rattle.fib_form.proofs.PairLemmas.{length-flat_map-pair_bytes}
@@ -60,8 +60,8 @@ length-written_fib fib count =
     let last = length-tail_fields fib.form fib.quick_saves in
     omega (
       arith,
-      length-append (spelled 0 (written_fields fib)) (flat_map pair_bytes fib.pairs ++ tail),
-      length-append (flat_map pair_bytes fib.pairs) tail,
+      length-append (spelled 0 (written_fields fib)) (flat_map fc_lcb_bytes fib.pairs ++ tail),
+      length-append (flat_map fc_lcb_bytes fib.pairs) tail,
     )
 
 -- what lies behind a front of that length
@@ -117,12 +117,12 @@ pairs_put fields pairs rest next last size e put =
 pub pairs_left : (fib : FibFields) (size : ℕ) (pairs : List (ℕ × ℕ)) (filled tail next last : List ℕ) → 898 ≤ size →
     filled ≡ zeros size → pairs ≡ fib.pairs →
     next ≡ spelled 0 (written_fields fib) ++ drop 154 (filled ++ tail) →
-    last ≡ take 154 next ++ (flat_map pair_bytes pairs ++ drop 898 next) →
-    last ≡ spelled 0 (written_fields fib) ++ (flat_map pair_bytes fib.pairs ++ (zeros (size - 898) ++ tail))
+    last ≡ take 154 next ++ (flat_map fc_lcb_bytes pairs ++ drop 898 next) →
+    last ≡ spelled 0 (written_fields fib) ++ (flat_map fc_lcb_bytes fib.pairs ++ (zeros (size - 898) ++ tail))
 pairs_left fib size pairs filled tail next last least zeroed same put put_pairs =
     let fields = spelled 0 (written_fields fib) in
     let fields_left = fields_put fields filled tail next size least zeroed put in
-    let left = pairs_put fields (flat_map pair_bytes pairs) (zeros (size - 898) ++ tail) next last (length-fields fib)
+    let left = pairs_put fields (flat_map fc_lcb_bytes pairs) (zeros (size - 898) ++ tail) next last (length-fields fib)
     fields_left put_pairs in
     rw same at left
 
@@ -147,13 +147,13 @@ clear_tail fields pairs tail last size least size_fields size_pairs e =
 
 -- the fields, then the pairs, then the fields behind them
 pub whole_put : (fib : FibFields) (size : ℕ) (old last whole : List ℕ) → 898 ≤ size → size ≡ form_size fib.form →
-    length fib.pairs ≡ kept_pairs → last ≡ spelled 0 (written_fields fib) ++ (flat_map pair_bytes fib.pairs ++ (zeros
+    length fib.pairs ≡ kept_pairs → last ≡ spelled 0 (written_fields fib) ++ (flat_map fc_lcb_bytes fib.pairs ++ (zeros
     (size - 898) ++ drop size old)) → whole ≡ take 898 last ++ (spelled 898 (tail_fields fib.form fib.quick_saves) ++
     drop (form_size fib.form) last) → whole ≡ written_fib fib ++ drop (form_size fib.form) old
 unfolding written_fib
 whole_put fib size old last whole least size_is count e put =
     let fields = spelled 0 (written_fields fib) in
-    let pairs = flat_map pair_bytes fib.pairs in
+    let pairs = flat_map fc_lcb_bytes fib.pairs in
     let rest = zeros (size - 898) ++ drop size old in
     let size_fields = length-fields fib in
     let size_pairs : length pairs ≡ 744 = omega (arith, length-flat_map-pair_bytes fib.pairs) in

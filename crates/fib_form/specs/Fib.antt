@@ -138,12 +138,12 @@ abbrev pub fib_ccp_hdd : List ℕ → ℕ
 fib_ccp_hdd wd = fib_number CcpHdd wd
 
 -- [MS-DOC] FibRgFcLcb97: where pair n is
-abbrev pub pair_place : ℕ → ℕ
-pair_place n = 154 + 8 * n
+abbrev pub fib_pair_place : ℕ → ℕ
+fib_pair_place n = 154 + 8 * n
 
 -- fc and lcb of pair n: where a part begins in the table stream, and its length in bytes
 abbrev pub fib_pair : List ℕ → ℕ → ℕ × ℕ
-fib_pair wd n = (u32_at wd (pair_place n), u32_at wd (pair_place n + 4))
+fib_pair wd n = (u32_at wd (fib_pair_place n), u32_at wd (fib_pair_place n + 4))
 
 -- all pairs that are kept, by their numbers
 unfoldable pub fib_pairs : List ℕ → List (ℕ × ℕ)

@@ -57,8 +57,8 @@ written_fields fib =
     ∷ []
 
 -- fc and lcb of a pair
-abbrev pub pair_bytes : ℕ × ℕ → List ℕ
-pair_bytes pair = number_bytes 4 pair.0 ++ number_bytes 4 pair.1
+abbrev pub fc_lcb_bytes : ℕ × ℕ → List ℕ
+fc_lcb_bytes pair = number_bytes 4 pair.0 ++ number_bytes 4 pair.1
 
 -- the fields behind the pairs: cswNew, in the later form with nFibNew and cQuickSavesNew
 abbrev pub tail_fields : Form → ℕ → List Field
@@ -69,7 +69,7 @@ tail_fields Later quick_saves =
 -- the bytes of a FIB: the fields, the pairs that are kept, and from 898 on the fields behind the pairs
 unfoldable pub written_fib : FibFields → List ℕ
 written_fib fib =
-    spelled 0 (written_fields fib) ++ (flat_map pair_bytes fib.pairs ++ spelled 898 (tail_fields fib.form
+    spelled 0 (written_fields fib) ++ (flat_map fc_lcb_bytes fib.pairs ++ spelled 898 (tail_fields fib.form
     fib.quick_saves))
 
 -- a stream that begins with a written FIB breaks no rule on the FIB, and has the fields that were written

@@ -36,8 +36,8 @@ unfoldable pub empty_pairs : List (ℕ × ℕ)
 empty_pairs = replicate kept_pairs (0, 0)
 
 -- a pair of the list
-abbrev pub pair_at : List (ℕ × ℕ) → ℕ → ℕ × ℕ
-pair_at pairs n = slice_index_or pairs n (0, 0)
+abbrev pub listed_pair : List (ℕ × ℕ) → ℕ → ℕ × ℕ
+listed_pair pairs n = slice_index_or pairs n (0, 0)
 
 -- the CP at which a story begins: the main text, the notes and the header texts are one after the other
 abbrev pub story_start : List ℕ → ℕ → ℕ
@@ -52,7 +52,7 @@ abbrev pub IsKeptFlags : ℕ → Type 0
 IsKeptFlags flags = flags ≡ kept_flags flags
 
 -- counts of characters that a FIB may have
-pub record AreCounts (ccps : List ℕ) : Type 0 where
+pub record AreFibCcps (ccps : List ℕ) : Type 0 where
   pub three : length ccps ≡ 3
   pub main : 1 ≤ slice_index ccps 0
   pub all : sum ccps ≤ 500000
@@ -60,9 +60,9 @@ pub record AreCounts (ccps : List ℕ) : Type 0 where
 -- pairs that a FIB may have. Profile: no drawings in the main text or in the header texts, and no endnotes
 pub record ArePairs (pairs : List (ℕ × ℕ)) : Type 0 where
   pub count : length pairs ≡ kept_pairs
-  pub main_drawings : (pair_at pairs 40).1 ≤ 4
-  pub header_drawings : (pair_at pairs 41).1 ≤ 4
-  pub endnotes : (pair_at pairs 46).1 ≤ 4
+  pub main_drawings : (listed_pair pairs 40).1 ≤ 4
+  pub header_drawings : (listed_pair pairs 41).1 ≤ 4
+  pub endnotes : (listed_pair pairs 46).1 ≤ 4
 
 -- fc and lcb are 32-bit numbers
 abbrev pub IsWidePair : ℕ × ℕ → Type 0
@@ -75,6 +75,6 @@ pub record IsFib (fib : FibFields) : Type 0 where
   pub quick_saves : fib.quick_saves < 16
   pub which_table : fib.which_table < 2
   pub cb_mac : fib.cb_mac < 2 ^ 32
-  pub counts : AreCounts fib.ccps
+  pub counts : AreFibCcps fib.ccps
   pub pairs : ArePairs fib.pairs
   pub wide : All IsWidePair fib.pairs

@@ -9,23 +9,23 @@ use Rattle.fib_form.specs.declared.table_parts.TablePart.TheVariants.{Dop, Sttbf
 use Rattle.fib_form.specs.declared.table_parts.TablePart.TheVariants.{PlfLst, PlfLfo}
 
 -- the number of the pair of a part
-abbrev pub pair_of : TablePart → ℕ
-pair_of Stshf = 1
-pair_of PlcffndRef = 2
-pair_of PlcffndTxt = 3
-pair_of PlcfSed = 6
-pair_of PlcfHdd = 11
-pair_of PlcfBteChpx = 12
-pair_of PlcfBtePapx = 13
-pair_of SttbfFfn = 15
-pair_of PlcfFldMom = 16
-pair_of PlcfFldHdr = 17
-pair_of PlcfFldFtn = 18
-pair_of SttbfBkmk = 21
-pair_of PlcfBkf = 22
-pair_of PlcfBkl = 23
-pair_of Dop = 31
-pair_of SttbfAssoc = 32
-pair_of Clx = 33
-pair_of PlfLst = 73
-pair_of PlfLfo = 74
+abbrev pub pair_number : TablePart → ℕ
+pair_number Stshf = 1
+pair_number PlcffndRef = 2
+pair_number PlcffndTxt = 3
+pair_number PlcfSed = 6
+pair_number PlcfHdd = 11
+pair_number PlcfBteChpx = 12
+pair_number PlcfBtePapx = 13
+pair_number SttbfFfn = 15
+pair_number PlcfFldMom = 16
+pair_number PlcfFldHdr = 17
+pair_number PlcfFldFtn = 18
+pair_number SttbfBkmk = 21
+pair_number PlcfBkf = 22
+pair_number PlcfBkl = 23
+pair_number Dop = 31
+pair_number SttbfAssoc = 32
+pair_number Clx = 33
+pair_number PlfLst = 73
+pair_number PlfLfo = 74

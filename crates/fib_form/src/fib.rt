@@ -1,7 +1,7 @@
 ghost use Rattle.std.specs.Prelude.{◌≡◌, ◌+◌, ◌<◌, ◌≤◌, [], ◌∷◌};
 ghost use Rattle.std.specs.Prelude.{slice_index, true, false, MatchResult};
 ghost use Rattle.fib_form.specs.Fib.{kept_pairs, form_size};
-ghost use Rattle.fib_form.specs.FibFields.{pair_at, text_length, AreCounts, ArePairs, IsKeptFlags};
+ghost use Rattle.fib_form.specs.FibFields.{listed_pair, text_length, AreFibCcps, ArePairs, IsKeptFlags};
 
 use crate::offsets::MAX_QUICK_SAVES;
 use crate::{Form, Pairs, QuickSavesFull};
@@ -61,7 +61,7 @@ impl Fib {
     /// `ccps` are the characters of the main text, the notes and the header texts.
     pub fn made(form: Form, kept: KeptFib, cb_mac: u32, ccps: [u32; 3], pairs: &Pairs) -> Fib
         requires flags { IsKeptFlags kept.flags }
-        requires counts { AreCounts ccps }
+        requires counts { AreFibCcps ccps }
         requires pairs { ArePairs pairs.now }
         ensures { result ≡ record {
           form = form;
@@ -93,7 +93,7 @@ impl Fib {
         ccps: [u32; 3],
         pairs: &Pairs,
     ) -> Result<Fib, QuickSavesFull>
-        requires counts { AreCounts ccps }
+        requires counts { AreFibCcps ccps }
         requires pairs { ArePairs pairs.now }
         ensures { MatchResult result
             (λ fib. (self.now.quick_saves < 15) × (fib ≡ record self.now {
@@ -191,7 +191,7 @@ impl Fib {
     pub fn ccp(&self, story: usize) -> u32
         requires { story < 3 }
         ensures value { result ≡ slice_index self.now.ccps story }
-        ensures counts { AreCounts self.now.ccps }
+        ensures counts { AreFibCcps self.now.ccps }
     {
         self.ccps[story]
     }
@@ -199,7 +199,7 @@ impl Fib {
     /// The place of part `n` in the table stream and its length, in bytes.
     pub fn pair(&self, n: usize) -> (u32, u32)
         requires { n < kept_pairs }
-        ensures { result ≡ pair_at self.now.pairs n }
+        ensures { result ≡ listed_pair self.now.pairs n }
     {
         self.pairs.get(n)
     }

@@ -1,8 +1,8 @@
 ghost use Rattle.std.specs.Prelude.{◌≡◌, ℕ, ◌<◌, List, length, ◌++◌};
 ghost use Rattle.std.specs.Prelude.{take, drop, flat_map, slice_set, ◌≤◌};
 ghost use Rattle.fib_form.specs.Fib.{kept_pairs};
-ghost use Rattle.fib_form.specs.FibFields.{pair_at, empty_pairs};
-ghost use Rattle.fib_form.specs.FibBytes.{pair_bytes, zeros};
+ghost use Rattle.fib_form.specs.FibFields.{listed_pair, empty_pairs};
+ghost use Rattle.fib_form.specs.FibBytes.{fc_lcb_bytes, zeros};
 
 use crate::offsets::{PAIR_COUNT, RG_FC_LCB};
 use doc_bits::put32;
@@ -47,7 +47,7 @@ impl Pairs {
     /// The place and the length of part `n`.
     pub(crate) fn get(&self, n: usize) -> (u32, u32)
         requires { n < kept_pairs }
-        ensures { result ≡ pair_at self.now n }
+        ensures { result ≡ listed_pair self.now n }
     {
         self.items[n]
     }
@@ -63,7 +63,7 @@ impl Pairs {
     pub(crate) fn write(&self, out: &mut [u8])
         requires size { 898 ≤ length out.old }
         requires clear { drop 154 out.old ≡ zeros 744 ++ drop 898 out.old }
-        ensures { out.new ≡ take 154 out.old ++ (flat_map pair_bytes self.now ++ drop 898 out.old) }
+        ensures { out.new ≡ take 154 out.old ++ (flat_map fc_lcb_bytes self.now ++ drop 898 out.old) }
     {
         for n in 0..PAIR_COUNT {
             let (fc, lcb) = self.items[n];

@@ -1,13 +1,13 @@
 // The rules on the FIB and its fields.
 ghost use Rattle.std.specs.Prelude.{◌≡◌, ℕ, ◌+◌, ◌*◌, ◌≤◌, ◌<◌, List};
 ghost use Rattle.std.specs.Prelude.{length, MatchResult, MatchOption, IsTrue, ◌↔◌};
-ghost use Rattle.doc_bits.specs.Rules.{Hold, IsFirst, LeastOrNone, Among, Nowhere};
+ghost use Rattle.doc_bits.specs.Rules.{Hold, IsFirstOffset, LeastOrNone, Among, Nowhere};
 ghost use Rattle.fib_form.specs.declared.form.Form.TheVariants.{Early, Later};
 ghost use Rattle.fib_form.specs.Fib.{CcpText, field_offset, quick_saves_in};
 ghost use Rattle.fib_form.specs.Fib.{form_size, fib_form, fib_size, kept_pairs, fib_pair, fib_pairs, bit, kept_flags};
 ghost use Rattle.fib_form.specs.FibFields.{fib_fields};
 ghost use Rattle.fib_form.specs.FibRules.{fib_rules, IsWrongSize, IsWrongForm, IsWrongTail, HasOtherStory};
-ghost use Rattle.fib_form.specs.FibRules.{IsWrongLength, HasRefusedPart, IsLongPart};
+ghost use Rattle.fib_form.specs.FibRules.{IsWrongTextLength, HasRefusedPart, IsLongPart};
 
 use crate::offsets::*;
 use crate::{Fib, FibFault, Form, KeptFib, Pairs};
@@ -36,7 +36,7 @@ impl Fib {
     pub fn read(wd: &[u8]) -> Result<Fib, FibFault>
         ensures { MatchResult result
             (λ fib. Hold (fib_rules wd.now) × (fib ≡ fib_fields wd.now))
-            (λ fault. IsFirst (fib_rules wd.now) fault.rule fault.offset) }
+            (λ fault. IsFirstOffset (fib_rules wd.now) fault.rule fault.offset) }
     {
         check(wd)?;
         Ok(fields(wd))
@@ -47,7 +47,7 @@ impl Fib {
 fn check(wd: &[u8]) -> Result<(), FibFault>
     ensures { MatchResult result
         (λ _. Hold (fib_rules wd.now))
-        (λ fault. IsFirst (fib_rules wd.now) fault.rule fault.offset) }
+        (λ fault. IsFirstOffset (fib_rules wd.now) fault.rule fault.offset) }
 {
     if is_short(wd) {
         return Err(fault(RULE_SIZE, wd.len()));
@@ -202,7 +202,7 @@ fn other_story(wd: &[u8]) -> Option<u32>
 /// Whether there is no main text, or the three stories are too long.
 fn has_wrong_length(wd: &[u8]) -> bool
     requires { form_size Early ≤ length wd.now }
-    ensures { IsTrue result ↔ IsWrongLength wd.now (field_offset CcpText) }
+    ensures { IsTrue result ↔ IsWrongTextLength wd.now (field_offset CcpText) }
 {
     let main = get32(wd, CCP_TEXT);
     let notes = get32(wd, CCP_FTN);

@@ -1,6 +1,6 @@
 // The three stories of a file.
 ghost use Rattle.std.specs.Prelude.{◌≡◌, ◌≤◌};
-ghost use Rattle.fib_form.specs.FibFields.{AreCounts, story_start};
+ghost use Rattle.fib_form.specs.FibFields.{AreFibCcps, story_start};
 ghost use Rattle.fib_form.specs.Stories.{story_number, story_ccp};
 
 use crate::Fib;
@@ -17,7 +17,7 @@ impl Fib {
     /// The number of characters of a story.
     pub fn story_len(&self, kind: StoryKind) -> u32
         ensures value { result ≡ story_ccp self.now.ccps kind }
-        ensures counts { AreCounts self.now.ccps }
+        ensures counts { AreFibCcps self.now.ccps }
     {
         match kind {
             StoryKind::Main => self.ccp(0),

@@ -1,7 +1,7 @@
 // [MS-DOC] FibRgFcLcb97: the parts of the table stream, by the standard's names.
 ghost use Rattle.std.specs.Prelude.{◌≡◌, ◌<◌};
 ghost use Rattle.fib_form.specs.Fib.{kept_pairs};
-ghost use Rattle.fib_form.specs.TableParts.{pair_of};
+ghost use Rattle.fib_form.specs.TableParts.{pair_number};
 
 /// A part of the table stream that is read, or carried unread.
 #[derive(Clone, Copy)]
@@ -30,7 +30,7 @@ pub enum TablePart {
 impl TablePart {
     /// The number of its pair in the FIB.
     pub fn pair(self) -> usize
-        ensures number { result ≡ pair_of self }
+        ensures number { result ≡ pair_number self }
         ensures below { result < kept_pairs }
     {
         match self {

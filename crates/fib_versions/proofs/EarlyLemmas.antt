@@ -11,8 +11,8 @@ use Rattle.doc_bits.specs.Number.{AreBytes}
 use Rattle.doc_bits.specs.Rules.{Hold}
 use Rattle.doc_bits.proofs.Public.{number_at-bound}
 use Rattle.fib_form.specs.declared.form.Form.TheVariants.{Early}
-use Rattle.fib_form.specs.Fib.{kept_pairs, form_size, fib_flags, fib_pair, pair_place}
-use Rattle.fib_form.specs.FibFields.{pair_at, fib_fields, ArePairs, IsWidePair, IsFib}
+use Rattle.fib_form.specs.Fib.{kept_pairs, form_size, fib_flags, fib_pair, fib_pair_place}
+use Rattle.fib_form.specs.FibFields.{listed_pair, fib_fields, ArePairs, IsWidePair, IsFib}
 use Rattle.fib_form.proofs.Public.{read_back, kept_flags-kept}
 use Rattle.fib_versions.specs.Early.{part_pairs, early_pair, early_pairs, early_fields, early_wd}
 use Rattle.fib_versions.specs.VersionRules.{version_rules}
@@ -20,7 +20,7 @@ use Rattle.fib_versions.proofs.VersionLemmas.{early_counts}
 
 -- pairs that are all those of the early FIB
 pub early_pairs-by_place : (wd : List ℕ) (pairs : List (ℕ × ℕ)) → length pairs ≡ kept_pairs →
-    ((n : ℕ) → n < kept_pairs → pair_at pairs n ≡ early_pair wd n) → pairs ≡ early_pairs wd
+    ((n : ℕ) → n < kept_pairs → listed_pair pairs n ≡ early_pair wd n) → pairs ≡ early_pairs wd
 unfolding early_pairs
 early_pairs-by_place wd pairs count same = fill_by_all (early_pair wd) pairs kept_pairs (0, 0) count same
 
@@ -28,7 +28,7 @@ pub length-early_pairs : (wd : List ℕ) → length (early_pairs wd) ≡ kept_pa
 unfolding early_pairs
 length-early_pairs wd = length-map-range_with_len (early_pair wd) 0 kept_pairs
 
-pub pair_at-early_pairs : (wd : List ℕ) (n : ℕ) → n < kept_pairs → pair_at (early_pairs wd) n ≡ early_pair wd n
+pub pair_at-early_pairs : (wd : List ℕ) (n : ℕ) → n < kept_pairs → listed_pair (early_pairs wd) n ≡ early_pair wd n
 unfolding early_pairs
 pair_at-early_pairs wd n h = get_or-map-range_with_len (early_pair wd) 0 kept_pairs n n (0, 0) h (zero-add n)
 
@@ -43,8 +43,8 @@ early-ArePairs wd = record {
 
 -- one pair more is put
 pub pairs_step : (wd : List ℕ) (pairs : List (ℕ × ℕ)) (n : ℕ) (pair : ℕ × ℕ) → n < length pairs →
-    ((k : ℕ) → k < n → pair_at pairs k ≡ early_pair wd k) → pair ≡ early_pair wd n → (k : ℕ) → k < n + 1 →
-    pair_at (slice_set pairs n pair) k ≡ early_pair wd k
+    ((k : ℕ) → k < n → listed_pair pairs k ≡ early_pair wd k) → pair ≡ early_pair wd n → (k : ℕ) → k < n + 1 →
+    listed_pair (slice_set pairs n pair) k ≡ early_pair wd k
 pairs_step wd pairs n pair there before here k below = elim (cases_lt k n) [
   | inl low ↦ get_or-set_other pairs n k pair (0, 0) (λ e. omega (arith, e, low)) ∙ before k low
   | inr high ↦
@@ -60,7 +60,7 @@ wide_if false pair wide = (lit< tt, lit< tt)
 early_wide : (wd : List ℕ) (n : ℕ) → AreBytes wd → IsWidePair (early_pair wd n)
 early_wide wd n bytes =
     wide_if (list_any (λ part. part == n) part_pairs) (fib_pair wd n)
-    (number_at-bound wd (pair_place n) 4 bytes, number_at-bound wd (pair_place n + 4) 4 bytes)
+    (number_at-bound wd (fib_pair_place n) 4 bytes, number_at-bound wd (fib_pair_place n + 4) 4 bytes)
 
 -- that of a stream which breaks none of the rules is a FIB
 pub early-IsFib : (wd : List ℕ) → AreBytes wd → length wd < 2 ^ 32 → Hold (version_rules wd) →

@@ -5,8 +5,8 @@ use Rattle.std.proofs.Common.{lit<, lit≤}
 use Rattle.std.proofs.lemmas.Bool.{cases_lt}
 use Rattle.doc_bits.specs.Rules.{Hold, IsSingle, Ascends}
 use Rattle.fib_form.specs.Fib.{WIdent, NFib, fib_number, fib_ccp_text}
-use Rattle.fib_form.specs.FibFields.{fib_fields, AreCounts}
-use Rattle.fib_versions.specs.Versions.{pair_count, csw_new, version_size, further_ccp, further_ccps, all_ccp}
+use Rattle.fib_form.specs.FibFields.{fib_fields, AreFibCcps}
+use Rattle.fib_versions.specs.Versions.{fib_pair_count, csw_new, version_size, further_ccp, further_ccps, all_ccp}
 use Rattle.fib_versions.specs.VersionRules.{version_rules, IsOpenFib, oldest_fib}
 
 pub version_rules-IsSingle : (wd : List ℕ) → IsSingle (version_rules wd)
@@ -111,12 +111,12 @@ least_new : (early : Bool) → 2 ≤ (if early then 2 else 6)
 least_new true = lit≤ tt
 least_new false = lit≤ tt
 
-pub pairs_there : (wd : List ℕ) → Hold (version_rules wd) → 154 + 8 * pair_count wd + 2 ≤ length wd
+pub pairs_there : (wd : List ℕ) → Hold (version_rules wd) → 154 + 8 * fib_pair_count wd + 2 ≤ length wd
 pairs_there wd hold = omega (arith, all_there wd hold, least_new (csw_new wd == 0))
 
 -- it has 93 pairs at least
-pub enough_pairs : (wd : List ℕ) → Hold (version_rules wd) → 93 ≤ pair_count wd
-enough_pairs wd (_, (_, (_, (_, (_, (form, _)))))) = elim (cases_lt (pair_count wd) 93) [
+pub enough_pairs : (wd : List ℕ) → Hold (version_rules wd) → 93 ≤ fib_pair_count wd
+enough_pairs wd (_, (_, (_, (_, (_, (form, _)))))) = elim (cases_lt (fib_pair_count wd) 93) [
   | inl few ↦ absurd (form 152 (inr (inr (refl, few))))
   | inr most ↦ most
 ]
@@ -143,7 +143,7 @@ further-within wd (suc (suc (suc zero))) h = omega arith
 further-within wd (suc (suc (suc (suc k)))) h = absurd (omega (arith, h))
 
 -- the counts of the early FIB
-pub early_counts : (wd : List ℕ) → Hold (version_rules wd) → AreCounts (fib_fields wd).ccps
+pub early_counts : (wd : List ℕ) → Hold (version_rules wd) → AreFibCcps (fib_fields wd).ccps
 early_counts wd hold = record {
   three = refl;
   main = some_text wd hold;

@@ -3,26 +3,26 @@
 -- the numbers of the later program. `wd` is the bytes of WordDocument.
 use Rattle.std.specs.Prelude.{ℕ, zero, suc, ◌+◌, ◌-◌, ◌*◌, ◌==◌, min, List, if◌then◌else◌}
 use Rattle.doc_bits.specs.Number.{u16_at, u32_at}
-use Rattle.fib_form.specs.Fib.{CcpAtn, CbRgFcLcb, fib_number, field_offset, pair_place, fib_ccp_text, fib_ccp_ftn}
+use Rattle.fib_form.specs.Fib.{CcpAtn, CbRgFcLcb, fib_number, field_offset, fib_pair_place, fib_ccp_text, fib_ccp_ftn}
 use Rattle.fib_form.specs.Fib.{fib_ccp_hdd}
 use Rattle.fib_versions.specs.declared.further.Further.{Further}
 use Rattle.fib_versions.specs.declared.further.Further.TheVariants.{Comments, Endnotes, TextBoxes, HeaderTextBoxes}
 
 -- [MS-DOC] cbRgFcLcb: the number of pairs
-abbrev pub pair_count : List ℕ → ℕ
-pair_count wd = fib_number CbRgFcLcb wd
+abbrev pub fib_pair_count : List ℕ → ℕ
+fib_pair_count wd = fib_number CbRgFcLcb wd
 
 -- [MS-DOC] cswNew, which is behind the pairs
 abbrev pub csw_new : List ℕ → ℕ
-csw_new wd = u16_at wd (pair_place (pair_count wd))
+csw_new wd = u16_at wd (fib_pair_place (fib_pair_count wd))
 
 -- the size in bytes by these two numbers: a later program has nFibNew and one number more at least
 abbrev pub version_size : List ℕ → ℕ
-version_size wd = pair_place (pair_count wd) + (if csw_new wd == 0 then 2 else 6)
+version_size wd = fib_pair_place (fib_pair_count wd) + (if csw_new wd == 0 then 2 else 6)
 
 -- [MS-DOC] FibBase: pnNext, the page of the FIB of AutoText, or 0
-abbrev pub next_page : List ℕ → ℕ
-next_page wd = u16_at wd 8
+abbrev pub pn_next : List ℕ → ℕ
+pn_next wd = u16_at wd 8
 
 -- [MS-DOC] FibRgLw97: the stories that are behind the header texts, by their places there
 abbrev pub further_number : Further → ℕ

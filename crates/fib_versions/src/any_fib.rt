@@ -2,8 +2,8 @@
 ghost use Rattle.std.specs.Prelude.{◌≡◌, ◌<◌, ◌≤◌, ◌+◌, length, slice_range};
 ghost use Rattle.fib_form.specs.Fib.{fib_pair, fib_which_table, table_part};
 ghost use Rattle.fib_form.specs.FibFields.{fib_fields};
-ghost use Rattle.fib_versions.specs.Versions.{pair_count, further_ccps, further_count, further_start};
-ghost use Rattle.fib_versions.specs.Versions.{further_number, early_ccp, all_text_length, next_page};
+ghost use Rattle.fib_versions.specs.Versions.{fib_pair_count, further_ccps, further_count, further_start};
+ghost use Rattle.fib_versions.specs.Versions.{further_number, early_ccp, all_text_length, pn_next};
 
 use crate::Further;
 use doc_bits::{get16, get32};
@@ -35,14 +35,14 @@ impl<'a> Model for AnyFib<'a> {
 impl<'a> AnyFib<'a> {
     /// The number of pairs: 93 at least.
     pub fn pair_count(&self) -> u16
-        ensures { result ≡ pair_count self.now }
+        ensures { result ≡ fib_pair_count self.now }
     {
         get16(self.wd, CB_RG_FC_LCB)
     }
 
     /// The place and the length in bytes of what pair `n` names in the table stream.
     pub fn pair(&self, n: u16) -> (u32, u32)
-        requires { n < pair_count self.now }
+        requires { n < fib_pair_count self.now }
         ensures { result ≡ fib_pair self.now n }
     {
         let place = RG_FC_LCB + 8 * n as usize;
@@ -109,7 +109,7 @@ impl<'a> AnyFib<'a> {
 
     /// [MS-DOC] pnNext: the page of the FIB of AutoText, or 0.
     pub fn next_page(&self) -> u16
-        ensures { result ≡ next_page self.now }
+        ensures { result ≡ pn_next self.now }
     {
         get16(self.wd, PN_NEXT)
     }

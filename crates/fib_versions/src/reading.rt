@@ -1,6 +1,6 @@
 // The rules on the FIB of any program, checked.
 ghost use Rattle.std.specs.Prelude.{◌≡◌, ◌⊎◌, ◌<◌, ◌≤◌, length, MatchResult, IsTrue, ◌↔◌};
-ghost use Rattle.doc_bits.specs.Rules.{Hold, IsFirst, LeastOrNone};
+ghost use Rattle.doc_bits.specs.Rules.{Hold, IsFirstOffset, LeastOrNone};
 ghost use Rattle.fib_form.specs.declared.form.Form.TheVariants.{Early};
 ghost use Rattle.fib_form.specs.Fib.{CcpText, Flags, form_size, field_offset};
 ghost use Rattle.fib_form.specs.FibRules.{IsHidden};
@@ -29,7 +29,7 @@ impl<'a> AnyFib<'a> {
     pub fn read(wd: &'a [u8]) -> Result<AnyFib<'a>, FibFault>
         ensures { MatchResult result
             (λ fib. (fib ≡ wd.now) × Hold (version_rules wd.now))
-            (λ fault. IsFirst (version_rules wd.now) fault.rule fault.offset) }
+            (λ fault. IsFirstOffset (version_rules wd.now) fault.rule fault.offset) }
     {
         check(wd)?;
         Ok(AnyFib { wd })
@@ -40,7 +40,7 @@ impl<'a> AnyFib<'a> {
 fn check(wd: &[u8]) -> Result<(), FibFault>
     ensures { MatchResult result
         (λ _. Hold (version_rules wd.now))
-        (λ fault. IsFirst (version_rules wd.now) fault.rule fault.offset) }
+        (λ fault. IsFirstOffset (version_rules wd.now) fault.rule fault.offset) }
 {
     if is_short(wd) {
         return Err(FibFault {

@@ -6,7 +6,7 @@ use Rattle.std.specs.Prelude.{codes, if◌then◌else◌}
 use Rattle.std.specs.List.{flat_map}
 use Rattle.std.proofs.lemmas.Bool.{agree_below_at, and_parts, eqb-true, leb-true, ltb-true, not-true}
 use Rattle.text_codes.specs.Shown.{hex_digit, is_pair, pair_code}
-use Rattle.field_links.specs.Characters.{character_alone, characters, is_utf16, is_whole}
+use Rattle.field_links.specs.Characters.{character_alone, characters, is_utf16, is_bmp_scalar}
 use Rattle.field_links.specs.Urls.{anchor_character, anchor_text, hex_text, is_anchor_character}
 use Rattle.field_links.specs.Laws.{AnchorsDiffer}
 use Rattle.field_links.proofs.UrlLemmas.{numbered, numbered-low}
@@ -121,18 +121,19 @@ record IsHalf (x : ℕ) (xs : List ℕ) : Type 0 where
   text : characters (x ∷ xs) ≡ pair_code x second ∷ characters rest
   more : is_utf16 rest ≡ true
 
-whole_alone : (x : ℕ) → is_whole x ≡ true → character_alone x ≡ x
+whole_alone : (x : ℕ) → is_bmp_scalar x ≡ true → character_alone x ≡ x
 whole_alone x e =
     let parts = and_parts (nat_lt x 0x10000) (not (is_surrogate x)) e in
     let no = not-true (is_surrogate x) parts.1 in rw no refl
 
-whole_small : (x : ℕ) → is_whole x ≡ true → x < 0x10000
+whole_small : (x : ℕ) → is_bmp_scalar x ≡ true → x < 0x10000
 whole_small x e = ltb-true x 0x10000 (and_parts (nat_lt x 0x10000) (not (is_surrogate x)) e).0
 
-alone : (x y : ℕ) (ys : List ℕ) → is_pair x y ≡ false → (is_whole x && is_utf16 (y ∷ ys)) ≡ true → IsAlone x (y ∷ ys)
+alone : (x y : ℕ) (ys : List ℕ) → is_pair x y ≡ false → (is_bmp_scalar x && is_utf16 (y ∷ ys)) ≡ true → IsAlone x (y ∷
+    ys)
 unfolding characters
 alone x y ys p h =
-    let parts = and_parts (is_whole x) (is_utf16 (y ∷ ys)) h in
+    let parts = and_parts (is_bmp_scalar x) (is_utf16 (y ∷ ys)) h in
     record {
       small = whole_small x parts.0;
       text = rw p (ap (λ c. c ∷ characters (y ∷ ys)) (whole_alone x parts.0));
@@ -151,7 +152,8 @@ first_of x [] e = inl (record {
   more = refl;
 })
 first_of x (y ∷ ys) e =
-    elim (is_pair x y) as (λ b. is_pair x y ≡ b → (if b then is_utf16 ys else is_whole x && is_utf16 (y ∷ ys)) ≡ true →
+    elim (is_pair x y) as (λ b. is_pair x y ≡ b → (if b then is_utf16 ys else is_bmp_scalar x && is_utf16 (y ∷ ys)) ≡
+    true →
     IsAlone x (y ∷ ys) ⊎ IsHalf x (y ∷ ys)) [
       | true ↦ λ p h. inr (half x y ys p h)
       | false ↦ λ p h. inl (alone x y ys p h)

@@ -8,9 +8,9 @@ use Rattle.std.proofs.lemmas.List.{take_more, take_more_set, take-append-drop}
 use Rattle.std.proofs.lemmas.List.Folds.{find-append}
 use Rattle.std.proofs.Math.Seq.{drop-cons}
 use Rattle.std.proofs.lemmas.List.Elements.{All-head, All-tail}
-use Rattle.plain_doc.specs.declared.item.Item.{Item}
+use Rattle.doc_model.specs.declared.item.Item.{Item}
 use Rattle.field_links.specs.declared.places.OpenField.{OpenField}
-use Rattle.field_links.specs.OpenFields.{separated, after_unit, open_after, open_fields}
+use Rattle.field_links.specs.OpenFields.{result_begun, after_unit, open_after, open_fields}
 
 -- items one after another
 pub open_after-append : (place : ℕ) (xs ys : List Item) (fields : List OpenField) → open_after place (xs ++ ys) fields ≡
@@ -40,7 +40,8 @@ open_fields-plain front items plain =
     open_after-append 0 front items [] ∙ open_after-plain (0 + length front) items (open_fields front) plain
 
 -- the innermost field, where there is one
-pub separated-last : (place : ℕ) (front : List OpenField) (field : OpenField) → separated place (front ++ field ∷ []) ≡
+pub separated-last : (place : ℕ) (front : List OpenField) (field : OpenField) → result_begun place (front ++ field ∷ [])
+    ≡
     front ++ record field { result = Some (place + 1) } ∷ []
 separated-last place [] field = refl
 separated-last place (outer ∷ []) field = refl
@@ -53,11 +54,12 @@ pub separated-set : (fields : List OpenField) (at : ℕ) (none : OpenField) (pla
       began = (get_or fields at none).began;
       result = Some
           (place + 1);
-    })) ≡ separated place (take (at + 1) fields)
+    })) ≡ result_begun place (take (at + 1) fields)
 separated-set fields at none place within =
     let field : OpenField = get_or fields at none in
     let made : OpenField = record { kind = field.kind; began = field.began; result = Some (place + 1) } in
-    take_more_set fields at made within ∙ (sym (separated-last place (take at fields) field) ∙ ap (separated place) (sym
+    take_more_set fields at made within ∙ (sym (separated-last place (take at fields) field) ∙ ap (result_begun place)
+    (sym
     (take_more fields at none within)))
 
 -- none of one more is found

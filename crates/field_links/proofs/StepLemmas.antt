@@ -14,8 +14,8 @@ use Rattle.field_links.specs.Words.{Word}
 use Rattle.field_links.specs.Instructions.{is_part, part_behind, role_behind}
 use Rattle.field_links.specs.Characters.{characters}
 use Rattle.field_links.specs.Urls.{anchor_character, begins, fragment_text, hex_text, is_anchor_character, is_nil}
-use Rattle.field_links.specs.Urls.{is_url_character, lower, percent_byte, upper_hex_digit}
-use Rattle.field_links.specs.Kept.{character_in, text_in}
+use Rattle.field_links.specs.Urls.{is_url_character, lower_case_unit, percent_byte, upper_hex_digit}
+use Rattle.field_links.specs.Kept.{character_in, encoded_units}
 
 -- ---- the parts of an instruction
 
@@ -40,11 +40,12 @@ pub begins_never : (letters : List ℕ) (i : ℕ) (units : List ℕ) → i < len
 begins_never letters i units within none = rw (drop_first letters i within, none) refl
 
 pub begins_not : (letters : List ℕ) (i unit : ℕ) (units more : List ℕ) → i < length letters → units ≡ unit ∷ more →
-    (lower unit == get_or letters i 0) ≡ false → begins (drop i letters) units ≡ false
+    (lower_case_unit unit == get_or letters i 0) ≡ false → begins (drop i letters) units ≡ false
 begins_not letters i unit units more within is e = rw (drop_first letters i within, is, e) refl
 
 pub begins_more : (letters : List ℕ) (i unit : ℕ) (units more : List ℕ) → i < length letters → units ≡ unit ∷ more →
-    (lower unit == get_or letters i 0) ≡ true → begins (drop i letters) units ≡ begins (drop (i + 1) letters) more
+    (lower_case_unit unit == get_or letters i 0) ≡ true → begins (drop i letters) units ≡ begins (drop (i + 1) letters)
+    more
 begins_more letters i unit units more within is e = rw (drop_first letters i within, is, e) refl
 
 -- ---- what waits
@@ -85,19 +86,20 @@ some_character Anchor code e = some_anchor code e
 
 -- a character that waits, and the rest of its word
 pub text_more : (manner : Manner) (units more : List ℕ) (code : ℕ) → characters units ≡ code ∷ characters more →
-    character_in manner code ++ text_in manner more ≡ text_in manner units
+    character_in manner code ++ encoded_units manner more ≡ encoded_units manner units
 text_more manner units more code is = sym (ap (λ cs. flat_map (character_in manner) cs) is)
 
 -- the location behind a number sign
 pub fragment_begins : (waits pushed : List ℕ) (manner : Manner) (word fragment end : List ℕ) → waits ≡ [] →
     pushed ≡ 35 ∷ waits → word ≡ [] → end ≡ [] → is_nil fragment ≡ false →
-    pushed ++ (text_in Percent fragment ++ fragment_text end) ≡ waits ++ (text_in manner word ++ fragment_text fragment)
+    pushed ++ (encoded_units Percent fragment ++ fragment_text end) ≡ waits ++ (encoded_units manner word ++
+    fragment_text fragment)
 unfolding characters
 fragment_begins waits pushed manner word fragment end none is ended last some =
     rw (is, none, ended, last, some, append-nil) refl
 
 -- nothing is left
 pub all_taken : (waits : List ℕ) (manner : Manner) (word fragment : List ℕ) → waits ≡ [] → word ≡ [] →
-    is_nil fragment ≡ true → waits ++ (text_in manner word ++ fragment_text fragment) ≡ []
+    is_nil fragment ≡ true → waits ++ (encoded_units manner word ++ fragment_text fragment) ≡ []
 unfolding characters
 all_taken waits manner word fragment none ended last = rw (none, ended, last) refl

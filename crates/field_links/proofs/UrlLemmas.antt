@@ -10,9 +10,10 @@ use Rattle.std.proofs.lemmas.Str.{encode_ascii}
 use Rattle.text_codes.specs.Shown.{hex_digit}
 use Rattle.field_links.specs.Characters.{characters}
 use Rattle.field_links.specs.Urls.{anchor_character, anchor_name, begins, fragment_text, has_scheme, hex_text}
-use Rattle.field_links.specs.Urls.{is_alphanumeric, is_anchor_character, is_between, is_url_character, local_url, lower}
+use Rattle.field_links.specs.Urls.{is_alphanumeric, is_anchor_character, is_code_between, is_url_character, local_url}
+use Rattle.field_links.specs.Urls.{lower_case_unit}
 use Rattle.field_links.specs.Urls.{percent_byte, percent_character, percent_text, upper_hex_digit, url_of}
-use Rattle.field_links.specs.Laws.{IsLocalUrl, IsSchemeUrl, LinksAreAllowed}
+use Rattle.field_links.specs.Laws.{IsLocalUrl, IsSchemeUrl, UrlsAreAllowed}
 use Rattle.doc_bits.proofs.Public.{and_true, or_first, or_second}
 
 -- ---- characters
@@ -117,40 +118,42 @@ percent-plain unit units ascii stays =
     ∙ rw stays refl
 
 abbrev is_scheme_letter : ℕ → Bool
-is_scheme_letter code = is_between 97 122 code || code == 58
+is_scheme_letter code = is_code_between 97 122 code || code == 58
 
 -- a unit that is the letter of a scheme, in any case
 record StaysInUrl (unit : ℕ) : Type 0 where
   ascii : unit < 128
   stays : is_url_character unit ≡ true
 
-capital_stays : (code : ℕ) → is_between 65 90 code ≡ true → StaysInUrl code
+capital_stays : (code : ℕ) → is_code_between 65 90 code ≡ true → StaysInUrl code
 capital_stays code e =
     let ends = and_parts (nat_le 65 code) (nat_le code 90) e in
     let below = leb-true code 90 ends.1 in
     record { ascii = omega (arith, below); stays = rw e refl }
 
-small_is_url : (code : ℕ) → is_between 97 122 code ≡ true → is_url_character code ≡ true
+small_is_url : (code : ℕ) → is_code_between 97 122 code ≡ true → is_url_character code ≡ true
 small_is_url code e =
     or_first (is_alphanumeric code) (list_any (λ mark. code == mark) (codes "-._~:/?#[]@!$&'*+,;=%"))
-    (or_second (is_between 65 90 code) (is_between 97 122 code || is_between 48 57 code)
-    (or_first (is_between 97 122 code) (is_between 48 57 code) e))
+    (or_second (is_code_between 65 90 code) (is_code_between 97 122 code || is_code_between 48 57 code)
+    (or_first (is_code_between 97 122 code) (is_code_between 48 57 code) e))
 
-small_stays : (code : ℕ) → is_between 97 122 code ≡ true → StaysInUrl code
+small_stays : (code : ℕ) → is_code_between 97 122 code ≡ true → StaysInUrl code
 small_stays code e =
     let ends = and_parts (nat_le 97 code) (nat_le code 122) e in
     let below = leb-true code 122 ends.1 in
     record { ascii = omega (arith, below); stays = small_is_url code e }
 
 letter_itself : (code : ℕ) → is_scheme_letter code ≡ true → StaysInUrl code
-letter_itself code e = elim (or_cases (is_between 97 122 code) (code == 58) e) [
+letter_itself code e = elim (or_cases (is_code_between 97 122 code) (code == 58) e) [
   | inl letter ↦ small_stays code letter
   | inr colon ↦ subst StaysInUrl (sym (eqb-true code 58 colon)) (record { ascii = omega arith; stays = refl })
 ]
 
-letter_stays : (unit letter : ℕ) → is_scheme_letter letter ≡ true → (lower unit == letter) ≡ true → StaysInUrl unit
+letter_stays : (unit letter : ℕ) → is_scheme_letter letter ≡ true → (lower_case_unit unit == letter) ≡ true → StaysInUrl
+    unit
 letter_stays unit letter known e =
-    elim (is_between 65 90 unit) as (λ b. is_between 65 90 unit ≡ b → ((if b then unit + 32 else unit) == letter) ≡ true →
+    elim (is_code_between 65 90 unit) as (λ b. is_code_between 65 90 unit ≡ b → ((if b then unit + 32 else unit) ==
+    letter) ≡ true →
     StaysInUrl unit) [
       | true ↦ λ capital _. capital_stays unit capital
       | false ↦ λ _ same. subst StaysInUrl (sym (eqb-true unit letter same)) (letter_itself letter known)
@@ -163,11 +166,11 @@ begins-percent [] address rest known e = refl
 begins-percent (letter ∷ scheme) [] rest known e = absurd (cc (e))
 begins-percent (letter ∷ scheme) (unit ∷ units) rest known e =
     let letters = and_parts (is_scheme_letter letter) (list_all is_scheme_letter scheme) known in
-    let parts = and_parts (lower unit == letter) (begins scheme units) e in
+    let parts = and_parts (lower_case_unit unit == letter) (begins scheme units) e in
     let stays = letter_stays unit letter letters.0 parts.0 in
     let more = begins-percent scheme units rest letters.1 parts.1 in
     ap (λ text. begins (letter ∷ scheme) (text ++ rest)) (percent-plain unit units stays.ascii stays.stays)
-    ∙ and_true (lower unit == letter) (begins scheme (percent_text units ++ rest)) parts.0 more
+    ∙ and_true (lower_case_unit unit == letter) (begins scheme (percent_text units ++ rest)) parts.0 more
 
 -- one of five
 any_of_five : (a b c d e : Bool) (v w x y z : Bool) → (a ≡ true → v ≡ true) → (b ≡ true → w ≡ true) → (c ≡ true → x ≡
@@ -226,5 +229,5 @@ allowed_by [] location url is = inr (local location url is)
 allowed_by (unit ∷ units) location url is =
     inl (by_scheme (unit ∷ units) location url (has_scheme (unit ∷ units)) refl is)
 
-pub allowed : LinksAreAllowed
+pub allowed : UrlsAreAllowed
 allowed target url is = allowed_by target.address target.location url is

@@ -8,7 +8,8 @@ use Rattle.field_links.specs.declared.word.Extent.{Extent}
 use Rattle.field_links.specs.declared.word.Extent.TheVariants.{Plain, Quoted, Whole}
 use Rattle.field_links.specs.Words.{In_quotes, In_word, Between, field_words, is_quote, is_separator}
 use Rattle.field_links.specs.Words.{is_solidus, plain, quoted, words_from}
-use Rattle.field_links.specs.Kept.{HasFirstWord, IsUnitAt, behind, behind_plain, behind_quoted, front, is_in_quotes}
+use Rattle.field_links.specs.Kept.{HasFirstWord, IsUnitAt, behind_word, behind_plain, behind_quoted, front}
+use Rattle.field_links.specs.Kept.{is_in_quotes}
 use Rattle.field_links.specs.Kept.{plain_front, quoted_front}
 
 -- ---- the first unit of a word
@@ -100,13 +101,13 @@ plain_end (x ∷ xs) e =
     ] e
 
 pub end_in_quotes : (extent : Extent) (xs : List ℕ) → is_in_quotes extent ≡ true → front extent xs ≡ [] →
-    drop 1 xs ≡ behind extent xs
+    drop 1 xs ≡ behind_word extent xs
 end_in_quotes Plain xs is e = absurd (cc (is))
 end_in_quotes Quoted xs is e = quoted_end xs e
 end_in_quotes Whole xs is e = absurd (cc (is))
 
 pub end_elsewhere : (extent : Extent) (xs : List ℕ) → is_in_quotes extent ≡ false → front extent xs ≡ [] →
-    xs ≡ behind extent xs
+    xs ≡ behind_word extent xs
 end_elsewhere Plain xs is e = plain_end xs e
 end_elsewhere Quoted xs is e = absurd (cc (is))
 end_elsewhere Whole xs is e = e

@@ -16,12 +16,12 @@ characters (first ∷ second ∷ rest) =
     (second ∷ rest)
 
 -- a unit of 16 bits that is no surrogate
-abbrev pub is_whole : ℕ → Bool
-is_whole unit = nat_lt unit 0x10000 && not (is_surrogate unit)
+abbrev pub is_bmp_scalar : ℕ → Bool
+is_bmp_scalar unit = nat_lt unit 0x10000 && not (is_surrogate unit)
 
 -- units without a surrogate in no pair
 unfoldable pub is_utf16 : List ℕ → Bool
 is_utf16 [] = true
-is_utf16 (unit ∷ []) = is_whole unit
+is_utf16 (unit ∷ []) = is_bmp_scalar unit
 is_utf16 (first ∷ second ∷ rest) =
-    if is_pair first second then is_utf16 rest else is_whole first && is_utf16 (second ∷ rest)
+    if is_pair first second then is_utf16 rest else is_bmp_scalar first && is_utf16 (second ∷ rest)

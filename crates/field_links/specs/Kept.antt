@@ -43,16 +43,16 @@ front Quoted rest = quoted_front rest
 front Whole rest = rest
 
 -- what follows it
-abbrev pub behind : Extent → List ℕ → List ℕ
-behind Plain rest = behind_plain rest
-behind Quoted rest = behind_quoted rest
-behind Whole rest = []
+abbrev pub behind_word : Extent → List ℕ → List ℕ
+behind_word Plain rest = behind_plain rest
+behind_word Quoted rest = behind_quoted rest
+behind_word Whole rest = []
 
-abbrev pub units_of : FieldWord → List ℕ
-units_of word = front word.extent word.rest.now
+abbrev pub word_units : FieldWord → List ℕ
+word_units word = front word.extent word.rest.now
 
 abbrev pub rest_of : FieldWord → List ℕ
-rest_of word = behind word.extent word.rest.now
+rest_of word = behind_word word.extent word.rest.now
 
 abbrev pub is_in_quotes : Extent → Bool
 is_in_quotes Plain = false
@@ -60,34 +60,35 @@ is_in_quotes Quoted = true
 is_in_quotes Whole = false
 
 abbrev pub word_of : FieldWord → Word
-word_of word = record { is_quoted = is_in_quotes word.extent; units = units_of word }
+word_of word = record { is_quoted = is_in_quotes word.extent; units = word_units word }
 
 -- the characters of units in a URL, or in the name of an anchor
 abbrev pub character_in : Manner → ℕ → List ℕ
 character_in Percent code = percent_character code
 character_in Anchor code = anchor_character code
 
-abbrev pub text_in : Manner → List ℕ → List ℕ
-text_in manner units = flat_map (character_in manner) (characters units)
+abbrev pub encoded_units : Manner → List ℕ → List ℕ
+encoded_units manner units = flat_map (character_in manner) (characters units)
 
 -- what is left of a URL, or of the name of an anchor
-abbrev pub left_of : Left → List ℕ
-left_of left = left.waiting ++ (text_in left.manner (units_of left.word) ++ fragment_text (units_of left.fragment))
+abbrev pub rest_of_target : Left → List ℕ
+rest_of_target left = left.waiting ++ (encoded_units left.manner (word_units left.word) ++ fragment_text (word_units
+    left.fragment))
 
 -- the unit at the place is the first one of the word, and the word goes on behind it
 pub record IsUnitAt (extent : Extent) (rest : List ℕ) (place : ℕ) : Type 0 where
   pub within : place < length rest
   pub unit : front extent rest ≡ slice_index rest place ∷ front extent (drop (place + 1) rest)
-  pub follows : behind extent rest ≡ behind extent (drop (place + 1) rest)
+  pub follows : behind_word extent rest ≡ behind_word extent (drop (place + 1) rest)
 
 pub record HasFirstUnit (word : FieldWord) (unit : ℕ) (more : FieldWord) : Type 0 where
-  pub units : units_of word ≡ unit ∷ units_of more
+  pub units : word_units word ≡ unit ∷ word_units more
   pub follows : rest_of word ≡ rest_of more
   pub extent : more.extent ≡ word.extent
   pub shorter : length more.rest.now < length word.rest.now
 
 pub record HasFirstCharacter (word : FieldWord) (code : ℕ) (more : FieldWord) : Type 0 where
-  pub characters : characters (units_of word) ≡ code ∷ characters (units_of more)
+  pub characters : characters (word_units word) ≡ code ∷ characters (word_units more)
   pub shorter : length more.rest.now < length word.rest.now
 
 pub record HasFirstWord (instruction : List ℕ) (word : Word) (rest : List ℕ) : Type 0 where

@@ -17,8 +17,8 @@ pub record IsLocalUrl (url : List ℕ) : Type 0 where
   pub characters : list_all (λ code. is_anchor_character code || code == 46) name ≡ true
 
 -- each URL is one of these
-abbrev pub LinksAreAllowed : Type 0
-LinksAreAllowed = (target : Target) (url : List ℕ) → url_text target ≡ Some url → IsSchemeUrl url ⊎ IsLocalUrl url
+abbrev pub UrlsAreAllowed : Type 0
+UrlsAreAllowed = (target : Target) (url : List ℕ) → url_text target ≡ Some url → IsSchemeUrl url ⊎ IsLocalUrl url
 
 -- bookmarks of different names have different anchors, where no name has half a character
 abbrev pub AnchorsDiffer : Type 0

@@ -3,34 +3,34 @@
 use Rattle.std.specs.Prelude.{ℕ, ◌+◌, ◌-◌, ◌==◌, nat_lt, nat_le, Bool, false, ◌&&◌, List, [], ◌∷◌, ◌++◌, length, take}
 use Rattle.std.specs.Prelude.{Option, None, Some, is_some, if◌then◌else◌}
 use Rattle.std.specs.List.{find, list_all}
-use Rattle.plain_doc.specs.declared.item.Item.{Item}
+use Rattle.doc_model.specs.declared.item.Item.{Item}
 use Rattle.plain_doc.specs.Nesting.{most_open}
 use Rattle.field_links.specs.declared.places.OpenField.{OpenField}
 
 -- a field begins at the place
 -- Profile: where as many are open as a text may have at once, it is not counted
-abbrev pub begun : ℕ → ℕ → List OpenField → List OpenField
-begun place kind fields =
+abbrev pub field_begun : ℕ → ℕ → List OpenField → List OpenField
+field_begun place kind fields =
     if nat_lt (length fields) most_open then fields ++ record { kind = kind; began = place; result = None } ∷ [] else
     fields
 
 -- the result of the innermost one begins behind the place
-abbrev pub separated : ℕ → List OpenField → List OpenField
-separated place [] = []
-separated place (field ∷ []) = record field { result = Some (place + 1) } ∷ []
-separated place (field ∷ inner ∷ more) = field ∷ separated place (inner ∷ more)
+abbrev pub result_begun : ℕ → List OpenField → List OpenField
+result_begun place [] = []
+result_begun place (field ∷ []) = record field { result = Some (place + 1) } ∷ []
+result_begun place (field ∷ inner ∷ more) = field ∷ result_begun place (inner ∷ more)
 
 -- the innermost one ends
-abbrev pub ended : List OpenField → List OpenField
-ended fields = take (length fields - 1) fields
+abbrev pub inner_ended : List OpenField → List OpenField
+inner_ended fields = take (length fields - 1) fields
 
 -- the fields that are open behind a unit, which is a field character where it has a byte
 abbrev pub after_unit : ℕ → ℕ → Option ℕ → List OpenField → List OpenField
 after_unit place unit None fields = fields
 after_unit place unit (Some byte) fields =
-    if unit == 0x13 then begun place byte fields else
-    if unit == 0x14 then separated place fields else
-    if unit == 0x15 then ended fields else fields
+    if unit == 0x13 then field_begun place byte fields else
+    if unit == 0x14 then result_begun place fields else
+    if unit == 0x15 then inner_ended fields else fields
 
 -- the fields that are open behind items, the first of which is at the place
 abbrev pub open_after : ℕ → List Item → List OpenField → List OpenField

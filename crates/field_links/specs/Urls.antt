@@ -7,12 +7,12 @@ use Rattle.text_codes.specs.Digits.{byte_text, word_text}
 use Rattle.field_links.specs.Instructions.{Target}
 use Rattle.field_links.specs.Characters.{characters}
 
-abbrev pub is_between : ℕ → ℕ → ℕ → Bool
-is_between first last code = nat_le first code && nat_le code last
+abbrev pub is_code_between : ℕ → ℕ → ℕ → Bool
+is_code_between first last code = nat_le first code && nat_le code last
 
 -- A to Z, a to z, 0 to 9
 abbrev pub is_alphanumeric : ℕ → Bool
-is_alphanumeric code = is_between 65 90 code || (is_between 97 122 code || is_between 48 57 code)
+is_alphanumeric code = is_code_between 65 90 code || (is_code_between 97 122 code || is_code_between 48 57 code)
 
 -- [RFC 3986] the characters of a URL, without the parentheses
 abbrev pub is_url_character : ℕ → Bool
@@ -53,14 +53,14 @@ anchor_text units = flat_map anchor_character (characters units)
 abbrev pub anchor_name : List ℕ → List ℕ
 anchor_name units = codes "bm-" ++ anchor_text units
 
-abbrev pub lower : ℕ → ℕ
-lower unit = if is_between 65 90 unit then unit + 32 else unit
+abbrev pub lower_case_unit : ℕ → ℕ
+lower_case_unit unit = if is_code_between 65 90 unit then unit + 32 else unit
 
 -- the units begin with the scheme, in letters of any case
 abbrev pub begins : List ℕ → List ℕ → Bool
 begins [] units = true
 begins (letter ∷ scheme) [] = false
-begins (letter ∷ scheme) (unit ∷ units) = lower unit == letter && begins scheme units
+begins (letter ∷ scheme) (unit ∷ units) = lower_case_unit unit == letter && begins scheme units
 
 abbrev pub has_scheme : List ℕ → Bool
 has_scheme units =

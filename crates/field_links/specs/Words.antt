@@ -24,14 +24,14 @@ abbrev pub is_solidus : ℕ → Bool
 is_solidus unit = unit == 0x5C
 
 -- what is being read: nothing, a word and what was read of it
-pub data Reading : Type 0 where
-  Between : Reading
-  In_word : List ℕ → Reading
-  In_quotes : List ℕ → Reading
-  In_escape : List ℕ → Reading
+pub data WordReading : Type 0 where
+  Between : WordReading
+  In_word : List ℕ → WordReading
+  In_quotes : List ℕ → WordReading
+  In_escape : List ℕ → WordReading
 
 -- the words of the units that are left; the last one may lack its quote
-abbrev pub words_from : Reading → List ℕ → List Word
+abbrev pub words_from : WordReading → List ℕ → List Word
 words_from Between [] = []
 words_from Between (unit ∷ rest) =
     if is_separator unit then words_from Between rest else

@@ -4,7 +4,7 @@ ghost use Rattle.field_links.specs.Words.{field_words};
 ghost use Rattle.field_links.specs.Instructions.{part_behind, role_behind, role_of, role_of_letter, role_of_letters};
 ghost use Rattle.field_links.specs.Instructions.{is_part, target_of};
 ghost use Rattle.field_links.specs.Urls.{local_url, url_text};
-ghost use Rattle.field_links.specs.Kept.{units_of, word_of};
+ghost use Rattle.field_links.specs.Kept.{word_units, word_of};
 
 use crate::LinkText;
 use crate::scheme::has_scheme;
@@ -41,11 +41,11 @@ pub struct Link<'a> {
 
 impl<'a> Model for Link<'a> {
     ghost use Rattle.field_links.specs.Instructions.{Target};
-    ghost use Rattle.field_links.specs.Kept.{units_of};
+    ghost use Rattle.field_links.specs.Kept.{word_units};
 
     ghost Value = { Target };
 
-    ghost view = { λ l. record { address = units_of l.address; location = units_of l.location } };
+    ghost view = { λ l. record { address = word_units l.address; location = word_units l.location } };
 }
 
 /// Where the instruction of a HYPERLINK field leads. It takes no memory.
@@ -76,8 +76,8 @@ impl<'a> Link<'a> {
 
 /// The URL of a location in the document itself.
 fn local_url<'a>(location: &FieldWord<'a>) -> Option<LinkText<'a>>
-    ensures { MatchOption result (local_url (units_of location.now) ≡ None)
-        (λ text. local_url (units_of location.now) ≡ Some text) }
+    ensures { MatchOption result (local_url (word_units location.now) ≡ None)
+        (λ text. local_url (word_units location.now) ≡ Some text) }
 {
     if location.is_empty() {
         return None;
@@ -97,7 +97,7 @@ fn behind_name(instruction: &[u16]) -> &[u16]
 
 /// A part of the link of these words; an empty word where there is none.
 fn part_of(words: &[u16], part: Part) -> FieldWord<'_>
-    ensures { units_of result ≡ part_behind part Role.Text (field_words words.now) }
+    ensures { word_units result ≡ part_behind part Role.Text (field_words words.now) }
 {
     let mut rest = words;
     let mut role = Role::Text;
@@ -141,7 +141,7 @@ fn role_of(word: &FieldWord<'_>) -> Role
 
 /// The switch of these letters.
 fn role_of_letters(letters: &FieldWord<'_>) -> Role
-    ensures { result ≡ role_of_letters (units_of letters.now) }
+    ensures { result ≡ role_of_letters (word_units letters.now) }
 {
     let Some((letter, more)) = letters.next_unit() else {
         return Role::Flag;

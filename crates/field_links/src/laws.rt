@@ -1,9 +1,9 @@
 // Laws over the definitions alone.
-ghost use Rattle.field_links.specs.Laws.{AnchorsDiffer, LinksAreAllowed};
+ghost use Rattle.field_links.specs.Laws.{AnchorsDiffer, UrlsAreAllowed};
 
 /// Each URL has one of the five schemes, or leads to a bookmark of the document.
 pub fn links_are_allowed()
-    ensures { LinksAreAllowed }
+    ensures { UrlsAreAllowed }
 {}
 
 /// Bookmarks of different names have different anchors.

@@ -1,7 +1,7 @@
 // The characters of a URL or of the name of an anchor, one after the other. They take no memory.
 ghost use Rattle.std.specs.Prelude.{◌≡◌, ◌∷◌, ◌++◌, [], MatchOption};
 ghost use Rattle.field_links.specs.Urls.{anchor_name, fragment_text, percent_text};
-ghost use Rattle.field_links.specs.Kept.{left_of, units_of};
+ghost use Rattle.field_links.specs.Kept.{rest_of_target, word_units};
 
 use crate::waiting::Waiting;
 use crate::word::FieldWord;
@@ -33,11 +33,11 @@ pub struct LinkText<'a> {
 
 impl<'a> Model for LinkText<'a> {
     ghost use Rattle.std.specs.Prelude.{ℕ, List};
-    ghost use Rattle.field_links.specs.Kept.{left_of};
+    ghost use Rattle.field_links.specs.Kept.{rest_of_target};
 
     ghost Value = { List ℕ };
 
-    ghost view = { λ t. left_of t.left };
+    ghost view = { λ t. rest_of_target t.left };
 }
 
 /// The name of the anchor of a bookmark: no two bookmarks of a document have the same one.
@@ -57,7 +57,7 @@ pub fn anchor_of(name: &[u16]) -> LinkText<'_>
 impl<'a> LinkText<'a> {
     /// An address, and a location in what it names.
     pub(crate) fn of_address(address: &FieldWord<'a>, location: &FieldWord<'a>) -> LinkText<'a>
-        ensures { result ≡ percent_text (units_of address.now) ++ fragment_text (units_of location.now) }
+        ensures { result ≡ percent_text (word_units address.now) ++ fragment_text (word_units location.now) }
     {
         LinkText {
             left: Left {
@@ -71,7 +71,7 @@ impl<'a> LinkText<'a> {
 
     /// The bookmark of a name in the page itself.
     pub(crate) fn of_location(location: &FieldWord<'a>) -> LinkText<'a>
-        ensures { result ≡ 35 ∷ anchor_name (units_of location.now) }
+        ensures { result ≡ 35 ∷ anchor_name (word_units location.now) }
     {
         let mut waiting = Waiting::before_name();
         waiting.push('#');
@@ -100,8 +100,8 @@ impl<'a> Left<'a> {
     /// Goes on to the next character of a word, which waits then.
     fn go_on(&mut self)
         requires { self.old.waiting ≡ [] }
-        ensures same { left_of self.new ≡ left_of self.old }
-        ensures some { self.new.waiting ≡ [] → left_of self.new ≡ [] }
+        ensures same { rest_of_target self.new ≡ rest_of_target self.old }
+        ensures some { self.new.waiting ≡ [] → rest_of_target self.new ≡ [] }
     {
         if let Some((character, more)) = self.word.next_character() {
             self.word = more;

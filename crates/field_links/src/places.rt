@@ -1,7 +1,7 @@
 // The open fields, kept while a text is gone through. They take no memory.
 ghost use Rattle.std.specs.Prelude.{◌≡◌, ◌+◌, ◌^◌, ◌<◌, []};
 ghost use Rattle.field_links.specs.OpenFields.{after_unit, is_in_results, is_link, hyperlink_in};
-ghost use Rattle.field_links.specs.OpenFields.{begun, separated, ended, has_begun};
+ghost use Rattle.field_links.specs.OpenFields.{field_begun, result_begun, inner_ended, has_begun};
 
 use plain_doc::MAX_OPEN;
 use std::marker::Model;
@@ -87,7 +87,7 @@ impl OpenFieldPlaces {
 
     /// A field begins.
     fn begin(&mut self, place: u32, byte: u8)
-        ensures { self.new ≡ begun place byte self.old }
+        ensures { self.new ≡ field_begun place byte self.old }
     {
         if self.len < MAX_OPEN {
             self.fields[self.len] = OpenField {
@@ -102,7 +102,7 @@ impl OpenFieldPlaces {
     /// The result of the innermost one begins.
     fn separate(&mut self, place: u32)
         requires { place + 1 < 2 ^ 32 }
-        ensures { self.new ≡ separated place self.old }
+        ensures { self.new ≡ result_begun place self.old }
     {
         if self.len > 0 {
             let innermost = self.fields[self.len - 1];
@@ -116,7 +116,7 @@ impl OpenFieldPlaces {
 
     /// The innermost one ends.
     fn end(&mut self)
-        ensures { self.new ≡ ended self.old }
+        ensures { self.new ≡ inner_ended self.old }
     {
         if self.len > 0 {
             self.len -= 1;

@@ -1,13 +1,13 @@
 // The schemes of URLs to which a page leads.
 ghost use Rattle.std.specs.Prelude.{◌≡◌};
-ghost use Rattle.field_links.specs.Urls.{begins, has_scheme, lower};
-ghost use Rattle.field_links.specs.Kept.{units_of};
+ghost use Rattle.field_links.specs.Urls.{begins, has_scheme, lower_case_unit};
+ghost use Rattle.field_links.specs.Kept.{word_units};
 
 use crate::word::FieldWord;
 
 /// Whether an address begins with one of the five schemes, in letters of any case.
 pub(crate) fn has_scheme(address: &FieldWord<'_>) -> bool
-    ensures { result ≡ has_scheme (units_of address.now) }
+    ensures { result ≡ has_scheme (word_units address.now) }
 {
     begins(address, b"http:")
         || begins(address, b"https:")
@@ -18,7 +18,7 @@ pub(crate) fn has_scheme(address: &FieldWord<'_>) -> bool
 
 /// Whether an address begins with a scheme, in letters of any case.
 fn begins(address: &FieldWord<'_>, scheme: &[u8]) -> bool
-    ensures { result ≡ begins scheme.now (units_of address.now) }
+    ensures { result ≡ begins scheme.now (word_units address.now) }
 {
     let mut rest = *address;
     for letter in scheme {
@@ -35,7 +35,7 @@ fn begins(address: &FieldWord<'_>, scheme: &[u8]) -> bool
 
 /// A letter of ASCII in lower case, another unit as it is.
 fn lower(unit: u16) -> u16
-    ensures { result ≡ lower unit }
+    ensures { result ≡ lower_case_unit unit }
 {
     if unit >= 65 && unit <= 90 {
         unit + 32

@@ -5,7 +5,7 @@ ghost use Rattle.field_links.specs.Words.{field_words, is_quote, is_separator, i
 ghost use Rattle.field_links.specs.Characters.{character_alone};
 ghost use Rattle.field_links.specs.Urls.{is_nil};
 ghost use Rattle.field_links.specs.Kept.{HasFirstCharacter, HasFirstUnit, HasFirstWord, IsUnitAt};
-ghost use Rattle.field_links.specs.Kept.{front, is_in_quotes, rest_of, units_of, word_of};
+ghost use Rattle.field_links.specs.Kept.{front, is_in_quotes, rest_of, word_units, word_of};
 
 use text_codes::{REPLACEMENT, SPACE};
 
@@ -34,7 +34,7 @@ pub(crate) struct FieldWord<'a> {
 impl<'a> FieldWord<'a> {
     /// All of the units.
     pub(crate) fn whole(units: &'a [u16]) -> FieldWord<'a>
-        ensures { units_of result ≡ units.now }
+        ensures { word_units result ≡ units.now }
     {
         FieldWord {
             extent: Extent::Whole,
@@ -44,14 +44,14 @@ impl<'a> FieldWord<'a> {
 
     /// No units.
     pub(crate) fn end(&self) -> FieldWord<'a>
-        ensures { units_of result ≡ [] }
+        ensures { word_units result ≡ [] }
     {
         FieldWord::whole(&self.rest[self.rest.len()..])
     }
 
     /// Whether the word has no units.
     pub(crate) fn is_empty(&self) -> bool
-        ensures { result ≡ is_nil (units_of self.now) }
+        ensures { result ≡ is_nil (word_units self.now) }
     {
         self.next_unit().is_none()
     }
@@ -65,7 +65,7 @@ impl<'a> FieldWord<'a> {
 
     /// Its first unit, and the word without it.
     pub(crate) fn next_unit(&self) -> Option<(u16, FieldWord<'a>)>
-        ensures { MatchOption result (units_of self.now ≡ []) (λ next. HasFirstUnit self.now next.0 next.1) }
+        ensures { MatchOption result (word_units self.now ≡ []) (λ next. HasFirstUnit self.now next.0 next.1) }
     {
         let place = unit_place(self.rest, self.extent)?;
         let more = FieldWord {
@@ -77,7 +77,7 @@ impl<'a> FieldWord<'a> {
 
     /// Its first character, and the word without it.
     pub(crate) fn next_character(&self) -> Option<(char, FieldWord<'a>)>
-        ensures { MatchOption result (units_of self.now ≡ []) (λ next. HasFirstCharacter self.now next.0 next.1) }
+        ensures { MatchOption result (word_units self.now ≡ []) (λ next. HasFirstCharacter self.now next.0 next.1) }
     {
         let (first, more) = self.next_unit()?;
         let Some((second, last)) = more.next_unit() else {
@@ -103,7 +103,7 @@ impl<'a> FieldWord<'a> {
 
     /// What follows the word in its instruction, where no unit of the word is left.
     fn behind_end(&self) -> &'a [u16]
-        requires { units_of self.now ≡ [] }
+        requires { word_units self.now ≡ [] }
         ensures rest { result.now ≡ rest_of self.now }
         ensures long { length result.now ≤ length self.now.rest.now }
     {

@@ -13,12 +13,12 @@ use Rattle.cfb_streams.specs.Container.{HasContents, outer_rules}
 use Rattle.cfb_streams.specs.Names.{wd_name}
 use Rattle.cfb_streams.proofs.Public.{named_place, contents_unique}
 use Rattle.cfb_in_place.specs.InPlace.{byte_place}
-use Rattle.fib_form.specs.Fib.{pair_place}
+use Rattle.fib_form.specs.Fib.{fib_pair_place}
 use Rattle.file_mends.specs.declared.mends.FileMend.{FileMend}
 use Rattle.file_mends.specs.declared.mends.FileMend.TheVariants.{LastSectorFilled, PartEmptied}
 use Rattle.file_mends.specs.declared.part_places.PartPlace.{PartPlace}
-use Rattle.file_mends.specs.Parts.{IsFieldPart, IsPartOfRule, pairs_from}
-use Rattle.file_mends.specs.Places.{ArePairsAt, IsPlaceIn, IsPlaceAmong, IsPartPlace, zeroed}
+use Rattle.file_mends.specs.Parts.{IsFieldPart, IsPartOfRule, emptied_pairs}
+use Rattle.file_mends.specs.Places.{ArePairsAt, IsPartPlaceIn, IsPlaceAmong, IsPartPlace, zeroed}
 use Rattle.file_mends.specs.Sectors.{FillsSector, missing_bytes}
 use Rattle.file_mends.specs.declared.sheet_changes.SheetChange.{SheetChange}
 use Rattle.file_mends.specs.Rewritten.{rewritten}
@@ -77,14 +77,14 @@ pairs_one : (sectors : List ℕ) (file_len : ℕ) (a b : PartPlace) → a.pair �
     ArePairsAt sectors file_len b → a ≡ b
 pairs_one sectors file_len a b pair x y =
     let at : a.at ≡ b.at =
-    x.at_is ∙ (ap (λ n. byte_place sectors (pair_place n)) pair ∙ sym y.at_is) in
-    let len : a.len ≡ b.len = x.len_is ∙ (ap (λ n. 8 * pairs_from n) pair ∙ sym y.len_is) in
+    x.at_is ∙ (ap (λ n. byte_place sectors (fib_pair_place n)) pair ∙ sym y.at_is) in
+    let len : a.len ≡ b.len = x.len_is ∙ (ap (λ n. 8 * emptied_pairs n) pair ∙ sym y.len_is) in
     let first : a ≡ place_by b.pair a.at a.len = ap (λ n. place_by n a.at a.len) pair in
     let second : place_by b.pair a.at a.len ≡ place_by b.pair b.at a.len = ap (λ k. place_by b.pair k a.len) at in
     first ∙ (second ∙ ap (λ k. place_by b.pair b.at k) len)
 
-in_one : (stream : Stream) (file_len rule offset : ℕ) (a b : PartPlace) → IsPlaceIn stream file_len rule offset a →
-    IsPlaceIn stream file_len rule offset b → a ≡ b
+in_one : (stream : Stream) (file_len rule offset : ℕ) (a b : PartPlace) → IsPartPlaceIn stream file_len rule offset a →
+    IsPartPlaceIn stream file_len rule offset b → a ≡ b
 in_one stream file_len rule offset a b x y =
     let pair : a.pair ≡ b.pair = part_one stream.bytes rule offset a.pair b.pair x.part y.part in
     let sectors : x.sectors ≡ y.sectors = same_Some x.sectors y.sectors (sym x.chain ∙ y.chain) in
@@ -101,7 +101,7 @@ among_one file contents file_len rule offset a b has x y =
     let there : slice_get contents.streams y.index ≡ Some x.stream =
     subst (λ i. slice_get contents.streams i ≡ Some x.stream) index x.here in
     let stream : x.stream ≡ y.stream = same_Some x.stream y.stream (sym there ∙ y.here) in
-    in_one y.stream file_len rule offset a b (subst (λ (s : Stream). IsPlaceIn s file_len rule offset a) stream one)
+    in_one y.stream file_len rule offset a b (subst (λ (s : Stream). IsPartPlaceIn s file_len rule offset a) stream one)
     other
 
 pub place_one : (file : List ℕ) (rule offset : ℕ) (a b : PartPlace) → IsPartPlace file rule offset a →

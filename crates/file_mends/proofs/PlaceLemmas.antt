@@ -19,7 +19,7 @@ use Rattle.cfb_streams.proofs.Public.{outer_single, contents_unique}
 use Rattle.cfb_streams.specs.Names.{wd_name}
 use Rattle.file_mends.specs.declared.part_places.PartPlace.{PartPlace}
 use Rattle.file_mends.specs.Parts.{IsFieldPart, IsPartOfRule}
-use Rattle.file_mends.specs.Places.{ArePairsAt, IsPlaceIn, IsPlaceAmong, IsPartPlace, zeroed}
+use Rattle.file_mends.specs.Places.{ArePairsAt, IsPartPlaceIn, IsPlaceAmong, IsPartPlace, zeroed}
 use Rattle.file_mends.specs.declared.mends.FileMend.{FileMend}
 use Rattle.file_mends.specs.declared.mends.FileMend.TheVariants.{PartEmptied}
 use Rattle.file_mends.specs.SheetChanges.{IsSheetRule}
@@ -53,7 +53,7 @@ pub record IsStreamWith (found : Option Stream) (name bytes : List ℕ) (chain :
 -- WordDocument has no such part
 pub no_part : (found : Option Stream) (bytes : List ℕ) (file_len rule offset : ℕ) →
     option_map (λ (s : Stream). s.bytes) found ≡ Some bytes → ((n : ℕ) → ¬ IsPartOfRule bytes rule offset n) →
-    (stream : Stream) (place : PartPlace) → found ≡ Some stream → ¬ IsPlaceIn stream file_len rule offset place
+    (stream : Stream) (place : PartPlace) → found ≡ Some stream → ¬ IsPartPlaceIn stream file_len rule offset place
 no_part found bytes file_len rule offset is none stream place there here =
     let same : stream.bytes ≡ bytes =
     same_Some stream.bytes bytes (sym (ap (option_map (λ (s : Stream). s.bytes)) there) ∙ is) in
@@ -95,7 +95,7 @@ stream_there (Some stream) name is = (stream, refl)
 pub not_placed : (found : Option Stream) (name bytes sectors : List ℕ) (pair file_len rule offset : ℕ) →
     IsStreamWith found name bytes (Some sectors) → AreSameNames name wd_name → IsPartOfRule bytes rule offset pair →
     ((place : PartPlace) → place.pair ≡ pair → ¬ ArePairsAt sectors file_len place) →
-    (stream : Stream) (place : PartPlace) → found ≡ Some stream → ¬ IsPlaceIn stream file_len rule offset place
+    (stream : Stream) (place : PartPlace) → found ≡ Some stream → ¬ IsPartPlaceIn stream file_len rule offset place
 not_placed found name bytes sectors pair file_len rule offset is named part none stream place there here =
     let with = stream_with found name bytes sectors stream is named there in
     let same : here.sectors ≡ sectors = same_Some here.sectors sectors (sym here.chain ∙ with.chain) in
@@ -134,7 +134,7 @@ pub pairs_placed : (contents : Contents) (i : ℕ) (name bytes sectors : List �
     IsPartOfRule bytes rule offset pair → ArePairsOf sectors pair file_len result →
     MatchOption result
     ((stream : Stream) (place : PartPlace) → slice_get contents.streams i ≡ Some stream →
-    ¬ IsPlaceIn stream file_len rule offset place)
+    ¬ IsPartPlaceIn stream file_len rule offset place)
     (IsPlaceAmong contents file_len rule offset)
 pairs_placed contents i name bytes sectors pair file_len rule offset None is named part none =
     not_placed (slice_get contents.streams i) name bytes sectors pair file_len rule offset is named part none
@@ -144,7 +144,7 @@ pairs_placed contents i name bytes sectors pair file_len rule offset (Some place
 -- none of the streams has it
 pub none_among : (contents : Contents) (file_len rule offset count : ℕ) → count ≡ length contents.streams →
     ((k : ℕ) (stream : Stream) (place : PartPlace) → k < count → slice_get contents.streams k ≡ Some stream →
-    ¬ IsPlaceIn stream file_len rule offset place) →
+    ¬ IsPartPlaceIn stream file_len rule offset place) →
     (place : PartPlace) → ¬ IsPlaceAmong contents file_len rule offset place
 none_among contents file_len rule offset count all none place is =
     let within = slice_get_within contents.streams is.index is.stream is.here in

@@ -4,11 +4,11 @@ use Rattle.std.proofs.Common.{arith, length, slice_index, slice_set, drop-cons}
 use Rattle.std.proofs.lemmas.List.{get_or-set_same, get_or-set_other, set_past}
 use Rattle.std.proofs.lemmas.Bool.{cases_eq, cases_lt}
 use Rattle.doc_bits.specs.Number.{AreBytes}
-use Rattle.file_mends.specs.Rewritten.{place_of, with_byte, rewritten}
+use Rattle.file_mends.specs.Rewritten.{place_of_byte, with_byte, rewritten}
 
 -- one byte more is at its place
 pub rewritten_step : (sectors bytes file made : List ℕ) (from k : ℕ) → k < length bytes →
-    made ≡ with_byte file (place_of sectors (from + k)) (slice_index bytes k) →
+    made ≡ with_byte file (place_of_byte sectors (from + k)) (slice_index bytes k) →
     rewritten sectors (from + (k + 1)) (drop (k + 1) bytes) made ≡ rewritten sectors (from + k) (drop k bytes) file
 rewritten_step sectors bytes file made from k below is =
     let next : from + (k + 1) ≡ suc (from + k) = omega arith in
@@ -43,5 +43,5 @@ pub rewritten_bytes : (sectors : List ℕ) (x : ℕ) (bytes file : List ℕ) →
     AreBytes (rewritten sectors x bytes file)
 rewritten_bytes sectors x [] file small are = are
 rewritten_bytes sectors x (byte ∷ bytes) file small are =
-    rewritten_bytes sectors (suc x) bytes (with_byte file (place_of sectors x) byte) (λ i. small (suc i))
-    (with_byte_bytes file (place_of sectors x) byte are (small 0))
+    rewritten_bytes sectors (suc x) bytes (with_byte file (place_of_byte sectors x) byte) (λ i. small (suc i))
+    (with_byte_bytes file (place_of_byte sectors x) byte are (small 0))

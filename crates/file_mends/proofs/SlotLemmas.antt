@@ -8,7 +8,7 @@ use Rattle.style_sheet.specs.Counted.{IsCountedPart, counted_end, even_up}
 use Rattle.style_sheet.specs.Stsh.{HasStshif, cstd, slot_place}
 use Rattle.file_mends.specs.declared.sheet_changes.SheetChange.{SheetChange}
 use Rattle.file_mends.specs.SheetPlaces.{SheetPlace}
-use Rattle.file_mends.specs.Slots.{EndsBefore, IsSlotOf, AreWithin}
+use Rattle.file_mends.specs.Slots.{SlotEndsBefore, IsSlotOf, AreSlotsWithin}
 use Rattle.file_mends.specs.SheetChanges.{IsEmptied, IsCutBefore, ChangesSlot, ChangesSheet, IsSheetRule}
 
 -- an offset is in one slot
@@ -51,7 +51,7 @@ pub change_bytes : (sheet : SheetPlace) (rule offset : ℕ) (change : SheetChang
 change_bytes sheet rule offset change are is = slot_bytes sheet is.istd change are is.how
 
 -- how far they reach
-emptied_room : (part : List ℕ) (at istd : ℕ) → istd < cstd part → AreWithin part →
+emptied_room : (part : List ℕ) (at istd : ℕ) → istd < cstd part → AreSlotsWithin part →
     at + slot_place part istd + length (0 ∷ 0 ∷ drop (slot_place part (suc istd)) part) ≤ at + length part + 4
 emptied_room part at istd low within =
     let here = within istd low in
@@ -81,7 +81,8 @@ next_slot part k place next here is =
 
 -- no slot of the sheet ends behind the offset
 pub no_slot : (part : List ℕ) (at offset count : ℕ) → count ≡ cstd part →
-    ((k : ℕ) → k < count → EndsBefore part at (slot_place part k) offset) → (istd : ℕ) → ¬ IsSlotOf part at offset istd
+    ((k : ℕ) → k < count → SlotEndsBefore part at (slot_place part k) offset) → (istd : ℕ) → ¬ IsSlotOf part at offset
+    istd
 no_slot part at offset count is all istd slot =
     let low = slot.slot in slot.here (all istd (omega (arith, is, low)))
 

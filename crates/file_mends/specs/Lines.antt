@@ -14,15 +14,15 @@ abbrev pub part_line : ℕ → List ℕ
 part_line n = codes "part " ++ (decimal n ++ (32 ∷ [] ++ (name_of_part n ++ (codes ": emptied" ++ 10 ∷ []))))
 
 -- the style by its number
-abbrev pub style_line : ℕ → List ℕ
-style_line istd = codes "style " ++ (decimal istd ++ (codes ": emptied" ++ 10 ∷ []))
+abbrev pub emptied_style_line : ℕ → List ℕ
+emptied_style_line istd = codes "style " ++ (decimal istd ++ (codes ": emptied" ++ 10 ∷ []))
 
 -- the first style that is gone, and all behind it
-abbrev pub styles_line : ℕ → List ℕ
-styles_line istd = codes "styles " ++ (decimal istd ++ (codes ": cut" ++ 10 ∷ []))
+abbrev pub cut_styles_line : ℕ → List ℕ
+cut_styles_line istd = codes "styles " ++ (decimal istd ++ (codes ": cut" ++ 10 ∷ []))
 
 abbrev pub file_mend_line : FileMend → List ℕ
 file_mend_line (LastSectorFilled missing) = sector_line missing
 file_mend_line (PartEmptied n) = part_line n
-file_mend_line (StyleEmptied istd) = style_line istd
-file_mend_line (StylesCut istd) = styles_line istd
+file_mend_line (StyleEmptied istd) = emptied_style_line istd
+file_mend_line (StylesCut istd) = cut_styles_line istd

@@ -30,5 +30,5 @@ IsPartOfRule wd rule offset n =
     ⊎ (((rule ≡ 54) × (n ≡ 11)) ⊎ (((rule ≡ 56) × (n ≡ 73)) ⊎ ((rule ≡ 57) × (n ≡ 21))))
 
 -- how many pairs are emptied from pair n on: with SttbfBkmk go PlcfBkf and PlcfBkl, and with PlfLst goes PlfLfo
-abbrev pub pairs_from : ℕ → ℕ
-pairs_from n = if n == 21 then 3 else if n == 73 then 2 else 1
+abbrev pub emptied_pairs : ℕ → ℕ
+emptied_pairs n = if n == 21 then 3 else if n == 73 then 2 else 1

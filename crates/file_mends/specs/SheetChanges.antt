@@ -5,13 +5,13 @@ use Rattle.style_sheet.specs.Stsh.{HasStshif, slot_place}
 use Rattle.file_mends.specs.declared.mends.FileMend.TheVariants.{StyleEmptied, StylesCut}
 use Rattle.file_mends.specs.declared.sheet_changes.SheetChange.{SheetChange}
 use Rattle.file_mends.specs.SheetPlaces.{SheetPlace}
-use Rattle.file_mends.specs.Slots.{IsSlotOf, AreWithin}
+use Rattle.file_mends.specs.Slots.{IsSlotOf, AreSlotsWithin}
 
 -- where all slots are within the sheet the slot is empty: its cbStd is 0, and the slots behind it follow at once. Slot
 -- 0 stays
 pub record IsEmptied (sheet : SheetPlace) (istd : ℕ) (change : SheetChange) : Type 0 where
   pub some : 1 ≤ istd
-  pub within : AreWithin sheet.part
+  pub within : AreSlotsWithin sheet.part
   pub change_is : change ≡ record {
     mend = StyleEmptied istd;
     at = sheet.at + slot_place sheet.part istd;
@@ -21,7 +21,7 @@ pub record IsEmptied (sheet : SheetPlace) (istd : ℕ) (change : SheetChange) : 
 -- [MS-DOC] cstd: else the sheet has the slots before it alone, 15 at least, which have numbers that do not change
 pub record IsCutBefore (sheet : SheetPlace) (istd : ℕ) (change : SheetChange) : Type 0 where
   pub least : 15 ≤ istd
-  pub leaves : ¬ AreWithin sheet.part
+  pub leaves : ¬ AreSlotsWithin sheet.part
   pub change_is : change ≡ record { mend = StylesCut istd; at = sheet.at + 2; bytes = number_bytes 2 istd }
 
 abbrev pub ChangesSlot : SheetPlace → ℕ → SheetChange → Type 0

@@ -17,4 +17,5 @@ mod slots;
 pub use lines::push_file_mends;
 pub use mended_file::{MendedFile, mend_rule};
 pub use mends::FileMend;
+pub use parts::{PLCF_FLD_FTN, PLCF_FLD_HDR, PLCF_HDD, STTBF_BKMK};
 pub use sectors::fill_sector;

@@ -2,7 +2,7 @@
 ghost use Rattle.std.specs.Prelude.{◌≡◌, ◌++◌, IfOk, OnOk};
 ghost use Rattle.std.specs.List.{flat_map};
 ghost use Rattle.file_mends.specs.Lines.{file_mend_line, part_line as line_of_part, sector_line as line_of_sector};
-ghost use Rattle.file_mends.specs.Lines.{style_line as line_of_style, styles_line as line_of_styles};
+ghost use Rattle.file_mends.specs.Lines.{emptied_style_line as line_of_style, cut_styles_line as line_of_styles};
 
 use crate::mends::FileMend;
 use doc_bits::{Memory, Text};

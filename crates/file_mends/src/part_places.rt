@@ -1,7 +1,7 @@
 // Where the pairs of the part are in a file whose own rule it breaks.
 ghost use Rattle.std.specs.Prelude.{◌≡◌, ◌<◌, IfOk, MatchOption, Some, length, slice_get};
 ghost use Rattle.cfb_streams.specs.Contents.{Stream};
-ghost use Rattle.file_mends.specs.Places.{ArePairsAt, IsPartPlace, IsPlaceAmong, IsPlaceIn};
+ghost use Rattle.file_mends.specs.Places.{ArePairsAt, IsPartPlace, IsPlaceAmong, IsPartPlaceIn};
 
 use crate::parts::{pair_count, pair_offset, part_of_rule};
 use cfb_sectors::{CfbFault, SECTOR_LEN};
@@ -65,7 +65,7 @@ fn place_in(
     requires { i < length container.now.streams }
     ensures { MatchOption result
         ((stream : Stream) (place : PartPlace) → slice_get container.now.streams i ≡ Some stream
-        → ¬ IsPlaceIn stream file_len rule offset place)
+        → ¬ IsPartPlaceIn stream file_len rule offset place)
         (IsPlaceAmong container.now file_len rule offset) }
 {
     if !equal_names(container.name(i), word_document()) {

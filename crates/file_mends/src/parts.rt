@@ -1,28 +1,22 @@
 // Which part the rule is on that a file breaks.
 ghost use Rattle.std.specs.Prelude.{◌≡◌, ◌↔◌, ◌+◌, ◌*◌, ◌<◌, ◌≤◌, IsTrue, ℕ, IfSome, MatchOption, length};
-ghost use Rattle.file_mends.specs.Parts.{IsFieldPart, IsPartOfRule, StandsIn, pairs_from};
+ghost use Rattle.file_mends.specs.Parts.{IsFieldPart, IsPartOfRule, StandsIn, emptied_pairs};
 
 use doc_bits::get32;
+use doc_parts::{RULE_BOOKMARKS, RULE_FIELDS};
 use fib_form::RG_FC_LCB;
-
-const RULE_FIELDS: u8 = 52;
-
-const RULE_HEADS: u8 = 54;
-
-const RULE_LISTS: u8 = 56;
-
-const RULE_BOOKMARKS: u8 = 57;
+use file_rules::{RULE_HEADS, RULE_LISTS};
 
 /// [MS-DOC] FibRgFcLcb97: the numbers of pairs.
-const PLCF_HDD: usize = 11;
+pub const PLCF_HDD: usize = 11;
 
 const PLCF_FLD_MOM: usize = 16;
 
-const PLCF_FLD_HDR: usize = 17;
+pub const PLCF_FLD_HDR: usize = 17;
 
-const PLCF_FLD_FTN: usize = 18;
+pub const PLCF_FLD_FTN: usize = 18;
 
-const STTBF_BKMK: usize = 21;
+pub const STTBF_BKMK: usize = 21;
 
 const PLF_LST: usize = 73;
 
@@ -88,7 +82,7 @@ pub(crate) fn pair_offset(n: usize) -> usize
 
 /// How many pairs are emptied from pair `n` on.
 pub(crate) fn pair_count(n: usize) -> usize
-    ensures count { result ≡ pairs_from n }
+    ensures count { result ≡ emptied_pairs n }
     ensures few { result ≤ 3 }
 {
     match n {

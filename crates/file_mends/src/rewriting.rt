@@ -1,6 +1,6 @@
 // Bytes of a stream that are put at their places in the file.
 ghost use Rattle.std.specs.Prelude.{◌≡◌, ◌+◌, ◌^◌, ◌<◌, IfOk, length};
-ghost use Rattle.file_mends.specs.Rewritten.{place_of, rewritten, with_byte};
+ghost use Rattle.file_mends.specs.Rewritten.{place_of_byte, rewritten, with_byte};
 
 use cfb_sectors::SECTOR_LEN;
 use doc_bits::Memory;
@@ -26,7 +26,7 @@ pub(crate) fn rewritten(
 
 /// Puts byte `x` of a stream at its place, where the file has it.
 fn put_byte(file: &mut [u8], sectors: &[u32], x: usize, byte: u8)
-    ensures { file.new ≡ with_byte file.old (place_of sectors.now x) byte }
+    ensures { file.new ≡ with_byte file.old (place_of_byte sectors.now x) byte }
 {
     if let Some(sector) = sectors.get(x / SECTOR_LEN) {
         let place = (*sector as usize + 1) * SECTOR_LEN + x % SECTOR_LEN;

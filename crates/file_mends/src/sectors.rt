@@ -2,19 +2,16 @@
 ghost use Rattle.std.specs.Prelude.{◌≡◌, ◌↔◌, ◌++◌, ◌+◌, ◌<◌, ◌≤◌, IsTrue, IfOk, length};
 ghost use Rattle.doc_bits.specs.Number.{zeros};
 ghost use Rattle.file_mends.specs.Mends.{bytes_read};
-ghost use Rattle.file_mends.specs.Sectors.{FillsSector, IsCut};
+ghost use Rattle.file_mends.specs.Sectors.{FillsSector, IsCutFile};
 
 use crate::mended_file::MendedFile;
 use crate::mends::FileMend;
-use cfb_sectors::{SECTOR_LEN, SIGNATURE};
+use cfb_sectors::{MAX_LEN, SECTOR_LEN, SIGNATURE};
 use doc_bits::Memory;
 use std::alloc::Global;
 
 /// The header and one sector: a file with less than one byte more has no second sector.
 const TWO_SECTORS: usize = 1_024;
-
-/// The greatest length of a file.
-const MAX_LEN: usize = 7_143_936;
 
 /// What is read in place of a file: where its last sector is cut a copy with zeros behind it, else the file.
 pub fn fill_sector(alloc: Global, file: &[u8]) -> Result<MendedFile, Memory>
@@ -30,7 +27,7 @@ pub fn fill_sector(alloc: Global, file: &[u8]) -> Result<MendedFile, Memory>
 
 /// Whether the last sector of a compound file is cut.
 fn is_cut(file: &[u8]) -> bool
-    ensures { IsTrue result ↔ IsCut file.now }
+    ensures { IsTrue result ↔ IsCutFile file.now }
 {
     let len = file.len();
     if len % SECTOR_LEN == 0 || len <= TWO_SECTORS || len >= MAX_LEN {

@@ -11,11 +11,7 @@ use crate::sheet_places::SheetPlace;
 use crate::slots::{SlotPlace, are_within, slot_at};
 use doc_bits::{Bytes, Memory};
 use std::alloc::Global;
-use style_sheet::{has_stshif, next_place};
-
-const RULE_STYLES: u8 = 50;
-
-const RULE_STYLE_LISTS: u8 = 51;
+use style_sheet::{RULE_STYLE_LISTS, RULE_STYLES, has_stshif, next_place};
 
 /// [MS-DOC] STSH: the styles with numbers that do not change.
 const FIXED_STYLES: usize = 15;

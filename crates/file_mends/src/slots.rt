@@ -2,7 +2,7 @@
 ghost use Rattle.std.specs.Prelude.{ℕ, ◌≡◌, ◌↔◌, ◌+◌, ◌^◌, ◌<◌, ◌≤◌, IsTrue, MatchOption, length};
 ghost use Rattle.style_sheet.specs.Counted.{IsCountedPart};
 ghost use Rattle.style_sheet.specs.Stsh.{HasStshif, slot_place};
-ghost use Rattle.file_mends.specs.Slots.{AreWithin, EndsBefore, IsSlotOf};
+ghost use Rattle.file_mends.specs.Slots.{AreSlotsWithin, SlotEndsBefore, IsSlotOf};
 
 use doc_bits::get16;
 use style_sheet::{first_slot, next_place};
@@ -41,7 +41,7 @@ pub(crate) fn slot_at(part: &[u8], at: usize, offset: u32) -> Option<SlotPlace>
 /// Whether all slots are within the sheet.
 pub(crate) fn are_within(part: &[u8]) -> bool
     requires { HasStshif part.now }
-    ensures { IsTrue result ↔ AreWithin part.now }
+    ensures { IsTrue result ↔ AreSlotsWithin part.now }
 {
     let mut place = first_slot(part);
     for _istd in 0..get16(part, CSTD) {
@@ -56,7 +56,7 @@ pub(crate) fn are_within(part: &[u8]) -> bool
 /// Whether a slot is within the sheet, and ends at or before an offset.
 fn ends_before(part: &[u8], at: usize, place: usize, offset: u32) -> bool
     requires { at < 2 ^ 32 }
-    ensures { IsTrue result ↔ EndsBefore part.now at place offset }
+    ensures { IsTrue result ↔ SlotEndsBefore part.now at place offset }
 {
     if !is_within(part, place) {
         return false;

@@ -6,18 +6,18 @@ use Rattle.std.proofs.lemmas.List.{length-take}
 use Rattle.doc_bits.specs.declared.places.Where.TheVariants.{Wd, Table}
 use Rattle.doc_bits.specs.Rules.{Hold, Nowhere, IsLeast}
 use Rattle.doc_bits.proofs.Public.{upto_same}
-use Rattle.fib_form.specs.Fib.{fib_pair, pair_place, table_part}
-use Rattle.fib_form.specs.TableParts.{pair_of}
+use Rattle.fib_form.specs.Fib.{fib_pair, fib_pair_place, table_part}
+use Rattle.fib_form.specs.TableParts.{pair_number}
 use Rattle.fib_form.specs.declared.table_parts.TablePart.TheVariants.{SttbfBkmk}
 use Rattle.fib_form.specs.declared.stories.StoryKind.TheVariants.{Main}
 use Rattle.doc_parts.specs.declared.fault.PartFault.{PartFault}
 use Rattle.doc_parts.specs.declared.fault.PartFault.TheVariants as part
 use Rattle.doc_parts.specs.Table.{IsPartFault}
-use Rattle.doc_parts.specs.Order.{in_order}
-use Rattle.doc_parts.specs.Bookmarks.{bookmark_cmp}
+use Rattle.document_bookmarks.specs.Order.{in_order}
+use Rattle.document_bookmarks.specs.Bookmarks.{bookmark_cmp}
 use Rattle.doc_parts.specs.BookmarkParts.{HasNames, kept_bookmarks, bookmark_rules}
 use Rattle.file_rules.specs.declared.fault.ReadFault.TheVariants.{Refused, Memory}
-use Rattle.file_rules.specs.Source.{DocSource, part_bytes, story_length}
+use Rattle.file_rules.specs.Source.{DocSource, table_part_bytes, story_length}
 use Rattle.file_rules.specs.Faults.{IsReadFault, part_refusal}
 use Rattle.file_rules.specs.BookmarkRules.{bookmark_parts, HasNamePair, HasLeavingPair}
 use Rattle.file_rules.specs.BookmarkRules.{rules_of_bookmarks, HasBookmarks}
@@ -31,11 +31,11 @@ part-short wd table n =
     let len = length-take (fc + lcb - fc) (drop fc table) in omega arith
 
 -- names of at most six bytes are no bookmarks
-pub no_bookmarks : (source : DocSource) → (fib_pair source.wd (pair_of SttbfBkmk)).1 ≤ 6 →
+pub no_bookmarks : (source : DocSource) → (fib_pair source.wd (pair_number SttbfBkmk)).1 ≤ 6 →
     Hold (rules_of_bookmarks source) × HasBookmarks source []
 no_bookmarks source low =
-    let names = part_bytes source SttbfBkmk in
-    let short = part-short source.wd source.table (pair_of SttbfBkmk) in
+    let names = table_part_bytes source SttbfBkmk in
+    let short = part-short source.wd source.table (pair_number SttbfBkmk) in
     let few : nat_lt 6 (length names) ≡ false = le-ltb 6 (length names) (omega arith) in
     let some = in_order bookmark_cmp (kept_bookmarks (bookmark_parts source) (story_length source Main)) in (
       (λ place b. let many = b.0 in absurd (omega arith)),
@@ -44,13 +44,13 @@ no_bookmarks source low =
 
 -- where no pair leaves the table stream, the names have the bytes that their pair gives
 names_there : (source : DocSource) → HasNamePair source → Nowhere (HasLeavingPair source) →
-    HasNames (part_bytes source SttbfBkmk)
+    HasNames (table_part_bytes source SttbfBkmk)
 names_there source named inside =
-    let pair = fib_pair source.wd (pair_of SttbfBkmk) in
+    let pair = fib_pair source.wd (pair_number SttbfBkmk) in
     elim (cases_lt (length source.table) (pair.0 + pair.1)) [
-      | inl over ↦ absurd (inside (pair_place (pair_of SttbfBkmk)) (inl (refl, over)))
+      | inl over ↦ absurd (inside (fib_pair_place (pair_number SttbfBkmk)) (inl (refl, over)))
       | inr within ↦
-          let len = length-table_part source.wd source.table (pair_of SttbfBkmk) within in
+          let len = length-table_part source.wd source.table (pair_number SttbfBkmk) within in
           omega (arith, named, len)
     ]
 

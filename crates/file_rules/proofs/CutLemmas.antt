@@ -9,7 +9,7 @@ use Rattle.doc_parts.specs.Stories.{cut_form, cut_cps}
 use Rattle.file_rules.specs.TextCuts.{BreaksCuts}
 use Rattle.fib_form.specs.declared.table_parts.TablePart.TheVariants.{PlcffndRef, PlcffndTxt}
 use Rattle.fib_form.specs.declared.stories.StoryKind.TheVariants.{Notes}
-use Rattle.file_rules.specs.Source.{DocSource, part_bytes, part_place, story_length}
+use Rattle.file_rules.specs.Source.{DocSource, table_part_bytes, part_place, story_length}
 use Rattle.file_rules.specs.HeadRules.{IsHeadTable}
 use Rattle.file_rules.specs.NoteRules.{ref_count, HasEntries, BreaksNoteCuts}
 
@@ -50,15 +50,16 @@ whole_heads bytes sections (inl none) = inl none
 whole_heads bytes sections (inr w) = whole_cuts bytes (w.texts + 2) (omega arith) w.cps
 
 -- PlcffndTxt, where there are references
-pub note_cuts_judged : (source : DocSource) (count : ℕ) (found : Option ℕ) → HasEntries (part_bytes source
-    PlcffndRef) → count ≡ ref_count (part_bytes source PlcffndRef) →
-    LeastOrNone (BreaksCuts (IsTrue (length (part_bytes source PlcffndTxt) == 4 * (count + 2))) (part_bytes source
+pub note_cuts_judged : (source : DocSource) (count : ℕ) (found : Option ℕ) → HasEntries (table_part_bytes source
+    PlcffndRef) → count ≡ ref_count (table_part_bytes source PlcffndRef) →
+    LeastOrNone (BreaksCuts (IsTrue (length (table_part_bytes source PlcffndTxt) == 4 * (count + 2))) (table_part_bytes
+    source
     PlcffndTxt) (story_length source Notes) (part_place source PlcffndTxt)) found → LeastOrNone (BreaksNoteCuts
     source) found
 note_cuts_judged source count found entries same h =
-    let cuts = part_bytes source PlcffndTxt in
+    let cuts = table_part_bytes source PlcffndTxt in
     let len = length cuts in
-    let refs = ref_count (part_bytes source PlcffndRef) in
+    let refs = ref_count (table_part_bytes source PlcffndRef) in
     let breaks = BreaksCuts (len ≡ 4 * (refs + 2)) cuts (story_length source Notes) (part_place source PlcffndTxt) in
     least_same breaks (BreaksNoteCuts source) found (λ p b. (entries, b)) (λ p w. w.1)
     (cuts_same (IsTrue (len == 4 * (count + 2))) (len ≡ 4 * (refs + 2)) cuts (story_length source Notes)

@@ -13,7 +13,7 @@ use Rattle.doc_bits.proofs.Public.{first_number, or_true}
 use Rattle.doc_parts.specs.declared.lists.Sed.{Sed}
 use Rattle.file_rules.specs.SectionRules.{section_begin}
 use Rattle.file_rules.specs.FormatRules.{is_end, section_ends}
-use Rattle.file_rules.specs.EndSearch.{AreInOrder, AreMet, HasNoneIn, IsSoIn, IsNextEnd}
+use Rattle.file_rules.specs.EndSearch.{AreSectionsInOrder, BeginUpTo, HasNoneIn, IsSoIn, IsNextEnd}
 use Rattle.file_rules.proofs.FormatLemmas.{is_end-append, none-added}
 
 -- ---- none in a range, and one that is first
@@ -80,13 +80,14 @@ none_up_to p f from to later none =
 -- ---- the ends of sections
 
 -- a section begins in the main text
-begin_within : (sections : List Sed) (main_len k : ℕ) → AreInOrder sections main_len → k < length sections →
+begin_within : (sections : List Sed) (main_len k : ℕ) → AreSectionsInOrder sections main_len → k < length sections →
     section_begin sections k < main_len
 begin_within sections main_len k order h =
     let len = length-map sections (λ (sed : Sed). sed.start) in (order k (omega arith)).within
 
 -- and not before an earlier one
-begin_later : (sections : List Sed) (main_len j k : ℕ) → AreInOrder sections main_len → j ≤ k → k < length sections →
+begin_later : (sections : List Sed) (main_len j k : ℕ) → AreSectionsInOrder sections main_len → j ≤ k → k < length
+    sections →
     section_begin sections j ≤ section_begin sections k
 begin_later sections main_len j zero order le h =
     let same : section_begin sections j ≡ section_begin sections zero = ap (section_begin sections) (omega arith) in
@@ -102,8 +103,8 @@ begin_later sections main_len j (suc k) order le h = elim (cases_lt j (suc k)) [
 ]
 
 -- one section more is met
-pub one_met : (sections : List Sed) (met cp : ℕ) → AreMet sections met cp → section_begin sections met ≤ cp →
-    AreMet sections (met + 1) cp
+pub one_met : (sections : List Sed) (met cp : ℕ) → BeginUpTo sections met cp → section_begin sections met ≤ cp →
+    BeginUpTo sections (met + 1) cp
 one_met sections met cp so_far here = record {
   later = let before = so_far.later in omega arith;
   each = λ k later less. elim (cases_lt k met) [
@@ -115,14 +116,14 @@ one_met sections met cp so_far here = record {
 }
 
 -- sections that are met are so behind a CP
-pub met_behind : (sections : List Sed) (met cp to : ℕ) → AreMet sections met cp → cp ≤ to → AreMet sections met to
+pub met_behind : (sections : List Sed) (met cp to : ℕ) → BeginUpTo sections met cp → cp ≤ to → BeginUpTo sections met to
 met_behind sections met cp to so_far behind = record {
   later = so_far.later;
   each = λ k later below. let before = so_far.each k later below in omega arith;
 }
 
 -- no section ends behind a CP and before the sections that are not met begin
-none_between : (sections : List Sed) (main_len met cp stop : ℕ) → AreMet sections met cp → stop ≤ main_len →
+none_between : (sections : List Sed) (main_len met cp stop : ℕ) → BeginUpTo sections met cp → stop ≤ main_len →
     ((k : ℕ) → met ≤ k → k < length sections → stop ≤ section_begin sections k) →
     HasNoneIn (is_end (section_ends sections main_len)) (cp + 1) stop
 none_between sections main_len met cp stop so_far inside rest = λ k above below.
@@ -141,7 +142,8 @@ none_between sections main_len met cp stop so_far inside rest = λ k above below
     ∙ ne_eqb main_len k (λ e. absurd (omega arith)))
 
 -- the first section that is not met ends the one before it
-pub begins_next : (sections : List Sed) (main_len met cp : ℕ) → AreInOrder sections main_len → AreMet sections met cp →
+pub begins_next : (sections : List Sed) (main_len met cp : ℕ) → AreSectionsInOrder sections main_len → BeginUpTo
+    sections met cp →
     met < length sections → cp < section_begin sections met →
     IsNextEnd sections main_len cp (section_begin sections met)
 begins_next sections main_len met cp order so_far there above =
@@ -160,7 +162,7 @@ begins_next sections main_len met cp order so_far there above =
     (none_between sections main_len met cp begin so_far (omega arith) rest)
 
 -- the last section ends with the main text
-pub main_next : (sections : List Sed) (main_len met cp : ℕ) → AreMet sections met cp →
+pub main_next : (sections : List Sed) (main_len met cp : ℕ) → BeginUpTo sections met cp →
     length sections ≤ met → cp < main_len → IsNextEnd sections main_len cp main_len
 main_next sections main_len met cp so_far all inside =
     let later : List ℕ = drop 1 (map (λ (sed : Sed). sed.start) sections) in

@@ -5,13 +5,13 @@ use Rattle.std.specs.Prelude.{IfSome}
 use Rattle.std.proofs.lemmas.Bool.{cases_lt}
 use Rattle.doc_bits.specs.Rules.{Nowhere, IsLeast, LeastOrNone}
 use Rattle.doc_parts.specs.declared.lists.Fld.{Fld}
-use Rattle.doc_parts.specs.Table.{plc_part, IsValidEntry, IsReadOf, BreaksTable}
+use Rattle.doc_parts.specs.Table.{plc_part, IsValidEntry, AreReadEntries, BreaksTable}
 use Rattle.doc_parts.specs.Fields.{fld_form, fld_cps}
 use Rattle.file_rules.specs.Rows.{HasWrongRow}
 use Rattle.file_rules.specs.FieldRules.{IsFieldThere, HasOtherUnit, BreaksFields}
 
 -- an entry that was read is not wrong
-not_wrong : (story bytes : List ℕ) (at : ℕ) (list : List Fld) (fault : Option ℕ) (k : ℕ) → IsReadOf fld_form
+not_wrong : (story bytes : List ℕ) (at : ℕ) (list : List Fld) (fault : Option ℕ) (k : ℕ) → AreReadEntries fld_form
     (fld_cps (length story)) bytes at list fault → k < length list →
     ¬ (¬ (IsValidEntry fld_form (fld_cps (length story)) (plc_part 2 bytes) k))
 not_wrong story bytes at list None k read h wrong =
@@ -35,7 +35,7 @@ not_wrong story bytes at list (Some f) k read h wrong =
     omega arith
 
 -- the part has the right length where an entry was read
-not_wrong_part : (story bytes : List ℕ) (at : ℕ) (list : List Fld) (fault : Option ℕ) (q : ℕ) → IsReadOf fld_form
+not_wrong_part : (story bytes : List ℕ) (at : ℕ) (list : List Fld) (fault : Option ℕ) (q : ℕ) → AreReadEntries fld_form
     (fld_cps (length story)) bytes at list fault → 0 < length list → BreaksTable fld_form (fld_cps (length story))
     bytes at q → at < q
 not_wrong_part story bytes at list None q read h broken = absurd (read.judged q broken)
@@ -45,7 +45,7 @@ not_wrong_part story bytes at list (Some f) q read h broken =
     omega arith
 
 -- an entry that was read, and whose unit is in the text, is as the rule says
-not_field : (story bytes : List ℕ) (at : ℕ) (list : List Fld) (fault : Option ℕ) (k : ℕ) → IsReadOf fld_form
+not_field : (story bytes : List ℕ) (at : ℕ) (list : List Fld) (fault : Option ℕ) (k : ℕ) → AreReadEntries fld_form
     (fld_cps (length story)) bytes at list fault → k < length list → ¬ (HasOtherUnit story list k) →
     ¬ (¬ (IsFieldThere story (plc_part 2 bytes) k))
 not_field story bytes at list fault k read h same wrong =
@@ -57,7 +57,7 @@ not_field story bytes at list fault k read h same wrong =
     })))
 
 -- the first other unit has the least place
-pub least_field : (story bytes : List ℕ) (at : ℕ) (list : List Fld) (fault : Option ℕ) (p : ℕ) → IsReadOf fld_form
+pub least_field : (story bytes : List ℕ) (at : ℕ) (list : List Fld) (fault : Option ℕ) (p : ℕ) → AreReadEntries fld_form
     (fld_cps (length story)) bytes at list fault → IsLeast (λ a b. a ≤ b) (HasWrongRow (length list) (λ k. at + 4 * k)
     (HasOtherUnit story list)) p → IsLeast (λ a b. a ≤ b) (BreaksFields story bytes at) p
 least_field story bytes at list fault p read first =
@@ -94,7 +94,7 @@ least_field story bytes at list fault p read first =
     }
 
 -- where all units are in the text the rule is that of the table
-pub same_field : (story bytes : List ℕ) (at : ℕ) (list : List Fld) (fault : Option ℕ) → IsReadOf fld_form
+pub same_field : (story bytes : List ℕ) (at : ℕ) (list : List Fld) (fault : Option ℕ) → AreReadEntries fld_form
     (fld_cps (length story)) bytes at list fault → Nowhere (HasWrongRow (length list) (λ k. at + 4 * k) (HasOtherUnit
     story list)) → LeastOrNone (BreaksFields story bytes at) fault
 same_field story bytes at list None read none = λ q w. elim w [

@@ -14,15 +14,15 @@ use Rattle.cfb_streams.specs.Contents.{Contents}
 use Rattle.cfb_streams.specs.Container.{container_rules, HasContents}
 use Rattle.cfb_streams.proofs.Public.{container_single, container_ascends, contents_unique}
 use Rattle.fib_form.specs.declared.table_parts.TablePart.TheVariants.{Clx, PlcfBteChpx, PlcfBtePapx}
-use Rattle.fib_form.specs.TableParts.{pair_of}
+use Rattle.fib_form.specs.TableParts.{pair_number}
 use Rattle.fkp_pages.specs.declared.kind.PageKind.TheVariants.{Chpx, Papx}
 use Rattle.direct_props.specs.PageRules.{page_rules}
 use Rattle.direct_props.proofs.Public.{page_rules-Ascends}
-use Rattle.file_rules.specs.FormatRules.{judged_places, paragraph_places, rules_of_formats}
+use Rattle.file_rules.specs.FormatRules.{judged_places, paragraph_end_places, rules_of_formats}
 use Rattle.file_rules.specs.SheetRules.{rules_of_sheet}
-use Rattle.file_rules.specs.Source.{DocSource, part_bytes}
+use Rattle.file_rules.specs.Source.{DocSource, table_part_bytes}
 use Rattle.file_rules.specs.PartRules.{layout_rules, story_rules, part_rules}
-use Rattle.file_rules.specs.FileRules.{table_stream_name, clx_of, source_of, table_rules, wd_rules, loading_rules}
+use Rattle.file_rules.specs.FileRules.{table_stream_name, clx_of, doc_source_of, table_rules, wd_rules, loading_rules}
 use Rattle.file_rules.specs.FileRules.{contents_rules, file_rules, rules_of_pieces}
 use Rattle.cfb_streams.specs.Names.{wd_name}
 use Rattle.file_rules.proofs.RefusalLemmas.{single_in}
@@ -75,7 +75,7 @@ story_single source = (
 pub part_single : (source : DocSource) → IsSingle (part_rules source)
 part_single source = (layout_single source, (format_single source, ((tt, (tt, tt)), story_single source)))
 
-layout_ascends : (source : DocSource) → Ascends (layout_rules source) 33 39
+pub layout_ascends : (source : DocSource) → Ascends (layout_rules source) 33 39
 layout_ascends source = (
   37,
   (
@@ -150,8 +150,8 @@ format_ascends : (source : DocSource) → Ascends (rules_of_formats source) 39 4
 format_ascends source = (
   lit≤ tt,
   λ list h.
-      let characters = part_bytes source PlcfBteChpx in
-      let paragraphs = part_bytes source PlcfBtePapx in (
+      let characters = table_part_bytes source PlcfBteChpx in
+      let paragraphs = table_part_bytes source PlcfBtePapx in (
         44,
         (
           ascends_in Wd (page_rules Chpx source.wd characters (judged_places source)) 39 44 (page_rules-Ascends Chpx
@@ -159,8 +159,8 @@ format_ascends source = (
           (
             lit≤ tt,
             lit≤ tt,
-            ascends_in Wd (page_rules Papx source.wd paragraphs (paragraph_places source list)) 44 49
-                (page_rules-Ascends Papx source.wd paragraphs (paragraph_places source list)),
+            ascends_in Wd (page_rules Papx source.wd paragraphs (paragraph_end_places source list)) 44 49
+                (page_rules-Ascends Papx source.wd paragraphs (paragraph_end_places source list)),
           ),
         ),
       ),
@@ -216,7 +216,7 @@ part_ascends source = (
 pub pieces_single : (wd table : List ℕ) (text_len : ℕ) → IsSingle (rules_of_pieces wd table text_len)
 pieces_single wd table text_len =
     let clx = clx_of wd table in
-    let at = (fib_pair wd (pair_of Clx)).0 in
+    let at = (fib_pair wd (pair_number Clx)).0 in
     let bounds = text_bounds (fib_size wd) (length wd) in (
       tt,
       single_in Table (clx_rules clx at bounds text_len) (clx_rules-IsSingle clx at bounds text_len),
@@ -225,7 +225,7 @@ pieces_single wd table text_len =
 pub pieces_ascend : (wd table : List ℕ) (text_len : ℕ) → Ascends (rules_of_pieces wd table text_len) 26 33
 pieces_ascend wd table text_len =
     let clx = clx_of wd table in
-    let at = (fib_pair wd (pair_of Clx)).0 in
+    let at = (fib_pair wd (pair_number Clx)).0 in
     let bounds = text_bounds (fib_size wd) (length wd) in
     let clx_up = ascends_in Table (clx_rules clx at bounds text_len) 27 33 (clx_rules-Ascends clx at bounds text_len) in
     (27, ((lit≤ tt, lit< tt), (lit≤ tt, lit≤ tt, clx_up)))
@@ -250,7 +250,7 @@ text_ascends contents = (16, ((lit≤ tt, lit< tt), (lit≤ tt, lit≤ tt, (lit�
 
 contents_ascends : (contents : Contents) → Ascends (contents_rules contents) 15 58
 contents_ascends contents =
-    (33, (text_ascends contents, (lit≤ tt, lit≤ tt, (lit≤ tt, λ text h. part_ascends (source_of text)))))
+    (33, (text_ascends contents, (lit≤ tt, lit≤ tt, (lit≤ tt, λ text h. part_ascends (doc_source_of text)))))
 
 wd_single : (file : List ℕ) (contents : Contents) (wd : List ℕ) → HasContents file contents →
     IsSingle (wd_rules contents wd)
@@ -276,7 +276,7 @@ contents_single file contents has = (
   (
     (λ a b ha hb. text_one file contents a b has ha hb),
     λ text h. part_single
-        (source_of text),
+        (doc_source_of text),
   ),
 )
 

@@ -8,18 +8,19 @@ use Rattle.doc_bits.specs.declared.places.Where.TheVariants.{Wd, Table}
 use Rattle.doc_bits.specs.Number.{u16_at}
 use Rattle.doc_bits.specs.Rules.{Hold, Nowhere}
 use Rattle.doc_bits.proofs.Public.{both_true}
-use Rattle.fib_form.specs.TableParts.{pair_of}
+use Rattle.fib_form.specs.TableParts.{pair_number}
 use Rattle.fib_form.specs.declared.table_parts.TablePart.TheVariants.{SttbfBkmk}
 use Rattle.fib_form.specs.declared.stories.StoryKind.TheVariants.{Main}
-use Rattle.doc_parts.specs.declared.bookmark_order.Bookmark.{Bookmark}
-use Rattle.doc_parts.specs.Order.{in_order}
+use Rattle.document_bookmarks.specs.declared.bookmark_order.Bookmark.{Bookmark}
+use Rattle.document_bookmarks.specs.Order.{in_order}
 use Rattle.doc_parts.specs.Tabulated.{tabulate}
-use Rattle.doc_parts.specs.Bookmarks.{bookmark_cmp, IsFormedBookmark, AreFormedBookmarks}
-use Rattle.doc_parts.specs.BookmarkParts.{BookmarkParts, name_place, bookmark_count, bookmark_at, is_kept, HasNames}
+use Rattle.document_bookmarks.specs.Bookmarks.{bookmark_cmp, IsFormedBookmark, AreFormedBookmarks}
+use Rattle.doc_parts.specs.BookmarkParts.{BookmarkParts, bookmark_name_place, bookmark_count, bookmark_at}
+use Rattle.doc_parts.specs.BookmarkParts.{is_kept_bookmark, HasNames}
 use Rattle.doc_parts.specs.BookmarkParts.{kept_bookmarks, bookmarks_of, AreValidParts}
-use Rattle.doc_parts.proofs.Public.{bookmark_total, right_from_none, all_tabulated_below, length-tabulate}
-use Rattle.doc_parts.proofs.Public.{in_order_sorted, all_in_order}
-use Rattle.file_rules.specs.Source.{DocSource, part_bytes, story_length}
+use Rattle.doc_parts.proofs.Public.{right_from_none, all_tabulated_below, length-tabulate}
+use Rattle.document_bookmarks.proofs.Public.{bookmark_total, in_order_sorted, all_in_order}
+use Rattle.file_rules.specs.Source.{DocSource, table_part_bytes, story_length}
 use Rattle.file_rules.specs.BookmarkRules.{bookmark_parts, HasNamePair, HasLeavingPair, rules_of_bookmarks}
 use Rattle.file_rules.specs.BookmarkRules.{HasBookmarks}
 use Rattle.file_rules.proofs.BookmarkLemmas.{part-short}
@@ -32,20 +33,20 @@ named_at : (parts : BookmarkParts) → AreValidParts parts → (k : ℕ) → k <
     IsNamed (bookmark_at parts k)
 unfolding IsNamed
 named_at parts right k low =
-    let place = name_place parts.names k in
+    let place = bookmark_name_place parts.names k in
     let whole = right.filled.whole k low in
     let len = length-tabulate (λ i. u16_at parts.names (place + 2 + 2 * i)) (u16_at parts.names place) in
     (omega (arith, whole.some, len), omega (arith, whole.short, len))
 
 -- one that is kept is within the main text
-kept_within : (len : ℕ) (bookmark : Bookmark) → is_kept len bookmark ≡ true →
+kept_within : (len : ℕ) (bookmark : Bookmark) → is_kept_bookmark len bookmark ≡ true →
     (bookmark.from ≤ bookmark.to) × (bookmark.to ≤ len)
 kept_within len bookmark kept =
     let both = both_true (nat_le bookmark.from bookmark.to) (nat_le bookmark.to len) kept in
     (leb-true bookmark.from bookmark.to both.0, leb-true bookmark.to len both.1)
 
 -- one that is kept and named is formed
-kept_fits : (len : ℕ) (bookmark : Bookmark) → (is_kept len bookmark ≡ true) × IsNamed bookmark →
+kept_fits : (len : ℕ) (bookmark : Bookmark) → (is_kept_bookmark len bookmark ≡ true) × IsNamed bookmark →
     IsFormedBookmark len bookmark
 unfolding IsNamed
 kept_fits len bookmark h =
@@ -59,12 +60,14 @@ kept_formed parts len right =
     let count : ℕ = bookmark_count parts.names in
     let all : List Bookmark = tabulate (bookmark_at parts) count in
     let named : All IsNamed (kept_bookmarks parts len) =
-    All-filter (is_kept len) IsNamed all (all_tabulated_below IsNamed (bookmark_at parts) count (named_at parts right))
+    All-filter (is_kept_bookmark len) IsNamed all (all_tabulated_below IsNamed (bookmark_at parts) count (named_at parts
+    right))
     in
-    let kept : All (λ b. is_kept len b ≡ true) (kept_bookmarks parts len) = filter_passes (is_kept len) all in
-    let both : All (λ b. (is_kept len b ≡ true) × IsNamed b) (kept_bookmarks parts len) =
+    let kept : All (λ b. is_kept_bookmark len b ≡ true) (kept_bookmarks parts len) = filter_passes (is_kept_bookmark
+    len) all in
+    let both : All (λ b. (is_kept_bookmark len b ≡ true) × IsNamed b) (kept_bookmarks parts len) =
     λ k d low. (kept k d low, named k d low) in
-    All-weaker (λ b. (is_kept len b ≡ true) × IsNamed b) (IsFormedBookmark len) (kept_fits len)
+    All-weaker (λ b. (is_kept_bookmark len b ≡ true) × IsNamed b) (IsFormedBookmark len) (kept_fits len)
     (kept_bookmarks parts len) both
 
 -- in their order
@@ -82,10 +85,10 @@ none_formed len = record {
 }
 
 -- where the rule on bookmarks holds, and there are names, the parts are right
-right_parts : (source : DocSource) → Hold (rules_of_bookmarks source) → HasNames (part_bytes source SttbfBkmk) →
+right_parts : (source : DocSource) → Hold (rules_of_bookmarks source) → HasNames (table_part_bytes source SttbfBkmk) →
     AreValidParts (bookmark_parts source)
 right_parts source holds some =
-    let short = part-short source.wd source.table (pair_of SttbfBkmk) in
+    let short = part-short source.wd source.table (pair_number SttbfBkmk) in
     let named : HasNamePair source = omega (arith, some, short) in
     let inside : Nowhere (HasLeavingPair source) = λ p w. holds (Wd, p) (named, inl (refl, w)) in
     right_from_none (bookmark_parts source) some (λ p b. holds (Table, p) (named, inr (refl, (inside, b.1))))

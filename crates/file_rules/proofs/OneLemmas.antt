@@ -5,7 +5,7 @@ use Rattle.doc_bits.specs.Rules.{IsSingle}
 use Rattle.doc_parts.specs.declared.lists.Sed.{Sed}
 use Rattle.doc_parts.specs.declared.lists.Fld.{Fld}
 use Rattle.doc_parts.specs.declared.lists.NoteRef.{NoteRef}
-use Rattle.doc_parts.specs.declared.bookmark_order.Bookmark.{Bookmark}
+use Rattle.document_bookmarks.specs.declared.bookmark_order.Bookmark.{Bookmark}
 use Rattle.doc_parts.specs.Table.{plc_part}
 use Rattle.doc_parts.specs.Sections.{sed_form, sed_cps}
 use Rattle.doc_parts.specs.Fields.{fld_form, fld_cps}
@@ -15,12 +15,12 @@ use Rattle.fib_form.specs.declared.table_parts.TablePart.TheVariants.{Stshf, Plc
 use Rattle.fib_form.specs.declared.table_parts.TablePart.TheVariants.{PlfLst}
 use Rattle.fib_form.specs.declared.stories.StoryKind.{StoryKind}
 use Rattle.fib_form.specs.declared.stories.StoryKind.TheVariants.{Main, Notes, Heads}
-use Rattle.file_rules.specs.Source.{DocSource, part_bytes, part_place, story_length}
+use Rattle.file_rules.specs.Source.{DocSource, table_part_bytes, part_place, story_length}
 use Rattle.style_sheet.specs.Sheet.{Sheet}
 use Rattle.style_sheet.proofs.Public.{sheets_agree}
 use Rattle.file_rules.specs.SectionRules.{HasSections, rules_of_sections}
 use Rattle.file_rules.specs.SheetRules.{HasSheet}
-use Rattle.file_rules.specs.FieldRules.{field_part, HasFields}
+use Rattle.file_rules.specs.FieldRules.{field_part, HasStoryFields}
 use Rattle.file_rules.specs.NoteRules.{HasRefs, HasNoteCuts}
 use Rattle.file_rules.specs.HeadRules.{HasHeadCuts}
 use Rattle.file_rules.specs.ListRules.{HasLevels}
@@ -29,26 +29,30 @@ use Rattle.file_rules.specs.PartRules.{PartLists, HasPartLists}
 
 pub sections_one : (source : DocSource) (a b : List Sed) → HasSections source a → HasSections source b → a ≡ b
 sections_one source a b ha hb =
-    AreEntries-unique sed_form (sed_cps (story_length source Main)) (plc_part 12 (part_bytes source PlcfSed)) a b ha hb
+    AreEntries-unique sed_form (sed_cps (story_length source Main)) (plc_part 12 (table_part_bytes source PlcfSed)) a b
+    ha hb
 
 -- the rules on sections speak of single ones
 pub sections_single : (source : DocSource) → IsSingle (rules_of_sections source)
 sections_single source = (tt, ((λ a b ha hb. sections_one source a b ha hb), λ list h. (tt, (tt, tt))))
 
-fields_one : (source : DocSource) (story : StoryKind) (a b : List Fld) → HasFields source story a → HasFields source
+fields_one : (source : DocSource) (story : StoryKind) (a b : List Fld) → HasStoryFields source story a → HasStoryFields
+    source
     story b → a ≡ b
 fields_one source story a b ha hb =
-    AreEntries-unique fld_form (fld_cps (story_length source story)) (plc_part 2 (part_bytes source
+    AreEntries-unique fld_form (fld_cps (story_length source story)) (plc_part 2 (table_part_bytes source
     (field_part story))) a b ha hb
 
 refs_one : (source : DocSource) (a b : List NoteRef) → HasRefs source a → HasRefs source b → a ≡ b
 refs_one source a b ha hb =
-    AreEntries-unique ref_form (ref_cps (story_length source Main)) (plc_part 2 (part_bytes source PlcffndRef)) a b ha
+    AreEntries-unique ref_form (ref_cps (story_length source Main)) (plc_part 2 (table_part_bytes source PlcffndRef)) a
+    b ha
     hb
 
 pub notes_one : (source : DocSource) (a b : List ℕ) → HasNoteCuts source a → HasNoteCuts source b → a ≡ b
 notes_one source a b (inl x) (inl y) =
-    AreEntries-unique cut_form (cut_cps (story_length source Notes)) (plc_part 0 (part_bytes source PlcffndTxt)) a b
+    AreEntries-unique cut_form (cut_cps (story_length source Notes)) (plc_part 0 (table_part_bytes source PlcffndTxt)) a
+    b
     x.1 y.1
 notes_one source a b (inl x) (inr y) = absurd (y.0 x.0)
 notes_one source a b (inr x) (inl y) = absurd (x.0 y.0)
@@ -56,18 +60,19 @@ notes_one source a b (inr x) (inr y) = x.1 ∙ sym y.1
 
 pub heads_one : (source : DocSource) (a b : List ℕ) → HasHeadCuts source a → HasHeadCuts source b → a ≡ b
 heads_one source a b ha hb =
-    AreEntries-unique cut_form (cut_cps (story_length source Heads)) (plc_part 0 (part_bytes source PlcfHdd)) a b ha hb
+    AreEntries-unique cut_form (cut_cps (story_length source Heads)) (plc_part 0 (table_part_bytes source PlcfHdd)) a b
+    ha hb
 
 levels_one : (source : DocSource) (a b : List ℕ) → HasLevels source a → HasLevels source b → a ≡ b
 levels_one source a b ha hb =
     let one = ha.have in
     let two = hb.have in
     let same : ha.len ≡ hb.len = omega arith in
-    let from = part_place source PlfLst + length (part_bytes source PlfLst) in
+    let from = part_place source PlfLst + length (table_part_bytes source PlfLst) in
     ha.bytes_are ∙ (ap (λ len. slice_range source.table from (from + len)) same ∙ sym hb.bytes_are)
 
 sheet_one : (source : DocSource) (a b : Sheet) → HasSheet source a → HasSheet source b → a ≡ b
-sheet_one source a b ha hb = sheets_agree (part_bytes source Stshf) a b ha hb
+sheet_one source a b ha hb = sheets_agree (table_part_bytes source Stshf) a b ha hb
 
 bookmarks_one : (source : DocSource) (a b : List Bookmark) → HasBookmarks source a → HasBookmarks source b → a ≡ b
 bookmarks_one source a b ha hb = ha ∙ sym hb

@@ -10,9 +10,9 @@ use Rattle.direct_props.proofs.Public.{right_places_hold}
 use Rattle.fib_form.specs.declared.table_parts.TablePart.TheVariants.{PlcfBteChpx, PlcfBtePapx}
 use Rattle.file_rules.specs.declared.fault.ReadFault.{ReadFault}
 use Rattle.file_rules.specs.Faults.{IsReadFault}
-use Rattle.file_rules.specs.Source.{DocSource, part_bytes}
+use Rattle.file_rules.specs.Source.{DocSource, table_part_bytes}
 use Rattle.file_rules.specs.SectionRules.{HasSections}
-use Rattle.file_rules.specs.FormatRules.{judged_places, paragraph_places, rules_of_formats}
+use Rattle.file_rules.specs.FormatRules.{judged_places, paragraph_end_places, rules_of_formats}
 use Rattle.file_rules.specs.PartRules.{layout_rules, rest_rules, part_rules, HoldButFormats}
 use Rattle.file_rules.proofs.RefusalLemmas.{refused-first, refused-next}
 
@@ -36,15 +36,15 @@ rest_refused source fault layout formats refused =
 
 -- where each unit and each end of a paragraph is right the rules on pages hold
 pub formats_hold : (source : DocSource) (sections : List Sed) → HasSections source sections →
-    AreValidPlaces Chpx source.wd (part_bytes source PlcfBteChpx) (judged_places source) →
-    AreValidPlaces Papx source.wd (part_bytes source PlcfBtePapx) (paragraph_places source sections) →
+    AreValidPlaces Chpx source.wd (table_part_bytes source PlcfBteChpx) (judged_places source) →
+    AreValidPlaces Papx source.wd (table_part_bytes source PlcfBtePapx) (paragraph_end_places source sections) →
     Hold (rules_of_formats source)
 formats_hold source sections has characters marks =
     let wd = source.wd in
-    let chpx = part_bytes source PlcfBteChpx in
-    let papx = part_bytes source PlcfBtePapx in
+    let chpx = table_part_bytes source PlcfBteChpx in
+    let papx = table_part_bytes source PlcfBtePapx in
     let all = judged_places source in
-    let ends = paragraph_places source sections in (
+    let ends = paragraph_end_places source sections in (
       sections,
       (
         has,

@@ -4,37 +4,39 @@ use Rattle.std.proofs.Common.{length, drop, take, slice_range, arith}
 use Rattle.std.proofs.lemmas.Bool.{cases_lt}
 use Rattle.std.proofs.lemmas.List.{length-take, length-drop, take_all, drop_all}
 use Rattle.doc_bits.specs.Rules.{Nowhere}
-use Rattle.fib_form.specs.Fib.{fib_pair, pair_place, table_part}
-use Rattle.fib_form.specs.FibFields.{FibFields, fib_fields, pair_at}
+use Rattle.fib_form.specs.Fib.{fib_pair, fib_pair_place, table_part}
+use Rattle.fib_form.specs.FibFields.{FibFields, fib_fields, listed_pair}
 use Rattle.fib_form.proofs.Public.{pair_at-fib_pairs}
 use Rattle.fib_form.specs.declared.table_parts.TablePart.{TablePart}
 use Rattle.fib_form.specs.declared.table_parts.TablePart.TheVariants.{Clx}
 use Rattle.file_rules.specs.PairRules.{IsReadPair, HasWrongPart, BreaksPairs}
-use Rattle.fib_form.specs.TableParts.{pair_of}
+use Rattle.fib_form.specs.TableParts.{pair_number}
 
 -- a part that rule 26 checks, and that is not empty, is within the table stream
-pub part-inside : (wd : List ℕ) (table_len : ℕ) (part : TablePart) → IsReadPair (pair_of part) →
-    Nowhere (BreaksPairs wd table_len) → (fib_pair wd (pair_of part)).1 ≢ 0 →
-    (fib_pair wd (pair_of part)).0 + (fib_pair wd (pair_of part)).1 ≤ table_len
+pub part-inside : (wd : List ℕ) (table_len : ℕ) (part : TablePart) → IsReadPair (pair_number part) →
+    Nowhere (BreaksPairs wd table_len) → (fib_pair wd (pair_number part)).1 ≢ 0 →
+    (fib_pair wd (pair_number part)).0 + (fib_pair wd (pair_number part)).1 ≤ table_len
 part-inside wd table_len part read none some =
-    let n = pair_of part in
+    let n = pair_number part in
     let pair = fib_pair wd n in
     elim (cases_lt table_len (pair.0 + pair.1)) [
       | inl over ↦
-          let wrong : HasWrongPart wd table_len read.0 (pair_place n) = rw read.1.1 (refl, inl (some, over)) in
-          absurd (none (pair_place n) (record { entry = read.0; below = read.1.0; broken = wrong }))
+          let wrong : HasWrongPart wd table_len read.0 (fib_pair_place n) = rw read.1.1 (refl, inl (some, over)) in
+          absurd (none (fib_pair_place n) (record { entry = read.0; below = read.1.0; broken = wrong }))
       | inr within ↦ within
     ]
 
 -- a pair, as the FIB was read
-pub pair-read : (wd : List ℕ) (fib : FibFields) (n : ℕ) → n < 93 → fib ≡ fib_fields wd → pair_at fib.pairs n ≡
+pub pair-read : (wd : List ℕ) (fib : FibFields) (n : ℕ) → n < 93 → fib ≡ fib_fields wd → listed_pair fib.pairs n ≡
     fib_pair wd n
-pair-read wd fib n h e = ap (λ (f : FibFields). pair_at f.pairs n) e ∙ pair_at-fib_pairs wd n h
+pair-read wd fib n h e = ap (λ (f : FibFields). listed_pair f.pairs n) e ∙ pair_at-fib_pairs wd n h
 
 -- the pair of the Clx
-pub clx_pair : (n : ℕ) (wd : List ℕ) (fib : FibFields) (pair : ℕ × ℕ) → n ≡ pair_of Clx → pair ≡ pair_at fib.pairs n →
-    fib ≡ fib_fields wd → pair ≡ fib_pair wd (pair_of Clx)
-clx_pair n wd fib pair n_is pair_is fields = pair_is ∙ (ap (pair_at fib.pairs) n_is ∙ pair-read wd fib (pair_of Clx)
+pub clx_pair : (n : ℕ) (wd : List ℕ) (fib : FibFields) (pair : ℕ × ℕ) → n ≡ pair_number Clx → pair ≡ listed_pair
+    fib.pairs n →
+    fib ≡ fib_fields wd → pair ≡ fib_pair wd (pair_number Clx)
+clx_pair n wd fib pair n_is pair_is fields = pair_is ∙ (ap (listed_pair fib.pairs) n_is ∙ pair-read wd fib (pair_number
+    Clx)
     (lit< tt) fields)
 
 -- the part of a list, as far as it is within the list

@@ -5,8 +5,8 @@ pub use Rattle.file_rules.proofs.BookmarkLemmas.{bookmarks-hold}
 -- The streams of a file are short enough for 32-bit offsets.
 pub use Rattle.file_rules.proofs.ContentsLemmas.{streams-small}
 -- The rules of a file ascend, and each of their objects is the only one.
-pub use Rattle.file_rules.proofs.FileLemmas.{ascends_in, file_ascends, file_single, part_ascends, part_single}
-pub use Rattle.file_rules.proofs.FileLemmas.{pieces_ascend, pieces_single}
+pub use Rattle.file_rules.proofs.FileLemmas.{ascends_in, file_ascends, file_single, layout_ascends, part_ascends}
+pub use Rattle.file_rules.proofs.FileLemmas.{part_single, pieces_ascend, pieces_single}
 -- The bookmarks of a document are formed.
 pub use Rattle.file_rules.proofs.KeptLemmas.{bookmarks-formed, none_formed}
 -- The levels of lists are within the table stream.

@@ -2,7 +2,7 @@
 use Rattle.std.proofs.Common.{inl, inr, refl, ℕ, ◌≤◌, List, arith}
 use Rattle.doc_bits.specs.declared.places.Where.{Where}
 use Rattle.doc_bits.specs.declared.places.Where.TheVariants.{File, Wd, Table}
-use Rattle.doc_bits.specs.Rules.{Rules, Hold, ◌then◌, given, rule, Nowhere, IsLeast, IsFirst, IsSingle}
+use Rattle.doc_bits.specs.Rules.{Rules, Hold, ◌then◌, given, rule, Nowhere, IsLeast, IsFirstOffset, IsSingle}
 use Rattle.doc_bits.specs.Places.{Place, Upto, rules_in}
 use Rattle.doc_bits.proofs.Public.{first_in, hold_in, hold_or_first}
 use Rattle.cfb_sectors.specs.declared.faults.CfbFault.{CfbFault}
@@ -72,7 +72,7 @@ single_in place (first then next) s = (single_in place first s.0, single_in plac
 single_in place (given is rules) s = (s.0, λ x h. single_in place (rules x) (s.1 x h))
 
 -- a page is refused
-pub refused-page : (rules : Rules ℕ) (fault : PageFault) → IsFirst rules fault.rule fault.offset →
+pub refused-page : (rules : Rules ℕ) (fault : PageFault) → IsFirstOffset rules fault.rule fault.offset →
     IsReadFault (rules_in Wd rules) (page_refusal fault)
 refused-page rules fault first = first_in Wd rules fault.rule fault.offset first
 

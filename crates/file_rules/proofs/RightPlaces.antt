@@ -13,10 +13,10 @@ use Rattle.fkp_pages.specs.Bin.{IsBinTable, bin_count}
 use Rattle.direct_props.specs.PageRules.{page_rules, AreValidPlaces}
 use Rattle.direct_props.proofs.Public.{right_where_hold}
 use Rattle.fib_form.specs.declared.table_parts.TablePart.TheVariants.{PlcfBteChpx, PlcfBtePapx}
-use Rattle.file_rules.specs.Source.{DocSource, part_bytes, part_place}
+use Rattle.file_rules.specs.Source.{DocSource, table_part_bytes, part_place}
 use Rattle.file_rules.specs.SectionRules.{HasSections}
 use Rattle.file_rules.specs.BinRules.{IsPlcBte, BreaksBinTable, rules_of_bins}
-use Rattle.file_rules.specs.FormatRules.{judged_places, paragraph_places, format_rules, rules_of_formats}
+use Rattle.file_rules.specs.FormatRules.{judged_places, paragraph_end_places, format_rules, rules_of_formats}
 use Rattle.file_rules.proofs.OneLemmas.{sections_one}
 
 -- rules that hold in a part hold in the layer
@@ -46,11 +46,11 @@ right_bin bytes at none =
     }
 
 -- the bin tables are tables
-pub bin_tables : (source : DocSource) → Hold (rules_of_bins source) → IsBinTable (part_bytes source PlcfBteChpx) ×
-    IsBinTable (part_bytes source PlcfBtePapx)
+pub bin_tables : (source : DocSource) → Hold (rules_of_bins source) → IsBinTable (table_part_bytes source PlcfBteChpx) ×
+    IsBinTable (table_part_bytes source PlcfBtePapx)
 bin_tables source h =
-    let chpx = part_bytes source PlcfBteChpx in
-    let papx = part_bytes source PlcfBtePapx in
+    let chpx = table_part_bytes source PlcfBteChpx in
+    let papx = table_part_bytes source PlcfBtePapx in
     let first : Nowhere (BreaksBinTable chpx (part_place source PlcfBteChpx)) = λ p b. h.0 (Table, p) (refl, b) in
     let next : Nowhere (BreaksBinTable papx (part_place source PlcfBtePapx)) = λ p b. h.1 (Table, p) (refl, b) in (
       right_bin chpx (part_place source PlcfBteChpx) first,
@@ -65,21 +65,23 @@ held_formats source sections h has =
 
 -- the unit of each CP has its characters' properties
 pub right_characters : (source : DocSource) (sections : List Sed) → Hold (rules_of_formats source) →
-    HasSections source sections → AreValidPlaces Chpx source.wd (part_bytes source PlcfBteChpx) (judged_places source)
+    HasSections source sections → AreValidPlaces Chpx source.wd (table_part_bytes source PlcfBteChpx) (judged_places
+    source)
 right_characters source sections h has =
     let wd = source.wd in
-    let bin = part_bytes source PlcfBteChpx in
+    let bin = table_part_bytes source PlcfBteChpx in
     let places = judged_places source in
     right_where_hold Chpx wd bin places (hold_out Wd (page_rules Chpx wd bin places) (held_formats source sections h
     has).0)
 
 -- each unit that ends a paragraph has its paragraph's properties
 pub right_paragraphs : (source : DocSource) (sections : List Sed) → Hold (rules_of_formats source) →
-    HasSections source sections → AreValidPlaces Papx source.wd (part_bytes source PlcfBtePapx) (paragraph_places
+    HasSections source sections → AreValidPlaces Papx source.wd (table_part_bytes source PlcfBtePapx)
+    (paragraph_end_places
     source sections)
 right_paragraphs source sections h has =
     let wd = source.wd in
-    let bin = part_bytes source PlcfBtePapx in
-    let places = paragraph_places source sections in
+    let bin = table_part_bytes source PlcfBtePapx in
+    let places = paragraph_end_places source sections in
     right_where_hold Papx wd bin places (hold_out Wd (page_rules Papx wd bin places) (held_formats source sections h
     has).1)

@@ -4,7 +4,7 @@ use Rattle.std.proofs.Common.{refl, ap, ◌∙◌, arith}
 use Rattle.std.proofs.lemmas.Option.{slice_get_within, get_or_from_slice_get}
 use Rattle.std.proofs.lemmas.List.{get_or-map}
 use Rattle.doc_bits.specs.Rules.{Nowhere, IsLeast, LeastOrNone}
-use Rattle.doc_parts.specs.Table.{IsWrongPart}
+use Rattle.doc_parts.specs.Table.{IsMalformedPart}
 use Rattle.doc_bits.proofs.Public.{first_among, least_same}
 use Rattle.file_rules.specs.Rows.{IsWrongRow, HasWrongRow}
 
@@ -32,7 +32,7 @@ index_of_get f list k entry h =
 
 -- a part of a wrong length breaks its rule first, where no entry is before it
 pub wrong_part : (formed : Type 0) (at : ℕ) (rows : ℕ → Type 0) → ¬ formed → ((p : ℕ) → rows p → at ≤ p) →
-    IsLeast (λ a b. a ≤ b) (λ p. IsWrongPart formed at p ⊎ rows p) at
+    IsLeast (λ a b. a ≤ b) (λ p. IsMalformedPart formed at p ⊎ rows p) at
 wrong_part formed at rows not_formed after = record {
   broken = inl (refl, not_formed);
   least = λ q w. elim w [ inl x ↦ (let here = x.0 in omega arith) | inr y ↦ after q y ];
@@ -40,7 +40,7 @@ wrong_part formed at rows not_formed after = record {
 
 -- a part of the right length breaks its rule where an entry does
 pub right_part : (formed : Type 0) (at : ℕ) (rows : ℕ → Type 0) (found : Option ℕ) → formed → LeastOrNone rows found →
-    LeastOrNone (λ p. IsWrongPart formed at p ⊎ rows p) found
+    LeastOrNone (λ p. IsMalformedPart formed at p ⊎ rows p) found
 right_part formed at rows found is h =
-    least_same rows (λ p. IsWrongPart formed at p ⊎ rows p) found (λ p y. inr y) (λ p w. elim w
+    least_same rows (λ p. IsMalformedPart formed at p ⊎ rows p) found (λ p y. inr y) (λ p w. elim w
     [ inl x ↦ absurd (x.1 is) | inr y ↦ y ]) h

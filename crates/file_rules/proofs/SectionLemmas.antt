@@ -10,7 +10,7 @@ use Rattle.sprm_table.specs.Sprm.{HasSprmFaultAt}
 use Rattle.doc_parts.specs.Sections.{AreSections}
 use Rattle.sprm_table.proofs.Public.{accepted_no_fault}
 use Rattle.overlapping_grpprls.specs.declared.ranges.ListRange.{ListRange}
-use Rattle.overlapping_grpprls.specs.Walks.{IsValidList}
+use Rattle.overlapping_grpprls.specs.Walks.{IsAcceptedRange}
 use Rattle.file_rules.specs.SectionRules.{section_begin, sepx_list, HasSepxFault, IsSepxPlace}
 use Rattle.prop_map.specs.Formed.{section_groups}
 
@@ -50,6 +50,6 @@ properties_first wd fc from to at properties begins ends least =
 
 -- the list of a Sepx that is right
 pub right_list : (wd : List ℕ) (range : ListRange) (fc : ℕ) → IsSepxPlace wd range fc →
-    IsValidList wd section_groups range → Nowhere (HasSepxFault wd fc)
+    IsAcceptedRange wd section_groups range → Nowhere (HasSepxFault wd fc)
 right_list wd range fc is right = properties_none wd fc range.from range.to is.from is.to
     (λ place fault. accepted_no_fault (slice_range wd range.from range.to) section_groups place right fault)

@@ -11,10 +11,10 @@ use Rattle.doc_bits.proofs.Public.{All_at}
 use Rattle.doc_bits.specs.Rules.{Hold}
 use Rattle.doc_bits.specs.declared.places.Where.TheVariants.{Table}
 use Rattle.fib_form.specs.Fib.{fib_size, fib_pair}
-use Rattle.fib_form.specs.TableParts.{pair_of}
+use Rattle.fib_form.specs.TableParts.{pair_number}
 use Rattle.fib_form.specs.declared.table_parts.TablePart.TheVariants.{Clx}
 use Rattle.piece_table.specs.declared.pieces.TextBounds.{TextBounds}
-use Rattle.piece_table.specs.Piece.{TextPiece, UnitPlace, unit_bytes, unit_places, bare_piece, flat_pieces}
+use Rattle.piece_table.specs.Piece.{TextPiece, UnitPlace, unit_bytes, places_of_piece, bare_piece, flat_pieces}
 use Rattle.piece_table.specs.Piece.{IsTextPiece, piece_end}
 use Rattle.piece_table.specs.Clx.{ClxParts, IsClx, clx_pieces, plc_place}
 use Rattle.piece_table.specs.ClxRules.{StaysInStream, clx_rules, text_bounds}
@@ -38,7 +38,7 @@ below_len n = λ k d below.
     omega (arith, at, below, len)
 
 units_stand : (bounds : TextBounds) (piece : TextPiece) → StaysInStream bounds (bare_piece piece) →
-    All (StandsBy bounds) (unit_places piece)
+    All (StandsBy bounds) (places_of_piece piece)
 units_stand bounds piece stays =
     let place : ℕ → UnitPlace =
     λ j. record { at = piece.at + j * unit_bytes piece.wide; wide = piece.wide; modifier = piece.modifier } in
@@ -52,11 +52,11 @@ abbrev pub StayInStream : TextBounds → List TextPiece → Type 0
 StayInStream bounds = All (λ (piece : TextPiece). StaysInStream bounds (bare_piece piece))
 
 pub flat_stands : (bounds : TextBounds) (pieces : List TextPiece) → StayInStream bounds pieces →
-    All (StandsBy bounds) (flat_map unit_places pieces)
+    All (StandsBy bounds) (flat_map places_of_piece pieces)
 flat_stands bounds [] all = All-nil (StandsBy bounds)
 flat_stands bounds (piece ∷ pieces) all =
     let Stays : TextPiece → Type 0 = λ piece. StaysInStream bounds (bare_piece piece) in
-    All-append (StandsBy bounds) (unit_places piece) (flat_map unit_places pieces)
+    All-append (StandsBy bounds) (places_of_piece piece) (flat_map places_of_piece pieces)
     (units_stand bounds piece (All-head Stays piece pieces all))
     (flat_stands bounds pieces (All-tail Stays piece pieces all))
 
@@ -66,7 +66,7 @@ pub pieces_stand : (wd table : List ℕ) (text_len : ℕ) (pieces : List TextPie
     StayInStream (text_bounds (fib_size wd) (length wd)) pieces
 pieces_stand wd table text_len pieces h is =
     let clx = clx_of wd table in
-    let at = (fib_pair wd (pair_of Clx)).0 in
+    let at = (fib_pair wd (pair_number Clx)).0 in
     let bounds = text_bounds (fib_size wd) (length wd) in
     let rules = hold_out Table (clx_rules clx at bounds text_len) h.1 in
     let parts = rules.1.0 in
@@ -99,7 +99,7 @@ unit_ends : (at len : ℕ) (wide : Bool) (end : ℕ) → 1 ≤ len →
 unit_ends at len true end some last = omega (arith, some, last)
 unit_ends at len false end some last = omega (arith, some, last)
 
-piece_ends : (bounds : TextBounds) (piece : TextPiece) → 1 ≤ piece.len → All (StandsBy bounds) (unit_places piece) →
+piece_ends : (bounds : TextBounds) (piece : TextPiece) → 1 ≤ piece.len → All (StandsBy bounds) (places_of_piece piece) →
     piece_end (bare_piece piece) ≤ bounds.end
 piece_ends bounds piece some stands =
     let j : ℕ = piece.len - 1 in
@@ -111,12 +111,12 @@ piece_ends bounds piece some stands =
 
 -- so pieces of places within the stream are within it
 pub flat_ends : (bounds : TextBounds) (pieces : List TextPiece) → All IsTextPiece pieces →
-    All (StandsBy bounds) (flat_map unit_places pieces) →
+    All (StandsBy bounds) (flat_map places_of_piece pieces) →
     All (λ (piece : TextPiece). piece_end (bare_piece piece) ≤ bounds.end) pieces
 flat_ends bounds [] are stand = All-nil (λ (piece : TextPiece). piece_end (bare_piece piece) ≤ bounds.end)
 flat_ends bounds (piece ∷ pieces) are stand =
-    let first = unit_places piece in
-    let rest = flat_map unit_places pieces in
+    let first = places_of_piece piece in
+    let rest = flat_map places_of_piece pieces in
     let is = All-head IsTextPiece piece pieces are in
     All-cons (λ (piece : TextPiece). piece_end (bare_piece piece) ≤ bounds.end) piece pieces
     (piece_ends bounds piece is.units.some (subst (All (StandsBy bounds)) (take-append_seam first rest)
@@ -131,4 +131,4 @@ pub front_ends : (bounds : TextBounds) (old new : List TextPiece) (count : ℕ) 
 unfolding flat_pieces
 front_ends bounds old new count stay front are =
     flat_ends bounds new are (subst (All (StandsBy bounds)) (sym front)
-    (All-take (StandsBy bounds) count (flat_map unit_places old) (flat_stands bounds old stay)))
+    (All-take (StandsBy bounds) count (flat_map places_of_piece old) (flat_stands bounds old stay)))

@@ -10,12 +10,12 @@ use Rattle.std.proofs.lemmas.Option.{slice_get_within, get_or_from_slice_get}
 use Rattle.std.proofs.lemmas.Grind.{flat_map-append, take-set_at}
 use Rattle.std.proofs.lemmas.List.Sums.{sum_by-take-le, sum_by_more, sum_by_more_le}
 use Rattle.doc_bits.specs.Number.{u16_at}
-use Rattle.text_codes.specs.Compressed.{unit_of}
-use Rattle.piece_table.specs.Piece.{TextPiece, UnitPlace, bare_piece, unit_bytes, unit_places, flat_pieces}
+use Rattle.text_codes.specs.Compressed.{compressed_unit}
+use Rattle.piece_table.specs.Piece.{TextPiece, UnitPlace, bare_piece, unit_bytes, places_of_piece, flat_pieces}
 use Rattle.piece_table.specs.Piece.{total_length}
-use Rattle.file_rules.specs.Units.{unit_at, wide_unit, narrow_unit, text_of, text_piece, unit_places_in}
+use Rattle.file_rules.specs.Units.{unit_at, wide_unit, narrow_unit, text_of_pieces, unmodified_piece, unit_places_in}
 use Rattle.direct_props.specs.declared.places.PlaceRow.{PlaceRow}
-use Rattle.direct_props.specs.Rows.{places_of, row_places}
+use Rattle.direct_props.specs.Rows.{row_places_of, row_places}
 use Rattle.direct_props.proofs.Public.{places_of_push}
 use Rattle.piece_table.specs.declared.pieces.Piece.{Piece}
 use Rattle.std.specs.Option.{option_map}
@@ -73,24 +73,25 @@ map-flat_pieces-none f = refl
 -- what is read at the places of the first pieces, and of one more
 pub map-flat_pieces-more : {B : Type 0} (f : UnitPlace → B) (pieces : List TextPiece) (i : ℕ) (piece : TextPiece) →
     slice_get pieces i ≡ Some piece → map f (flat_pieces (take (i + 1) pieces)) ≡ map f (flat_pieces (take i pieces))
-    ++ map f (unit_places piece)
+    ++ map f (places_of_piece piece)
 unfolding flat_pieces
 map-flat_pieces-more f pieces i piece h =
     let there = take_more pieces i piece (slice_get_within pieces i piece h) in
     let it = get_or_from_slice_get pieces i piece piece h in
-    rw (there, it, flat_map-append unit_places (take i pieces) (piece ∷ []), append-nil (unit_places piece))
-    (map-append f (flat_map unit_places (take i pieces)) (unit_places piece))
+    rw (there, it, flat_map-append places_of_piece (take i pieces) (piece ∷ []), append-nil (places_of_piece piece))
+    (map-append f (flat_map places_of_piece (take i pieces)) (places_of_piece piece))
 
 -- the places of a piece's units
-pub places-step : (piece : TextPiece) → map (λ place. place.at) (unit_places piece) ≡ map (λ j. piece.at + j *
+pub places-step : (piece : TextPiece) → map (λ place. place.at) (places_of_piece piece) ≡ map (λ j. piece.at + j *
     unit_bytes piece.wide) (range_with_len 0 piece.len)
 places-step piece = map-map {A = ℕ} {B = UnitPlace} (λ place. place.at) _ (range_with_len 0 piece.len)
 
 -- one row more represents the places of one piece more
 pub rows_more : (rows : List PlaceRow) (row : PlaceRow) (pieces : List TextPiece) (i : ℕ) (piece : TextPiece) →
     slice_get pieces i ≡ Some piece →
-    places_of rows ≡ unit_places_in (take i pieces) → row_places row ≡ map (λ place. place.at) (unit_places piece) →
-    places_of (rows ++ row ∷ []) ≡ unit_places_in (take (i + 1) pieces)
+    row_places_of rows ≡ unit_places_in (take i pieces) → row_places row ≡ map (λ place. place.at) (places_of_piece
+    piece) →
+    row_places_of (rows ++ row ∷ []) ≡ unit_places_in (take (i + 1) pieces)
 rows_more rows row pieces i piece here so_far same =
     places_of_push rows row ∙ (ap (λ l. l ++ row_places row) so_far ∙ (ap (λ l. unit_places_in (take i pieces) ++ l)
     same
@@ -112,22 +113,25 @@ few_places pieces i places same bound =
 
 -- unit j of a piece whose units have this width
 either_unit : List ℕ → ℕ → Bool → ℕ → ℕ
-either_unit wd at wide j = if wide then u16_at wd (at + j * unit_bytes wide) else unit_of (slice_index wd
+either_unit wd at wide j = if wide then u16_at wd (at + j * unit_bytes wide) else compressed_unit (slice_index wd
     (at + j * unit_bytes wide))
 
-units-either : (wd : List ℕ) (piece : TextPiece) → map (unit_at wd) (unit_places piece) ≡ map (either_unit wd piece.at
+units-either : (wd : List ℕ) (piece : TextPiece) → map (unit_at wd) (places_of_piece piece) ≡ map (either_unit wd
+    piece.at
     piece.wide) (range_with_len 0 piece.len)
 unfolding either_unit
 units-either wd piece = map-map {A = ℕ} {B = UnitPlace} (unit_at wd) _ (range_with_len 0 piece.len)
 
 -- the modifier says nothing of the places, and nothing of the units
-pub places-any : (piece : TextPiece) → map (λ place. place.at) (unit_places (text_piece (bare_piece piece))) ≡ map
-    (λ place. place.at) (unit_places piece)
-places-any piece = places-step (text_piece (bare_piece piece)) ∙ sym (places-step piece)
+pub places-any : (piece : TextPiece) → map (λ place. place.at) (places_of_piece (unmodified_piece (bare_piece piece))) ≡
+    map
+    (λ place. place.at) (places_of_piece piece)
+places-any piece = places-step (unmodified_piece (bare_piece piece)) ∙ sym (places-step piece)
 
-pub units-any : (wd : List ℕ) (piece : TextPiece) → map (unit_at wd) (unit_places (text_piece (bare_piece piece))) ≡
-    map (unit_at wd) (unit_places piece)
-units-any wd piece = units-either wd (text_piece (bare_piece piece)) ∙ sym (units-either wd piece)
+pub units-any : (wd : List ℕ) (piece : TextPiece) → map (unit_at wd) (places_of_piece (unmodified_piece (bare_piece
+    piece))) ≡
+    map (unit_at wd) (places_of_piece piece)
+units-any wd piece = units-either wd (unmodified_piece (bare_piece piece)) ∙ sym (units-either wd piece)
 
 -- the piece that is read
 pub piece_read : (o : Option TextPiece) (piece : Piece) → option_map bare_piece o ≡ Some piece → (whole : TextPiece) ×
@@ -136,23 +140,26 @@ piece_read None piece e = absurd (cc (e))
 piece_read (Some whole) piece e = let same : bare_piece whole ≡ piece = cc (e) in (whole, (refl, same))
 
 -- the units of a piece of units of two bytes
-pub units-wide : (wd : List ℕ) (piece : TextPiece) → piece.wide ≡ true → map (unit_at wd) (unit_places piece) ≡ map
+pub units-wide : (wd : List ℕ) (piece : TextPiece) → piece.wide ≡ true → map (unit_at wd) (places_of_piece piece) ≡ map
     (wide_unit wd piece.at) (range_with_len 0 piece.len)
 unfolding either_unit
 units-wide wd piece wide = units-either wd piece ∙ ap (λ b. map (either_unit wd piece.at b) (range_with_len 0
     piece.len)) wide
 
 -- the same of one byte
-pub units-narrow : (wd : List ℕ) (piece : TextPiece) → piece.wide ≡ false → map (unit_at wd) (unit_places piece) ≡ map
+pub units-narrow : (wd : List ℕ) (piece : TextPiece) → piece.wide ≡ false → map (unit_at wd) (places_of_piece piece) ≡
+    map
     (narrow_unit wd piece.at) (range_with_len 0 piece.len)
 unfolding either_unit
 units-narrow wd piece narrow = units-either wd piece ∙ ap (λ b. map (either_unit wd piece.at b) (range_with_len 0
     piece.len)) narrow
 
 -- a text has a unit and a place for each CP of its pieces
-pub length-text_units : (wd : List ℕ) (pieces : List TextPiece) → length (text_of wd pieces).units ≡ total_length pieces
+pub length-text_units : (wd : List ℕ) (pieces : List TextPiece) → length (text_of_pieces wd pieces).units ≡ total_length
+    pieces
 length-text_units wd pieces = length-map (flat_pieces pieces) (unit_at wd) ∙ length-flat_pieces pieces
 
-pub length-text_places : (wd : List ℕ) (pieces : List TextPiece) → length (text_of wd pieces).places ≡ total_length
+pub length-text_places : (wd : List ℕ) (pieces : List TextPiece) → length (text_of_pieces wd pieces).places ≡
+    total_length
     pieces
 length-text_places wd pieces = length-map (flat_pieces pieces) (λ place. place.at) ∙ length-flat_pieces pieces

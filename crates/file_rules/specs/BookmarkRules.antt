@@ -3,30 +3,30 @@ use Rattle.std.specs.Prelude.{◌≡◌, ◌⊎◌, ℕ, ◌+◌, ◌<◌, List,
 use Rattle.doc_bits.specs.declared.places.Where.TheVariants as stands
 use Rattle.doc_bits.specs.Rules.{Rules, rule, Nowhere}
 use Rattle.doc_bits.specs.Places.{Place}
-use Rattle.fib_form.specs.Fib.{fib_pair, pair_place}
-use Rattle.fib_form.specs.TableParts.{pair_of}
+use Rattle.fib_form.specs.Fib.{fib_pair, fib_pair_place}
+use Rattle.fib_form.specs.TableParts.{pair_number}
 use Rattle.fib_form.specs.declared.table_parts.TablePart.{TablePart}
 use Rattle.fib_form.specs.declared.table_parts.TablePart.TheVariants.{SttbfBkmk, PlcfBkf, PlcfBkl}
 use Rattle.fib_form.specs.declared.stories.StoryKind.TheVariants.{Main}
-use Rattle.doc_parts.specs.declared.bookmark_order.Bookmark.{Bookmark}
+use Rattle.document_bookmarks.specs.declared.bookmark_order.Bookmark.{Bookmark}
 use Rattle.doc_parts.specs.BookmarkParts.{BookmarkParts, parts_at, bookmarks_of, BreaksParts}
-use Rattle.file_rules.specs.Source.{DocSource, part_place, part_bytes, story_length}
+use Rattle.file_rules.specs.Source.{DocSource, part_place, table_part_bytes, story_length}
 
 -- the three parts, as far as they are within the table stream
 abbrev pub bookmark_parts : DocSource → BookmarkParts
 bookmark_parts source =
-    parts_at (part_bytes source SttbfBkmk) (part_bytes source PlcfBkf) (part_bytes source PlcfBkl)
+    parts_at (table_part_bytes source SttbfBkmk) (table_part_bytes source PlcfBkf) (table_part_bytes source PlcfBkl)
     (part_place source SttbfBkmk ∷ part_place source PlcfBkf ∷ part_place source PlcfBkl ∷ [])
 
 -- the pair of the names gives more than the six bytes of no names. Else the other two pairs may be any numbers
 abbrev pub HasNamePair : DocSource → Type 0
-HasNamePair source = 6 < (fib_pair source.wd (pair_of SttbfBkmk)).1
+HasNamePair source = 6 < (fib_pair source.wd (pair_number SttbfBkmk)).1
 
 -- the pair of a part leaves the table stream. Profile: also where the part is empty
 abbrev pub IsLeavingPair : DocSource → TablePart → ℕ → Type 0
 IsLeavingPair source part place =
-    let pair = fib_pair source.wd (pair_of part) in
-    (place ≡ pair_place (pair_of part)) × (length source.table < pair.0 + pair.1)
+    let pair = fib_pair source.wd (pair_number part) in
+    (place ≡ fib_pair_place (pair_number part)) × (length source.table < pair.0 + pair.1)
 
 abbrev pub HasLeavingPair : DocSource → ℕ → Type 0
 HasLeavingPair source place =

@@ -7,8 +7,8 @@ use Rattle.style_sheet.specs.Sheet.{Sheet, sheet_code}
 use Rattle.doc_parts.specs.declared.lists.Sed.{Sed}
 use Rattle.doc_parts.specs.declared.lists.Fld.{Fld}
 use Rattle.doc_parts.specs.declared.lists.NoteRef.{NoteRef}
-use Rattle.doc_parts.specs.declared.bookmark_order.Bookmark.{Bookmark}
-use Rattle.doc_parts.specs.contracts.bookmark_order.Bookmark as bookmark
+use Rattle.document_bookmarks.specs.declared.bookmark_order.Bookmark.{Bookmark}
+use Rattle.document_bookmarks.specs.contracts.bookmark_order.Bookmark as bookmark
 use Rattle.doc_parts.specs.contracts.lists.Sed as sed
 use Rattle.doc_parts.specs.contracts.lists.Fld as fld
 use Rattle.doc_parts.specs.contracts.lists.NoteRef as ref
@@ -27,8 +27,8 @@ text_code =
 abbrev FieldLists : Type 0
 FieldLists = List Fld × (List Fld × List Fld)
 
-abbrev fields_of : PartLists → FieldLists
-fields_of parts = (parts.main_fields, (parts.note_fields, parts.head_fields))
+abbrev field_lists : PartLists → FieldLists
+field_lists parts = (parts.main_fields, (parts.note_fields, parts.head_fields))
 
 -- the references, the cuts of the notes and of the header texts, the levels, and the bookmarks
 abbrev OtherLists : Type 0
@@ -54,7 +54,7 @@ parts_code =
     (coded× (coded_list sed.the_row.coded)
     (coded× sheet_code
     (coded× (coded× fields_code (coded× fields_code fields_code)) others_code)))
-    (λ p. (p.sections, (p.sheet, (fields_of p, others_of p))))
+    (λ p. (p.sections, (p.sheet, (field_lists p, others_of p))))
     (λ q. record {
       sections = q.0;
       sheet = q.1.0;

@@ -10,8 +10,8 @@ use Rattle.file_rules.specs.NoteRules.{HasNoteCuts}
 use Rattle.file_rules.specs.HeadRules.{HasHeadCuts}
 
 -- the CP of a story where its last text ends; where it has no texts, its begin
-abbrev pub last_end : List ℕ → ℕ
-last_end cuts = slice_index cuts (length cuts - 1)
+abbrev pub last_text_end : List ℕ → ℕ
+last_text_end cuts = slice_index cuts (length cuts - 1)
 
 -- a unit of the story after that CP; a paragraph mark right there is none
 pub record IsLooseUnit (story : List ℕ) (end cp : ℕ) : Type 0 where
@@ -26,7 +26,7 @@ pub record HasLooseUnit (places story : List ℕ) (end place : ℕ) : Type 0 whe
   pub here : place ≡ slice_index places cp
 
 abbrev pub BreaksEnd : DocSource → StoryKind → List ℕ → ℕ → Type 0
-BreaksEnd source story cuts = HasLooseUnit (story_places source story) (story_units source story) (last_end cuts)
+BreaksEnd source story cuts = HasLooseUnit (story_places source story) (story_units source story) (last_text_end cuts)
 
 abbrev pub BreaksEnds : DocSource → List ℕ → List ℕ → ℕ → Type 0
 BreaksEnds source notes heads place = BreaksEnd source Notes notes place ⊎ BreaksEnd source Heads heads place

@@ -23,11 +23,11 @@ abbrev pub ends_at : List ℕ → List Sed → ℕ → ℕ → Bool
 ends_at units sections main_len cp = is_paragraph_end (slice_index units cp) (ends_section sections main_len cp)
 
 -- the sections ascend, and begin within the main text
-abbrev pub AreInOrder : List Sed → ℕ → Type 0
-AreInOrder sections main_len = AreCpsInOrder (sed_cps main_len) (map (λ sed. sed.start) sections)
+abbrev pub AreSectionsInOrder : List Sed → ℕ → Type 0
+AreSectionsInOrder sections main_len = AreCpsInOrder (sed_cps main_len) (map (λ sed. sed.start) sections)
 
 -- the later sections before this number begin up to a CP
-pub record AreMet (sections : List Sed) (number cp : ℕ) : Type 0 where
+pub record BeginUpTo (sections : List Sed) (number cp : ℕ) : Type 0 where
   pub later : 1 ≤ number
   pub each : (k : ℕ) → 1 ≤ k → k < number → section_begin sections k ≤ cp
 

@@ -14,8 +14,8 @@ use Rattle.piece_table.specs.Clx.{IsClx}
 use Rattle.piece_table.specs.ClxRules.{clx_rules, text_bounds}
 use Rattle.fib_form.specs.declared.table_parts.TablePart.TheVariants.{Clx}
 use Rattle.file_rules.specs.PairRules.{BreaksPairs}
-use Rattle.fib_form.specs.TableParts.{pair_of}
-use Rattle.file_rules.specs.Units.{UnitText, text_of, text_units}
+use Rattle.fib_form.specs.TableParts.{pair_number}
+use Rattle.file_rules.specs.Units.{UnitText, text_of_pieces, text_units}
 use Rattle.file_rules.specs.Source.{DocSource, IsSource}
 use Rattle.file_rules.specs.PartRules.{part_rules}
 
@@ -35,7 +35,7 @@ table_stream_name wd = table_name (fib_which_table wd)
 
 -- the bytes of the Clx
 abbrev pub clx_of : List ℕ → List ℕ → List ℕ
-clx_of wd table = table_part wd table (pair_of Clx)
+clx_of wd table = table_part wd table (pair_number Clx)
 
 -- the two streams of a document, and the pieces of its text
 pub record FileText : Type 0 where
@@ -44,32 +44,32 @@ pub record FileText : Type 0 where
   pub pieces : List TextPiece
 
 -- the streams of a file have them
-pub record HasText (contents : Contents) (text : FileText) : Type 0 where
+pub record HasFileText (contents : Contents) (text : FileText) : Type 0 where
   pub has_wd : HasNamed contents.streams wd_name text.wd
   pub has_table : HasNamed contents.streams (table_stream_name text.wd) text.table
   pub has_pieces : IsClx (clx_of text.wd text.table) text.pieces
 
 -- the same of this WordDocument
-pub record IsTextOf (contents : Contents) (wd : List ℕ) (text : FileText) : Type 0 where
+pub record IsFileTextOf (contents : Contents) (wd : List ℕ) (text : FileText) : Type 0 where
   pub same : text.wd ≡ wd
   pub has_table : HasNamed contents.streams (table_stream_name wd) text.table
   pub has_pieces : IsClx (clx_of wd text.table) text.pieces
 
 -- what the rules on the parts read
-abbrev pub source_of : FileText → DocSource
-source_of text = record { wd = text.wd; table = text.table; text = text_of text.wd text.pieces }
+abbrev pub doc_source_of : FileText → DocSource
+doc_source_of text = record { wd = text.wd; table = text.table; text = text_of_pieces text.wd text.pieces }
 
 -- the FIB and the units are those of the text
 pub record IsLoaded (text : FileText) (fib : FibFields) (units : UnitText) : Type 0 where
-  pub source : IsSource (source_of text) fib
-  pub same : units ≡ text_of text.wd text.pieces
+  pub source : IsSource (doc_source_of text) fib
+  pub same : units ≡ text_of_pieces text.wd text.pieces
 
 -- rules 26 to 32, of pieces that have so many CPs
 abbrev pub rules_of_pieces : List ℕ → List ℕ → ℕ → Rules Place
 rules_of_pieces wd table text_len =
     rules_in Wd (rule 26 (BreaksPairs wd (length table)))
     then rules_in Table
-    (clx_rules (clx_of wd table) (fib_pair wd (pair_of Clx)).0 (text_bounds (fib_size wd) (length wd)) text_len)
+    (clx_rules (clx_of wd table) (fib_pair wd (pair_number Clx)).0 (text_bounds (fib_size wd) (length wd)) text_len)
 
 -- the same of as many CPs as the FIB counts
 abbrev pub table_rules : List ℕ → List ℕ → Rules Place
@@ -98,7 +98,8 @@ loading_rules contents =
 
 -- rules 15 to 57
 abbrev pub contents_rules : Contents → Rules Place
-contents_rules contents = loading_rules contents then given (HasText contents) (λ text. part_rules (source_of text))
+contents_rules contents = loading_rules contents then given (HasFileText contents) (λ text. part_rules (doc_source_of
+    text))
 
 -- the rules of a file, 1 to 57
 abbrev pub file_rules : List ℕ → Rules Place

@@ -12,7 +12,7 @@ use Rattle.fkp_pages.specs.declared.kind.PageKind.TheVariants.{Chpx, Papx}
 use Rattle.direct_props.specs.PageRules.{page_rules}
 use Rattle.fib_form.specs.declared.table_parts.TablePart.TheVariants.{PlcfBteChpx, PlcfBtePapx}
 use Rattle.fib_form.specs.declared.stories.StoryKind.TheVariants.{Main, Notes, Heads}
-use Rattle.file_rules.specs.Source.{DocSource, part_bytes, story_length}
+use Rattle.file_rules.specs.Source.{DocSource, table_part_bytes, story_length}
 use Rattle.file_rules.specs.SectionRules.{HasSections}
 
 -- the number of CPs of the three stories; the paragraph mark that may follow them is not checked
@@ -47,18 +47,19 @@ abbrev pub paragraph_ends : DocSource → List Sed → List ℕ
 paragraph_ends source sections =
     filter (ends_paragraph source sections) (range_with_len 0 (length (judged_units source)))
 
-abbrev pub paragraph_places : DocSource → List Sed → List ℕ
-paragraph_places source sections = map (slice_index (judged_places source)) (paragraph_ends source sections)
+abbrev pub paragraph_end_places : DocSource → List Sed → List ℕ
+paragraph_end_places source sections = map (slice_index (judged_places source)) (paragraph_ends source sections)
 
 -- the rules 39 to 43
 abbrev pub character_rules : DocSource → Rules Place
 character_rules source =
-    rules_in stands.Wd (page_rules Chpx source.wd (part_bytes source PlcfBteChpx) (judged_places source))
+    rules_in stands.Wd (page_rules Chpx source.wd (table_part_bytes source PlcfBteChpx) (judged_places source))
 
 -- the rules 44 to 48
 abbrev pub mark_rules : DocSource → List Sed → Rules Place
 mark_rules source sections =
-    rules_in stands.Wd (page_rules Papx source.wd (part_bytes source PlcfBtePapx) (paragraph_places source sections))
+    rules_in stands.Wd (page_rules Papx source.wd (table_part_bytes source PlcfBtePapx) (paragraph_end_places source
+    sections))
 
 -- the rules 39 to 48
 abbrev pub format_rules : DocSource → List Sed → Rules Place

@@ -7,7 +7,7 @@ use Rattle.doc_parts.specs.declared.lists.Sed.{Sed}
 use Rattle.doc_parts.specs.Stories.{AreCuts}
 use Rattle.fib_form.specs.declared.table_parts.TablePart.TheVariants.{PlcfHdd}
 use Rattle.fib_form.specs.declared.stories.StoryKind.TheVariants.{Heads}
-use Rattle.file_rules.specs.Source.{DocSource, part_place, part_bytes, story_length}
+use Rattle.file_rules.specs.Source.{DocSource, part_place, table_part_bytes, story_length}
 use Rattle.file_rules.specs.SectionRules.{HasSections}
 use Rattle.file_rules.specs.TextCuts.{BreaksCuts}
 
@@ -23,7 +23,7 @@ IsHeadTable len sections = (len ≡ 0) ⊎ HasHeadTexts len sections
 
 abbrev pub BreaksHeads : DocSource → List Sed → ℕ → Type 0
 BreaksHeads source sections =
-    let bytes = part_bytes source PlcfHdd in
+    let bytes = table_part_bytes source PlcfHdd in
     BreaksCuts (IsHeadTable (length bytes) (length sections)) bytes (story_length source Heads)
     (part_place source PlcfHdd)
 
@@ -34,4 +34,4 @@ rules_of_heads source =
 -- the CPs that cut the header texts of a document: text k is from the one to the next, and a text that is missing is
 -- empty
 abbrev pub HasHeadCuts : DocSource → List ℕ → Type 0
-HasHeadCuts source = AreCuts (part_bytes source PlcfHdd) (story_length source Heads)
+HasHeadCuts source = AreCuts (table_part_bytes source PlcfHdd) (story_length source Heads)

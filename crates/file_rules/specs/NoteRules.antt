@@ -8,7 +8,7 @@ use Rattle.doc_parts.specs.Table.{plc_part, IsWholePlc, BreaksTable}
 use Rattle.doc_parts.specs.Stories.{ref_form, ref_cps, AreRefs, AreCuts}
 use Rattle.fib_form.specs.declared.table_parts.TablePart.TheVariants.{PlcffndRef, PlcffndTxt}
 use Rattle.fib_form.specs.declared.stories.StoryKind.TheVariants.{Main, Notes}
-use Rattle.file_rules.specs.Source.{DocSource, part_place, part_bytes, story_length}
+use Rattle.file_rules.specs.Source.{DocSource, part_place, table_part_bytes, story_length}
 use Rattle.file_rules.specs.TextCuts.{BreaksCuts}
 
 -- the number of entries of PlcffndRef
@@ -22,14 +22,14 @@ HasEntries refs = IsWholePlc (plc_part 2 refs) × (0 < ref_count refs)
 -- the references break the rule
 abbrev pub BreaksRefs : DocSource → ℕ → Type 0
 BreaksRefs source =
-    BreaksTable ref_form (ref_cps (story_length source Main)) (part_bytes source PlcffndRef)
+    BreaksTable ref_form (ref_cps (story_length source Main)) (table_part_bytes source PlcffndRef)
     (part_place source PlcffndRef)
 
 -- where there are n references PlcffndTxt has n + 2 CPs. Profile: else it is not looked at
 abbrev pub BreaksNoteCuts : DocSource → ℕ → Type 0
 BreaksNoteCuts source place =
-    let refs = part_bytes source PlcffndRef in
-    let cuts = part_bytes source PlcffndTxt in
+    let refs = table_part_bytes source PlcffndRef in
+    let cuts = table_part_bytes source PlcffndTxt in
     HasEntries refs
     × BreaksCuts (length cuts ≡ 4 * (ref_count refs + 2)) cuts (story_length source Notes)
     (part_place source PlcffndTxt) place
@@ -39,11 +39,11 @@ rules_of_notes source = rules_in stands.Table (rule 53 (λ place. BreaksRefs sou
 
 -- the references of a document
 abbrev pub HasRefs : DocSource → List NoteRef → Type 0
-HasRefs source = AreRefs (part_bytes source PlcffndRef) (story_length source Main)
+HasRefs source = AreRefs (table_part_bytes source PlcffndRef) (story_length source Main)
 
 -- the CPs that cut its notes: text k is from the one to the next. Without references there are none
 abbrev pub HasNoteCuts : DocSource → List ℕ → Type 0
 HasNoteCuts source list =
-    (HasEntries (part_bytes source PlcffndRef)
-    × AreCuts (part_bytes source PlcffndTxt) (story_length source Notes) list)
-    ⊎ ((¬ (HasEntries (part_bytes source PlcffndRef))) × (list ≡ []))
+    (HasEntries (table_part_bytes source PlcffndRef)
+    × AreCuts (table_part_bytes source PlcffndTxt) (story_length source Notes) list)
+    ⊎ ((¬ (HasEntries (table_part_bytes source PlcffndRef))) × (list ≡ []))

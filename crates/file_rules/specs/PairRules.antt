@@ -1,7 +1,7 @@
 -- Rule 26: the parts of the table stream that the pairs of the FIB name.
 use Rattle.std.specs.Prelude.{◌≡◌, ◌≢◌, ◌⊎◌, ℕ, ◌+◌, ◌<◌, List, [], ◌∷◌, slice_index}
 use Rattle.doc_bits.specs.Rules.{Among}
-use Rattle.fib_form.specs.Fib.{fib_pair, pair_place}
+use Rattle.fib_form.specs.Fib.{fib_pair, fib_pair_place}
 
 -- the numbers of the pairs that this rule checks: Stshf, PlcffndRef, PlcffndTxt, PlcfSed, PlcfHdd, PlcfBteChpx,
 -- PlcfBtePapx, SttbfFfn, PlcfFldMom, PlcfFldHdr, PlcfFldFtn, Dop, SttbfAssoc, Clx, PlfLst, PlfLfo
@@ -24,7 +24,7 @@ IsWrongPart pair n table_len =
 -- the k-th of the pairs that are read names a wrong part
 abbrev pub HasWrongPart : List ℕ → ℕ → ℕ → ℕ → Type 0
 HasWrongPart wd table_len k p =
-    let n = slice_index read_pairs k in (p ≡ pair_place n) × IsWrongPart (fib_pair wd n) n table_len
+    let n = slice_index read_pairs k in (p ≡ fib_pair_place n) × IsWrongPart (fib_pair wd n) n table_len
 
 -- rule 26
 abbrev pub BreaksPairs : List ℕ → ℕ → ℕ → Type 0

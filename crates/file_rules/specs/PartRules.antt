@@ -6,14 +6,14 @@ use Rattle.style_sheet.specs.Sheet.{Sheet}
 use Rattle.doc_parts.specs.declared.lists.Sed.{Sed}
 use Rattle.doc_parts.specs.declared.lists.Fld.{Fld}
 use Rattle.doc_parts.specs.declared.lists.NoteRef.{NoteRef}
-use Rattle.doc_parts.specs.declared.bookmark_order.Bookmark.{Bookmark}
+use Rattle.document_bookmarks.specs.declared.bookmark_order.Bookmark.{Bookmark}
 use Rattle.fib_form.specs.declared.stories.StoryKind.TheVariants.{Main, Notes, Heads}
 use Rattle.file_rules.specs.Source.{DocSource}
 use Rattle.file_rules.specs.SectionRules.{rules_of_sections, HasSections}
 use Rattle.file_rules.specs.BinRules.{rules_of_bins}
 use Rattle.file_rules.specs.FormatRules.{rules_of_formats}
 use Rattle.file_rules.specs.SheetRules.{rules_of_sheet, HasSheet}
-use Rattle.file_rules.specs.FieldRules.{rules_of_fields, HasFields}
+use Rattle.file_rules.specs.FieldRules.{rules_of_fields, HasStoryFields}
 use Rattle.file_rules.specs.NoteRules.{rules_of_notes, HasRefs, HasNoteCuts}
 use Rattle.file_rules.specs.HeadRules.{rules_of_heads, HasHeadCuts}
 use Rattle.file_rules.specs.EndRules.{rules_of_ends}
@@ -66,9 +66,9 @@ pub record PartLists : Type 0 where
 pub record HasPartLists (source : DocSource) (parts : PartLists) : Type 0 where
   pub has_sections : HasSections source parts.sections
   pub has_sheet : HasSheet source parts.sheet
-  pub has_main_fields : HasFields source Main parts.main_fields
-  pub has_note_fields : HasFields source Notes parts.note_fields
-  pub has_head_fields : HasFields source Heads parts.head_fields
+  pub has_main_fields : HasStoryFields source Main parts.main_fields
+  pub has_note_fields : HasStoryFields source Notes parts.note_fields
+  pub has_head_fields : HasStoryFields source Heads parts.head_fields
   pub has_refs : HasRefs source parts.refs
   pub has_notes : HasNoteCuts source parts.notes
   pub has_heads : HasHeadCuts source parts.heads

@@ -12,7 +12,7 @@ use Rattle.doc_parts.specs.declared.lists.Sed.{Sed}
 use Rattle.doc_parts.specs.Sections.{section_rules, AreSections, HasSepx, place_of_fc_sepx}
 use Rattle.fib_form.specs.declared.table_parts.TablePart.TheVariants.{PlcfSed}
 use Rattle.fib_form.specs.declared.stories.StoryKind.TheVariants.{Main}
-use Rattle.file_rules.specs.Source.{DocSource, part_place, part_bytes, story_length, story_units}
+use Rattle.file_rules.specs.Source.{DocSource, part_place, table_part_bytes, story_length, story_units}
 use Rattle.file_rules.specs.Rows.{HasWrongRow}
 
 -- the CP where section k begins
@@ -67,7 +67,7 @@ BreaksSepxLists wd list = Among (length list) (λ k. HasSepxFault wd (section_fc
 
 -- the sections of a document
 abbrev pub HasSections : DocSource → List Sed → Type 0
-HasSections source = AreSections (part_bytes source PlcfSed) (story_length source Main)
+HasSections source = AreSections (table_part_bytes source PlcfSed) (story_length source Main)
 
 -- the rules on each section, 34 to 36
 abbrev pub sed_rules : DocSource → List Sed → Rules Place
@@ -81,7 +81,7 @@ sed_rules source list =
 abbrev pub rules_of_sections : DocSource → Rules Place
 rules_of_sections source =
     rules_in stands.Table
-    (section_rules (part_bytes source PlcfSed) (part_place source PlcfSed) (story_length source Main))
+    (section_rules (table_part_bytes source PlcfSed) (part_place source PlcfSed) (story_length source Main))
     then given (HasSections source) (sed_rules source)
 
 -- the first fault of the Sepx at a place

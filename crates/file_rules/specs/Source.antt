@@ -6,7 +6,7 @@ use Rattle.fib_form.specs.declared.table_parts.TablePart.{TablePart}
 use Rattle.fib_form.specs.declared.stories.StoryKind.{StoryKind}
 use Rattle.fib_form.specs.declared.stories.StoryKind.TheVariants.{Main, Notes, Heads}
 use Rattle.file_rules.specs.Units.{UnitText}
-use Rattle.fib_form.specs.TableParts.{pair_of}
+use Rattle.fib_form.specs.TableParts.{pair_number}
 
 pub record DocSource : Type 0 where
   pub wd : List ℕ
@@ -15,10 +15,10 @@ pub record DocSource : Type 0 where
 
 -- where a part begins in the table stream, and its bytes
 abbrev pub part_place : DocSource → TablePart → ℕ
-part_place source part = (fib_pair source.wd (pair_of part)).0
+part_place source part = (fib_pair source.wd (pair_number part)).0
 
-abbrev pub part_bytes : DocSource → TablePart → List ℕ
-part_bytes source part = table_part source.wd source.table (pair_of part)
+abbrev pub table_part_bytes : DocSource → TablePart → List ℕ
+table_part_bytes source part = table_part source.wd source.table (pair_number part)
 
 -- the number of units of a story
 abbrev pub story_length : DocSource → StoryKind → ℕ

@@ -5,7 +5,8 @@ ghost use Rattle.doc_bits.specs.Rules.{Hold};
 ghost use Rattle.file_rules.specs.Faults.{IsReadFault};
 ghost use Rattle.file_rules.specs.SectionRules.{HasSections};
 ghost use Rattle.file_rules.specs.BinRules.{rules_of_bins};
-ghost use Rattle.file_rules.specs.FormatRules.{character_rules, mark_rules, paragraph_places as places_of_paragraphs};
+ghost use Rattle.file_rules.specs.FormatRules.{character_rules, mark_rules};
+ghost use Rattle.file_rules.specs.FormatRules.{paragraph_end_places as places_of_paragraphs};
 ghost use Rattle.file_rules.specs.FormatRules.{rules_of_formats};
 ghost use Rattle.file_rules.specs.PartRules.{layout_rules};
 

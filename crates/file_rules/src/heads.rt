@@ -12,7 +12,7 @@ use doc_parts::{Cuts, Seds};
 use fib_form::{StoryKind, TablePart};
 use std::alloc::Global;
 
-const RULE_HEADS: u8 = 54;
+pub const RULE_HEADS: u8 = 54;
 
 /// Six separators of notes come first, and six header texts belong to each section.
 const TEXTS_OF_SECTION: usize = 6;

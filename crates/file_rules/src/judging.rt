@@ -3,7 +3,7 @@ ghost use Rattle.std.specs.Prelude.{MatchResult};
 ghost use Rattle.doc_bits.specs.Rules.{Hold};
 ghost use Rattle.file_rules.specs.Faults.{IsReadFault};
 ghost use Rattle.file_rules.specs.PartRules.{part_rules};
-ghost use Rattle.file_rules.specs.FileRules.{AreSmall, contents_rules, file_rules, source_of};
+ghost use Rattle.file_rules.specs.FileRules.{AreSmall, contents_rules, file_rules, doc_source_of};
 
 use crate::fault::refused_container;
 use crate::{LoadedText, ReadFault, Source, load_text, read_parts};
@@ -38,8 +38,8 @@ fn check_contents(alloc: Global, container: &Container) -> Result<(), ReadFault>
 /// Checks a text by the rules on its parts.
 fn check_text(alloc: Global, text: &LoadedText<'_>) -> Result<(), ReadFault>
     ensures { MatchResult result
-        (λ _. Hold (part_rules (source_of text.now)))
-        (IsReadFault (part_rules (source_of text.now))) }
+        (λ _. Hold (part_rules (doc_source_of text.now)))
+        (IsReadFault (part_rules (doc_source_of text.now))) }
 {
     let source = text.source();
     check_parts(alloc, &source)

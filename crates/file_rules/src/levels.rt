@@ -9,7 +9,7 @@ use doc_bits::Where;
 use doc_parts::list_levels;
 use fib_form::TablePart;
 
-const RULE_LISTS: u8 = 56;
+pub const RULE_LISTS: u8 = 56;
 
 /// The bytes of the levels of all lists.
 pub fn read_levels<'a>(source: &Source<'a>) -> Result<&'a [u8], ReadFault>

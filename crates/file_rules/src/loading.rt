@@ -7,7 +7,8 @@ ghost use Rattle.file_rules.specs.Faults.{IsReadFault};
 ghost use Rattle.piece_table.specs.Piece.{bare_piece, total_length};
 ghost use Rattle.piece_table.specs.Clx.{IsClx};
 ghost use Rattle.piece_table.specs.ClxRules.{StaysInStream, text_bounds};
-ghost use Rattle.file_rules.specs.FileRules.{AreSmall, HasText, IsFrontOf, IsTextOf, clx_of, source_of, table_rules};
+ghost use Rattle.file_rules.specs.FileRules.{AreSmall, HasFileText, IsFrontOf, IsFileTextOf, clx_of, doc_source_of};
+ghost use Rattle.file_rules.specs.FileRules.{table_rules};
 ghost use Rattle.file_rules.specs.FileRules.{rules_of_pieces, wd_rules, loading_rules};
 
 use crate::fault::refused_clx;
@@ -55,12 +56,12 @@ impl<'a> Model for LoadedText<'a> {
 }
 
 impl<'a> LoadedText<'a> {
-    ghost use Rattle.file_rules.specs.FileRules.{source_of};
+    ghost use Rattle.file_rules.specs.FileRules.{doc_source_of};
     ghost use Rattle.file_rules.specs.FormatRules.{judged_units};
 
     /// What the rules on the parts read.
     pub fn source(&self) -> Source<'_>
-        ensures { result ≡ source_of self.now }
+        ensures { result ≡ doc_source_of self.now }
     {
         Source::new(self.wd, &self.fib, self.table, &self.units)
     }
@@ -91,7 +92,7 @@ impl<'a> LoadedText<'a> {
     pub fn into_loaded(self) -> (Fib, PieceList, Vec<u16>)
         ensures fib { result.0 ≡ fib_fields self.entry.wd }
         ensures pieces { result.1.pieces ≡ self.entry.pieces }
-        ensures units { result.2.items ≡ judged_units (source_of self.entry) }
+        ensures units { result.2.items ≡ judged_units (doc_source_of self.entry) }
     {
         let count = self.source().judged_count();
         let mut units = self.units.into_units();
@@ -104,7 +105,7 @@ impl<'a> LoadedText<'a> {
 pub fn load_text<'a>(alloc: Global, container: &'a Container) -> Result<LoadedText<'a>, ReadFault>
     requires { AreSmall container.now }
     ensures { MatchResult result
-        (λ text. Hold (loading_rules container.now) × HasText container.now text)
+        (λ text. Hold (loading_rules container.now) × HasFileText container.now text)
         (IsReadFault (loading_rules container.now)) }
 {
     let Some(wd) = container.stream(&WORD_DOCUMENT) else {
@@ -126,7 +127,7 @@ fn load_wd<'a>(
     requires small { length wd.now < 2 ^ 32 }
     requires streams { AreSmall container.now }
     ensures { MatchResult result
-        (λ text. Hold (wd_rules container.now wd.now) × IsTextOf container.now wd.now text)
+        (λ text. Hold (wd_rules container.now wd.now) × IsFileTextOf container.now wd.now text)
         (IsReadFault (wd_rules container.now wd.now)) }
 {
     let fib = match Fib::read(wd) {

@@ -2,7 +2,7 @@
 ghost use Rattle.std.specs.Prelude.{◌≡◌, ◌+◌, ◌<◌, ◌≤◌, ◌++◌};
 ghost use Rattle.std.specs.Prelude.{ℕ, length, map, slice_index, take};
 ghost use Rattle.std.specs.List.{range_with_len};
-ghost use Rattle.text_codes.specs.Compressed.{unit_of};
+ghost use Rattle.text_codes.specs.Compressed.{compressed_unit};
 ghost use Rattle.file_rules.specs.Units.{narrow_unit};
 
 use text_codes::unit_of_byte;
@@ -73,7 +73,7 @@ fn put_plain(units: &mut [u16], cp: usize, wd: &[u8], at: usize, len: usize)
 /// The unit of a byte that represents itself.
 fn plain_unit(byte: u8) -> u16
     requires { byte < 0x80 }
-    ensures { result ≡ unit_of byte }
+    ensures { result ≡ compressed_unit byte }
 {
     byte as u16
 }

@@ -2,7 +2,7 @@
 // made.
 ghost use Rattle.std.specs.Prelude.{◌≡◌, ◌<◌, ◌≤◌, ⊤, length, MatchOption};
 ghost use Rattle.doc_bits.specs.Rules.{LeastOrNone};
-ghost use Rattle.file_rules.specs.EndSearch.{AreInOrder, AreMet, IsSoIn, IsNextEnd, IsStretchEnd, ends_at};
+ghost use Rattle.file_rules.specs.EndSearch.{AreSectionsInOrder, BeginUpTo, IsSoIn, IsNextEnd, IsStretchEnd, ends_at};
 
 use doc_parts::Seds;
 use text_codes::{bare_len, ends_paragraph};
@@ -18,13 +18,13 @@ pub(crate) struct SectionEnds<'a> {
 impl<'a> SectionEnds<'a> {
     /// The least CP behind one of the main text before which a section ends.
     fn behind(&mut self, cp: usize) -> usize
-        requires order { AreInOrder self.old.sections.now self.old.main_len }
-        requires met { AreMet self.old.sections.now self.old.met cp }
+        requires order { AreSectionsInOrder self.old.sections.now self.old.main_len }
+        requires met { BeginUpTo self.old.sections.now self.old.met cp }
         requires main { cp < self.old.main_len }
         ensures next { IsNextEnd self.old.sections.now self.old.main_len cp result }
 
         // It goes on from there.
-        ensures met { AreMet self.new.sections.now self.new.met cp }
+        ensures met { BeginUpTo self.new.sections.now self.new.met cp }
         ensures sections { self.new.sections.now ≡ self.old.sections.now }
         ensures main { self.new.main_len ≡ self.old.main_len }
     {
@@ -40,14 +40,14 @@ impl<'a> SectionEnds<'a> {
 
     /// Where the stretch of the units from a CP on ends: with a section, or behind the main text with the last unit.
     fn stretch_end(&mut self, cp: usize, len: usize) -> usize
-        requires order { AreInOrder self.old.sections.now self.old.main_len }
-        requires met { AreMet self.old.sections.now self.old.met cp }
+        requires order { AreSectionsInOrder self.old.sections.now self.old.main_len }
+        requires met { BeginUpTo self.old.sections.now self.old.met cp }
         requires main { self.old.main_len ≤ len }
         requires within { cp < len }
         ensures behind { cp < result }
         ensures within { result ≤ len }
         ensures end { IsStretchEnd self.old.sections.now self.old.main_len len cp result }
-        ensures met { AreMet self.new.sections.now self.new.met cp }
+        ensures met { BeginUpTo self.new.sections.now self.new.met cp }
         ensures sections { self.new.sections.now ≡ self.old.sections.now }
         ensures main { self.new.main_len ≡ self.old.main_len }
     {
@@ -61,13 +61,13 @@ impl<'a> SectionEnds<'a> {
 
 /// The first CP from `from` on whose unit ends a paragraph.
 pub(crate) fn next_end(units: &[u16], ends: &mut SectionEnds<'_>, from: usize) -> Option<usize>
-    requires order { AreInOrder ends.old.sections.now ends.old.main_len }
-    requires met { AreMet ends.old.sections.now ends.old.met from }
+    requires order { AreSectionsInOrder ends.old.sections.now ends.old.main_len }
+    requires met { BeginUpTo ends.old.sections.now ends.old.met from }
     requires main { ends.old.main_len ≤ length units.now }
     requires from { from ≤ length units.now }
     ensures first { LeastOrNone
         (IsSoIn (ends_at units.now ends.old.sections.now ends.old.main_len) from (length units.now)) result }
-    ensures met { MatchOption result ⊤ (λ at. AreMet ends.new.sections.now ends.new.met at) }
+    ensures met { MatchOption result ⊤ (λ at. BeginUpTo ends.new.sections.now ends.new.met at) }
     ensures sections { ends.new.sections.now ≡ ends.old.sections.now }
     ensures main { ends.new.main_len ≡ ends.old.main_len }
 {

@@ -10,7 +10,7 @@ ghost use Rattle.file_rules.specs.Faults.{IsReadFault};
 ghost use Rattle.file_rules.specs.SectionRules.{LacksSepx, HasSepxFault, BreaksSectionMarks, BreaksSepxs};
 ghost use Rattle.file_rules.specs.SectionRules.{BreaksSepxLists, HasSections, sed_rules, rules_of_sections};
 ghost use Rattle.file_rules.specs.SectionRules.{AreJudgedSepxs, IsSepxPlace, IsSepxRange};
-ghost use Rattle.overlapping_grpprls.specs.Walks.{IsValidList};
+ghost use Rattle.overlapping_grpprls.specs.Walks.{IsAcceptedRange};
 ghost use Rattle.prop_map.specs.Formed.{section_groups};
 
 use crate::fault::refused_part;
@@ -18,8 +18,9 @@ use crate::{ReadFault, Source};
 use doc_bits::{Memory, Where, get16, lesser};
 use doc_parts::{NO_SEPX, Seds, fc_sepx_place, sections, sepx};
 use fib_form::{StoryKind, TablePart};
+use grpprl_index::ListPlaces;
 use overlapping_grpprls::{ListRange, right_lists};
-use prop_map::{ListPlaces, SECTION_GROUPS};
+use prop_map::SECTION_GROUPS;
 use sprm_table::list_fault;
 use std::alloc::Global;
 use text_codes::SECTION_MARK;
@@ -217,7 +218,7 @@ impl JudgedSepxs {
 
     /// Notes that the list of a Sepx is right.
     fn add_right(&mut self, wd: &[u8], range: ListRange) -> Result<(), Memory>
-        requires right { IsValidList wd.now section_groups range }
+        requires right { IsAcceptedRange wd.now section_groups range }
         requires judged { AreJudgedSepxs wd.now self.old.places self.old.faults.items }
         ensures { OnOk result (AreJudgedSepxs wd.now self.new.places self.new.faults.items) }
     {

@@ -1,8 +1,9 @@
 // What the rules on the parts of a document read.
 ghost use Rattle.std.specs.Prelude.{◌≡◌, ◌+◌, ◌<◌, ◌≤◌, ◌^◌, length, slice_range};
 ghost use Rattle.fib_form.specs.Fib.{fib_pair};
-ghost use Rattle.fib_form.specs.TableParts.{pair_of};
-ghost use Rattle.file_rules.specs.Source.{part_place, part_bytes, story_length, story_begin, story_units, story_places};
+ghost use Rattle.fib_form.specs.TableParts.{pair_number};
+ghost use Rattle.file_rules.specs.Source.{part_place, table_part_bytes, story_length, story_begin, story_units};
+ghost use Rattle.file_rules.specs.Source.{story_places};
 ghost use Rattle.file_rules.specs.FormatRules.{judged_places, judged_units, text_count};
 
 use crate::TextUnits;
@@ -64,14 +65,14 @@ impl<'a> Source<'a> {
     /// Where a part begins in the table stream.
     pub fn place(&self, part: TablePart) -> u32
         ensures place { result ≡ part_place self.now part }
-        ensures addressed { result + length (part_bytes self.now part) < 2 ^ 32 }
+        ensures addressed { result + length (table_part_bytes self.now part) < 2 ^ 32 }
     {
         self.pair(part).0
     }
 
     /// The bytes of a part, as far as they are within the table stream.
     pub fn part(&self, part: TablePart) -> &'a [u8]
-        ensures bytes { result.now ≡ part_bytes self.now part }
+        ensures bytes { result.now ≡ table_part_bytes self.now part }
         ensures addressed { part_place self.now part + length result.now < 2 ^ 32 }
         ensures within { 0 < length result.now
             → part_place self.now part + length result.now ≤ length self.now.table }
@@ -82,7 +83,7 @@ impl<'a> Source<'a> {
 
     /// Where a part begins in the table stream, and its length in bytes.
     pub(crate) fn pair(&self, part: TablePart) -> (u32, u32)
-        ensures pair { result ≡ fib_pair self.now.wd (pair_of part) }
+        ensures pair { result ≡ fib_pair self.now.wd (pair_number part) }
         ensures small { length self.now.table < 2 ^ 32 }
     {
         self.fib.pair(part.pair())

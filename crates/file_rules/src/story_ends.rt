@@ -4,7 +4,7 @@ ghost use Rattle.doc_bits.specs.Rules.{Hold, LeastOrNone, Nowhere, IsLeast};
 ghost use Rattle.file_rules.specs.Faults.{IsReadFault};
 ghost use Rattle.file_rules.specs.NoteRules.{HasNoteCuts};
 ghost use Rattle.file_rules.specs.HeadRules.{HasHeadCuts};
-ghost use Rattle.file_rules.specs.EndRules.{last_end as end_of_last, IsLooseUnit, BreaksEnd, rules_of_ends};
+ghost use Rattle.file_rules.specs.EndRules.{last_text_end as end_of_last, IsLooseUnit, BreaksEnd, rules_of_ends};
 
 use crate::{ReadFault, Source};
 use doc_bits::{Where, lesser};

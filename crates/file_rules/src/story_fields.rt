@@ -3,12 +3,12 @@ ghost use Rattle.std.specs.Prelude.{◌≡◌, ◌+◌, ◌*◌, ◌<◌, ◌^�
 ghost use Rattle.std.specs.Prelude.{None, length, map, IfOk, MatchResult};
 ghost use Rattle.doc_bits.specs.Rules.{Hold, LeastOrNone};
 ghost use Rattle.doc_parts.specs.Cps.{AreCpsInOrder};
-ghost use Rattle.doc_parts.specs.Fields.{fld_cps, AreFields};
+ghost use Rattle.doc_parts.specs.Fields.{fld_cps, AreFieldCharacters};
 ghost use Rattle.fib_form.specs.declared.stories.StoryKind.TheVariants.{Main, Notes, Heads};
 ghost use Rattle.file_rules.specs.Faults.{IsReadFault};
 ghost use Rattle.file_rules.specs.Rows.{HasWrongRow};
 ghost use Rattle.file_rules.specs.FieldRules.{field_part, HasOtherUnit, BreaksFields, BreaksStoryFields};
-ghost use Rattle.file_rules.specs.FieldRules.{rules_of_fields, HasFields};
+ghost use Rattle.file_rules.specs.FieldRules.{rules_of_fields, HasStoryFields};
 
 use crate::{ReadFault, Source};
 use doc_bits::{Memory, Where, lesser};
@@ -28,8 +28,8 @@ pub struct StoryFields {
 pub fn read_fields(alloc: Global, source: &Source<'_>) -> Result<StoryFields, ReadFault>
     ensures { MatchResult result
         (λ fields. Hold (rules_of_fields source.now)
-        × (HasFields source.now Main fields.main
-        × (HasFields source.now Notes fields.notes × HasFields source.now Heads fields.heads)))
+        × (HasStoryFields source.now Main fields.main
+        × (HasStoryFields source.now Notes fields.notes × HasStoryFields source.now Heads fields.heads)))
         (IsReadFault (rules_of_fields source.now)) }
 {
     let main = story_fields(alloc, source, StoryKind::Main)?;
@@ -67,7 +67,7 @@ fn story_fields(
     story: StoryKind,
 ) -> Result<LeadingFields, Memory>
     ensures { IfOk result (λ read. LeastOrNone (BreaksStoryFields source.now story) read.fault
-        × (read.fault ≡ None → HasFields source.now story read.list)) }
+        × (read.fault ≡ None → HasStoryFields source.now story read.list)) }
 {
     let part = fields_of(story);
     judged_fields(
@@ -83,7 +83,7 @@ fn judged_fields(alloc: Global, plc: &[u8], at: u32, units: &[u16]) -> Result<Le
     requires addressed { at + length plc.now < 2 ^ 32 }
     requires few { length units.now < 2 ^ 32 }
     ensures { IfOk result (λ read. LeastOrNone (BreaksFields units.now plc.now at) read.fault
-        × (read.fault ≡ None → AreFields plc.now (length units.now) read.list)) }
+        × (read.fault ≡ None → AreFieldCharacters plc.now (length units.now) read.list)) }
 {
     let read = leading_fields(alloc, plc, at, units.len() as u32)?;
     if let Some(offset) = wrong_field_unit(&read.list, at, units) {

@@ -1,10 +1,11 @@
 // The text by CP. Whoever checks a unit reads a plain slice, and goes over the places row by row.
 ghost use Rattle.std.specs.Prelude.{◌≡◌, ◌+◌, ◌*◌, ◌^◌, ◌<◌, ◌≤◌, ◌++◌, length, map, take, All, IfOk};
 ghost use Rattle.std.specs.List.{range_with_len};
-ghost use Rattle.piece_table.specs.Piece.{IsPiece, bare_piece, piece_end, total_length, unit_bytes, unit_places};
-ghost use Rattle.direct_props.specs.Rows.{places_of, row_places};
+ghost use Rattle.piece_table.specs.Piece.{IsPiece, bare_piece, piece_end, total_length, unit_bytes, places_of_piece};
+ghost use Rattle.direct_props.specs.Rows.{row_places_of, row_places};
 ghost use Rattle.file_rules.specs.TextRows.{AreTextRows};
-ghost use Rattle.file_rules.specs.Units.{unit_at, text_of, text_piece, text_units, unit_places_in, wide_unit};
+ghost use Rattle.file_rules.specs.Units.{unit_at, text_of_pieces, unmodified_piece, text_units, unit_places_in};
+ghost use Rattle.file_rules.specs.Units.{wide_unit};
 
 use crate::narrow::put_narrow;
 use direct_props::{PlaceRow, Places};
@@ -21,13 +22,13 @@ pub struct TextUnits {
 }
 
 impl Model for TextUnits {
-    ghost use Rattle.direct_props.specs.Rows.{places_of};
+    ghost use Rattle.direct_props.specs.Rows.{row_places_of};
     ghost use Rattle.file_rules.specs.TextRows.{AreTextRows};
     ghost use Rattle.file_rules.specs.Units.{UnitText};
 
     ghost Value = { UnitText };
 
-    ghost view = { λ t. record { places = places_of t.rows.items; units = t.units.items } };
+    ghost view = { λ t. record { places = row_places_of t.rows.items; units = t.units.items } };
 
     ghost invariant = { λ t. AreTextRows t.rows.items };
 }
@@ -58,7 +59,7 @@ impl TextUnits {
 /// Reads the units of all pieces, one after the other.
 pub fn read_units(alloc: Global, wd: &[u8], pieces: &PieceList) -> Result<TextUnits, Memory>
     requires { All (λ piece. piece_end (bare_piece piece) ≤ length wd.now) pieces.now.pieces }
-    ensures { IfOk result (λ text. text ≡ text_of wd.now pieces.now.pieces) }
+    ensures { IfOk result (λ text. text ≡ text_of_pieces wd.now pieces.now.pieces) }
 {
     let rows = place_rows(alloc, pieces)?;
     let mut units = vec![in alloc; 0; pieces.total() as usize]?;
@@ -68,7 +69,7 @@ pub fn read_units(alloc: Global, wd: &[u8], pieces: &PieceList) -> Result<TextUn
 
 /// The places of the units of all pieces, a row a piece.
 fn place_rows(alloc: Global, pieces: &PieceList) -> Result<Vec<PlaceRow>, Memory>
-    ensures places { IfOk result (λ rows. places_of rows.items ≡ unit_places_in pieces.now.pieces) }
+    ensures places { IfOk result (λ rows. row_places_of rows.items ≡ unit_places_in pieces.now.pieces) }
     ensures rows { IfOk result (λ rows. AreTextRows rows.items) }
 {
     let mut rows = Vec::with_capacity(alloc, pieces.len())?;
@@ -81,7 +82,7 @@ fn place_rows(alloc: Global, pieces: &PieceList) -> Result<Vec<PlaceRow>, Memory
 /// The row of the places of a piece's units.
 fn row_of(piece: Piece) -> PlaceRow
     requires { IsPiece piece }
-    ensures places { row_places result ≡ map (λ place. place.at) (unit_places (text_piece piece)) }
+    ensures places { row_places result ≡ map (λ place. place.at) (places_of_piece (unmodified_piece piece)) }
     ensures row { result.at + result.len * result.step < 2 ^ 32 }
 {
     PlaceRow {
@@ -118,7 +119,7 @@ fn put_units(units: &mut [u16], cp: usize, wd: &[u8], piece: Piece)
     requires room { cp + piece.len ≤ length units.old }
     ensures len { length units.new ≡ length units.old }
     ensures put { take (cp + piece.len) units.new
-        ≡ take cp units.old ++ map (unit_at wd.now) (unit_places (text_piece piece)) }
+        ≡ take cp units.old ++ map (unit_at wd.now) (places_of_piece (unmodified_piece piece)) }
 {
     let at = piece.at as usize;
     if piece.wide {

@@ -10,7 +10,7 @@ use Rattle.fkp_pages.specs.Bin.{IsBinTable, IsBinPage, page_at, printed_bin, Are
 use Rattle.fkp_pages.specs.Properties.{IsListAnswered, HasListAt, bare_list}
 use Rattle.fkp_pages.proofs.Public.{run_answer_one, printed_table}
 use Rattle.fkp_gaps.specs.Gaps.{ArePagesWithin}
-use Rattle.fkp_gaps.specs.Filled.{AreRangesOf, IsPageFor, IsFilledBin, last_end, next_page}
+use Rattle.fkp_gaps.specs.Filled.{AreRangesOf, IsPageFor, IsFilledBin, greatest_fc, next_page}
 use Rattle.fkp_gaps.specs.Filled.{with_empty_run, empty_run_page}
 use Rattle.fkp_gaps.specs.Laws.{FilledPlacesHaveLists, FilledBinIsOne}
 use Rattle.fkp_gaps.proofs.GapLemmas.{page_for_one}
@@ -25,13 +25,14 @@ some_range IsValid to [] up same = absurd (omega (arith, up, same))
 some_range IsValid to (bin ∷ rest) up ranges = omega arith
 
 pub whole_printable : (IsValid : ℕ → ℕ → Type 0) (bins : List Bin) → IsWhole IsValid bins →
-    ArePrintableBins bins last_end
+    ArePrintableBins bins greatest_fc
 whole_printable IsValid bins is =
-    ranges_printable IsValid 0 last_end bins is.ranges (some_range IsValid last_end bins (omega arith) is.ranges)
+    ranges_printable IsValid 0 greatest_fc bins is.ranges (some_range IsValid greatest_fc bins (omega arith) is.ranges)
     is.numbers
 
 pub whole_filled : (kind : PageKind) (bin wd : List ℕ) (number : ℕ) (bins : List Bin) (new : List ℕ) →
-    IsWhole (IsPageFor kind bin wd number) bins → new ≡ printed_bin bins last_end → IsFilledBin kind bin wd number new
+    IsWhole (IsPageFor kind bin wd number) bins → new ≡ printed_bin bins greatest_fc → IsFilledBin kind bin wd number
+    new
 whole_filled kind bin wd number bins new is bytes = record {
   bins = bins;
   ranges = is.ranges;
@@ -41,7 +42,7 @@ whole_filled kind bin wd number bins new is bytes = record {
 }
 
 pub filled_printable : (kind : PageKind) (bin wd : List ℕ) (number : ℕ) (new : List ℕ) →
-    (is : IsFilledBin kind bin wd number new) → ArePrintableBins is.bins last_end
+    (is : IsFilledBin kind bin wd number new) → ArePrintableBins is.bins greatest_fc
 filled_printable kind bin wd number new is =
     whole_printable (IsPageFor kind bin wd number) is.bins
     (record { ranges = is.ranges; apart = is.apart; numbers = is.numbers })
@@ -51,23 +52,24 @@ pub filled_table : (kind : PageKind) (bin wd : List ℕ) (number : ℕ) (new : L
     IsFilledBin kind bin wd number new → IsBinTable new
 filled_table kind bin wd number new is =
     subst IsBinTable (sym is.bytes)
-    (printed_table is.bins last_end (filled_printable kind bin wd number new is) (omega arith)).table
+    (printed_table is.bins greatest_fc (filled_printable kind bin wd number new is) (omega arith)).table
 
 -- what it names at a place
 pub filled_names : (kind : PageKind) (bin wd : List ℕ) (number : ℕ) (new : List ℕ) (fc page : ℕ) →
     IsFilledBin kind bin wd number new → IsBinPage new fc page →
-    IsValidBefore (IsPageFor kind bin wd number) last_end fc page
+    IsValidBefore (IsPageFor kind bin wd number) greatest_fc fc page
 filled_names kind bin wd number new fc page is named =
-    printed_right (IsPageFor kind bin wd number) 0 last_end is.bins is.ranges
+    printed_right (IsPageFor kind bin wd number) 0 greatest_fc is.bins is.ranges
     (filled_printable kind bin wd number new is) (omega arith) fc page
     (subst (λ (b : List ℕ). IsBinPage b fc page) is.bytes named)
 
 pub filled_bin_is_one : FilledBinIsOne
 filled_bin_is_one kind bin wd number one other table a b =
     let bins : a.bins ≡ b.bins =
-    ranges_one (IsPageFor kind bin wd number) (page_for_one kind bin wd number table) 0 last_end a.bins b.bins a.ranges
+    ranges_one (IsPageFor kind bin wd number) (page_for_one kind bin wd number table) 0 greatest_fc a.bins b.bins
+    a.ranges
     b.ranges a.apart b.apart in
-    a.bytes ∙ (ap (λ (l : List Bin). printed_bin l last_end) bins ∙ sym b.bytes)
+    a.bytes ∙ (ap (λ (l : List Bin). printed_bin l greatest_fc) bins ∙ sym b.bytes)
 
 -- ---- the lists
 
@@ -78,7 +80,7 @@ named_within bin wd fc number within named =
     subst (λ n. (2 ≤ n) × (512 * n + 512 ≤ length wd)) (sym named.page) (within named.entry named.range.below)
 
 -- the run without properties answers the bare list
-empty_list : (kind : PageKind) (fc : ℕ) (answer : RunAnswer) (list : List ℕ) → fc < last_end →
+empty_list : (kind : PageKind) (fc : ℕ) (answer : RunAnswer) (list : List ℕ) → fc < greatest_fc →
     HasRunAnswer kind empty_run_page fc answer → IsListAnswered kind empty_run_page answer list → list ≡ bare_list kind
 empty_list kind fc answer list before answers is =
     let same : answer ≡ Empty =

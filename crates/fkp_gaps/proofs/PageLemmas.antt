@@ -8,13 +8,13 @@ use Rattle.doc_bits.proofs.Public.{range_mid, length-range, three_parts, length-
 use Rattle.fkp_pages.specs.declared.kind.PageKind.{PageKind}
 use Rattle.fkp_pages.specs.declared.kind.PageKind.TheVariants.{Chpx, Papx}
 use Rattle.fkp_pages.specs.declared.kind.RunAnswer.TheVariants.{Empty}
-use Rattle.fkp_pages.specs.Fkp.{page_count, page_fc, entry_byte, HasRunCount, HasRunAnswer}
+use Rattle.fkp_pages.specs.Fkp.{page_run_count, page_fc, entry_byte, HasRunCount, HasRunAnswer}
 use Rattle.fkp_pages.specs.Bin.{page_at}
-use Rattle.fkp_gaps.specs.Filled.{empty_run_page, last_end, next_page, with_empty_run}
+use Rattle.fkp_gaps.specs.Filled.{empty_run_page, greatest_fc, next_page, with_empty_run}
 
 -- ---- the page
 
-count_one : page_count empty_run_page ≡ 1
+count_one : page_run_count empty_run_page ≡ 1
 unfolding empty_run_page zeros
 count_one = refl
 
@@ -22,7 +22,7 @@ begins : page_fc empty_run_page 0 ≡ 0
 unfolding empty_run_page zeros number_at
 begins = refl
 
-ends : page_fc empty_run_page 1 ≡ last_end
+ends : page_fc empty_run_page 1 ≡ greatest_fc
 unfolding empty_run_page zeros number_at
 ends = refl
 
@@ -35,9 +35,9 @@ unfolding empty_run_page zeros
 page_len = refl
 
 entry_none : (kind : PageKind) → entry_byte kind empty_run_page 0 ≡ 0
-entry_none Chpx = let at : 4 * (page_count empty_run_page + 1) + 1 * 0 ≡ 8 = omega (arith, count_one) in
+entry_none Chpx = let at : 4 * (page_run_count empty_run_page + 1) + 1 * 0 ≡ 8 = omega (arith, count_one) in
     ap (slice_index empty_run_page) at ∙ no_entry
-entry_none Papx = let at : 4 * (page_count empty_run_page + 1) + 13 * 0 ≡ 8 = omega (arith, count_one) in
+entry_none Papx = let at : 4 * (page_run_count empty_run_page + 1) + 13 * 0 ≡ 8 = omega (arith, count_one) in
     ap (slice_index empty_run_page) at ∙ no_entry
 
 counted : (kind : PageKind) → HasRunCount kind empty_run_page
@@ -45,7 +45,7 @@ counted Chpx = record { some = omega (arith, count_one); most = omega (arith, co
 counted Papx = record { some = omega (arith, count_one); most = omega (arith, count_one) }
 
 -- it answers at each place that the run has no properties
-pub page_answers : (kind : PageKind) (fc : ℕ) → fc < last_end → HasRunAnswer kind empty_run_page fc Empty
+pub page_answers : (kind : PageKind) (fc : ℕ) → fc < greatest_fc → HasRunAnswer kind empty_run_page fc Empty
 page_answers kind fc before = (
   counted kind,
   record {

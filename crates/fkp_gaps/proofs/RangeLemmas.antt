@@ -13,8 +13,8 @@ use Rattle.fkp_pages.specs.declared.lists.Bin.{Bin}
 use Rattle.fkp_pages.specs.Bin.{bin_fcs, printed_bin, ArePrintableBins, IsBinPage}
 use Rattle.fkp_pages.proofs.Public.{printed_fc, printed_page, printed_count, fc_upto_end}
 use Rattle.fkp_gaps.specs.declared.bins.PageRange.{PageRange}
-use Rattle.fkp_gaps.specs.Filled.{AreRangesOf, HaveOtherPages, last_end}
-use Rattle.fkp_gaps.specs.Ranges.{IsRangeFor, AreClosed, JoinsRange, bin_of_range}
+use Rattle.fkp_gaps.specs.Filled.{AreRangesOf, HaveOtherPages, greatest_fc}
+use Rattle.fkp_gaps.specs.Ranges.{IsRangeFor, AreClosedRanges, JoinsRange, bin_of_range}
 
 -- ---- a range more
 
@@ -207,14 +207,14 @@ goes_on IsValid last next touch page a b = record {
 -- what is on its way
 pub record IsOnItsWay (IsValid : ℕ → ℕ → Type 0) (bins : List Bin) (last : PageRange) : Type 0 where
   pub range : IsRangeFor IsValid last
-  pub closed : AreClosed IsValid bins last
+  pub closed : AreClosedRanges IsValid bins last
 
 pub joins : (IsValid : ℕ → ℕ → Type 0) (old new : List Bin) (last next range : PageRange) → next.from ≡ last.to →
     IsRangeFor IsValid next → IsOnItsWay IsValid old last → JoinsRange old last next new range →
     IsOnItsWay IsValid new range
 joins IsValid old new last next range touch right way (inl goes) =
     let long : PageRange = record { from = last.from; to = next.to; page = last.page } in
-    let closed : AreClosed IsValid old long = record {
+    let closed : AreClosedRanges IsValid old long = record {
       ranges = way.closed.ranges;
       apart = way.closed.apart;
       pages = way.closed.pages;
@@ -224,7 +224,7 @@ joins IsValid old new last next range touch right way (inl goes) =
     (record { range = goes_on IsValid last next touch goes.page way.range right; closed = closed }))
 joins IsValid old new last next range touch right way (inr closes) =
     let bins = old ++ bin_of_range last ∷ [] in
-    let closed : AreClosed IsValid bins next = record {
+    let closed : AreClosedRanges IsValid bins next = record {
       ranges = range_put IsValid 0 last.from next.from last.page old way.closed.ranges
           (omega (arith, touch, way.range.order)) (λ fc low high. way.range.right fc low (omega (arith, touch, high)));
       apart = apart_put old (bin_of_range last) (bin_of_range next) way.closed.apart
@@ -245,16 +245,16 @@ first_way IsValid bins range none from right =
 
 -- the last range
 pub record IsWhole (IsValid : ℕ → ℕ → Type 0) (bins : List Bin) : Type 0 where
-  pub ranges : AreRangesOf IsValid 0 bins last_end
+  pub ranges : AreRangesOf IsValid 0 bins greatest_fc
   pub apart : HaveOtherPages bins
   pub numbers : All (λ bin. bin.page < 2 ^ 22) bins
 
 pub last_way : (IsValid : ℕ → ℕ → Type 0) (old new : List Bin) (range : PageRange) → IsOnItsWay IsValid old range →
-    last_end ≤ range.to → new ≡ old ++ bin_of_range range ∷ [] → IsWhole IsValid new
+    greatest_fc ≤ range.to → new ≡ old ++ bin_of_range range ∷ [] → IsWhole IsValid new
 last_way IsValid old new range way end put =
-    let to : range.to ≡ last_end = omega (arith, end, way.range.end) in
+    let to : range.to ≡ greatest_fc = omega (arith, end, way.range.end) in
     subst (IsWhole IsValid) (sym put) (record {
-      ranges = range_put IsValid 0 range.from last_end range.page old way.closed.ranges
+      ranges = range_put IsValid 0 range.from greatest_fc range.page old way.closed.ranges
           (omega (arith, way.range.order, to)) (λ fc low high. way.range.right fc low (omega (arith, high, to)));
       apart = way.closed.apart;
       numbers = pages_put old range way.closed.pages way.range.page;

@@ -10,8 +10,8 @@ use Rattle.fkp_pages.specs.Bin.{IsBinPage, printed_bin}
 use Rattle.fkp_gaps.specs.Gaps.{IsGap}
 
 -- the end of the last range, behind each place of a stream
-abbrev pub last_end : ℕ
-last_end = 0xFFFFFFFF
+abbrev pub greatest_fc : ℕ
+greatest_fc = 0xFFFFFFFF
 
 -- the page of a place: the page of this number in a gap, else its own
 abbrev pub IsPageFor : PageKind → List ℕ → List ℕ → ℕ → ℕ → ℕ → Type 0
@@ -34,10 +34,10 @@ HaveOtherPages bins = (k : ℕ) (bin next : Bin) → slice_get bins k ≡ Some b
 -- the table names the right page at each place, with as few ranges as can be
 pub record IsFilledBin (kind : PageKind) (bin wd : List ℕ) (number : ℕ) (new : List ℕ) : Type 0 where
   pub bins : List Bin
-  pub ranges : AreRangesOf (IsPageFor kind bin wd number) 0 bins last_end
+  pub ranges : AreRangesOf (IsPageFor kind bin wd number) 0 bins greatest_fc
   pub apart : HaveOtherPages bins
   pub numbers : All (λ bin. bin.page < 2 ^ 22) bins
-  pub bytes : new ≡ printed_bin bins last_end
+  pub bytes : new ≡ printed_bin bins greatest_fc
 
 -- [MS-DOC] ChpxFkp, PapxFkp: one run of all places, which has no properties. Both kinds spell it alike
 unfoldable pub empty_run_page : List ℕ

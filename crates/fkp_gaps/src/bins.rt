@@ -2,7 +2,7 @@
 ghost use Rattle.std.specs.Prelude.{◌≡◌, ◌<◌, ◌≤◌, ◌^◌, ℕ, IfOk};
 ghost use Rattle.fkp_pages.specs.Bin.{IsBinTable, HasNoBin, HasBinRange};
 ghost use Rattle.fkp_gaps.specs.Gaps.{ArePagesWithin};
-ghost use Rattle.fkp_gaps.specs.Filled.{IsFilledBin, IsPageFor, last_end};
+ghost use Rattle.fkp_gaps.specs.Filled.{IsFilledBin, IsPageFor, greatest_fc};
 ghost use Rattle.fkp_gaps.specs.Ranges.{IsRangeFor, JoinsRange};
 
 use crate::gaps::is_gap_answer;
@@ -69,7 +69,7 @@ fn range_at(kind: PageKind, wd: &[u8], bin: &[u8], number: u32, at: u32) -> Page
     requires table { IsBinTable bin.now }
     requires pages { ArePagesWithin bin.now wd.now }
     requires number { number < 2 ^ 22 }
-    requires at { at < last_end }
+    requires at { at < greatest_fc }
     ensures from { result.from ≡ at }
     ensures range { IsRangeFor (IsPageFor kind bin.now wd.now number) result }
 {
@@ -87,9 +87,9 @@ fn range_at(kind: PageKind, wd: &[u8], bin: &[u8], number: u32, at: u32) -> Page
 fn end_of_none(bin: &[u8], at: u32) -> u32
     requires table { IsBinTable bin.now }
     requires none { HasNoBin bin.now at }
-    requires at { at < last_end }
+    requires at { at < greatest_fc }
     ensures up { at < result }
-    ensures end { result ≤ last_end }
+    ensures end { result ≤ greatest_fc }
     ensures none { (fc : ℕ) → at ≤ fc → fc < result → HasNoBin bin.now fc }
 {
     let first = get32(bin, 0);

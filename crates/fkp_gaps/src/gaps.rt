@@ -4,10 +4,7 @@ ghost use Rattle.fkp_pages.specs.Bin.{IsBinTable, bin_count, page_number};
 ghost use Rattle.fkp_gaps.specs.Gaps.{IsEmptyPapx, IsEmptyRun, IsGapAnswer, ArePagesWithin};
 
 use doc_bits::get32;
-use fkp_pages::{PAGE_LEN, PN_BITS, PN_LEN, PageKind, RunAnswer};
-
-/// The number of the first page that does not lie over the FIB.
-const FIRST_PAGE: usize = 2;
+use fkp_pages::{FIRST_PAGE, PAGE_LEN, PN_BITS, PN_LEN, PageKind, RunAnswer, range_count};
 
 /// Whether what a page answers makes a gap.
 pub(crate) fn is_gap_answer(kind: PageKind, page: &[u8], answer: RunAnswer) -> bool
@@ -70,14 +67,6 @@ fn is_page_within(number: usize, wd_len: usize) -> bool
     ensures { IsTrue result ↔ (2 ≤ number) × (512 * number + 512 ≤ wd_len) }
 {
     FIRST_PAGE <= number && PAGE_LEN * number + PAGE_LEN <= wd_len
-}
-
-/// The number of ranges of a bin table.
-fn range_count(bin: &[u8]) -> usize
-    requires { IsBinTable bin.now }
-    ensures { result ≡ bin_count bin.now }
-{
-    (bin.len() - 4) / (4 + PN_LEN)
 }
 
 /// The number of the page of a range.

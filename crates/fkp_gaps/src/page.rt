@@ -3,13 +3,10 @@ ghost use Rattle.std.specs.Prelude.{◌≡◌, ◌≤◌, OnOk, length};
 ghost use Rattle.fkp_gaps.specs.Filled.{next_page, with_empty_run};
 
 use doc_bits::Memory;
-use fkp_pages::PAGE_LEN;
+use fkp_pages::{COUNT_AT, PAGE_LEN};
 
 /// The bytes of an fc.
 const FC_LEN: usize = 4;
-
-/// The place of the number of runs, the last byte of a page.
-const COUNT_AT: usize = 511;
 
 /// The byte of which the fc behind all places is made.
 const FC_BYTE: u8 = 0xFF;

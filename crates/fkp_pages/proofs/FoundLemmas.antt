@@ -17,13 +17,13 @@ use Rattle.fkp_pages.specs.declared.kind.PageKind.{PageKind}
 use Rattle.fkp_pages.specs.declared.kind.PageKind.TheVariants.{Chpx, Papx}
 use Rattle.fkp_pages.specs.declared.kind.RunAnswer.TheVariants.{Found, Empty}
 use Rattle.fkp_pages.specs.declared.lists.Run.{Run}
-use Rattle.fkp_pages.specs.Fkp.{entry_size, HasRunCount, IsFirstRun, entry_byte, list_from, list_to, spelled_list}
+use Rattle.fkp_pages.specs.Fkp.{run_entry_size, HasRunCount, IsFirstRun, entry_byte, list_from, list_to, spelled_list}
 use Rattle.fkp_pages.specs.Properties.{bare_list}
 use Rattle.fkp_pages.specs.Runs.{run_groups, run_list, IsBareRun, IsWritableRun}
-use Rattle.fkp_pages.specs.Written.{is_bare, written}
+use Rattle.fkp_pages.specs.Written.{is_bare_run, run_bytes_written}
 use Rattle.fkp_pages.specs.PageBytes.{lowered, limit_after, first_limit, entries_end, half_offset, FitsPage}
 use Rattle.fkp_pages.specs.PageBytes.{page_bytes}
-use Rattle.fkp_pages.specs.Found.{HasFileNumbers, IsListOfRun, FindsRun}
+use Rattle.fkp_pages.specs.Found.{HasRunNumbers, IsListOfRun, FindsRun}
 use Rattle.fkp_pages.proofs.WrittenLemmas.{empty_map, written-bare, written-listed, length-run_list}
 use Rattle.fkp_pages.proofs.WrittenLemmas.{length-spelled_list, spelled_len}
 use Rattle.fkp_pages.proofs.LimitLemmas.{limit_after-append, limit_after_upto, lowered-some, lowered_room}
@@ -34,7 +34,7 @@ use Rattle.fkp_pages.proofs.OrderLemmas.{AreInOrder, says_fcs, first_run_is}
 
 -- ---- runs for which nothing is written
 
-pub bare_is : (kind : PageKind) (run : Run) → IsTrue (is_bare kind run) ↔ IsBareRun kind run
+pub bare_is : (kind : PageKind) (run : Run) → IsTrue (is_bare_run kind run) ↔ IsBareRun kind run
 bare_is Chpx run = empty_map run.map
 bare_is Papx run = (
   λ t. let both = both_true (run.istd == 0) (length (entries run.map) == 0) t in (
@@ -58,15 +58,15 @@ pub record HasEntry (kind : PageKind) (page : List ℕ) (fc j limit : ℕ) (run 
   pub size : length page ≡ 512
   pub counted : HasRunCount kind page
   pub first : IsFirstRun page fc j
-  pub entry : entry_byte kind page j ≡ half_offset limit (written kind run)
-  pub part : HasPart page (written kind run) (lowered limit (written kind run))
-  pub room : 2 ≤ lowered limit (written kind run)
+  pub entry : entry_byte kind page j ≡ half_offset limit (run_bytes_written kind run)
+  pub part : HasPart page (run_bytes_written kind run) (lowered limit (run_bytes_written kind run))
+  pub room : 2 ≤ lowered limit (run_bytes_written kind run)
   pub top : limit ≤ 511
 
 bare_found : (kind : PageKind) (page : List ℕ) (fc j limit : ℕ) (run : Run) → HasEntry kind page fc j limit run →
-    IsTrue (is_bare kind run) → FindsRun kind page fc run
+    IsTrue (is_bare_run kind run) → FindsRun kind page fc run
 bare_found kind page fc j limit run h bare =
-    let none : length (written kind run) ≡ 0 = ap length (written-bare kind run bare) in
+    let none : length (run_bytes_written kind run) ≡ 0 = ap length (written-bare kind run bare) in
     record {
       size = h.size;
       answer = Empty;
@@ -76,7 +76,7 @@ bare_found kind page fc j limit run h bare =
           run = j;
           first = h.first;
           answers = h.entry ∙ half_offset-none limit
-              (written kind run) none;
+              (run_bytes_written kind run) none;
         },
       );
       list = bare_list_is kind run ((bare_is kind run).0 bare);
@@ -89,10 +89,10 @@ spelled_some Chpx len = omega arith
 spelled_some Papx len = omega arith
 
 listed_found : (kind : PageKind) (page : List ℕ) (fc j limit : ℕ) (run : Run) → HasEntry kind page fc j limit run →
-    is_bare kind run ≡ false → FindsRun kind page fc run
+    is_bare_run kind run ≡ false → FindsRun kind page fc run
 listed_found kind page fc j limit run h bare =
     let list = run_list kind run in
-    let bytes = written kind run in
+    let bytes = run_bytes_written kind run in
     let offset = lowered limit bytes in
     let spelled : bytes ≡ spelled_list kind list = written-listed kind run bare in
     let size : length bytes ≡ spelled_len kind (length list) = ap length spelled ∙ length-spelled_list kind list in
@@ -141,7 +141,7 @@ listed_found kind page fc j limit run h bare =
       );
     }
 
-found_by : (kind : PageKind) (page : List ℕ) (fc j limit : ℕ) (run : Run) (bare : Bool) → is_bare kind run ≡ bare →
+found_by : (kind : PageKind) (page : List ℕ) (fc j limit : ℕ) (run : Run) (bare : Bool) → is_bare_run kind run ≡ bare →
     HasEntry kind page fc j limit run → FindsRun kind page fc run
 found_by kind page fc j limit run true b h = bare_found kind page fc j limit run h b
 found_by kind page fc j limit run false b h = listed_found kind page fc j limit run h b
@@ -153,13 +153,13 @@ two_bytes_up Chpx count = omega arith
 two_bytes_up Papx count = omega arith
 
 has_entry : (kind : PageKind) (front back : List Run) (run : Run) (fc : ℕ) → FitsPage kind (front ++ run ∷ back) →
-    AreInOrder (front ++ run ∷ back) → All HasFileNumbers (front ++ run ∷ back) → run.from ≤ fc → fc < run.to →
+    AreInOrder (front ++ run ∷ back) → All HasRunNumbers (front ++ run ∷ back) → run.from ≤ fc → fc < run.to →
     HasEntry kind (page_bytes kind (front ++ run ∷ back)) fc (length front) (limit_after kind first_limit front) run
 has_entry kind front back run fc fits order small low high =
     let runs = front ++ run ∷ back in
     let page = page_bytes kind runs in
     let now = limit_after kind first_limit front in
-    let offset = lowered now (written kind run) in
+    let offset = lowered now (run_bytes_written kind run) in
     let len = length-append front (run ∷ back) in
     let count = page_count-page kind runs fits in
     let own : get_or runs (length front) run ≡ run = get_or_at front run back run (length front) refl in
@@ -176,7 +176,8 @@ has_entry kind front back run fc fits order small low high =
       counted = record { some = omega arith; most = omega arith };
       first = first_run_is page runs (length front) fc run (says_fcs kind runs fits order small) order (omega arith)
           (rw own low) (rw own high);
-      entry = ap (λ n. slice_index page (4 * (n + 1) + entry_size kind * length front)) count ∙ entry-page kind front
+      entry = ap (λ n. slice_index page (4 * (n + 1) + run_entry_size kind * length front)) count ∙ entry-page kind
+          front
           back run;
       part = list-page kind front back run fits;
       room = omega arith;
@@ -185,16 +186,16 @@ has_entry kind front back run fc fits order small low high =
 
 -- a run of a page is found at each of its places
 pub page_finds : (kind : PageKind) (runs : List Run) (j fc : ℕ) (d : Run) → FitsPage kind runs → AreInOrder runs →
-    All HasFileNumbers runs → j < length runs → (get_or runs j d).from ≤ fc → fc < (get_or runs j d).to →
+    All HasRunNumbers runs → j < length runs → (get_or runs j d).from ≤ fc → fc < (get_or runs j d).to →
     FindsRun kind (page_bytes kind runs) fc (get_or runs j d)
 page_finds kind runs j fc d fits order small up low high =
     let run = get_or runs j d in
     let whole : runs ≡ take j runs ++ run ∷ drop (suc j) runs = split_at runs j d up in
-    let P : List Run → Type 0 = λ l. FitsPage kind l → AreInOrder l → All HasFileNumbers l →
+    let P : List Run → Type 0 = λ l. FitsPage kind l → AreInOrder l → All HasRunNumbers l →
     FindsRun kind (page_bytes kind l) fc run in
     let there : P (take j runs ++ run ∷ drop (suc j) runs) =
     λ f o s. found_by kind (page_bytes kind (take j runs ++ run ∷ drop (suc j) runs)) fc (length (take j runs))
-    (limit_after kind first_limit (take j runs)) run (is_bare kind run) refl (has_entry kind (take j runs)
+    (limit_after kind first_limit (take j runs)) run (is_bare_run kind run) refl (has_entry kind (take j runs)
     (drop (suc j) runs) run fc f o s low high) in
     subst P (sym whole) there fits order small
 

@@ -15,7 +15,7 @@ use Rattle.fkp_pages.specs.Runs.{run_list, AreRuns}
 use Rattle.fkp_pages.specs.Packing.{page_items, joined_pages}
 use Rattle.fkp_pages.specs.PageBytes.{FitsPage, last_fc, page_bytes}
 use Rattle.fkp_pages.specs.Pages.{first_fc, ArePagesOf}
-use Rattle.fkp_pages.specs.Found.{HasFileNumbers, FindsRun, IsFoundIn, Placement, range_fc, range_page, ArePlaced}
+use Rattle.fkp_pages.specs.Found.{HasRunNumbers, FindsRun, IsRunFoundIn, Placement, range_fc, range_page, ArePlaced}
 use Rattle.fkp_pages.proofs.PageShape.{length-page}
 use Rattle.fkp_pages.proofs.OrderLemmas.{AreInOrder, in_order, inner_run, inner_in_order, ends_upto, begins_upto}
 use Rattle.fkp_pages.proofs.OrderLemmas.{ends_upto_last}
@@ -107,16 +107,16 @@ pub record StandsOnPage (kind : PageKind) (runs : List Run) (parts : List (List 
   pub on : IsOnPage parts i
   pub own : get_or (page_items parts on.page) on.nth run ≡ run
   pub order : AreInOrder (page_items parts on.page)
-  pub numbers : All HasFileNumbers (page_items parts on.page)
+  pub numbers : All HasRunNumbers (page_items parts on.page)
 
-inner_numbers : (front page back : List Run) → All HasFileNumbers (front ++ (page ++ back)) → All HasFileNumbers page
+inner_numbers : (front page back : List Run) → All HasRunNumbers (front ++ (page ++ back)) → All HasRunNumbers page
 inner_numbers front page back small k d up =
     let a = length-append page back in
     let b = length-append front (page ++ back) in
-    subst HasFileNumbers (inner_run front page back k d up) (small (length front + k) d (omega arith))
+    subst HasRunNumbers (inner_run front page back k d up) (small (length front + k) d (omega arith))
 
 stands : (kind : PageKind) (runs : List Run) (parts : List (List Run)) (i : ℕ) (run : Run) → AreInOrder runs →
-    All HasFileNumbers runs → runs ≡ joined_pages parts → i < length runs → get_or runs i run ≡ run →
+    All HasRunNumbers runs → runs ≡ joined_pages parts → i < length runs → get_or runs i run ≡ run →
     StandsOnPage kind runs parts i run
 stands kind runs parts i run order small joined up own =
     let inside : i < length (joined_pages parts) = rw (← joined) up in
@@ -132,7 +132,7 @@ stands kind runs parts i run order small joined up own =
           ∙ (ap (λ n. get_or (front ++ (page ++ back)) n run) (sym on.place)
           ∙ (ap (λ l. get_or l i run) (sym whole) ∙ own));
       order = inner_in_order front page back (subst AreInOrder whole order);
-      numbers = inner_numbers front page back (subst (All HasFileNumbers) whole small);
+      numbers = inner_numbers front page back (subst (All HasRunNumbers) whole small);
     }
 
 pub length-starts : (pages : Pages) (parts : List (List Run)) → pages.starts ≡ map first_fc parts →
@@ -155,7 +155,7 @@ found_on kind runs pages i fc run are s low high =
     subst (λ b. FindsRun kind b fc run) (sym bytes) there
 
 stands_there : (kind : PageKind) (runs : List Run) (pages : Pages) (i : ℕ) (run : Run) → AreRuns kind runs →
-    All HasFileNumbers runs → (are : ArePagesOf kind runs pages) → slice_get runs i ≡ Some run → StandsOnPage kind
+    All HasRunNumbers runs → (are : ArePagesOf kind runs pages) → slice_get runs i ≡ Some run → StandsOnPage kind
     runs are.parts i run
 stands_there kind runs pages i run ordered small are there =
     stands kind runs are.parts i run (in_order kind runs ordered) small are.packed.joined (slice_get_within runs i run
@@ -163,8 +163,8 @@ stands_there kind runs pages i run ordered small are there =
 
 -- each run is found in one of the pages
 pub runs_are_found : (kind : PageKind) (runs : List Run) (pages : Pages) (i : ℕ) (run : Run) (fc : ℕ) →
-    AreRuns kind runs → All HasFileNumbers runs → ArePagesOf kind runs pages → slice_get runs i ≡ Some run →
-    run.from ≤ fc → fc < run.to → IsFoundIn kind pages fc run
+    AreRuns kind runs → All HasRunNumbers runs → ArePagesOf kind runs pages → slice_get runs i ≡ Some run →
+    run.from ≤ fc → fc < run.to → IsRunFoundIn kind pages fc run
 runs_are_found kind runs pages i run fc ordered small are there low high =
     let s = stands_there kind runs pages i run ordered small are there in
     record {
@@ -243,7 +243,7 @@ range_to kind runs pages placement i run order are placed s up own =
 
 -- each place has the list of its run
 pub places_have_lists : (kind : PageKind) (runs : List Run) (pages : Pages) (placement : Placement) (table : List ℕ)
-    (i : ℕ) (run : Run) (fc : ℕ) → AreRuns kind runs → All HasFileNumbers runs → ArePagesOf kind runs pages →
+    (i : ℕ) (run : Run) (fc : ℕ) → AreRuns kind runs → All HasRunNumbers runs → ArePagesOf kind runs pages →
     ArePlaced runs pages placement → IsBinTableOf placement.bins placement.end table → slice_get runs i ≡ Some run →
     run.from ≤ fc → fc < run.to → HasListAt kind table placement.wd fc (run_list kind run)
 places_have_lists kind runs pages placement table i run fc ordered small are placed is_table there low high =

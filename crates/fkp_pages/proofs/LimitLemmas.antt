@@ -9,9 +9,9 @@ use Rattle.std.proofs.lemmas.List.Elements.{All-head}
 use Rattle.fkp_pages.specs.declared.kind.PageKind.{PageKind}
 use Rattle.fkp_pages.specs.declared.kind.PageKind.TheVariants.{Chpx, Papx}
 use Rattle.fkp_pages.specs.declared.lists.Run.{Run}
-use Rattle.fkp_pages.specs.Fkp.{entry_size, most_runs}
+use Rattle.fkp_pages.specs.Fkp.{run_entry_size, most_runs}
 use Rattle.fkp_pages.specs.Runs.{IsWritableRun}
-use Rattle.fkp_pages.specs.Written.{written}
+use Rattle.fkp_pages.specs.Written.{run_bytes_written}
 use Rattle.fkp_pages.specs.Packing.{FitsFromFront}
 use Rattle.fkp_pages.specs.PageBytes.{lowered, limit_after, first_limit, entries_end, half_offset, FitsPage}
 use Rattle.fkp_pages.proofs.WrittenLemmas.{most_written, most-written}
@@ -53,7 +53,7 @@ unfolding limit_after
 limit_after-none kind limit = refl
 
 pub limit_after-one : (kind : PageKind) (limit : ℕ) (run : Run) → limit_after kind limit (run ∷ []) ≡ lowered limit
-    (written kind run)
+    (run_bytes_written kind run)
 unfolding limit_after
 limit_after-one kind limit run = refl
 
@@ -61,14 +61,15 @@ pub limit_after-append : (kind : PageKind) (limit : ℕ) (front more : List Run)
     (front ++ more) ≡ limit_after kind (limit_after kind limit front) more
 unfolding limit_after
 limit_after-append kind limit [] more = refl
-limit_after-append kind limit (run ∷ runs) more = limit_after-append kind (lowered limit (written kind run)) runs more
+limit_after-append kind limit (run ∷ runs) more = limit_after-append kind (lowered limit (run_bytes_written kind run))
+    runs more
 
 pub limit_after_upto : (kind : PageKind) (limit : ℕ) (runs : List Run) → limit_after kind limit runs ≤ limit
 unfolding limit_after
 limit_after_upto kind limit [] = omega arith
 limit_after_upto kind limit (run ∷ runs) =
-    let one = lowered_upto limit (written kind run) in
-    let others = limit_after_upto kind (lowered limit (written kind run)) runs in
+    let one = lowered_upto limit (run_bytes_written kind run) in
+    let others = limit_after_upto kind (lowered limit (run_bytes_written kind run)) runs in
     omega arith
 
 -- more runs bring it no higher
@@ -79,7 +80,7 @@ limit_after_falls kind limit front more = rw (limit_after-append kind limit fron
 
 -- one run more
 pub limit_after-more : (kind : PageKind) (limit : ℕ) (runs : List Run) (i : ℕ) (run : Run) → i < length runs →
-    limit_after kind limit (take (i + 1) runs) ≡ lowered (limit_after kind limit (take i runs)) (written kind
+    limit_after kind limit (take (i + 1) runs) ≡ lowered (limit_after kind limit (take i runs)) (run_bytes_written kind
     (get_or runs i run))
 limit_after-more kind limit runs i run h =
     ap (limit_after kind limit) (take_more runs i run h)
@@ -88,16 +89,19 @@ limit_after-more kind limit runs i run h =
 
 -- the same of a limit that is known
 pub next_limit : (kind : PageKind) (runs : List Run) (i limit next : ℕ) (run : Run) → i < length runs →
-    limit ≡ limit_after kind first_limit (take i runs) → run ≡ get_or runs i run → next ≡ lowered limit (written kind
+    limit ≡ limit_after kind first_limit (take i runs) → run ≡ get_or runs i run → next ≡ lowered limit
+    (run_bytes_written kind
     run) → next ≡ limit_after kind first_limit (take (i + 1) runs)
 next_limit kind runs i limit next run within l r n =
-    n ∙ (ap (λ m. lowered m (written kind run)) l
-    ∙ (ap (λ x. lowered (limit_after kind first_limit (take i runs)) (written kind x)) r ∙ sym (limit_after-more kind
+    n ∙ (ap (λ m. lowered m (run_bytes_written kind run)) l
+    ∙ (ap (λ x. lowered (limit_after kind first_limit (take i runs)) (run_bytes_written kind x)) r ∙ sym
+    (limit_after-more kind
     first_limit runs i run within)))
 
 pub entries_end_rises : (kind : PageKind) (few many : ℕ) → few ≤ many → entries_end kind few ≤ entries_end kind many
-entries_end_rises kind few many h = let product : entry_size kind * few ≤ entry_size kind * many = mul-le-mul_left
-    (entry_size kind) h in omega arith
+entries_end_rises kind few many h = let product : run_entry_size kind * few ≤ run_entry_size kind * many =
+    mul-le-mul_left
+    (run_entry_size kind) h in omega arith
 
 -- where runs fit, the first ones of them do
 pub fits_front : (kind : PageKind) → FitsFromFront (FitsPage kind)
@@ -123,8 +127,8 @@ room_for_one Papx limit h = (omega arith, omega arith)
 pub fits_one : (kind : PageKind) (run : Run) → IsWritableRun kind run → FitsPage kind (run ∷ [])
 fits_one kind run h =
     let most = most-written kind run h in
-    let least = lowered_least first_limit (written kind run) in
-    let one = room_for_one kind (lowered first_limit (written kind run)) (omega arith) in
+    let least = lowered_least first_limit (run_bytes_written kind run) in
+    let one = room_for_one kind (lowered first_limit (run_bytes_written kind run)) (omega arith) in
     record { room = rw (limit_after-one kind first_limit run) one.0; few = one.1 }
 
 -- what is tested of the first runs

@@ -11,12 +11,12 @@ use Rattle.std.proofs.lemmas.Option.{slice_get-get_or}
 use Rattle.doc_bits.specs.Number.{number_at, number_bytes}
 use Rattle.fkp_pages.specs.declared.kind.PageKind.{PageKind}
 use Rattle.fkp_pages.specs.declared.lists.Run.{Run}
-use Rattle.fkp_pages.specs.Fkp.{page_count, page_fc, IsFirstRun}
+use Rattle.fkp_pages.specs.Fkp.{page_run_count, page_fc, IsFirstRun}
 use Rattle.fkp_pages.specs.Runs.{AreRuns}
 use Rattle.fkp_pages.specs.PageBytes.{FitsPage, first_limit, last_fc, page_fcs, page_entries, page_lists, page_bytes}
 use Rattle.fkp_pages.specs.PageBytes.{zeros}
-use Rattle.fkp_pages.specs.Found.{HasFileNumbers}
-use Rattle.doc_bits.specs.Number.{numbers}
+use Rattle.fkp_pages.specs.Found.{HasRunNumbers}
+use Rattle.doc_bits.specs.Number.{u32_list_bytes}
 use Rattle.doc_bits.proofs.Public.{number_at-numbers}
 use Rattle.fkp_pages.proofs.PageShape.{free_bytes, page_count-page}
 
@@ -110,10 +110,10 @@ ends_upto_last runs i d h up =
 abbrev pub fcs_of : List Run → List ℕ
 fcs_of runs = map (λ run. run.from) runs ++ last_fc runs ∷ []
 
-pub page_fcs_are : (runs : List Run) → page_fcs runs ≡ numbers (fcs_of runs)
+pub page_fcs_are : (runs : List Run) → page_fcs runs ≡ u32_list_bytes (fcs_of runs)
 page_fcs_are runs =
     sym (flat_map-append (number_bytes 4) (map (λ run. run.from) runs) (last_fc runs ∷ [])
-    ∙ (ap (λ l. l ++ numbers (last_fc runs ∷ [])) (flat_map-map (number_bytes 4) (λ (run : Run). run.from) runs)
+    ∙ (ap (λ l. l ++ u32_list_bytes (last_fc runs ∷ [])) (flat_map-map (number_bytes 4) (λ (run : Run). run.from) runs)
     ∙ ap (λ l. flat_map (λ (run : Run). number_bytes 4 run.from) runs ++ l) (append-nil (number_bytes 4
     (last_fc runs)))))
 
@@ -152,11 +152,11 @@ page_fc_is kind runs k up small =
 
 -- a page says where each of its runs begins and ends
 pub record SaysFcs (page : List ℕ) (runs : List Run) : Type 0 where
-  pub count : page_count page ≡ length runs
+  pub count : page_run_count page ≡ length runs
   pub from : (k : ℕ) (d : Run) → k < length runs → page_fc page k ≡ (get_or runs k d).from
   pub to : (k : ℕ) (d : Run) → k < length runs → page_fc page (k + 1) ≡ (get_or runs k d).to
 
-pub says_fcs : (kind : PageKind) (runs : List Run) → FitsPage kind runs → AreInOrder runs → All HasFileNumbers runs →
+pub says_fcs : (kind : PageKind) (runs : List Run) → FitsPage kind runs → AreInOrder runs → All HasRunNumbers runs →
     SaysFcs (page_bytes kind runs) runs
 says_fcs kind runs fits h small = record {
   count = page_count-page kind runs fits;

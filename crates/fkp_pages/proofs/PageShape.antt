@@ -9,8 +9,8 @@ use Rattle.doc_bits.proofs.Public.{length-number_bytes}
 use Rattle.fkp_pages.specs.declared.kind.PageKind.{PageKind}
 use Rattle.fkp_pages.specs.declared.kind.PageKind.TheVariants.{Chpx, Papx}
 use Rattle.fkp_pages.specs.declared.lists.Run.{Run}
-use Rattle.fkp_pages.specs.Fkp.{entry_size, page_count}
-use Rattle.fkp_pages.specs.Written.{written}
+use Rattle.fkp_pages.specs.Fkp.{run_entry_size, page_run_count}
+use Rattle.fkp_pages.specs.Written.{run_bytes_written}
 use Rattle.fkp_pages.specs.PageBytes.{zeros, lowered, limit_after, first_limit, entries_end, half_offset, FitsPage}
 use Rattle.fkp_pages.specs.PageBytes.{last_fc, page_fcs, page_entries, page_lists, page_bytes}
 use Rattle.fkp_pages.proofs.LimitLemmas.{limit_after-none, limit_after-append, limit_after_upto, lowered_room}
@@ -35,28 +35,30 @@ length-page_fcs runs =
     let starts = length-starts runs in
     omega (arith, length-append (flat_map (λ run. number_bytes 4 run.from) runs) (number_bytes 4 (last_fc runs)))
 
-entry_len : (kind : PageKind) (count : ℕ) → 1 + (entry_size kind - 1) + entry_size kind * count ≡ entry_size kind *
+entry_len : (kind : PageKind) (count : ℕ) → 1 + (run_entry_size kind - 1) + run_entry_size kind * count ≡ run_entry_size
+    kind *
     suc count
 entry_len Chpx count = omega arith
 entry_len Papx count = omega arith
 
 pub length-page_entries : (kind : PageKind) (limit : ℕ) (runs : List Run) → length (page_entries kind limit runs) ≡
-    entry_size kind * length runs
+    run_entry_size kind * length runs
 length-page_entries kind limit [] = ap length (page_entries-none kind limit) ∙ omega arith
 length-page_entries kind limit (run ∷ runs) =
-    let rest = page_entries kind (lowered limit (written kind run)) runs in
-    let one = half_offset limit (written kind run) ∷ zeros (entry_size kind - 1) in
-    let ih : length rest ≡ entry_size kind * length runs = length-page_entries kind (lowered limit (written kind run))
+    let rest = page_entries kind (lowered limit (run_bytes_written kind run)) runs in
+    let one = half_offset limit (run_bytes_written kind run) ∷ zeros (run_entry_size kind - 1) in
+    let ih : length rest ≡ run_entry_size kind * length runs = length-page_entries kind (lowered limit
+    (run_bytes_written kind run))
     runs in
-    let len = length-zeros (entry_size kind - 1) in
-    let sum : length (one ++ rest) ≡ 1 + (entry_size kind - 1) + entry_size kind * length runs = omega (
+    let len = length-zeros (run_entry_size kind - 1) in
+    let sum : length (one ++ rest) ≡ 1 + (run_entry_size kind - 1) + run_entry_size kind * length runs = omega (
       arith,
       length-append one rest,
     ) in
     ap length (page_entries-cons kind limit run runs) ∙ (sum ∙ entry_len kind (length runs))
 
 pub limit_after-cons : (kind : PageKind) (limit : ℕ) (run : Run) (runs : List Run) → limit_after kind limit
-    (run ∷ runs) ≡ limit_after kind (lowered limit (written kind run)) runs
+    (run ∷ runs) ≡ limit_after kind (lowered limit (run_bytes_written kind run)) runs
 unfolding limit_after
 limit_after-cons kind limit run runs = refl
 
@@ -65,7 +67,7 @@ pub length-page_lists : (kind : PageKind) (limit : ℕ) (runs : List Run) → 0 
     limit_after kind limit runs + length (page_lists kind limit runs) ≡ limit
 length-page_lists kind limit [] h = rw (limit_after-none kind limit, page_lists-none kind limit) (omega arith)
 length-page_lists kind limit (run ∷ runs) h =
-    let bytes = written kind run in
+    let bytes = run_bytes_written kind run in
     let offset = lowered limit bytes in
     let same = limit_after-cons kind limit run runs in
     let more : 0 < limit_after kind offset runs = omega arith in
@@ -116,7 +118,7 @@ length-page kind runs fits = ap length (page_is kind runs) ∙ (length-append (b
     []) ∙ ap (λ n. n + 1) (length-before_count kind runs fits))
 
 -- the last one is the number of runs
-pub page_count-page : (kind : PageKind) (runs : List Run) → FitsPage kind runs → page_count (page_bytes kind runs) ≡
+pub page_count-page : (kind : PageKind) (runs : List Run) → FitsPage kind runs → page_run_count (page_bytes kind runs) ≡
     length runs
 page_count-page kind runs fits =
     ap (λ page. slice_index page 511) (page_is kind runs) ∙ get_or_at (before_count kind runs) (length runs) [] 0 511
@@ -126,29 +128,29 @@ page_count-page kind runs fits =
 
 -- the entry of a run
 pub entry-page : (kind : PageKind) (front back : List Run) (run : Run) → let runs = front ++ run ∷ back in
-    slice_index (page_bytes kind runs) (4 * (length runs + 1) + entry_size kind * length front) ≡ half_offset
-    (limit_after kind first_limit front) (written kind run)
+    slice_index (page_bytes kind runs) (4 * (length runs + 1) + run_entry_size kind * length front) ≡ half_offset
+    (limit_after kind first_limit front) (run_bytes_written kind run)
 entry-page kind front back run =
     let runs = front ++ run ∷ back in
     let now = limit_after kind first_limit front in
-    let byte = half_offset now (written kind run) in
-    let others = page_entries kind (lowered now (written kind run)) back in
+    let byte = half_offset now (run_bytes_written kind run) in
+    let others = page_entries kind (lowered now (run_bytes_written kind run)) back in
     let behind = zeros (free_bytes kind runs) ++ (page_lists kind first_limit runs ++ length runs ∷ []) in
     let entries : page_entries kind first_limit runs ≡ page_entries kind first_limit front ++
-    ((byte ∷ zeros (entry_size kind - 1)) ++ others) =
+    ((byte ∷ zeros (run_entry_size kind - 1)) ++ others) =
     page_entries-append kind first_limit front (run ∷ back) ∙ ap (λ l. page_entries kind first_limit front ++ l)
     (page_entries-cons kind now run back) in
     let split : page_bytes kind runs ≡ (page_fcs runs ++ page_entries kind first_limit front) ++ byte ∷
-    (zeros (entry_size kind - 1) ++ (others ++ behind)) =
+    (zeros (run_entry_size kind - 1) ++ (others ++ behind)) =
     ap (λ l. page_fcs runs ++ (l ++ behind)) entries ∙ simp append_assoc in
     let fcs = length-page_fcs runs in
     let before = length-page_entries kind first_limit front in
-    let place : length (page_fcs runs ++ page_entries kind first_limit front) ≡ 4 * (length runs + 1) + entry_size
+    let place : length (page_fcs runs ++ page_entries kind first_limit front) ≡ 4 * (length runs + 1) + run_entry_size
     kind * length front =
     omega (arith, length-append (page_fcs runs) (page_entries kind first_limit front)) in
-    ap (λ page. slice_index page (4 * (length runs + 1) + entry_size kind * length front)) split
-    ∙ get_or_at (page_fcs runs ++ page_entries kind first_limit front) byte (zeros (entry_size kind - 1) ++
-    (others ++ behind)) 0 (4 * (length runs + 1) + entry_size kind * length front) place
+    ap (λ page. slice_index page (4 * (length runs + 1) + run_entry_size kind * length front)) split
+    ∙ get_or_at (page_fcs runs ++ page_entries kind first_limit front) byte (zeros (run_entry_size kind - 1) ++
+    (others ++ behind)) 0 (4 * (length runs + 1) + run_entry_size kind * length front) place
 
 -- the bytes before and behind a part of a page
 pub record HasPart (page bytes : List ℕ) (at : ℕ) : Type 0 where
@@ -159,12 +161,13 @@ pub record HasPart (page bytes : List ℕ) (at : ℕ) : Type 0 where
 
 -- what is written for a run
 pub list-page : (kind : PageKind) (front back : List Run) (run : Run) → FitsPage kind (front ++ run ∷ back) →
-    HasPart (page_bytes kind (front ++ run ∷ back)) (written kind run) (lowered (limit_after kind first_limit front)
-    (written kind run))
+    HasPart (page_bytes kind (front ++ run ∷ back)) (run_bytes_written kind run) (lowered (limit_after kind first_limit
+    front)
+    (run_bytes_written kind run))
 list-page kind front back run fits =
     let runs = front ++ run ∷ back in
     let now = limit_after kind first_limit front in
-    let bytes = written kind run in
+    let bytes = run_bytes_written kind run in
     let offset = lowered now bytes in
     let pad = zeros (now - (offset + length bytes)) in
     let lower = page_lists kind offset back in

@@ -6,8 +6,8 @@ use Rattle.std.proofs.lemmas.List.{append-nil, take_all, drop-append-le, drop-re
 use Rattle.std.proofs.lemmas.Bool.{ne_eqb}
 use Rattle.fkp_pages.specs.declared.kind.PageKind.{PageKind}
 use Rattle.fkp_pages.specs.declared.lists.Run.{Run}
-use Rattle.fkp_pages.specs.Fkp.{entry_size}
-use Rattle.fkp_pages.specs.Written.{written}
+use Rattle.fkp_pages.specs.Fkp.{run_entry_size}
+use Rattle.fkp_pages.specs.Written.{run_bytes_written}
 use Rattle.fkp_pages.specs.PageBytes.{zeros, lowered, limit_after, first_limit, entries_end, half_offset, FitsPage}
 use Rattle.fkp_pages.specs.PageBytes.{page_fcs, page_entries, page_lists, page_bytes}
 use Rattle.fkp_pages.proofs.LimitLemmas.{limit_after-none, limit_after-more}
@@ -40,11 +40,11 @@ half_is limit offset (byte ∷ bytes) bare b o = let some : bare ≡ false = b �
 -- there is room for the next list
 pub next_room : (kind : PageKind) (runs : List Run) (i : ℕ) (before bytes area : List ℕ) (limit offset : ℕ)
     (run : Run) (list : List ℕ) → HasFirstRuns kind runs i before bytes area limit → FitsPage kind runs →
-    i < length runs → run ≡ get_or runs i run → list ≡ written kind run → offset ≡ lowered limit list →
+    i < length runs → run ≡ get_or runs i run → list ≡ run_bytes_written kind run → offset ≡ lowered limit list →
     offset + length list ≤ limit
 next_room kind runs i before bytes area limit offset run list h fits within r w o =
     let room = room_in_page kind runs i run fits within in
-    let same : list ≡ written kind (get_or runs i run) = w ∙ ap (written kind) r in
+    let same : list ≡ run_bytes_written kind (get_or runs i run) = w ∙ ap (run_bytes_written kind) r in
     rw (o, same, h.limit_is) room
 
 -- the area is as long as it was
@@ -58,13 +58,13 @@ area_len kind runs i before bytes area limit h =
 -- one run more
 pub next_run : (kind : PageKind) (runs : List Run) (i : ℕ) (before bytes area : List ℕ) (limit offset : ℕ) (run : Run)
     (list entry area2 : List ℕ) → HasFirstRuns kind runs i before bytes area limit → FitsPage kind runs →
-    i < length runs → run ≡ get_or runs i run → list ≡ written kind run → offset ≡ lowered limit list →
-    entry ≡ half_offset limit list ∷ zeros (entry_size kind - 1) → area2 ≡ take offset area ++ (list ++ drop
+    i < length runs → run ≡ get_or runs i run → list ≡ run_bytes_written kind run → offset ≡ lowered limit list →
+    entry ≡ half_offset limit list ∷ zeros (run_entry_size kind - 1) → area2 ≡ take offset area ++ (list ++ drop
     (offset + length list) area) → HasFirstRuns kind runs (i + 1) before (bytes ++ entry) area2 offset
 next_run kind runs i before bytes area limit offset run list entry area2 h fits within r w o e a =
     let now = limit_after kind first_limit (take i runs) in
-    let own = written kind (get_or runs i run) in
-    let same : list ≡ own = w ∙ ap (written kind) r in
+    let own = run_bytes_written kind (get_or runs i run) in
+    let same : list ≡ own = w ∙ ap (run_bytes_written kind) r in
     let room = next_room kind runs i before bytes area limit offset run list h fits within r w o in
     let half : half_offset limit list ≡ half_offset now own = ap (λ n. half_offset n list) h.limit_is ∙ ap
     (half_offset now) same in
@@ -76,7 +76,7 @@ next_run kind runs i before bytes area limit offset run list entry area2 h fits 
           ap (λ l. l ++ entry) h.entries
           ∙ (append_assoc before (page_entries kind first_limit (take i runs)) entry
           ∙ ap (λ l. before ++ l)
-          (ap (λ l. page_entries kind first_limit (take i runs) ++ l) (e ∙ ap (λ n. n ∷ zeros (entry_size kind - 1))
+          (ap (λ l. page_entries kind first_limit (take i runs) ++ l) (e ∙ ap (λ n. n ∷ zeros (run_entry_size kind - 1))
           half)
           ∙ sym (page_entries-more kind first_limit runs i run within)));
       lists =

@@ -4,7 +4,7 @@ use Rattle.std.proofs.Common.{slice_index, refl, sym, ap, ◌∙◌, subst, arit
 use Rattle.std.proofs.lemmas.List.{append-nil, take_all}
 use Rattle.std.proofs.lemmas.List.Elements.{All-head, All-tail}
 use Rattle.std.specs.Prelude.{All}
-use Rattle.doc_bits.specs.Number.{number_at, numbers}
+use Rattle.doc_bits.specs.Number.{number_at, u32_list_bytes}
 use Rattle.doc_bits.specs.Plc.{plc_cp}
 use Rattle.doc_bits.proofs.Public.{number_at-after, length-numbers, number_at-numbers}
 use Rattle.fkp_pages.specs.declared.lists.Bin.{Bin}
@@ -43,7 +43,7 @@ page_small (bin ∷ bins) (suc k) small = page_small bins k (All-tail (λ bin. b
 
 pub length-printed_bin : (bins : List Bin) (end : ℕ) → length (printed_bin bins end) ≡ 4 + 8 * length bins
 length-printed_bin bins end =
-    let a = length-append (numbers (bin_fcs bins end)) (numbers (pages bins)) in
+    let a = length-append (u32_list_bytes (bin_fcs bins end)) (u32_list_bytes (pages bins)) in
     let b = length-numbers (bin_fcs bins end) in
     let c = length-numbers (pages bins) in
     let d = length-fcs bins end in
@@ -59,22 +59,25 @@ pub printed_fc : (bins : List Bin) (end k : ℕ) → ArePrintableBins bins end �
     plc_cp (printed_bin bins end) k ≡ slice_index (bin_fcs bins end) k
 printed_fc bins end k are fits h =
     let small = fc_upto_end bins end k (length bins - k) are (omega arith) in
-    number_at-numbers (bin_fcs bins end) (numbers (pages bins)) k (omega (arith, length-fcs bins end)) (omega arith)
+    number_at-numbers (bin_fcs bins end) (u32_list_bytes (pages bins)) k (omega (arith, length-fcs bins end)) (omega
+    arith)
 
 pub printed_page : (bins : List Bin) (end k : ℕ) → ArePrintableBins bins end → k < length bins →
     page_number (printed_bin bins end) k ≡ slice_index (pages bins) k
 printed_page bins end k are h =
     let small = page_small bins k are.pages in
-    let place : 4 * (bin_count (printed_bin bins end) + 1) + 4 * k ≡ length (numbers (bin_fcs bins end)) + 4 * k =
+    let place : 4 * (bin_count (printed_bin bins end) + 1) + 4 * k ≡ length (u32_list_bytes (bin_fcs bins end)) + 4 * k
+    =
     omega (arith, printed_count bins end, length-numbers (bin_fcs bins end), length-fcs bins end) in
-    let stands : number_at (numbers (pages bins) ++ []) (4 * k) 4 ≡ slice_index (pages bins) k =
+    let stands : number_at (u32_list_bytes (pages bins) ++ []) (4 * k) 4 ≡ slice_index (pages bins) k =
     number_at-numbers (pages bins) [] k (omega (arith, length-pages bins)) (omega arith) in
-    let here : number_at (numbers (pages bins)) (4 * k) 4 ≡ slice_index (pages bins) k =
-    subst (λ bytes. number_at bytes (4 * k) 4 ≡ slice_index (pages bins) k) (append-nil (numbers (pages bins))) stands
+    let here : number_at (u32_list_bytes (pages bins)) (4 * k) 4 ≡ slice_index (pages bins) k =
+    subst (λ bytes. number_at bytes (4 * k) 4 ≡ slice_index (pages bins) k) (append-nil (u32_list_bytes (pages bins)))
+    stands
     in
     let whole : number_at (printed_bin bins end) (4 * (bin_count (printed_bin bins end) + 1) + 4 * k) 4 ≡ slice_index
     (pages bins) k =
-    rw place (number_at-after (numbers (bin_fcs bins end)) (numbers (pages bins)) (4 * k) 4 ∙ here) in
+    rw place (number_at-after (u32_list_bytes (bin_fcs bins end)) (u32_list_bytes (pages bins)) (4 * k) 4 ∙ here) in
     rw whole (omega arith)
 
 -- the printed table has the ranges and their pages
@@ -104,7 +107,7 @@ printed_table bins end are fits =
 
 -- the bytes after the last page
 pub printed_all : (bins items : List Bin) (end i : ℕ) (bytes : List ℕ) → items ≡ bins → length items ≤ i →
-    bytes ≡ numbers (bin_fcs bins end) ++ numbers (pages (take i bins)) → bytes ≡ printed_bin bins end
+    bytes ≡ u32_list_bytes (bin_fcs bins end) ++ u32_list_bytes (pages (take i bins)) → bytes ≡ printed_bin bins end
 printed_all bins items end i bytes same h so_far =
     let reach : length bins ≤ i = subst (λ list. length list ≤ i) same h in
-    so_far ∙ ap (λ list. numbers (bin_fcs bins end) ++ numbers (pages list)) (take_all i bins reach)
+    so_far ∙ ap (λ list. u32_list_bytes (bin_fcs bins end) ++ u32_list_bytes (pages list)) (take_all i bins reach)

@@ -15,7 +15,7 @@ use Rattle.fkp_pages.specs.Runs.{AreRuns}
 use Rattle.fkp_pages.specs.PageBytes.{last_fc}
 use Rattle.fkp_pages.specs.Pages.{ArePagesOf}
 use Rattle.fkp_pages.specs.Found.{ArePlaced}
-use Rattle.fkp_pages.specs.InARow.{numbered_bins, row_of}
+use Rattle.fkp_pages.specs.InARow.{numbered_bins, row_placement}
 use Rattle.fkp_pages.proofs.WholePages.{pages_are_whole}
 
 pub numbered_bins-none : (number : ℕ) → numbered_bins number [] ≡ []
@@ -71,7 +71,8 @@ fcs_are : (number end : ℕ) (starts : List ℕ) → bin_fcs (numbered_bins numb
 fcs_are number end starts = ap (λ l. l ++ end ∷ []) (firsts_are number starts)
 
 pub pages_stand_in_a_row : (kind : PageKind) (runs : List Run) (pages : Pages) (number : ℕ) (before behind : List ℕ) →
-    AreRuns kind runs → ArePagesOf kind runs pages → length before ≡ 512 * number → ArePlaced runs pages (row_of runs
+    AreRuns kind runs → ArePagesOf kind runs pages → length before ≡ 512 * number → ArePlaced runs pages (row_placement
+    runs
     pages number before behind)
 pages_stand_in_a_row kind runs pages number before behind ordered are b =
     let whole = pages_are_whole kind runs pages ordered are in

@@ -9,10 +9,10 @@ use Rattle.fkp_pages.specs.declared.lists.Run.{Run}
 use Rattle.fkp_pages.specs.Bin.{ArePrintableBins, IsBinPage, IsBinTableOf}
 use Rattle.fkp_pages.specs.Fkp.{least_list}
 use Rattle.fkp_pages.specs.Properties.{HasListAt}
-use Rattle.fkp_pages.specs.Runs.{run_groups, run_list, IsWritableRun, HasFileNumbers}
+use Rattle.fkp_pages.specs.Runs.{run_groups, run_list, IsWritableRun, HasRunNumbers}
 use Rattle.fkp_pages.specs.PageBytes.{last_fc}
-use Rattle.fkp_pages.specs.InARow.{row_of}
-use Rattle.fkp_pages.specs.Rows.{IsInRun, IsRow, row_bins, row_table}
+use Rattle.fkp_pages.specs.InARow.{row_placement}
+use Rattle.fkp_pages.specs.Rows.{IsInRun, IsPageRow, row_bins, row_table}
 use Rattle.fkp_pages.proofs.FoundLemmas.{lists_have_properties}
 use Rattle.fkp_pages.proofs.FoundPages.{places_have_lists}
 use Rattle.fkp_pages.proofs.OrderLemmas.{last_fc_is}
@@ -30,7 +30,8 @@ run_list_accepted Papx run writable small =
 -- ---- a row
 
 -- what a row's own table names is none of the first two pages
-pub row_low : (kind : PageKind) (wd : List ℕ) (runs : List Run) (first fc number : ℕ) (row : IsRow kind wd runs first) →
+pub row_low : (kind : PageKind) (wd : List ℕ) (runs : List Run) (first fc number : ℕ) (row : IsPageRow kind wd runs
+    first) →
     IsBinTableOf (row_bins row) (last_fc runs) (row_table row) → ArePrintableBins (row_bins row) (last_fc runs) →
     IsBinPage (row_table row) fc number → 2 ≤ number
 row_low kind wd runs first fc number row table printable page =
@@ -42,22 +43,23 @@ row_low kind wd runs first fc number row table printable page =
     let low = row.low in
     omega (arith, page.page, at, number_is, low)
 
-last_small : (runs : List Run) → All HasFileNumbers runs → 0 < length runs → last_fc runs < 2 ^ 32
+last_small : (runs : List Run) → All HasRunNumbers runs → 0 < length runs → last_fc runs < 2 ^ 32
 last_small runs numbers some =
     let found = there_is runs (length runs - 1) (omega (arith, some)) in
     let last = last_fc_is runs found.0 some in
     let is = get_or_from_slice_get runs (length runs - 1) found.0 found.0 found.1 in
-    let small = (All_at HasFileNumbers runs (length runs - 1) found.0 numbers found.1).to in
+    let small = (All_at HasRunNumbers runs (length runs - 1) found.0 numbers found.1).to in
     omega (arith, last, ap (λ (run : Run). run.to) is, small)
 
 -- the table of a row
-pub record IsRowTable (kind : PageKind) (wd : List ℕ) (runs : List Run) (first : ℕ) (row : IsRow kind wd runs first) :
+pub record IsRowTable (kind : PageKind) (wd : List ℕ) (runs : List Run) (first : ℕ) (row : IsPageRow kind wd runs first)
+    :
     Type 0 where
   pub printable : ArePrintableBins (row_bins row) (last_fc runs)
   pub small : last_fc runs < 2 ^ 32
   pub table : IsBinTableOf (row_bins row) (last_fc runs) (row_table row)
 
-pub table_of_row : (kind : PageKind) (wd : List ℕ) (runs : List Run) (first : ℕ) (row : IsRow kind wd runs first) →
+pub table_of_row : (kind : PageKind) (wd : List ℕ) (runs : List Run) (first : ℕ) (row : IsPageRow kind wd runs first) →
     IsRowTable kind wd runs first row
 table_of_row kind wd runs first row =
     let printable = row_is_printable kind runs row.pages first row.right row.pages_are row.some row.high in
@@ -66,10 +68,10 @@ table_of_row kind wd runs first row =
 
 -- the list of a run, through the table of its row alone
 pub row_list : (kind : PageKind) (wd : List ℕ) (runs : List Run) (first fc : ℕ) (run : Run)
-    (row : IsRow kind wd runs first) →
+    (row : IsPageRow kind wd runs first) →
     IsInRun runs fc run → HasListAt kind (row_table row) wd fc (run_list kind run)
 row_list kind wd runs first fc run row in_run =
-    let placement = row_of runs row.pages first row.before row.behind in
+    let placement = row_placement runs row.pages first row.before row.behind in
     let placed =
     pages_stand_in_a_row kind runs row.pages first row.before row.behind row.right row.pages_are row.begins in
     subst (λ stream. HasListAt kind (row_table row) stream fc (run_list kind run)) (sym row.there)
@@ -78,9 +80,10 @@ row_list kind wd runs first fc run row in_run =
     placed (table_of_row kind wd runs first row).table in_run.there in_run.from in_run.to)
 
 -- a run of a row can be written
-pub row_run : (kind : PageKind) (wd : List ℕ) (runs : List Run) (first fc : ℕ) (run : Run) → IsRow kind wd runs first →
-    IsInRun runs fc run → IsWritableRun kind run × HasFileNumbers run
+pub row_run : (kind : PageKind) (wd : List ℕ) (runs : List Run) (first fc : ℕ) (run : Run) → IsPageRow kind wd runs
+    first →
+    IsInRun runs fc run → IsWritableRun kind run × HasRunNumbers run
 row_run kind wd runs first fc run row in_run = (
   All_at (IsWritableRun kind) runs in_run.number run row.right.writable in_run.there,
-  All_at HasFileNumbers runs in_run.number run row.numbers in_run.there,
+  All_at HasRunNumbers runs in_run.number run row.numbers in_run.there,
 )

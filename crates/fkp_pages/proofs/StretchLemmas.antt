@@ -3,7 +3,7 @@ use Rattle.std.proofs.Common.{◌≡◌, ◌<◌, ◌≤◌, ◌+◌, ◌-◌, �
 use Rattle.fkp_pages.specs.declared.kind.PageKind.{PageKind}
 use Rattle.fkp_pages.specs.declared.kind.RunAnswer.{RunAnswer}
 use Rattle.fkp_pages.specs.declared.kind.RunAnswer.TheVariants.{Found, Empty, NoRun, BadCount, Leaves}
-use Rattle.fkp_pages.specs.Fkp.{page_count, page_fc, HasRunCount, HoldsFc, IsFirstRun, IsAnswerOf}
+use Rattle.fkp_pages.specs.Fkp.{page_run_count, page_fc, HasRunCount, HoldsFc, IsFirstRun, IsAnswerOf}
 use Rattle.fkp_pages.specs.Fkp.{HasRunAnswer}
 use Rattle.fkp_pages.specs.Stretch.{HasStretch, IsFoundRun}
 use Rattle.fkp_pages.specs.declared.reading.Stretch.{Stretch}
@@ -87,7 +87,7 @@ one_passed page fc run first last least first' last' least' passed around within
 
 -- the run that holds the place is the first, and at the places of the gap that it holds too
 pub found_here : (page : List ℕ) (fc run first last least begin end : ℕ) → HasPassedRuns page fc run first last
-    least → run < page_count page →
+    least → run < page_run_count page →
     begin ≡ page_fc page run → end ≡ page_fc page (run + 1) → begin ≤ fc → fc < end →
     IsFoundRun page fc (record {
       run = Some run;
@@ -116,13 +116,13 @@ found_here page fc run first last least begin end passed within b e low high =
 
 -- no run of the page holds the place, or one of the gap
 pub none_here : (page : List ℕ) (fc run first last least : ℕ) → HasPassedRuns page fc run first last least →
-    page_count page ≤ run →
+    page_run_count page ≤ run →
     IsFoundRun page fc (record {
       run = None;
       first = first;
       last = last;
       next = record {
-        run = page_count page;
+        run = page_run_count page;
         least = least;
       };
     })

@@ -14,7 +14,7 @@ use Rattle.fkp_pages.specs.declared.kind.PageKind.TheVariants.{Chpx, Papx}
 use Rattle.fkp_pages.specs.declared.lists.Run.{Run}
 use Rattle.fkp_pages.specs.Fkp.{least_list, spelled_list}
 use Rattle.fkp_pages.specs.Runs.{most_printed, run_list, IsWritableRun}
-use Rattle.fkp_pages.specs.Written.{is_bare, written}
+use Rattle.fkp_pages.specs.Written.{is_bare_run, run_bytes_written}
 
 -- tests that hold of the same
 same_test : (a b : Bool) → IsTrue a ↔ IsTrue b → a ≡ b
@@ -36,16 +36,17 @@ is_empty_map m test h = same_test test (length (entries m) == 0) (
   λ t. h.1 ((empty_map m).0 t),
 )
 
-pub is_bare-plain : (run : Run) → run.istd ≡ 0 → is_bare Papx run ≡ (length (entries run.map) == 0)
+pub is_bare-plain : (run : Run) → run.istd ≡ 0 → is_bare_run Papx run ≡ (length (entries run.map) == 0)
 is_bare-plain run h = ap (λ n. (n == 0) && (length (entries run.map) == 0)) h
 
-pub written-bare : (kind : PageKind) (run : Run) → is_bare kind run ≡ true → written kind run ≡ []
-unfolding written
+pub written-bare : (kind : PageKind) (run : Run) → is_bare_run kind run ≡ true → run_bytes_written kind run ≡ []
+unfolding run_bytes_written
 written-bare kind run h = ap (λ b. if b then [] else spelled_list kind (run_list kind run)) h
 
-pub written-listed : (kind : PageKind) (run : Run) → is_bare kind run ≡ false → written kind run ≡ spelled_list kind
+pub written-listed : (kind : PageKind) (run : Run) → is_bare_run kind run ≡ false → run_bytes_written kind run ≡
+    spelled_list kind
     (run_list kind run)
-unfolding written
+unfolding run_bytes_written
 written-listed kind run h = ap (λ b. if b then [] else spelled_list kind (run_list kind run)) h
 
 pub length-run_list : (kind : PageKind) (run : Run) → length (run_list kind run) ≡ least_list kind + length
@@ -79,14 +80,15 @@ most_spelled : (kind : PageKind) (len : ℕ) → len ≤ least_list kind + most_
 most_spelled Chpx len h = omega arith
 most_spelled Papx len h = omega arith
 
-pub length-written : (kind : PageKind) (run : Run) (bare : Bool) → bare ≡ is_bare kind run → length (written kind run)
+pub length-written : (kind : PageKind) (run : Run) (bare : Bool) → bare ≡ is_bare_run kind run → length
+    (run_bytes_written kind run)
     ≡ (if bare then 0 else spelled_len kind (least_list kind + length (printed_list run.map)))
 length-written kind run true e = ap length (written-bare kind run (sym e))
 length-written kind run false e = ap length (written-listed kind run (sym e)) ∙ (length-spelled_list kind
     (run_list kind run) ∙ ap (spelled_len kind) (length-run_list kind run))
 
-small_written : (kind : PageKind) (run : Run) (bare : Bool) → bare ≡ is_bare kind run → IsWritableRun kind run →
-    length (written kind run) ≤ most_written kind
+small_written : (kind : PageKind) (run : Run) (bare : Bool) → bare ≡ is_bare_run kind run → IsWritableRun kind run →
+    length (run_bytes_written kind run) ≤ most_written kind
 small_written kind run true e h = rw (written-bare kind run (sym e)) (omega arith)
 small_written kind run false e h =
     let short = h.short in
@@ -95,19 +97,21 @@ small_written kind run false e h =
     (length (run_list kind run)) (omega arith))
 
 -- few bytes are written for a run whose map is short
-pub most-written : (kind : PageKind) (run : Run) → IsWritableRun kind run → length (written kind run) ≤ most_written
+pub most-written : (kind : PageKind) (run : Run) → IsWritableRun kind run → length (run_bytes_written kind run) ≤
+    most_written
     kind
-most-written kind run h = small_written kind run (is_bare kind run) refl h
+most-written kind run h = small_written kind run (is_bare_run kind run) refl h
 
 -- how many they are, by the kind
-pub listed_len : (kind : PageKind) (run : Run) (len : ℕ) → false ≡ is_bare kind run →
-    len ≡ length (printed_list run.map) → (kind ≡ Chpx → 1 + len ≡ length (written kind run)) × (kind ≡ Papx →
-    2 + len + 2 - (2 + len) % 2 ≡ length (written kind run))
+pub listed_len : (kind : PageKind) (run : Run) (len : ℕ) → false ≡ is_bare_run kind run →
+    len ≡ length (printed_list run.map) → (kind ≡ Chpx → 1 + len ≡ length (run_bytes_written kind run)) × (kind ≡ Papx →
+    2 + len + 2 - (2 + len) % 2 ≡ length (run_bytes_written kind run))
 listed_len kind run len bare e = (
-  λ k. let all = length-written Chpx run false (bare ∙ ap (λ x. is_bare x run) k) in
-      ap (λ n. 1 + n) e ∙ (omega arith ∙ (sym all ∙ ap (λ x. length (written x run)) (sym k))),
-  λ k. let all = length-written Papx run false (bare ∙ ap (λ x. is_bare x run) k) in ap (λ n. 2 + n + 2 - (2 + n) % 2)
-      e ∙ (sym all ∙ ap (λ x. length (written x run)) (sym k)),
+  λ k. let all = length-written Chpx run false (bare ∙ ap (λ x. is_bare_run x run) k) in
+      ap (λ n. 1 + n) e ∙ (omega arith ∙ (sym all ∙ ap (λ x. length (run_bytes_written x run)) (sym k))),
+  λ k. let all = length-written Papx run false (bare ∙ ap (λ x. is_bare_run x run) k) in ap (λ n. 2 + n + 2 - (2 + n) %
+      2)
+      e ∙ (sym all ∙ ap (λ x. length (run_bytes_written x run)) (sym k)),
 )
 
 -- a list is not longer than its map allows

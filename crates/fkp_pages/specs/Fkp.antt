@@ -9,9 +9,9 @@ use Rattle.fkp_pages.specs.declared.kind.RunAnswer.{RunAnswer}
 use Rattle.fkp_pages.specs.declared.kind.RunAnswer.TheVariants.{Found, Empty, NoRun, BadCount, Leaves}
 
 -- [MS-DOC] rgb, rgbx: the bytes of an entry; the first one is half the offset of the properties
-abbrev pub entry_size : PageKind → ℕ
-entry_size Chpx = 1
-entry_size Papx = 13
+abbrev pub run_entry_size : PageKind → ℕ
+run_entry_size Chpx = 1
+run_entry_size Papx = 13
 
 -- the greatest number of runs
 abbrev pub most_runs : PageKind → ℕ
@@ -24,13 +24,13 @@ least_list Chpx = 0
 least_list Papx = 2
 
 -- [MS-DOC] crun, cpara: the number of runs is the last byte
-abbrev pub page_count : List ℕ → ℕ
-page_count page = slice_index page 511
+abbrev pub page_run_count : List ℕ → ℕ
+page_run_count page = slice_index page 511
 
 -- the last byte is a number of runs
 pub record HasRunCount (kind : PageKind) (page : List ℕ) : Type 0 where
-  pub some : 1 ≤ page_count page
-  pub most : page_count page ≤ most_runs kind
+  pub some : 1 ≤ page_run_count page
+  pub most : page_run_count page ≤ most_runs kind
 
 -- [MS-DOC] rgfc: where a run begins; there is one more of them than of runs
 abbrev pub page_fc : List ℕ → ℕ → ℕ
@@ -43,21 +43,21 @@ pub record HoldsFc (page : List ℕ) (run fc : ℕ) : Type 0 where
 
 -- the first run that holds the place
 pub record IsFirstRun (page : List ℕ) (fc run : ℕ) : Type 0 where
-  pub below : run < page_count page
+  pub below : run < page_run_count page
   pub holds : HoldsFc page run fc
   pub first : (other : ℕ) → other < run → ¬ (HoldsFc page other fc)
 
 -- no run holds the place
 abbrev pub HasNoRun : List ℕ → ℕ → Type 0
-HasNoRun page fc = (run : ℕ) → run < page_count page → ¬ (HoldsFc page run fc)
+HasNoRun page fc = (run : ℕ) → run < page_run_count page → ¬ (HoldsFc page run fc)
 
 -- where the entry of a run is, behind the fcs
-abbrev pub entry_place : PageKind → List ℕ → ℕ → ℕ
-entry_place kind page run = 4 * (page_count page + 1) + entry_size kind * run
+abbrev pub run_entry_place : PageKind → List ℕ → ℕ → ℕ
+run_entry_place kind page run = 4 * (page_run_count page + 1) + run_entry_size kind * run
 
 -- [MS-DOC] bOffset: half the offset of the run's properties; 0 where it has none
 abbrev pub entry_byte : PageKind → List ℕ → ℕ → ℕ
-entry_byte kind page run = slice_index page (entry_place kind page run)
+entry_byte kind page run = slice_index page (run_entry_place kind page run)
 
 -- [MS-DOC] Chpx: cb, and so many bytes. PapxInFkp: cb that is not 0, and 2 cb - 1 bytes; or 0, cb', and 2 cb' bytes.
 -- These bytes are the list: grpprl, or for a paragraph GrpPrlAndIstd, which begins with the style number
@@ -93,7 +93,7 @@ pub record IsListOf (kind : PageKind) (page : List ℕ) (run from to : ℕ) : Ty
 -- the list of a run is not in the page
 pub record LeavesPage (kind : PageKind) (page : List ℕ) (run entry : ℕ) : Type 0 where
   pub some : entry_byte kind page run ≢ 0
-  pub here : entry ≡ entry_place kind page run
+  pub here : entry ≡ run_entry_place kind page run
   pub beyond : ¬ (IsListWithin kind page (2 * entry_byte kind page run))
 
 -- what a run answers

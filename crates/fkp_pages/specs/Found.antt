@@ -15,7 +15,7 @@ use Rattle.fkp_pages.specs.Fkp.{HasRunAnswer}
 use Rattle.fkp_pages.specs.Bin.{bin_fcs, page_at, IsBinTableOf}
 use Rattle.fkp_pages.specs.Properties.{IsListAnswered, HasListAt}
 use Rattle.fkp_pages.specs.Runs.{run_list, IsBareRun, IsWritableRun, AreRuns}
-pub use Rattle.fkp_pages.specs.Runs.{HasFileNumbers}
+pub use Rattle.fkp_pages.specs.Runs.{HasRunNumbers}
 use Rattle.fkp_pages.specs.PageBytes.{last_fc}
 use Rattle.fkp_pages.specs.Pages.{ArePagesOf}
 
@@ -41,7 +41,7 @@ pub record FindsRun (kind : PageKind) (page : List ℕ) (fc : ℕ) (run : Run) :
   pub listed : ¬ (IsBareRun kind run) → (from : ℕ) × ((to : ℕ) × (answer ≡ Found from to))
 
 -- one of the pages finds the run
-pub record IsFoundIn (kind : PageKind) (pages : Pages) (fc : ℕ) (run : Run) : Type 0 where
+pub record IsRunFoundIn (kind : PageKind) (pages : Pages) (fc : ℕ) (run : Run) : Type 0 where
   pub page : ℕ
   pub within : page < length pages.starts
   pub finds : FindsRun kind (page_at pages.bytes page) fc run
@@ -50,9 +50,9 @@ pub record IsFoundIn (kind : PageKind) (pages : Pages) (fc : ℕ) (run : Run) : 
 abbrev pub RunsAreFound : Type 0
 RunsAreFound =
     (kind : PageKind) (runs : List Run) (pages : Pages) (i : ℕ) (run : Run) (fc : ℕ) →
-    AreRuns kind runs → All HasFileNumbers runs → ArePagesOf kind runs pages →
+    AreRuns kind runs → All HasRunNumbers runs → ArePagesOf kind runs pages →
     slice_get runs i ≡ Some run → run.from ≤ fc → fc < run.to →
-    IsFoundIn kind pages fc run
+    IsRunFoundIn kind pages fc run
 
 -- where pages are: `WordDocument`, the ranges of a bin table with its end, and the range of the first one of the
 -- pages
@@ -85,7 +85,7 @@ abbrev pub PlacesHaveLists : Type 0
 PlacesHaveLists =
     (kind : PageKind) (runs : List Run) (pages : Pages) (placement : Placement) (table : List ℕ) (i : ℕ) (run : Run)
     (fc : ℕ) →
-    AreRuns kind runs → All HasFileNumbers runs → ArePagesOf kind runs pages →
+    AreRuns kind runs → All HasRunNumbers runs → ArePagesOf kind runs pages →
     ArePlaced runs pages placement → IsBinTableOf placement.bins placement.end table →
     slice_get runs i ≡ Some run → run.from ≤ fc → fc < run.to →
     HasListAt kind table placement.wd fc (run_list kind run)

@@ -16,8 +16,8 @@ numbered_bins number [] = []
 numbered_bins number (start ∷ starts) = record { first = start; page = number } ∷ numbered_bins (number + 1) starts
 
 -- `WordDocument` with the pages between other bytes, and the ranges of these pages alone
-abbrev pub row_of : List Run → Pages → ℕ → List ℕ → List ℕ → Placement
-row_of runs pages number before behind = record {
+abbrev pub row_placement : List Run → Pages → ℕ → List ℕ → List ℕ → Placement
+row_placement runs pages number before behind = record {
   wd = before ++ (pages.bytes ++ behind);
   bins = numbered_bins number pages.starts;
   end = last_fc runs;
@@ -29,7 +29,7 @@ abbrev pub PagesStandInARow : Type 0
 PagesStandInARow =
     (kind : PageKind) (runs : List Run) (pages : Pages) (number : ℕ) (before behind : List ℕ) →
     AreRuns kind runs → ArePagesOf kind runs pages → length before ≡ 512 * number →
-    ArePlaced runs pages (row_of runs pages number before behind)
+    ArePlaced runs pages (row_placement runs pages number before behind)
 
 -- and the ranges are ones that a bin table can have
 abbrev pub RowIsPrintable : Type 0

@@ -23,7 +23,7 @@ pub record StandsAt (kind : PageKind) (page : List ℕ) (at : ℕ) (list : List 
   pub spelled : slice_range page at (at + length (spelled_list kind list)) ≡ spelled_list kind list
 
 -- the list that is read at the place
-pub record IsReadAt (kind : PageKind) (page : List ℕ) (at : ℕ) (list : List ℕ) : Type 0 where
+pub record IsListReadAt (kind : PageKind) (page : List ℕ) (at : ℕ) (list : List ℕ) : Type 0 where
   pub within : IsListWithin kind page at
   pub list_is : slice_range page (list_from kind page at) (list_to kind page at) ≡ list
 
@@ -31,10 +31,10 @@ pub record IsReadAt (kind : PageKind) (page : List ℕ) (at : ℕ) (list : List 
 abbrev pub ListIsSpelled : Type 0
 ListIsSpelled =
     (kind : PageKind) (page : List ℕ) (at : ℕ) (list : List ℕ) →
-    length page ≡ 512 → IsReadAt kind page at list → StandsAt kind page at list
+    length page ≡ 512 → IsListReadAt kind page at list → StandsAt kind page at list
 
 -- what is at a place as it is spelled is read there
 abbrev pub SpelledListIsRead : Type 0
 SpelledListIsRead =
     (kind : PageKind) (page : List ℕ) (at : ℕ) (list : List ℕ) →
-    length page ≡ 512 → StandsAt kind page at list → IsReadAt kind page at list
+    length page ≡ 512 → StandsAt kind page at list → IsListReadAt kind page at list

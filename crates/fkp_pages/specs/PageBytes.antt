@@ -6,8 +6,8 @@ use Rattle.std.specs.List.{flat_map}
 use Rattle.doc_bits.specs.Number.{number_bytes}
 use Rattle.fkp_pages.specs.declared.kind.PageKind.{PageKind}
 use Rattle.fkp_pages.specs.declared.lists.Run.{Run}
-use Rattle.fkp_pages.specs.Fkp.{entry_size, most_runs}
-use Rattle.fkp_pages.specs.Written.{written}
+use Rattle.fkp_pages.specs.Fkp.{run_entry_size, most_runs}
+use Rattle.fkp_pages.specs.Written.{run_bytes_written}
 
 -- so many zeros
 abbrev pub zeros : ℕ → List ℕ
@@ -21,7 +21,7 @@ lowered limit (byte ∷ bytes) = (limit - length (byte ∷ bytes)) / 2 * 2
 -- the limit after some runs
 unfoldable pub limit_after : PageKind → ℕ → List Run → ℕ
 limit_after kind limit [] = limit
-limit_after kind limit (run ∷ runs) = limit_after kind (lowered limit (written kind run)) runs
+limit_after kind limit (run ∷ runs) = limit_after kind (lowered limit (run_bytes_written kind run)) runs
 
 -- where the limit begins: the last byte of a page is the number of its runs
 abbrev pub first_limit : ℕ
@@ -29,7 +29,7 @@ first_limit = 511
 
 -- where the fcs and the entries of so many runs end
 abbrev pub entries_end : PageKind → ℕ → ℕ
-entries_end kind count = 4 * (count + 1) + entry_size kind * count
+entries_end kind count = 4 * (count + 1) + run_entry_size kind * count
 
 -- the runs fit into a page: there are not too many, and their fcs and entries end at or before the limit
 pub record FitsPage (kind : PageKind) (runs : List Run) : Type 0 where
@@ -53,15 +53,17 @@ half_offset limit (byte ∷ bytes) = lowered limit (byte ∷ bytes) / 2
 unfoldable pub page_entries : PageKind → ℕ → List Run → List ℕ
 page_entries kind limit [] = []
 page_entries kind limit (run ∷ runs) =
-    (half_offset limit (written kind run) ∷ zeros (entry_size kind - 1)) ++ page_entries kind (lowered limit
-    (written kind run)) runs
+    (half_offset limit (run_bytes_written kind run) ∷ zeros (run_entry_size kind - 1)) ++ page_entries kind (lowered
+    limit
+    (run_bytes_written kind run)) runs
 
 -- what is written, from the last run's to the first run's, each with a zero behind it where a byte stays free
 unfoldable pub page_lists : PageKind → ℕ → List Run → List ℕ
 page_lists kind limit [] = []
 page_lists kind limit (run ∷ runs) =
-    let offset = lowered limit (written kind run) in
-    page_lists kind offset runs ++ (written kind run ++ zeros (limit - (offset + length (written kind run))))
+    let offset = lowered limit (run_bytes_written kind run) in
+    page_lists kind offset runs ++ (run_bytes_written kind run ++ zeros (limit - (offset + length (run_bytes_written
+    kind run))))
 
 -- the bytes of a page: fcs, entries, zeros, what is written, the number of runs
 abbrev pub page_bytes : PageKind → List Run → List ℕ

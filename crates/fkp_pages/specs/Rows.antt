@@ -9,7 +9,7 @@ use Rattle.fkp_pages.specs.declared.lists.Bin.{Bin}
 use Rattle.fkp_pages.specs.declared.lists.Run.{Run}
 use Rattle.fkp_pages.specs.declared.packing.Pages.{Pages}
 use Rattle.fkp_pages.specs.Bin.{ArePrintableBins, IsBinPage, IsBinTable, bin_count, bin_fcs, page_number, printed_bin}
-use Rattle.fkp_pages.specs.Runs.{AreRuns, HasFileNumbers}
+use Rattle.fkp_pages.specs.Runs.{AreRuns, HasRunNumbers}
 use Rattle.fkp_pages.specs.PageBytes.{last_fc}
 use Rattle.fkp_pages.specs.Pages.{ArePagesOf}
 use Rattle.fkp_pages.specs.InARow.{numbered_bins}
@@ -22,12 +22,12 @@ pub record IsInRun (runs : List Run) (fc : ℕ) (run : Run) : Type 0 where
   pub to : fc < run.to
 
 -- the pages of runs are in a row in WordDocument, from the page of a number on, behind the FIB
-pub record IsRow (kind : PageKind) (wd : List ℕ) (runs : List Run) (first : ℕ) : Type 0 where
+pub record IsPageRow (kind : PageKind) (wd : List ℕ) (runs : List Run) (first : ℕ) : Type 0 where
   pub pages : Pages
   pub before : List ℕ
   pub behind : List ℕ
   pub right : AreRuns kind runs
-  pub numbers : All HasFileNumbers runs
+  pub numbers : All HasRunNumbers runs
   pub pages_are : ArePagesOf kind runs pages
   pub some : 0 < length runs
   pub low : 2 ≤ first
@@ -37,16 +37,16 @@ pub record IsRow (kind : PageKind) (wd : List ℕ) (runs : List Run) (first : �
 
 -- the ranges of the pages of a row, and the table of these alone
 abbrev pub row_bins :
-    {kind : PageKind} {wd : List ℕ} {runs : List Run} {first : ℕ} → IsRow kind wd runs first → List Bin
+    {kind : PageKind} {wd : List ℕ} {runs : List Run} {first : ℕ} → IsPageRow kind wd runs first → List Bin
 row_bins {first = first} row = numbered_bins first row.pages.starts
 
 abbrev pub row_table :
-    {kind : PageKind} {wd : List ℕ} {runs : List Run} {first : ℕ} → IsRow kind wd runs first → List ℕ
+    {kind : PageKind} {wd : List ℕ} {runs : List Run} {first : ℕ} → IsPageRow kind wd runs first → List ℕ
 row_table {runs = runs} row = printed_bin (row_bins row) (last_fc runs)
 
 -- a table names at each place the page that the table of the row names there
 abbrev pub NamesRow :
-    {kind : PageKind} {wd : List ℕ} {runs : List Run} {first : ℕ} → IsRow kind wd runs first → List ℕ → Type 0
+    {kind : PageKind} {wd : List ℕ} {runs : List Run} {first : ℕ} → IsPageRow kind wd runs first → List ℕ → Type 0
 NamesRow row table = (fc number : ℕ) → IsBinPage (row_table row) fc number → IsBinPage table fc number
 
 -- a table has the ranges of an older one that begin before a place, and perhaps further ones behind them. One of them
@@ -71,7 +71,7 @@ pub record AreRangesBefore (old : List ℕ) (before : ℕ) (bins : List Bin) : T
 
 -- a table names at each place before this one what an older table does, and behind it the pages of a row
 pub record NamesBoth
-    {kind : PageKind} {wd : List ℕ} {runs : List Run} {first : ℕ} (row : IsRow kind wd runs first)
+    {kind : PageKind} {wd : List ℕ} {runs : List Run} {first : ℕ} (row : IsPageRow kind wd runs first)
     (old new : List ℕ) (before : ℕ) : Type 0 where
   pub table : IsBinTable new
   pub some : 1 ≤ bin_count new
@@ -83,7 +83,7 @@ pub record NamesBoth
 abbrev pub LongerTablesNameBoth : Type 0
 LongerTablesNameBoth =
     (kind : PageKind) (wd : List ℕ) (runs : List Run) (first before : ℕ) (old : List ℕ) (bins : List Bin)
-    (row : IsRow kind wd runs first) →
+    (row : IsPageRow kind wd runs first) →
     AreRangesBefore old before bins →
     ArePrintableBins (bins ++ row_bins row) (last_fc runs) →
     before ≤ slice_index (bin_fcs (row_bins row) (last_fc runs)) 0 →

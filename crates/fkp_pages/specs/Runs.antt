@@ -42,7 +42,7 @@ pub record AreRuns (kind : PageKind) (runs : List Run) : Type 0 where
       run.to ≡ next.from
 
 -- the numbers of a run have the bits that a file has for them
-pub record HasFileNumbers (run : Run) : Type 0 where
+pub record HasRunNumbers (run : Run) : Type 0 where
   pub from : run.from < 2 ^ 32
   pub to : run.to < 2 ^ 32
   pub istd : run.istd < 2 ^ 16

@@ -5,7 +5,7 @@ use Rattle.fkp_pages.specs.declared.kind.RunAnswer.{RunAnswer}
 use Rattle.fkp_pages.specs.declared.reading.Stretch.{Stretch}
 use Rattle.fkp_pages.specs.declared.runs.RunCursor.{RunCursor}
 use Rattle.fkp_pages.specs.declared.runs.FoundRun.{FoundRun}
-use Rattle.fkp_pages.specs.Fkp.{page_count, HoldsFc, IsFirstRun, HasNoRun, HasRunAnswer}
+use Rattle.fkp_pages.specs.Fkp.{page_run_count, HoldsFc, IsFirstRun, HasNoRun, HasRunAnswer}
 
 -- the places from `first` to `last`: this place is among them, and what the page answers at it, it answers at each
 pub record IsStretch (kind : PageKind) (page : List ℕ) (fc first last : ℕ) : Type 0 where
@@ -22,7 +22,7 @@ pub record HasStretch (kind : PageKind) (page : List ℕ) (fc : ℕ) (stretch : 
 
 -- no run before that of the cursor holds one of the cursor's places
 pub record IsRunCursor (page : List ℕ) (cursor : RunCursor) : Type 0 where
-  pub within : cursor.run ≤ page_count page
+  pub within : cursor.run ≤ page_run_count page
   pub passed : (run fc : ℕ) → run < cursor.run → cursor.least ≤ fc → ¬ (HoldsFc page run fc)
 
 -- the places from the first to the last have this first run, or none, and the place is among them

@@ -9,10 +9,10 @@ use Rattle.fkp_pages.specs.Fkp.{spelled_list}
 use Rattle.fkp_pages.specs.Runs.{run_list}
 
 -- whether the run has no properties, and a paragraph the style 0
-abbrev pub is_bare : PageKind → Run → Bool
-is_bare Chpx run = length (entries run.map) == 0
-is_bare Papx run = (run.istd == 0) && (length (entries run.map) == 0)
+abbrev pub is_bare_run : PageKind → Run → Bool
+is_bare_run Chpx run = length (entries run.map) == 0
+is_bare_run Papx run = (run.istd == 0) && (length (entries run.map) == 0)
 
 -- the bytes that are written for a run
-unfoldable pub written : PageKind → Run → List ℕ
-written kind run = if is_bare kind run then [] else spelled_list kind (run_list kind run)
+unfoldable pub run_bytes_written : PageKind → Run → List ℕ
+run_bytes_written kind run = if is_bare_run kind run then [] else spelled_list kind (run_list kind run)

@@ -52,7 +52,7 @@ pub fn bin_range(bin: &[u8], fc: u32) -> Option<BinRange>
 }
 
 /// The number of ranges.
-fn range_count(bin: &[u8]) -> usize
+pub fn range_count(bin: &[u8]) -> usize
     requires { IsBinTable bin.now }
     ensures { result ≡ bin_count bin.now }
 {

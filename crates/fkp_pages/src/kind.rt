@@ -1,12 +1,15 @@
 // What differs between the pages of character runs and those of paragraph runs.
 ghost use Rattle.std.specs.Prelude.{◌≡◌};
-ghost use Rattle.fkp_pages.specs.Fkp.{entry_size, most_runs, least_list};
+ghost use Rattle.fkp_pages.specs.Fkp.{run_entry_size, most_runs, least_list};
 
 /// The bytes of a page.
 pub const PAGE_LEN: usize = 512;
 
 /// The place of crun or cpara, the last byte of a page.
-pub(crate) const COUNT_AT: usize = 511;
+pub const COUNT_AT: usize = 511;
+
+/// The number of the first page that does not lie over the FIB.
+pub const FIRST_PAGE: usize = 2;
 
 /// The two kinds of formatted disk page: ChpxFkp for characters, PapxFkp for paragraphs.
 #[derive(Clone, Copy)]
@@ -33,7 +36,7 @@ pub enum RunAnswer {
 impl PageKind {
     /// The bytes of an entry: a BX of a paragraph has 12 more.
     pub(crate) fn entry_size(self) -> usize
-        ensures { result ≡ entry_size self }
+        ensures { result ≡ run_entry_size self }
     {
         match self {
             PageKind::Chpx => 1,

@@ -16,9 +16,9 @@ mod runs;
 mod writable;
 mod written;
 
-pub use bin_table::{BinRange, PN_BITS, PN_LEN, bin_at, bin_range, write_bin};
+pub use bin_table::{BinRange, PN_BITS, PN_LEN, bin_at, bin_range, range_count, write_bin};
 pub use counting::{chpx_page_count, papx_page_count};
-pub use kind::{PAGE_LEN, PageKind, RunAnswer};
+pub use kind::{COUNT_AT, FIRST_PAGE, PAGE_LEN, PageKind, RunAnswer};
 pub use laws::{
     bin_page_is_one, list_at_is_one, list_is_spelled, run_answer_is_one, spelled_list_is_read,
 };
@@ -36,3 +36,4 @@ pub use reading::{
 };
 pub use runs::RunCursor;
 pub use writable::{are_chp_runs, are_pap_runs, groups_of_runs};
+pub use written::ISTD_LEN;

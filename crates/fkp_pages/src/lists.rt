@@ -5,7 +5,7 @@ ghost use Rattle.std.specs.Prelude.{length, Some, slice_get, slice_index_or, OnO
 ghost use Rattle.std.specs.Prelude.{OnErr};
 ghost use Rattle.std.specs.List.{All};
 ghost use Rattle.fkp_pages.specs.declared.lists.Run.{Run};
-ghost use Rattle.fkp_pages.specs.Runs.{HasFileNumbers};
+ghost use Rattle.fkp_pages.specs.Runs.{HasRunNumbers};
 
 use doc_bits::Memory;
 use prop_map::PropMap;
@@ -41,7 +41,7 @@ impl Model for ChpRuns {
     ghost use Rattle.std.specs.Coded.{coded_list};
     ghost use Rattle.fkp_pages.specs.declared.lists.Run.{Run};
     ghost use Rattle.fkp_pages.specs.contracts.lists.Run as row;
-    ghost use Rattle.fkp_pages.specs.Runs.{HasFileNumbers};
+    ghost use Rattle.fkp_pages.specs.Runs.{HasRunNumbers};
 
     ghost Value = { List Run };
 
@@ -49,7 +49,7 @@ impl Model for ChpRuns {
 
     ghost view = { λ r. r.items.items };
 
-    ghost invariant = { λ r. All HasFileNumbers r.items.items };
+    ghost invariant = { λ r. All HasRunNumbers r.items.items };
 }
 
 impl ChpRuns {
@@ -64,7 +64,7 @@ impl ChpRuns {
     /// How many runs there are.
     pub fn len(&self) -> usize
         ensures count { result ≡ length self.now }
-        ensures numbers { All HasFileNumbers self.now }
+        ensures numbers { All HasRunNumbers self.now }
     {
         self.items.len()
     }
@@ -85,7 +85,7 @@ impl ChpRuns {
         ensures ok { OnOk result
             (self.new ≡ self.old ++ (record { from = from; to = to; istd = 0; map = map }) ∷ []) }
         ensures err { OnErr result (self.new ≡ self.old) }
-        ensures numbers { HasFileNumbers (record { from = from; to = to; istd = 0; map = map }) }
+        ensures numbers { HasRunNumbers (record { from = from; to = to; istd = 0; map = map }) }
     {
         self.items.push(Run {
             from,
@@ -109,7 +109,7 @@ impl Model for PapRuns {
     ghost use Rattle.std.specs.Coded.{coded_list};
     ghost use Rattle.fkp_pages.specs.declared.lists.Run.{Run};
     ghost use Rattle.fkp_pages.specs.contracts.lists.Run as row;
-    ghost use Rattle.fkp_pages.specs.Runs.{HasFileNumbers};
+    ghost use Rattle.fkp_pages.specs.Runs.{HasRunNumbers};
 
     ghost Value = { List Run };
 
@@ -117,7 +117,7 @@ impl Model for PapRuns {
 
     ghost view = { λ r. r.items.items };
 
-    ghost invariant = { λ r. All HasFileNumbers r.items.items };
+    ghost invariant = { λ r. All HasRunNumbers r.items.items };
 }
 
 impl PapRuns {
@@ -132,7 +132,7 @@ impl PapRuns {
     /// How many runs there are.
     pub fn len(&self) -> usize
         ensures count { result ≡ length self.now }
-        ensures numbers { All HasFileNumbers self.now }
+        ensures numbers { All HasRunNumbers self.now }
     {
         self.items.len()
     }
@@ -154,7 +154,7 @@ impl PapRuns {
         ensures ok { OnOk result
             (self.new ≡ self.old ++ (record { from = from; to = to; istd = istd; map = map }) ∷ []) }
         ensures err { OnErr result (self.new ≡ self.old) }
-        ensures numbers { HasFileNumbers (record { from = from; to = to; istd = istd; map = map }) }
+        ensures numbers { HasRunNumbers (record { from = from; to = to; istd = istd; map = map }) }
     {
         self.items.push(Run {
             from,

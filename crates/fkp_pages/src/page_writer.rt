@@ -2,9 +2,9 @@
 ghost use Rattle.std.specs.Prelude.{◌≡◌, ◌<◌, ◌≤◌, ◌+◌, ◌-◌, ◌++◌, ◌∷◌};
 ghost use Rattle.std.specs.Prelude.{◌/◌, ◌↔◌, List, ℕ, length, take, drop, All};
 ghost use Rattle.std.specs.Prelude.{IsTrue, OnOk, if◌then◌else◌};
-ghost use Rattle.fkp_pages.specs.Fkp.{entry_size, most_runs};
+ghost use Rattle.fkp_pages.specs.Fkp.{run_entry_size, most_runs};
 ghost use Rattle.fkp_pages.specs.Runs.{IsWritableRun};
-ghost use Rattle.fkp_pages.specs.Written.{written};
+ghost use Rattle.fkp_pages.specs.Written.{run_bytes_written};
 ghost use Rattle.fkp_pages.specs.PageBytes.{zeros, lowered, entries_end, FitsPage, half_offset, page_fcs, page_bytes};
 
 use crate::kind::PageKind;
@@ -19,7 +19,7 @@ pub(crate) const FIRST_LIMIT: usize = 511;
 /// The limit after a run, where it was `limit` before.
 pub(crate) fn limit_after_run(limit: usize, run: &Run, kind: PageKind) -> usize
     requires { IsWritableRun kind run.now }
-    ensures { result ≡ lowered limit (written kind run.now) }
+    ensures { result ≡ lowered limit (run_bytes_written kind run.now) }
 {
     offset_below(limit, written_len(run, kind))
 }
@@ -91,7 +91,7 @@ fn push_fcs(bytes: &mut Bytes, runs: &[Run]) -> Result<(), Memory>
 fn push_entry(bytes: &mut Bytes, is_bare: bool, offset: usize, kind: PageKind) -> Result<(), Memory>
     requires { offset ≤ 511 }
     ensures { OnOk result
-        (bytes.new ≡ bytes.old ++ ((if is_bare then 0 else offset / 2) ∷ zeros (entry_size kind - 1))) }
+        (bytes.new ≡ bytes.old ++ ((if is_bare then 0 else offset / 2) ∷ zeros (run_entry_size kind - 1))) }
 {
     let half = if is_bare { 0 } else { (offset / 2) as u8 };
     bytes.push_all(&[half])?;

@@ -2,7 +2,7 @@
 ghost use Rattle.std.specs.Prelude.{◌≡◌, ◌+◌, ◌*◌, ◌<◌, ◌≤◌, ℕ, List};
 ghost use Rattle.std.specs.Prelude.{◌↔◌, length, IsTrue, MatchOption};
 ghost use Rattle.fkp_pages.specs.declared.kind.PageKind.TheVariants.{Chpx, Papx};
-ghost use Rattle.fkp_pages.specs.Fkp.{page_count, entry_place, HasRunCount, list_from, list_to};
+ghost use Rattle.fkp_pages.specs.Fkp.{page_run_count, run_entry_place, HasRunCount, list_from, list_to};
 ghost use Rattle.fkp_pages.specs.Fkp.{IsListWithin, IsAnswerOf, HasRunAnswer};
 ghost use Rattle.fkp_pages.specs.Stretch.{HasStretch, IsRunCursor};
 
@@ -110,8 +110,8 @@ pub fn has_run_count(kind: PageKind, page: &[u8]) -> bool
 pub fn entry_at(kind: PageKind, page: &[u8], run: usize) -> usize
     requires page { length page.now ≡ 512 }
     requires counted { HasRunCount kind page.now }
-    requires run { run ≤ page_count page.now }
-    ensures place { result ≡ entry_place kind page.now run }
+    requires run { run ≤ page_run_count page.now }
+    ensures place { result ≡ run_entry_place kind page.now run }
     ensures within { result ≤ 509 }
 {
     let count = page[COUNT_AT] as usize;
@@ -122,7 +122,7 @@ pub fn entry_at(kind: PageKind, page: &[u8], run: usize) -> usize
 pub fn answer_of(kind: PageKind, page: &[u8], run: usize) -> RunAnswer
     requires page { length page.now ≡ 512 }
     requires counted { HasRunCount kind page.now }
-    requires run { run < page_count page.now }
+    requires run { run < page_run_count page.now }
     ensures { IsAnswerOf kind page.now run result }
 {
     let entry = entry_at(kind, page, run);

@@ -1,6 +1,6 @@
 // The first run of a page that holds a byte place, and how far around the place it is the same.
 ghost use Rattle.std.specs.Prelude.{◌≡◌, ◌≤◌, ◌<◌, ℕ, List, length};
-ghost use Rattle.fkp_pages.specs.Fkp.{page_count};
+ghost use Rattle.fkp_pages.specs.Fkp.{page_run_count};
 ghost use Rattle.fkp_pages.specs.Stretch.{IsFoundRun, IsRunCursor};
 
 use crate::kind::COUNT_AT;
@@ -82,7 +82,7 @@ impl Gap {
 #[inline(always)]
 pub(crate) fn first_run(page: &[u8], fc: u32, from: RunCursor) -> FoundRun
     requires page { length page.now ≡ 512 }
-    requires fcs { page_count page.now ≤ 101 }
+    requires fcs { page_run_count page.now ≤ 101 }
     requires from { IsRunCursor page.now from }
     requires serves { from.least ≤ fc }
     ensures { IsFoundRun page.now fc result }

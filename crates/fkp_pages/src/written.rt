@@ -2,7 +2,7 @@
 ghost use Rattle.std.specs.Prelude.{◌≡◌, ◌+◌, ◌≤◌, ◌++◌, length, IfOk, OnOk};
 ghost use Rattle.fkp_pages.specs.Fkp.{least_list, spelled_list};
 ghost use Rattle.fkp_pages.specs.Runs.{most_printed, run_list, IsWritableRun};
-ghost use Rattle.fkp_pages.specs.Written.{is_bare, written};
+ghost use Rattle.fkp_pages.specs.Written.{is_bare_run, run_bytes_written};
 
 use crate::kind::PageKind;
 use crate::lists::Run;
@@ -10,12 +10,12 @@ use doc_bits::{Bytes, Memory};
 use std::alloc::Global;
 
 /// The bytes of a style number.
-const ISTD_LEN: usize = 2;
+pub const ISTD_LEN: usize = 2;
 
 /// The bytes that are written for a run.
 pub(crate) fn write_run(alloc: Global, run: &Run, kind: PageKind) -> Result<Bytes, Memory>
     requires { IsWritableRun kind run.now }
-    ensures { IfOk result (λ bytes. bytes ≡ written kind run.now) }
+    ensures { IfOk result (λ bytes. bytes ≡ run_bytes_written kind run.now) }
 {
     let mut bytes = Bytes::new(alloc);
     if is_bare(run, kind) {
@@ -29,7 +29,7 @@ pub(crate) fn write_run(alloc: Global, run: &Run, kind: PageKind) -> Result<Byte
 /// How many bytes are written for a run.
 pub(crate) fn written_len(run: &Run, kind: PageKind) -> usize
     requires { IsWritableRun kind run.now }
-    ensures { result ≡ length (written kind run.now) }
+    ensures { result ≡ length (run_bytes_written kind run.now) }
 {
     if is_bare(run, kind) {
         return 0;
@@ -47,7 +47,7 @@ pub(crate) fn written_len(run: &Run, kind: PageKind) -> usize
 
 /// Whether nothing is written for a run.
 fn is_bare(run: &Run, kind: PageKind) -> bool
-    ensures { result ≡ is_bare kind run.now }
+    ensures { result ≡ is_bare_run kind run.now }
 {
     match kind {
         PageKind::Chpx => run.map.is_empty(),

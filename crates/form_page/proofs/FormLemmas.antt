@@ -4,7 +4,7 @@ use Rattle.doc_outer.specs.declared.sink.Sink.{Ghosts}
 use Rattle.page_out.specs.declared.page.Page.{Page}
 use Rattle.page_out.specs.Printed.{Prints}
 use Rattle.html_page.specs.Pages.{Head}
-use Rattle.html_page.specs.Sources.{PageSource, source_of}
+use Rattle.html_page.specs.Sources.{PageSource, page_source_of}
 use Rattle.html_page.specs.declared.printer.HtmlPage.{HtmlPage}
 use Rattle.html_page.proofs.Public.{places_none as html_none, places_then as html_then}
 use Rattle.markdown_page.specs.declared.printer.MarkdownPage.{MarkdownPage}
@@ -15,7 +15,8 @@ use Rattle.markdown_page.specs.Printed.{PutsPlaces as PutsMarkdown}
 use Rattle.form_page.specs.declared.page.PageForm.{PageForm}
 use Rattle.form_page.specs.declared.page.FormPage.{FormPage}
 use Rattle.form_page.specs.declared.page.FormPage.TheVariants.{Html, Markdown}
-use Rattle.form_page.specs.Forms.{Begins, Ends, HasNoHalf, IsFresh, Places, PutsPlaces, form_of, form_text, page_in}
+use Rattle.form_page.specs.Forms.{Begins, Ends, HasNoHalf, IsFresh, Places, PutsPlaces, page_form_of, form_text}
+use Rattle.form_page.specs.Forms.{page_in}
 use Rattle.form_page.proofs.HtmlLemmas.{page_put as html_put}
 
 pub places_none : {K : Type 0} (sink : Ghosts K) (at : K) (page : FormPage) → PutsPlaces sink at page at page []
@@ -57,9 +58,10 @@ begun_markdown {K = K} sink a b c p q r places out page puts =
 -- what is before the text, the places, and what is behind them are the page
 pub whole_put : {K : Type 0} (sink : Ghosts K) (a b c d : K) (p q r s : FormPage) (block : List ℕ)
     (source : PageSource) (head : Head) (places : Places) → IsFresh p block source → Begins sink a p b q head → PutsPlaces sink b q c r places →
-    Ends sink c r d s → Prints sink a (page_in p) d (page_in s) (form_text (form_of p) source head places)
+    Ends sink c r d s → Prints sink a (page_in p) d (page_in s) (form_text (page_form_of p) source head places)
 whole_put sink a b c d (Html p) (Html q) (Html r) (Html s) block source head places fresh begins puts ends =
-    html_put sink a b c d p.page q r s.page source head places begins.0 (begins.1.0 ∙ fresh.1.0) begins.1.1.0 (ap source_of begins.1.1.1 ∙ fresh.1.1.1) puts ends
+    html_put sink a b c d p.page q r s.page source head places begins.0 (begins.1.0 ∙ fresh.1.0) begins.1.1.0 (ap
+    page_source_of begins.1.1.1 ∙ fresh.1.1.1) puts ends
 whole_put sink a b c d (Html p) (Html q) (Html r) (Markdown s) block source head places fresh begins puts ends = absurd ends
 whole_put sink a b c d (Html p) (Html q) (Markdown r) s block source head places fresh begins puts ends = absurd puts
 whole_put sink a b c d (Html p) (Markdown q) r s block source head places fresh begins puts ends = absurd begins

@@ -9,7 +9,7 @@ use Rattle.view_paths.specs.Events.{events_from, events_up_to, turns}
 use Rattle.view_paths.proofs.Public.{events_from-append}
 use Rattle.view_places.specs.declared.element.Element.{Element}
 use Rattle.view_places.specs.Same.{same}
-use Rattle.html_page.specs.Sources.{PageSource, source_of}
+use Rattle.html_page.specs.Sources.{PageSource, page_source_of}
 use Rattle.html_page.specs.declared.printer.HtmlPage.{HtmlPage}
 use Rattle.html_page.specs.Pages.{Events, Head, Places, back_tokens, body_tokens, characters, front_tokens, half_of}
 use Rattle.html_page.specs.Pages.{page_text, page_tokens, style_tokens, tokens_of}
@@ -65,8 +65,10 @@ page_whole source head places =
 -- what was put before the text, the places, and what was put behind them are the page
 pub page_put : {K : Type 0} (sink : Ghosts K) (a b c d : K) (first : Page) (p q : HtmlPage) (last : Page) (source :
     PageSource) (head : Head) (places : Places) → Prints sink a first b p.page (printed (front_tokens head.language ++
-    (characters head.title ++ style_tokens))) → p.path ≡ [] → p.half ≡ None → source_of p.source ≡ source → PutsPlaces
-    sink b p c q places → Prints sink c q.page d last (printed (tokens_of (source_of q.source) q.half (turns same q.path
+    (characters head.title ++ style_tokens))) → p.path ≡ [] → p.half ≡ None → page_source_of p.source ≡ source →
+    PutsPlaces
+    sink b p c q places → Prints sink c q.page d last (printed (tokens_of (page_source_of q.source) q.half (turns same
+    q.path
     []) ++
     (characters (half_text (half_of q.half (turns same q.path []))) ++ back_tokens))) → Prints sink a first d last
     (page_text source head places)
@@ -89,7 +91,8 @@ page_put sink a b c d first p q last source head places front path half same_sou
     h (turns same e []))) ++ back_tokens) in
     let there : Prints sink c q.page d last (printed (end_tokens q.half q.path)) =
     subst (λ (x : PageSource). Prints sink c q.page d last (printed (tokens_of x q.half (turns same q.path []) ++
-    (characters (half_text (half_of q.half (turns same q.path []))) ++ back_tokens)))) (ap source_of puts.source ∙ same_source) back in
+    (characters (half_text (half_of q.half (turns same q.path []))) ++ back_tokens)))) (ap page_source_of puts.source ∙
+    same_source) back in
     let end : Prints sink c q.page d last (printed (end_tokens (half_of None up) (last_path [] places))) =
     subst (λ (e : List Element). Prints sink c q.page d last (printed (end_tokens (half_of None up) e))) path_is
     (subst (λ (h :

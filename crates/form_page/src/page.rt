@@ -4,11 +4,11 @@ ghost use Rattle.std.specs.Char.{IsScalar};
 ghost use Rattle.std.specs.List.{All};
 ghost use Rattle.glyph_units.specs.Glyphs.{unit_places};
 ghost use Rattle.glyph_units.specs.Units.{units_text};
-ghost use Rattle.doc_outer.specs.Counts.{GoesOn};
+ghost use Rattle.doc_outer.specs.Counts.{CountGoesOn};
 ghost use Rattle.doc_outer.specs.Written.{Appends};
 ghost use Rattle.page_out.specs.Printed.{FailsIn};
-ghost use Rattle.html_page.specs.Sources.{source_of};
-ghost use Rattle.form_page.specs.Forms.{Begins, Ends, HasNoHalf, IsFresh, PutsPlaces, form_of, page_in};
+ghost use Rattle.html_page.specs.Sources.{page_source_of};
+ghost use Rattle.form_page.specs.Forms.{Begins, Ends, HasNoHalf, IsFresh, PutsPlaces, page_form_of, page_in};
 
 use doc_outer::{OutBlock, Sink, SinkFailed};
 use html_page::{HtmlPage, Source};
@@ -33,8 +33,8 @@ pub enum FormPage<'a> {
 impl<'a> FormPage<'a> {
     /// A page of which nothing was put. Pictures are named by their files in HTML alone.
     pub fn new(form: PageForm, block: OutBlock, source: &Source<'a>) -> FormPage<'a>
-        ensures form { form_of result ≡ form }
-        ensures fresh { IsFresh result block (source_of source.now) }
+        ensures form { page_form_of result ≡ form }
+        ensures fresh { IsFresh result block (page_source_of source.now) }
     {
         match form {
             PageForm::Html => FormPage::Html(HtmlPage::new(block, source)),
@@ -92,7 +92,7 @@ impl<'a> FormPage<'a> {
         ensures ok { OnOk result (Appends (K.written out.old) (K.written out.new) (page_in self.entry).block) }
         ensures fails { OnErr result ((page_in self.entry).failed ≡ false → FailsIn K.Sink out.old (page_in self.entry) out.new []) }
         ensures stays { OnErr result ((page_in self.entry).failed ≡ true → K.written out.new ≡ K.written out.old) }
-        ensures faults { GoesOn (K.faults out.old) (K.faults out.new) }
+        ensures faults { CountGoesOn (K.faults out.old) (K.faults out.new) }
     {
         match self {
             FormPage::Html(page) => page.finish(out),

@@ -9,7 +9,7 @@ use Rattle.doc_bits.proofs.Public.{get-map}
 use Rattle.run_lists.specs.declared.runs.Run.{Run}
 use Rattle.run_lists.specs.Spread.{expanded, total_len}
 use Rattle.run_lists.proofs.Public.{length-spread, count_within, value_in_run}
-use Rattle.plain_doc.specs.declared.item.Item.{Item}
+use Rattle.doc_model.specs.declared.item.Item.{Item}
 use Rattle.full_save.specs.Alike.{HaveAlike}
 
 -- a part of what they have

@@ -13,28 +13,28 @@ use Rattle.fkp_pages.specs.declared.lists.Run.{Run}
 use Rattle.fkp_pages.specs.Bin.{ArePrintableBins}
 use Rattle.fkp_pages.specs.InARow.{numbered_bins}
 use Rattle.fkp_pages.proofs.Public.{row_is_printable}
-use Rattle.cfb_layout.specs.Sectors.{padded}
+use Rattle.cfb_layout.specs.Sectors.{padded_to_unit}
 use Rattle.cfb_layout.proofs.Public.{length-padded}
 use Rattle.fkp_pages.specs.PageBytes.{last_fc}
-use Rattle.plain_doc.specs.declared.item.Item.{Item}
-use Rattle.plain_doc.specs.declared.document.Document.{Document}
-use Rattle.plain_doc.specs.Collected.{joined_texts, sections_of}
-use Rattle.plain_doc.specs.Document.{IsFormedItem}
-use Rattle.plain_doc.specs.Formed.{IsFormed}
+use Rattle.doc_model.specs.declared.item.Item.{Item}
+use Rattle.doc_model.specs.declared.document.Document.{Document}
+use Rattle.doc_model.specs.Collected.{joined_texts, sections_of}
+use Rattle.doc_model.specs.Document.{IsFormedItem}
+use Rattle.doc_model.specs.Formed.{IsFormed}
 use Rattle.plain_doc.specs.RightDocument.{IsValidDocument}
-use Rattle.plain_doc.specs.Stretches.{stretches}
-use Rattle.plain_doc.proofs.Public.{are_stretches}
+use Rattle.doc_model.specs.Stretches.{stretches}
+use Rattle.doc_model.proofs.Public.{are_stretches}
 use Rattle.full_save.specs.declared.text.SavedText.{SavedText}
-use Rattle.full_save.specs.RunsSoFar.{IsTextOf}
+use Rattle.full_save.specs.RunsSoFar.{IsSavedTextOf}
 use Rattle.full_save.specs.Runs.{joins_run, run_at, runs_from, text_runs}
 use Rattle.full_save.specs.Text.{text_items}
 use Rattle.full_save.specs.Sections.{sepxes, HasSavableSection}
-use Rattle.full_save.specs.WordDocument.{text_at, text_bytes, document_runs, document_pages, pages_end, wd_body}
+use Rattle.full_save.specs.WordDocument.{text_offset, text_bytes, document_runs, document_pages, pages_end, wd_body}
 use Rattle.full_save.proofs.StreamLengths.{length-runs_from, short_body}
 use Rattle.full_save.proofs.TextLaidOut.{few_items, runs_are, pages_are, length-pages, length-text}
 
 -- a text has a unit for each item
-pub length-units : (document : Document) (text : SavedText) → IsTextOf document text →
+pub length-units : (document : Document) (text : SavedText) → IsSavedTextOf document text →
     text.len ≡ length (text_items document)
 length-units document text is = is.long
 
@@ -76,33 +76,35 @@ sections_savable d formed right = All-from_slice_get HasSavableSection d.main (�
 -- the ranges of its pages can be printed
 pub bins_printable : (kind : PageKind) (d : Document) (number : ℕ) → IsFormed d → IsValidDocument d →
     number + length (document_pages kind d).starts ≤ 2 ^ 22 →
-    ArePrintableBins (numbered_bins number (document_pages kind d).starts) (text_at + 2 * length (text_items d))
+    ArePrintableBins (numbered_bins number (document_pages kind d).starts) (text_offset + 2 * length (text_items d))
 bins_printable kind d number formed right small =
     let runs = runs_are kind d formed right in
     let few = few_items d right in
     let some : 0 < length (text_items d) = let n = few.some in omega arith in
     subst (λ (end : ℕ). ArePrintableBins (numbered_bins number (document_pages kind d).starts) end)
-    (last_fc-text_runs kind text_at (text_items d) some)
+    (last_fc-text_runs kind text_offset (text_items d) some)
     (row_is_printable kind (document_runs kind d) (document_pages kind d) number runs.right
     (pages_are kind d formed right) runs.some small)
 
 -- the text and the pages, one behind the other
 abbrev pub text_and_pages : Document → List ℕ
-text_and_pages d = (padded 512 0 (text_bytes d) ++ (document_pages Chpx d).bytes) ++ (document_pages Papx d).bytes
+text_and_pages d = (padded_to_unit 512 0 (text_bytes d) ++ (document_pages Chpx d).bytes) ++ (document_pages Papx
+    d).bytes
 
 pub body_is : (d : Document) → text_and_pages d ++ sepxes (sections_of d.main) ≡ wd_body d
 unfolding wd_body
 body_is d =
-    let text = padded 512 0 (text_bytes d) in
+    let text = padded_to_unit 512 0 (text_bytes d) in
     let chp = (document_pages Chpx d).bytes in
     let pap = (document_pages Papx d).bytes in
     append_assoc (text ++ chp) pap (sepxes (sections_of d.main))
     ∙ append_assoc text chp (pap ++ sepxes (sections_of d.main))
 
 -- where they end
-pub pages_end_is : (d : Document) → IsFormed d → IsValidDocument d → text_at + length (text_and_pages d) ≡ pages_end d
+pub pages_end_is : (d : Document) → IsFormed d → IsValidDocument d → text_offset + length (text_and_pages d) ≡ pages_end
+    d
 pages_end_is d formed right =
-    let text = padded 512 0 (text_bytes d) in
+    let text = padded_to_unit 512 0 (text_bytes d) in
     let chp = (document_pages Chpx d).bytes in
     let pap = (document_pages Papx d).bytes in
     let units = length-text d in

@@ -12,19 +12,19 @@ use Rattle.piece_table.specs.Clx.{pcdt_bytes}
 use Rattle.piece_table.specs.ClxRules.{FitsPages}
 use Rattle.piece_table.specs.Printing.{IsPrintable, IsPrintedPrc, IsPrintedPcd, IsPrintedClx, printed_prcs, plc_bytes}
 use Rattle.piece_table.specs.Printing.{pcd_bytes}
-use Rattle.full_save.specs.WordDocument.{text_at, one_piece_clx}
+use Rattle.full_save.specs.WordDocument.{text_offset, one_piece_clx}
 
 abbrev the_piece : ℕ → TextPiece
-the_piece len = record { at = text_at; wide = true; len = len; modifier = no_modifier }
+the_piece len = record { at = text_offset; wide = true; len = len; modifier = no_modifier }
 
 -- no Prc is written, and one Pcd
 from_parts :
     (len : ℕ) (prcs : List Modifier) (pcds : List (List ℕ)) (bytes : List ℕ) →
-    All (IsPrintedPrc (one_piece text_at len)) prcs → length pcds ≡ 1 →
+    All (IsPrintedPrc (one_piece text_offset len)) prcs → length pcds ≡ 1 →
     IsPrintedPcd prcs (the_piece len) (slice_index_or pcds 0 []) →
     bytes ≡ printed_prcs prcs ++ pcdt_bytes (plc_bytes (len ∷ []) pcds) → bytes ≡ one_piece_clx len
 from_parts len (prc ∷ prcs) pcds bytes each count pcd spelt =
-    let first = All-head (IsPrintedPrc (one_piece text_at len)) prc prcs each in
+    let first = All-head (IsPrintedPrc (one_piece text_offset len)) prc prcs each in
     let used = first.used in
     let at : used.0 ≡ 0 = omega arith in
     absurd (first.some (sym used.2 ∙ ap (λ (k : ℕ). slice_index_or (no_modifier ∷ []) k prc) at))
@@ -39,14 +39,14 @@ from_parts len [] (first ∷ []) bytes each count pcd spelt =
       | inr named ↦ absurd (cc (named.1.1))
     ]
 
-pub one_clx : (len : ℕ) (bytes : List ℕ) → IsPrintedClx (one_piece text_at len) bytes → bytes ≡ one_piece_clx len
+pub one_clx : (len : ℕ) (bytes : List ℕ) → IsPrintedClx (one_piece text_offset len) bytes → bytes ≡ one_piece_clx len
 one_clx len bytes clx =
     from_parts len clx.prcs clx.pcds bytes clx.each clx.count (clx.pcd 0 (the_piece len) refl) clx.spelt
 
 pub none_printed : length (printed_list empty) ≡ 0
 none_printed = rw entries-empty refl
 
-pub one_printable : (len : ℕ) → IsPrintable (one_piece text_at len)
+pub one_printable : (len : ℕ) → IsPrintable (one_piece text_offset len)
 one_printable len = record {
   few = omega arith;
   places = All-cons (λ (piece : TextPiece). piece.at < 2 ^ 29) (the_piece len) [] (omega arith)

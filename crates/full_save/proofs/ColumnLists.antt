@@ -12,8 +12,8 @@ use Rattle.doc_parts.specs.declared.lists.Sed.{Sed}
 use Rattle.run_lists.specs.declared.runs.Run.{Run}
 use Rattle.run_lists.specs.Spread.{expanded, total_len}
 use Rattle.run_lists.proofs.Public.{length-spread, extent_all, extent_more}
-use Rattle.plain_doc.specs.declared.item.Item.{Item}
-use Rattle.plain_doc.specs.Collected.{collected, field_of}
+use Rattle.doc_model.specs.declared.item.Item.{Item}
+use Rattle.doc_model.specs.Collected.{collected, field_character}
 use Rattle.doc_columns.specs.declared.attached.Attached.{Attached}
 use Rattle.doc_columns.specs.Attached.{attached_of}
 use Rattle.full_save.specs.Alike.{HaveAlike}
@@ -80,7 +80,7 @@ sepxes_none main base old place (suc count) so are done =
 
 -- a unit without a field byte is no field character
 pub no_field : (text : List Item) (place count : ℕ) → HaveAlike (λ (item : Item). item.fld) None text place count →
-    HaveAlike field_of None text place count
+    HaveAlike field_character None text place count
 no_field text place count are = record {
   within = are.within;
   each = λ j item low high here. ap (option_map (λ (byte : ℕ). (item.unit, byte))) (are.each j item low high here);

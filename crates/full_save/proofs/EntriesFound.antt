@@ -11,10 +11,10 @@ use Rattle.std.proofs.lemmas.List.{length-set, nil_from_length}
 use Rattle.std.proofs.lemmas.List.Elements.{All-set, All-replicate}
 use Rattle.std.proofs.lemmas.Option.{same_Some, none-some}
 use Rattle.doc_bits.proofs.Public.{range_mid}
-use Rattle.fib_form.specs.FibFields.{pair_at, ArePairs, IsWidePair, empty_pairs}
+use Rattle.fib_form.specs.FibFields.{listed_pair, ArePairs, IsWidePair, empty_pairs}
 use Rattle.fib_form.proofs.Public.{empty-ArePairs}
 use Rattle.fib_form.specs.TableEntries.{TableEntry, entry, IsPartAt}
-use Rattle.full_save.specs.TableStream.{entry_bytes, entries_bytes, put_pair, pairs_from}
+use Rattle.full_save.specs.TableStream.{table_entry_bytes, entries_bytes, put_pair, pairs_from}
 
 -- a part that is empty has nothing behind it
 abbrev pub IsWholePart : TableEntry → Type 0
@@ -58,10 +58,10 @@ length-put_pair at part pairs =
     ]
 
 put_elsewhere : (at n : ℕ) (part : TableEntry) (pairs : List (ℕ × ℕ)) → n ≢ part.number →
-    pair_at (put_pair at part pairs) n ≡ pair_at pairs n
+    listed_pair (put_pair at part pairs) n ≡ listed_pair pairs n
 put_elsewhere at n part pairs other =
     elim (eqb (length part.bytes) 0) as
-    (λ b. pair_at (cond b pairs (slice_set pairs part.number (at, length part.bytes))) n ≡ pair_at pairs n) [
+    (λ b. listed_pair (cond b pairs (slice_set pairs part.number (at, length part.bytes))) n ≡ listed_pair pairs n) [
       | true ↦ refl
       | false ↦ get_or-set_other pairs part.number n (at, length part.bytes) (0, 0) other
     ]
@@ -71,10 +71,10 @@ abbrev placed_pair : ℕ → TableEntry → ℕ × ℕ
 placed_pair at part = cond (eqb (length part.bytes) 0) (0, 0) (at, length part.bytes)
 
 put_here : (at : ℕ) (part : TableEntry) (pairs : List (ℕ × ℕ)) → part.number < length pairs →
-    pair_at pairs part.number ≡ (0, 0) → pair_at (put_pair at part pairs) part.number ≡ placed_pair at part
+    listed_pair pairs part.number ≡ (0, 0) → listed_pair (put_pair at part pairs) part.number ≡ placed_pair at part
 put_here at part pairs below none =
     elim (eqb (length part.bytes) 0) as
-    (λ b. pair_at (cond b pairs (slice_set pairs part.number (at, length part.bytes))) part.number ≡ cond b (0, 0)
+    (λ b. listed_pair (cond b pairs (slice_set pairs part.number (at, length part.bytes))) part.number ≡ cond b (0, 0)
     (at, length part.bytes)) [
       | true ↦ none
       | false ↦ get_or-set_same pairs part.number (at, length part.bytes) (0, 0) below
@@ -84,23 +84,23 @@ put_here at part pairs below none =
 
 -- a pair of a lower number stays
 lower_kept : (low n at : ℕ) (pairs : List (ℕ × ℕ)) (parts : List TableEntry) → AreNumbered low parts → n < low →
-    pair_at (pairs_from at pairs parts) n ≡ pair_at pairs n
+    listed_pair (pairs_from at pairs parts) n ≡ listed_pair pairs n
 unfolding pairs_from
 lower_kept low n at pairs [] ascend below = refl
 lower_kept low n at pairs (part ∷ parts) ascend below =
     let first = ascend.0.low_is in
     let other : n ≢ part.number = λ same. omega (arith, first, below, same) in
-    lower_kept (part.number + 1) n (at + length (entry_bytes part)) (put_pair at part pairs) parts ascend.1
+    lower_kept (part.number + 1) n (at + length (table_entry_bytes part)) (put_pair at part pairs) parts ascend.1
     (omega (arith, first, below))
     ∙ put_elsewhere at n part pairs other
 
 abbrev IsClear : ℕ → List (ℕ × ℕ) → Type 0
-IsClear low pairs = (n : ℕ) → low ≤ n → pair_at pairs n ≡ (0, 0)
+IsClear low pairs = (n : ℕ) → low ≤ n → listed_pair pairs n ≡ (0, 0)
 
 pair_found : (low at place : ℕ) (pairs : List (ℕ × ℕ)) (parts : List TableEntry) (k : ℕ) (part : TableEntry) →
     AreNumbered low parts → IsClear low pairs → slice_get parts k ≡ Some part → part.number < length pairs →
     place ≡ at + length (entries_bytes (take k parts)) →
-    pair_at (pairs_from at pairs parts) part.number ≡ placed_pair place part
+    listed_pair (pairs_from at pairs parts) part.number ≡ placed_pair place part
 unfolding pairs_from
 pair_found low at place pairs [] k part ascend clear here below e = absurd (none-some part here)
 pair_found low at place pairs (first ∷ parts) zero part ascend clear here below e =
@@ -109,19 +109,19 @@ pair_found low at place pairs (first ∷ parts) zero part ascend clear here belo
     let next : part.number < first.number + 1 = omega (arith, number) in
     let there : at ≡ place = omega (arith, e) in
     let low_is = ascend.0.low_is in
-    lower_kept (first.number + 1) part.number (at + length (entry_bytes first)) (put_pair at first pairs) parts
+    lower_kept (first.number + 1) part.number (at + length (table_entry_bytes first)) (put_pair at first pairs) parts
     ascend.1 next
-    ∙ (ap (pair_at (put_pair at first pairs)) (sym number)
+    ∙ (ap (listed_pair (put_pair at first pairs)) (sym number)
     ∙ (put_here at first pairs (omega (arith, number, below)) (clear first.number low_is)
     ∙ (λ i. placed_pair (there i) (same i))))
 pair_found low at place pairs (first ∷ parts) (suc k) part ascend clear here below e =
-    let len = length-append (entry_bytes first) (entries_bytes (take k parts)) in
+    let len = length-append (table_entry_bytes first) (entries_bytes (take k parts)) in
     let first_is = ascend.0.low_is in
     let still : IsClear (first.number + 1) (put_pair at first pairs) = λ n high.
     let other : n ≢ first.number = λ same. omega (arith, high, same) in
     put_elsewhere at n first pairs other ∙ clear n (omega (arith, high, first_is)) in
     let many = length-put_pair at first pairs in
-    pair_found (first.number + 1) (at + length (entry_bytes first)) place (put_pair at first pairs) parts k part
+    pair_found (first.number + 1) (at + length (table_entry_bytes first)) place (put_pair at first pairs) parts k part
     ascend.1
     still here (omega (arith, below, many)) (omega (arith, e, len))
 
@@ -137,8 +137,8 @@ cut_at_entry (first ∷ parts) zero part here =
     append_assoc first.bytes first.behind (entries_bytes parts)
     ∙ ap (λ (p : TableEntry). p.bytes ++ (p.behind ++ entries_bytes parts)) same
 cut_at_entry (first ∷ parts) (suc k) part here =
-    ap (λ rest. entry_bytes first ++ rest) (cut_at_entry parts k part here)
-    ∙ sym (append_assoc (entry_bytes first) (entries_bytes (take k parts))
+    ap (λ rest. table_entry_bytes first ++ rest) (cut_at_entry parts k part here)
+    ∙ sym (append_assoc (table_entry_bytes first) (entries_bytes (take k parts))
     (part.bytes ++ (part.behind ++ entries_bytes (drop (suc k) parts))))
 
 empty_there : (table : List ℕ) (part : TableEntry) → length part.bytes ≡ 0 → IsWholePart part →
@@ -194,9 +194,9 @@ placed_there table parts k place part is here at whole = elim (cases_eq (length 
 
 -- each part is where its pair says
 entry_found : (table : List ℕ) (pairs : List (ℕ × ℕ)) (parts : List TableEntry) (k : ℕ) (part : TableEntry) →
-    table ≡ entries_bytes parts → AreNumbered 0 parts → ((n : ℕ) → pair_at pairs n ≡ (0, 0)) →
+    table ≡ entries_bytes parts → AreNumbered 0 parts → ((n : ℕ) → listed_pair pairs n ≡ (0, 0)) →
     slice_get parts k ≡ Some part → part.number < length pairs → IsWholePart part →
-    IsPartAt table (pair_at (pairs_from 0 pairs parts) part.number) part
+    IsPartAt table (listed_pair (pairs_from 0 pairs parts) part.number) part
 entry_found table pairs parts k part is ascend clear here below whole =
     let place = length (entries_bytes (take k parts)) in
     let e : place ≡ 0 + length (entries_bytes (take k parts)) = omega arith in
@@ -211,21 +211,22 @@ length-pairs_from : (at : ℕ) (pairs : List (ℕ × ℕ)) (parts : List TableEn
 unfolding pairs_from
 length-pairs_from at pairs [] = refl
 length-pairs_from at pairs (part ∷ parts) =
-    length-pairs_from (at + length (entry_bytes part)) (put_pair at part pairs) parts ∙ length-put_pair at part pairs
+    length-pairs_from (at + length (table_entry_bytes part)) (put_pair at part pairs) parts ∙ length-put_pair at part
+    pairs
 
 -- a pair of another number than those of the parts stays
 abbrev pub are_others : ℕ → List TableEntry → Bool
 are_others n parts = list_all (λ part. not (eqb n part.number)) parts
 
 other_kept : (n at : ℕ) (pairs : List (ℕ × ℕ)) (parts : List TableEntry) → are_others n parts ≡ true →
-    pair_at (pairs_from at pairs parts) n ≡ pair_at pairs n
+    listed_pair (pairs_from at pairs parts) n ≡ listed_pair pairs n
 unfolding pairs_from
 other_kept n at pairs [] others = refl
 other_kept n at pairs (part ∷ parts) others =
     let tests = and_parts (not (eqb n part.number)) (are_others n parts) others in
     let other : n ≢ part.number = λ same.
     true≢false (sym tests.0 ∙ ap not (eq-eqb n part.number same)) in
-    other_kept n (at + length (entry_bytes part)) (put_pair at part pairs) parts tests.1
+    other_kept n (at + length (table_entry_bytes part)) (put_pair at part pairs) parts tests.1
     ∙ put_elsewhere at n part pairs other
 
 -- parts that a FIB may have
@@ -238,7 +239,7 @@ pub entries_are_pairs : (parts : List TableEntry) → AreAllowed parts → ArePa
 entries_are_pairs parts allowed =
     let none = empty-ArePairs in
     let kept : (n : ℕ) → are_others n parts ≡ true →
-    (pair_at (pairs_from 0 empty_pairs parts) n).1 ≡ (pair_at empty_pairs n).1 =
+    (listed_pair (pairs_from 0 empty_pairs parts) n).1 ≡ (listed_pair empty_pairs n).1 =
     λ n others. ap (λ (pair : ℕ × ℕ). pair.1) (other_kept n 0 empty_pairs parts others) in
     record {
       count = length-pairs_from 0 empty_pairs parts ∙ none.count;
@@ -263,12 +264,12 @@ wide_from : (at : ℕ) (pairs : List (ℕ × ℕ)) (parts : List TableEntry) →
 unfolding pairs_from
 wide_from at pairs [] wide small = wide
 wide_from at pairs (part ∷ parts) wide small =
-    let len = length-append (entry_bytes part) (entries_bytes parts) in
+    let len = length-append (table_entry_bytes part) (entries_bytes parts) in
     let own = length-append part.bytes part.behind in
-    wide_from (at + length (entry_bytes part)) (put_pair at part pairs) parts
+    wide_from (at + length (table_entry_bytes part)) (put_pair at part pairs) parts
     (put_wide at part pairs wide (omega (arith, len, own, small))) (omega (arith, len, small))
 
-no_pair : (n : ℕ) → pair_at empty_pairs n ≡ (0, 0)
+no_pair : (n : ℕ) → listed_pair empty_pairs n ≡ (0, 0)
 unfolding empty_pairs
 no_pair n = elim (cases_lt n 93) [
   | inl low ↦ get_or-replicate {A = ℕ × ℕ} 93 n (0, 0) (0, 0) low
@@ -286,7 +287,7 @@ entries_are_wide parts small = wide_from 0 empty_pairs parts empty_wide (omega (
 -- each part of a table stream is where its pair says
 pub record Stands (parts : List TableEntry) (part : TableEntry) : Type 0 where
   pub below : part.number < 93
-  pub there : IsPartAt (entries_bytes parts) (pair_at (pairs_from 0 empty_pairs parts) part.number) part
+  pub there : IsPartAt (entries_bytes parts) (listed_pair (pairs_from 0 empty_pairs parts) part.number) part
 
 pub entry_stands : (parts : List TableEntry) (k : ℕ) (part : TableEntry) → AreNumbered 0 parts →
     slice_get parts k ≡ Some part → Stands parts part

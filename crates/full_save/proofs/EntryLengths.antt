@@ -2,7 +2,7 @@
 use Rattle.std.specs.List.{flat_map}
 use Rattle.std.proofs.Common.{ℕ, ◌+◌, ◌*◌, ◌≤◌, List, [], ◌∷◌, ◌++◌, length, map, arith, length-append}
 use Rattle.std.proofs.lemmas.List.{length-map}
-use Rattle.doc_bits.specs.Number.{number_bytes, numbers}
+use Rattle.doc_bits.specs.Number.{number_bytes, u32_list_bytes}
 use Rattle.doc_bits.specs.Plc.{printed_plc}
 use Rattle.doc_bits.proofs.Public.{length-number_bytes, length-numbers}
 use Rattle.doc_parts.specs.Table.{EntryForm, printed_entries}
@@ -22,7 +22,7 @@ length-plc : (cps : List ℕ) (end : ℕ) (entries : List (List ℕ)) →
 length-plc [] end entries = omega arith
 length-plc (cp ∷ cps) end entries =
     let rest = number_bytes 4 end ++ flat_map (λ bytes. bytes) entries in
-    let a = length-append (numbers (cp ∷ cps)) rest in
+    let a = length-append (u32_list_bytes (cp ∷ cps)) rest in
     let b = length-append (number_bytes 4 end) (flat_map (λ bytes. bytes) entries) in
     omega (arith, a, b, length-numbers (cp ∷ cps), length-number_bytes 4 end)
 

@@ -15,20 +15,20 @@ use Rattle.fib_form.specs.FibBytes.{written_fib}
 use Rattle.fib_form.proofs.Public.{read_back, form_size-most, length-written_fib}
 use Rattle.fkp_pages.specs.declared.kind.PageKind.{PageKind}
 use Rattle.fkp_pages.specs.declared.kind.PageKind.TheVariants.{Chpx, Papx}
-use Rattle.cfb_layout.specs.Sectors.{units_for, filled, padded}
+use Rattle.cfb_layout.specs.Sectors.{units_for, filled, padded_to_unit}
 use Rattle.cfb_layout.proofs.Public.{length-filled, entry_at}
-use Rattle.plain_doc.specs.declared.item.Item.{Item}
-use Rattle.plain_doc.specs.declared.document.Document.{Document}
-use Rattle.plain_doc.specs.Collected.{sections_of}
-use Rattle.plain_doc.specs.Formed.{IsFormed}
+use Rattle.doc_model.specs.declared.item.Item.{Item}
+use Rattle.doc_model.specs.declared.document.Document.{Document}
+use Rattle.doc_model.specs.Collected.{sections_of}
+use Rattle.doc_model.specs.Formed.{IsFormed}
 use Rattle.plain_doc.specs.RightDocument.{IsValidDocument}
 use Rattle.full_save.specs.Text.{text_items}
-use Rattle.full_save.specs.WordDocument.{text_at, text_bytes, document_runs, document_pages}
+use Rattle.full_save.specs.WordDocument.{text_offset, text_bytes, document_runs, document_pages}
 use Rattle.full_save.specs.WordDocument.{first_character_page, first_paragraph_page, pages_end, wd_body, full_text}
 use Rattle.full_save.specs.WordDocument.{full_entries, table_stream, full_fib, wd_stream}
 use Rattle.full_save.specs.Sections.{sepxes}
 use Rattle.fkp_pages.specs.declared.lists.Run.{Run}
-use Rattle.fkp_pages.specs.Rows.{IsRow, row_table}
+use Rattle.fkp_pages.specs.Rows.{IsPageRow, row_table}
 use Rattle.full_save.proofs.StretchRuns.{IsWritableItem}
 use Rattle.full_save.proofs.EntriesFound.{AreAllowed, entries_are_pairs, entries_are_wide}
 use Rattle.full_save.proofs.TableNumbers.{table_allowed}
@@ -46,7 +46,7 @@ pub record LaidOut : Type 0 where
 -- ---- WordDocument in its parts
 
 abbrev front_bytes : Document → List ℕ
-front_bytes document = filled text_at 0 (written_fib (full_fib document))
+front_bytes document = filled text_offset 0 (written_fib (full_fib document))
 
 -- text, zeros, pages of characters, pages of paragraphs, Sepxes, zeros
 pub record Body : Type 0 where
@@ -73,7 +73,7 @@ abbrev joined_body : Body → List ℕ
 joined_body b = b.front ++ (b.text ++ (b.fill ++ (b.chp ++ (b.pap ++ (b.sepx ++ b.tail)))))
 
 wd_is : (document : Document) → wd_stream document ≡ joined_body (body_of document)
-unfolding wd_stream wd_body filled padded
+unfolding wd_stream wd_body filled padded_to_unit
 wd_is document = let b = body_of document in simp (append_assoc) refl
 
 body_cut : (b : Body) →
@@ -95,7 +95,7 @@ pub length-front : (document : Document) → length (front_bytes document) ≡ 1
 length-front document =
     let len = length-written_fib (full_fib document) (fib_pairs_count document) in
     let most = form_size-most (full_fib document).form in
-    length-filled text_at 0 (written_fib (full_fib document)) (omega (arith, len, most))
+    length-filled text_offset 0 (written_fib (full_fib document)) (omega (arith, len, most))
 
 -- WordDocument is short, whatever the document
 pub short_wd : (s : LaidOut) → length (wd_stream s.document) < 2 ^ 31
@@ -135,7 +135,7 @@ fib_first : (document : Document) → (more : List ℕ) × (wd_stream document �
 unfolding filled
 fib_first document =
     let fib = written_fib (full_fib document) in
-    let zeros = replicate (text_at - length fib) 0 in
+    let zeros = replicate (text_offset - length fib) 0 in
     let b = body_of document in
     let rest = b.text ++ (b.fill ++ (b.chp ++ (b.pap ++ (b.sepx ++ b.tail)))) in
     (zeros ++ rest, wd_is document ∙ append_assoc fib zeros rest)
@@ -197,7 +197,7 @@ sizes s =
 -- ---- units
 
 pub unit_there : (s : LaidOut) (k : ℕ) (item : Item) → slice_get (text_items s.document) k ≡ Some item →
-    u16_at (wd_stream s.document) (text_at + 2 * k) ≡ item.unit
+    u16_at (wd_stream s.document) (text_offset + 2 * k) ≡ item.unit
 unit_there s k item here =
     let b = body_of s.document in
     let units = map (λ (item : Item). item.unit) (text_items s.document) in
@@ -205,12 +205,12 @@ unit_there s k item here =
     let size = sizes s in
     let within = slice_get_within (text_items s.document) k item here in
     let count = length-map (text_items s.document) (λ (item : Item). item.unit) in
-    let at : text_at + 2 * k ≡ length b.front + 2 * k = ap (λ n. n + 2 * k) (sym size.front) in
+    let at : text_offset + 2 * k ≡ length b.front + 2 * k = ap (λ n. n + 2 * k) (sym size.front) in
     let unit : slice_index units k ≡ item.unit =
     get_or_from_slice_get units k item.unit 0 (get-map (λ (i : Item). i.unit) (text_items s.document) k item here) in
     let small =
     (All_at IsWritableItem (text_items s.document) k item (items_writable s.document s.formed s.right) here).unit in
-    ap (λ wd. u16_at wd (text_at + 2 * k)) (wd_is s.document)
+    ap (λ wd. u16_at wd (text_offset + 2 * k)) (wd_is s.document)
     ∙ (ap (λ n. u16_at (joined_body b) n) at
     ∙ (number_at-after b.front (b.text ++ rest) (2 * k) 2
     ∙ (number_at-before b.text rest (2 * k) 2 (omega (arith, size.text, within))
@@ -219,7 +219,7 @@ unit_there s k item here =
 -- ---- rows of pages
 
 character_row : (s : LaidOut) →
-    IsRow Chpx (wd_stream s.document) (document_runs Chpx s.document) (first_character_page s.document)
+    IsPageRow Chpx (wd_stream s.document) (document_runs Chpx s.document) (first_character_page s.document)
 character_row s =
     let b = body_of s.document in
     let runs = runs_are Chpx s.document s.formed s.right in
@@ -242,7 +242,7 @@ character_row s =
     }
 
 paragraph_row : (s : LaidOut) →
-    IsRow Papx (wd_stream s.document) (document_runs Papx s.document) (first_paragraph_page s.document)
+    IsPageRow Papx (wd_stream s.document) (document_runs Papx s.document) (first_paragraph_page s.document)
 paragraph_row s =
     let b = body_of s.document in
     let runs = runs_are Papx s.document s.formed s.right in
@@ -267,7 +267,7 @@ paragraph_row s =
 
 -- ---- where the text ends and Sepxes begin
 
-pub text_within : (s : LaidOut) → text_at + 2 * length (text_items s.document) ≤ length (wd_stream s.document)
+pub text_within : (s : LaidOut) → text_offset + 2 * length (text_items s.document) ≤ length (wd_stream s.document)
 text_within s =
     let size = sizes s in
     omega (arith, size.text, size.all)
@@ -301,7 +301,7 @@ stand_sepxes s =
 -- a row of pages whose own table this is
 pub record HasRowTable (kind : PageKind) (wd : List ℕ) (runs : List Run) (table : List ℕ) : Type 0 where
   pub first : ℕ
-  pub row : IsRow kind wd runs first
+  pub row : IsPageRow kind wd runs first
   pub table_is : row_table row ≡ table
 
 pub character_table : (s : LaidOut) →

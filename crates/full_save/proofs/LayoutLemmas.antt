@@ -10,12 +10,12 @@ use Rattle.cfb_layout.specs.Layout.{lengths_of}
 use Rattle.cfb_layout.specs.Sectors.{filled}
 use Rattle.fib_form.specs.FibFields.{FibFields}
 use Rattle.fib_form.specs.FibBytes.{written_fib}
-use Rattle.plain_doc.specs.declared.document.Document.{Document}
-use Rattle.plain_doc.specs.Carried.{AreCarriedStreams}
-use Rattle.plain_doc.specs.Formed.{IsFormed}
+use Rattle.doc_model.specs.declared.document.Document.{Document}
+use Rattle.doc_model.specs.Carried.{AreCarriedStreams}
+use Rattle.doc_model.specs.Formed.{IsFormed}
 use Rattle.plain_doc.specs.RightDocument.{IsValidDocument}
 use Rattle.full_save.specs.Streams.{put_stream, saved_streams}
-use Rattle.full_save.specs.WordDocument.{text_at, least_length, wd_body, full_fib, wd_stream, table_stream}
+use Rattle.full_save.specs.WordDocument.{text_offset, least_length, wd_body, full_fib, wd_stream, table_stream}
 use Rattle.full_save.specs.Layout.{layout_streams, FitsCompoundFile}
 use Rattle.full_save.proofs.PutStreams.{IsPutAmong, put_among, put_are_streams, total-put, each_put, length-put}
 use Rattle.full_save.proofs.PutStreams.{put_there}
@@ -64,14 +64,15 @@ are_put table wd others ordered carried short_table short_wd =
 
 -- the stream with a FIB, and these bytes from the text on
 abbrev pub wd_of : FibFields → List ℕ → List ℕ
-wd_of fib body = filled least_length 0 (filled text_at 0 (written_fib fib) ++ body)
+wd_of fib body = filled least_length 0 (filled text_offset 0 (written_fib fib) ++ body)
 
 -- WordDocument is as long as what it has, but not shorter than it may be
-pub length-wd_stream : (document : Document) → length (wd_stream document) ≡ max (text_at + length (wd_body document))
+pub length-wd_stream : (document : Document) → length (wd_stream document) ≡ max (text_offset + length (wd_body
+    document))
     least_length
 unfolding wd_stream filled
 length-wd_stream document =
-    let front = filled text_at 0 (written_fib (full_fib document)) in
+    let front = filled text_offset 0 (written_fib (full_fib document)) in
     let all = front ++ wd_body document in
     let size = length-front document in
     let one = length-append front (wd_body document) in

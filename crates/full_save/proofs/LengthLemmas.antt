@@ -8,10 +8,10 @@ use Rattle.std.proofs.lemmas.Bool.{cond_both}
 use Rattle.std.proofs.lemmas.List.{length-map, length-replicate}
 use Rattle.std.proofs.lemmas.List.Sums.{sum_by-cons}
 use Rattle.std.proofs.lemmas.List.Elements.{All-nil, All-cons}
-use Rattle.doc_bits.specs.Number.{number_bytes, numbers}
+use Rattle.doc_bits.specs.Number.{number_bytes, u32_list_bytes}
 use Rattle.doc_bits.specs.Plc.{printed_plc}
 use Rattle.doc_bits.proofs.Public.{length-number_bytes, length-numbers, length-joined}
-use Rattle.cfb_layout.specs.Sectors.{units_for, padded}
+use Rattle.cfb_layout.specs.Sectors.{units_for, padded_to_unit}
 use Rattle.cfb_layout.proofs.Public.{length-table, length-padded}
 use Rattle.fib_form.specs.TableEntries.{TableEntry}
 use Rattle.fkp_pages.specs.declared.kind.PageKind.{PageKind}
@@ -27,40 +27,42 @@ use Rattle.doc_parts.specs.Table.{EntryForm, printed_entries}
 use Rattle.doc_parts.specs.declared.lists.Sed.{Sed}
 use Rattle.doc_parts.specs.declared.lists.Fld.{Fld}
 use Rattle.doc_parts.specs.declared.lists.NoteRef.{NoteRef}
-use Rattle.doc_parts.specs.declared.bookmark_order.Bookmark.{Bookmark}
+use Rattle.document_bookmarks.specs.declared.bookmark_order.Bookmark.{Bookmark}
 use Rattle.doc_parts.specs.declared.bookmark_print.Start.{Start}
 use Rattle.doc_parts.specs.Sections.{sed_form, printed_sections}
 use Rattle.doc_parts.specs.Fields.{fld_form, printed_fields}
 use Rattle.doc_parts.specs.Stories.{ref_form, cut_form, printed_refs, printed_texts}
-use Rattle.doc_parts.specs.PrintedBookmarks.{names_front, names_bytes, printed_names, ends_of, start_form, starts_of}
+use Rattle.doc_parts.specs.PrintedBookmarks.{names_front, names_bytes, printed_names, bookmark_ends, start_form}
+use Rattle.doc_parts.specs.PrintedBookmarks.{starts_of}
 use Rattle.doc_parts.specs.PrintedBookmarks.{printed_starts, printed_ends}
 use Rattle.doc_parts.proofs.Public.{length-ends, length-front, length-starts}
-use Rattle.plain_doc.specs.declared.item.Item.{Item}
-use Rattle.plain_doc.specs.declared.item.NoteKind.{NoteKind}
-use Rattle.plain_doc.specs.declared.carried.Carried.{Carried}
-use Rattle.plain_doc.specs.declared.document.Document.{Document}
-use Rattle.plain_doc.specs.Collected.{joined_texts, collected, field_of, fields_of, refs_of, sections_of, is_auto}
-use Rattle.plain_doc.specs.TextLists.{cuts_of}
-use Rattle.plain_doc.specs.Formed.{IsFormed}
+use Rattle.doc_model.specs.declared.item.Item.{Item}
+use Rattle.doc_model.specs.declared.item.NoteKind.{NoteKind}
+use Rattle.doc_model.specs.declared.carried.Carried.{Carried}
+use Rattle.doc_model.specs.declared.document.Document.{Document}
+use Rattle.doc_model.specs.Collected.{joined_texts, collected, field_character, fields_of, refs_of, sections_of}
+use Rattle.doc_model.specs.Collected.{is_auto}
+use Rattle.doc_model.specs.TextLists.{cuts_of}
+use Rattle.doc_model.specs.Formed.{IsFormed}
 use Rattle.plain_doc.specs.RightDocument.{IsValidDocument}
-use Rattle.plain_doc.proofs.Public.{length-cuts_from}
+use Rattle.doc_model.proofs.Public.{length-cuts_from}
 use Rattle.doc_columns.specs.Attached.{attached_of}
 use Rattle.full_save.specs.declared.measures.Measure.TheVariants.{Notes, Sections, Fields, SepxBytes}
 use Rattle.full_save.specs.declared.lengths.PageCounts.{PageCounts}
 use Rattle.full_save.specs.declared.made_parts.MadeParts.{MadeParts}
 use Rattle.full_save.specs.declared.table_text.TableText.{TableText}
 use Rattle.full_save.specs.declared.text.SavedText.{SavedText}
-use Rattle.full_save.specs.RunsSoFar.{IsTextOf}
+use Rattle.full_save.specs.RunsSoFar.{IsSavedTextOf}
 use Rattle.full_save.specs.Sections.{seds_from, sepxes}
 use Rattle.full_save.specs.Text.{text_items}
-use Rattle.full_save.specs.TableStream.{entry_bytes, entries_bytes}
-use Rattle.full_save.specs.WordDocument.{text_at, text_bytes, document_runs, document_pages, pages_end, wd_body}
+use Rattle.full_save.specs.TableStream.{table_entry_bytes, entries_bytes}
+use Rattle.full_save.specs.WordDocument.{text_offset, text_bytes, document_runs, document_pages, pages_end, wd_body}
 use Rattle.full_save.specs.WordDocument.{wd_stream}
 use Rattle.full_save.specs.WordDocument.{bin_table, one_piece_clx, full_text, table_stream, least_length}
 use Rattle.full_save.specs.WordDocument.{first_character_page, first_paragraph_page}
 use Rattle.full_save.specs.Made.{AreMadeOf, made_entries, made_length, carried_length}
 use Rattle.full_save.specs.Lengths.{one_if, measured, text_measure, plc_length}
-use Rattle.full_save.specs.Lengths.{name_length, bookmarks_length, pages_counted, table_length, wd_length}
+use Rattle.full_save.specs.Lengths.{bookmark_name_length, bookmarks_length, pages_counted, table_length, wd_length}
 use Rattle.full_save.proofs.LayoutLemmas.{length-wd_stream}
 use Rattle.full_save.proofs.MadeLemmas.{made_are}
 use Rattle.full_save.proofs.MeasureLemmas.{length-collected, length-sepxes_from}
@@ -82,7 +84,7 @@ plc_long : (cps : List ℕ) (end : ℕ) (entries : List (List ℕ)) →
 plc_long [] end entries = refl
 plc_long (cp ∷ cps) end entries =
     let rest = number_bytes 4 end ++ flat_map (λ bytes. bytes) entries in
-    let a = length-append (numbers (cp ∷ cps)) rest in
+    let a = length-append (u32_list_bytes (cp ∷ cps)) rest in
     let b = length-append (number_bytes 4 end) (flat_map (λ bytes. bytes) entries) in
     let count = length (cp ∷ cps) in
     let size = length (flat_map (λ bytes. bytes) entries) in
@@ -115,7 +117,7 @@ table_long form size list end count each long =
 
 -- ---- each part
 
-some_field : (item : Item) → one_if (is_some (field_of item)) ≡ measured Fields (attached_of item)
+some_field : (item : Item) → one_if (is_some (field_character item)) ≡ measured Fields (attached_of item)
 some_field item = by_fld item.unit item.fld
   where
     by_fld : (unit : ℕ) (fld : Option ℕ) →
@@ -128,8 +130,8 @@ pub fields_long : (items : List Item) (end : ℕ) →
     ≡ plc_length (text_measure Fields items) (2 * text_measure Fields items)
 fields_long items end =
     let make : ℕ × (ℕ × ℕ) → Fld = λ e. record { cp = e.0; unit = e.1.0; byte = e.1.1 } in
-    let count = length-map (collected field_of 0 items) make
-    ∙ length-collected field_of (λ (item : Item). measured Fields (attached_of item)) 0 items some_field in
+    let count = length-map (collected field_character 0 items) make
+    ∙ length-collected field_character (λ (item : Item). measured Fields (attached_of item)) 0 items some_field in
     let n = text_measure Fields items in
     table_long fld_form 2 (fields_of items) end n (λ fld. refl) count ∙ ap (plc_length n) (omega arith)
 
@@ -190,7 +192,7 @@ bin_long kind document number =
     let end = last_fc (document_runs kind document) in
     let firsts : List ℕ = map (λ (bin : Bin). bin.first) bins in
     let pages : List ℕ = map (λ (bin : Bin). bin.page) bins in
-    let a = length-append (numbers (firsts ++ end ∷ [])) (numbers pages) in
+    let a = length-append (u32_list_bytes (firsts ++ end ∷ [])) (u32_list_bytes pages) in
     let b = length-append firsts (end ∷ []) in
     let c = length-map bins (λ (bin : Bin). bin.first) in
     let d = length-map bins (λ (bin : Bin). bin.page) in
@@ -205,7 +207,7 @@ bin_long kind document number =
       length-numbered_bins number starts,
     )
 
-names_long : (bookmarks : List Bookmark) → length (names_bytes bookmarks) ≡ sum_by name_length bookmarks
+names_long : (bookmarks : List Bookmark) → length (names_bytes bookmarks) ≡ sum_by bookmark_name_length bookmarks
 names_long [] = refl
 names_long (b ∷ bs) =
     let count : List ℕ = number_bytes 2 (length b.name) in
@@ -213,7 +215,7 @@ names_long (b ∷ bs) =
     omega (
       arith,
       names_long bs,
-      sum_by-cons name_length b bs,
+      sum_by-cons bookmark_name_length b bs,
       length-append (count ++ units) (names_bytes bs),
       length-append count units,
       length-number_bytes 2 (length b.name),
@@ -221,7 +223,7 @@ names_long (b ∷ bs) =
     )
 
 all_names_long : (bookmarks : List Bookmark) →
-    length (printed_names bookmarks) ≡ (if length bookmarks == 0 then 0 else 6 + sum_by name_length bookmarks)
+    length (printed_names bookmarks) ≡ (if length bookmarks == 0 then 0 else 6 + sum_by bookmark_name_length bookmarks)
 all_names_long [] = refl
 all_names_long (b ∷ bs) =
     let list : List Bookmark = b ∷ bs in
@@ -230,7 +232,7 @@ all_names_long (b ∷ bs) =
       length-front (length list),
       names_long list,
       length-append (names_front (length list)) (names_bytes list),
-      zero_else (length list) (6 + sum_by name_length list) (not_none b bs),
+      zero_else (length list) (6 + sum_by bookmark_name_length list) (not_none b bs),
     )
 
 pub bookmarks_long : (bookmarks : List Bookmark) (end : ℕ) →
@@ -246,19 +248,19 @@ bookmarks_long bookmarks end =
     table_long start_form 4 (starts_of bookmarks [] bookmarks) end n each (length-starts bookmarks [] bookmarks)
     ∙ ap (plc_length n) (omega arith) in
     let ends =
-    table_long cut_form 0 (ends_of bookmarks) end n (λ cp. refl) (length-ends bookmarks)
+    table_long cut_form 0 (bookmark_ends bookmarks) end n (λ cp. refl) (length-ends bookmarks)
     ∙ ap (plc_length n) (omega arith) in
     λ i. all_names_long bookmarks i + starts i + ends i
 
 clx_long : (len : ℕ) → length (one_piece_clx len) ≡ 21
 clx_long len =
-    let pcd = pcd_bytes (record { at = text_at; wide = true; len = len }) 0 in
+    let pcd = pcd_bytes (record { at = text_offset; wide = true; len = len }) 0 in
     let cps = cps_of (len ∷ []) in
     let plc = plc_bytes (len ∷ []) (pcd ∷ []) in
     let a = length-append (number_bytes 4 (length plc)) plc in
-    let b = length-append (numbers cps) (flat_map (λ bytes. bytes) (pcd ∷ [])) in
+    let b = length-append (u32_list_bytes cps) (flat_map (λ bytes. bytes) (pcd ∷ [])) in
     let c = length-append pcd [] in
-    let number : List ℕ = number_bytes 4 text_at in
+    let number : List ℕ = number_bytes 4 text_offset in
     let d = length-append (number_bytes 2 0) (number ++ number_bytes 2 0) in
     let e = length-append number (number_bytes 2 0) in
     let two : length cps ≡ 2 = refl in
@@ -273,7 +275,7 @@ clx_long len =
       length-numbers cps,
       length-number_bytes 4 (length plc),
       length-number_bytes 2 0,
-      length-number_bytes 4 text_at,
+      length-number_bytes 4 text_offset,
     )
 
 -- ---- the table stream
@@ -306,7 +308,7 @@ made_of d =
 entries-cons : (part : TableEntry) (parts : List TableEntry) →
     length (entries_bytes (part ∷ parts)) ≡ length part.bytes + length part.behind + length (entries_bytes parts)
 entries-cons part parts =
-    omega (arith, length-append (entry_bytes part) (entries_bytes parts), length-append part.bytes part.behind)
+    omega (arith, length-append (table_entry_bytes part) (entries_bytes parts), length-append part.bytes part.behind)
 
 -- all parts one after the other
 pub made_long : (carried : Carried) (text : TableText) (made : MadeParts) →
@@ -388,7 +390,7 @@ wd_stream_long d formed right =
     let sepx = sepxes (sections_of d.main) in
     let few = few_items d right in
     let units = length-text d in
-    let whole : length (padded 512 0 text) ≡ units_for 512 (2 * length (text_items d)) * 512 =
+    let whole : length (padded_to_unit 512 0 text) ≡ units_for 512 (2 * length (text_items d)) * 512 =
     length-padded 512 0 text (omega arith) ∙ ap (λ (n : ℕ). units_for 512 n * 512) units in
     let all : length (wd_body d)
     ≡ 512 * (units_for 512 (2 * length (text_items d)) + length (document_pages Chpx d).starts
@@ -396,17 +398,17 @@ wd_stream_long d formed right =
     omega (
       arith,
       whole,
-      length-append (padded 512 0 text) (chp ++ (pap ++ sepx)),
+      length-append (padded_to_unit 512 0 text) (chp ++ (pap ++ sepx)),
       length-append chp (pap ++ sepx),
       length-append pap sepx,
       length-pages Chpx d formed right,
       length-pages Papx d formed right,
       length-sepxes_from 0 d.main,
     ) in
-    length-wd_stream d ∙ ap (λ (n : ℕ). max (text_at + n) least_length) all
+    length-wd_stream d ∙ ap (λ (n : ℕ). max (text_offset + n) least_length) all
 
 -- the pages of its runs are those of the document
-pub runs_counted : (d : Document) (text : SavedText) → IsTextOf d text →
+pub runs_counted : (d : Document) (text : SavedText) → IsSavedTextOf d text →
     record {
       characters = length (pages_of Chpx text.characters).starts;
       paragraphs = length (pages_of Papx text.paragraphs).starts;

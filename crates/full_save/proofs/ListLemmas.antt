@@ -4,10 +4,10 @@ use Rattle.std.proofs.Common.{get_or, Option, Some, None, arith}
 use Rattle.std.proofs.lemmas.List.{append_assoc, length-append, append-nil, drop_all}
 use Rattle.std.proofs.Math.Seq.{drop-cons}
 use Rattle.doc_parts.specs.declared.lists.Fld.{Fld}
-use Rattle.plain_doc.specs.declared.item.Item.{Item}
-use Rattle.plain_doc.specs.Collected.{collected, entry_before, field_of, joined_texts, cuts_from}
-use Rattle.plain_doc.specs.TextLists.{cuts_of}
-use Rattle.plain_doc.proofs.Public.{collected-append}
+use Rattle.doc_model.specs.declared.item.Item.{Item}
+use Rattle.doc_model.specs.Collected.{collected, entry_before, field_character, joined_texts, cuts_from}
+use Rattle.doc_model.specs.TextLists.{cuts_of}
+use Rattle.doc_model.proofs.Public.{collected-append}
 use Rattle.full_save.specs.Lists.{fields_from, IsListedUpTo}
 
 -- what is left of a list begins with what is there
@@ -132,8 +132,8 @@ fields-append : (cp : ℕ) (xs ys : List Item) → fields_from cp (xs ++ ys) ≡
     (cp + length xs) ys
 fields-append cp xs ys =
     let entry : ℕ × (ℕ × ℕ) → Fld = λ e. record { cp = e.0; unit = e.1.0; byte = e.1.1 } in
-    ap (λ (entries : List (ℕ × (ℕ × ℕ))). map entry entries) (collected-append field_of cp xs ys)
-    ∙ map-append entry (collected field_of cp xs) (collected field_of (cp + length xs) ys)
+    ap (λ (entries : List (ℕ × (ℕ × ℕ))). map entry entries) (collected-append field_character cp xs ys)
+    ∙ map-append entry (collected field_character cp xs) (collected field_character (cp + length xs) ys)
 
 pub fields_next :
     (texts : List (List Item)) (k cp : ℕ) (fields more : List Fld) → k < length texts →

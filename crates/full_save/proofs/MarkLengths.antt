@@ -6,15 +6,15 @@ use Rattle.std.proofs.lemmas.List.Elements.{All-head, All-tail, All-weaker}
 use Rattle.doc_bits.specs.Number.{number_bytes}
 use Rattle.doc_bits.proofs.Public.{length-number_bytes}
 use Rattle.cfb_layout.proofs.Public.{length-table}
-use Rattle.doc_parts.specs.declared.bookmark_order.Bookmark.{Bookmark}
+use Rattle.document_bookmarks.specs.declared.bookmark_order.Bookmark.{Bookmark}
 use Rattle.doc_parts.specs.declared.bookmark_print.Start.{Start}
-use Rattle.doc_parts.specs.Order.{in_order}
-use Rattle.doc_parts.specs.Bookmarks.{IsFormedBookmark}
+use Rattle.document_bookmarks.specs.Order.{in_order}
+use Rattle.document_bookmarks.specs.Bookmarks.{IsFormedBookmark}
 use Rattle.doc_parts.specs.Stories.{cut_form}
-use Rattle.doc_parts.specs.PrintedBookmarks.{names_front, names_bytes, printed_names, ends_of, start_form}
+use Rattle.doc_parts.specs.PrintedBookmarks.{names_front, names_bytes, printed_names, bookmark_ends, start_form}
 use Rattle.doc_parts.specs.PrintedBookmarks.{starts_of, printed_starts, printed_ends}
 use Rattle.doc_parts.proofs.Public.{length-ends, length-front, length-starts}
-use Rattle.plain_doc.specs.declared.document.Document.{Document}
+use Rattle.doc_model.specs.declared.document.Document.{Document}
 use Rattle.plain_doc.specs.RightDocument.{IsValidDocument}
 use Rattle.full_save.specs.TableText.{FitParts}
 use Rattle.full_save.proofs.EntryLengths.{length-printed}
@@ -84,5 +84,5 @@ short_ends bookmarks end fit =
       arith,
       few,
       length-ends bookmarks,
-      length-printed cut_form 0 (ends_of bookmarks) end (λ cp. omega arith) (omega arith),
+      length-printed cut_form 0 (bookmark_ends bookmarks) end (λ cp. omega arith) (omega arith),
     )

@@ -15,20 +15,20 @@ use Rattle.doc_bits.proofs.Public.{All_at, All-from_slice_get, from_map, length-
 use Rattle.prop_map.specs.Settings.{Properties}
 use Rattle.prop_map.specs.Printing.{printed_list}
 use Rattle.style_sheet.specs.Counted.{written_counted}
-use Rattle.doc_parts.specs.declared.bookmark_order.Bookmark.{Bookmark}
+use Rattle.document_bookmarks.specs.declared.bookmark_order.Bookmark.{Bookmark}
 use Rattle.doc_parts.proofs.Public.{sum_by-of_map}
 use Rattle.run_lists.specs.declared.runs.Run.{Run}
 use Rattle.run_lists.specs.Spread.{expanded, total_len}
 use Rattle.run_lists.proofs.Public.{spread-nil, spread_push, extent_more}
-use Rattle.plain_doc.specs.declared.item.Item.{Item}
-use Rattle.plain_doc.specs.Collected.{entry_before, collected, joined_texts}
+use Rattle.doc_model.specs.declared.item.Item.{Item}
+use Rattle.doc_model.specs.Collected.{entry_before, collected, joined_texts}
 use Rattle.doc_columns.specs.declared.attached.Attached.{Attached}
 use Rattle.doc_columns.specs.Attached.{attached_of}
 use Rattle.full_save.specs.declared.measures.Measure.{Measure}
 use Rattle.full_save.specs.declared.measures.Measure.TheVariants.{Fields, SepxBytes}
 use Rattle.full_save.specs.Sections.{is_plain_section, sepx_bytes, sepxes}
 use Rattle.full_save.specs.TableText.{FitParts}
-use Rattle.full_save.specs.Lengths.{one_if, sepx_length, measured, text_measure, IsMeasurable, name_length}
+use Rattle.full_save.specs.Lengths.{one_if, sepx_length, measured, text_measure, IsMeasurable, bookmark_name_length}
 use Rattle.full_save.proofs.ListLemmas.{drop_here}
 
 -- ---- runs
@@ -191,26 +191,27 @@ sepx_long properties plain is not =
 
 -- no name is long
 pub names_few : (bookmarks : List Bookmark) → FitParts bookmarks →
-    sum_by name_length bookmarks ≤ length bookmarks * 512
+    sum_by bookmark_name_length bookmarks ≤ length bookmarks * 512
 names_few bookmarks fit =
-    sum_by-le name_length 512 bookmarks
-    (All-weaker (λ (b : Bookmark). length b.name ≤ 255) (λ (b : Bookmark). name_length b ≤ 512)
+    sum_by-le bookmark_name_length 512 bookmarks
+    (All-weaker (λ (b : Bookmark). length b.name ≤ 255) (λ (b : Bookmark). bookmark_name_length b ≤ 512)
     (λ b short. omega (arith, short)) bookmarks fit.short)
 
 -- a bookmark more
 pub names_next : (bookmarks : List Bookmark) (k : ℕ) (bookmark : Bookmark) →
     slice_get bookmarks k ≡ Some bookmark →
-    sum_by name_length (take (k + 1) bookmarks) ≡ sum_by name_length (take k bookmarks) + name_length bookmark
+    sum_by bookmark_name_length (take (k + 1) bookmarks) ≡ sum_by bookmark_name_length (take k bookmarks) +
+    bookmark_name_length bookmark
 names_next bookmarks k bookmark here =
     let below = slice_get_within bookmarks k bookmark here in
     let same = get_or_from_slice_get bookmarks k bookmark bookmark here in
-    ap (sum_by name_length)
+    ap (sum_by bookmark_name_length)
     (take_more bookmarks k bookmark below ∙ ap (λ (b : Bookmark). take k bookmarks ++ b ∷ []) same)
-    ∙ sum_by_push name_length (take k bookmarks) bookmark
+    ∙ sum_by_push bookmark_name_length (take k bookmarks) bookmark
 
 pub names_short : (bookmarks : List Bookmark) (k : ℕ) (bookmark : Bookmark) → slice_get bookmarks k ≡ Some bookmark →
     FitParts bookmarks →
-    sum_by name_length (take k bookmarks) + name_length bookmark ≤ 16000 * 512
+    sum_by bookmark_name_length (take k bookmarks) + bookmark_name_length bookmark ≤ 16000 * 512
 names_short bookmarks k bookmark here fit =
     let below = slice_get_within bookmarks k bookmark here in
     let same = get_or_from_slice_get bookmarks k bookmark bookmark here in
@@ -219,14 +220,15 @@ names_short bookmarks k bookmark here fit =
       arith,
       few,
       names_few bookmarks fit,
-      sum_by_more_le name_length bookmarks k bookmark below,
-      ap name_length same,
+      sum_by_more_le bookmark_name_length bookmarks k bookmark below,
+      ap bookmark_name_length same,
     )
 
 -- where there are some
 pub some_names : (bookmarks : List Bookmark) → length bookmarks ≢ 0 →
-    6 + sum_by name_length bookmarks ≡ (if length bookmarks == 0 then 0 else 6 + sum_by name_length bookmarks)
+    6 + sum_by bookmark_name_length bookmarks ≡ (if length bookmarks == 0 then 0 else 6 + sum_by bookmark_name_length
+    bookmarks)
 some_names bookmarks some =
-    let all = 6 + sum_by name_length bookmarks in
+    let all = 6 + sum_by bookmark_name_length bookmarks in
     cond_both (length bookmarks == 0) 0 all (λ (k : ℕ). all ≡ k)
     (λ none. absurd (some (eqb-true (length bookmarks) 0 none))) (λ more. refl)

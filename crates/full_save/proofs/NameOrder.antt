@@ -4,12 +4,12 @@ use Rattle.std.proofs.Common.{◌≡◌, ◌≢◌, ◌∙◌, inl, inr, ℕ, ze
 use Rattle.std.proofs.Common.{List, []}
 use Rattle.std.proofs.Common.{◌∷◌, length, sym, ap, subst, arith}
 use Rattle.std.proofs.lemmas.Bool.{cases_order, cases_eq, ne_eqb, ltb-true, false≢true, true≢false}
-use Rattle.cfb_directory.specs.Directory.{upper_case, AreSameNames, IsNameLessAt, ComesBefore}
+use Rattle.cfb_directory.specs.Directory.{upper_case, AreSameNames, IsNameLessAt, IsNameBefore}
 use Rattle.cfb_directory.proofs.Public.{first_difference}
 use Rattle.full_save.specs.Streams.{has_less_unit, is_name_before}
 
-pub comes_other : (name other : List ℕ) → ¬ ComesBefore name other → ¬ AreSameNames name other →
-    ComesBefore other name
+pub comes_other : (name other : List ℕ) → ¬ IsNameBefore name other → ¬ AreSameNames name other →
+    IsNameBefore other name
 comes_other name other not apart = elim (cases_order (length name) (length other)) [
   | inr ne ↦ elim ne [
     | inl lo ↦ absurd (not (inl lo))
@@ -100,7 +100,7 @@ less_from (unit ∷ units) (first ∷ others) (suc place) same is =
       less = is.less;
     })
 
-pub before_is : (name other : List ℕ) → is_name_before name other ≡ true → ComesBefore name other
+pub before_is : (name other : List ℕ) → is_name_before name other ≡ true → IsNameBefore name other
 before_is name other before = elim (cases_eq (length name) (length other)) [
   | inl e ↦
       let less : has_less_unit name other ≡ true =
@@ -114,7 +114,7 @@ before_is name other before = elim (cases_eq (length name) (length other)) [
       inl (ltb-true (length name) (length other) shorter)
 ]
 
-pub before_from : (name other : List ℕ) → ComesBefore name other → is_name_before name other ≡ true
+pub before_from : (name other : List ℕ) → IsNameBefore name other → is_name_before name other ≡ true
 before_from name other (inl shorter) =
     let apart : length name ≢ length other = λ e. omega (arith, e, shorter) in
     ap (λ b. cond b (has_less_unit name other) (ltb (length name) (length other)))
@@ -127,6 +127,6 @@ before_from name other (inr less) =
 
 -- a name that does not come before another one, and is not the same, comes behind it
 pub behind_is : (name other : List ℕ) → is_name_before name other ≡ false → ¬ AreSameNames name other →
-    ComesBefore other name
+    IsNameBefore other name
 behind_is name other not apart =
     comes_other name other (λ before. true≢false (sym (before_from name other before) ∙ not)) apart

@@ -7,7 +7,7 @@ use Rattle.std.proofs.lemmas.List.{append_assoc, take_more, get_or-drop}
 use Rattle.std.proofs.lemmas.Bool.{cases_Bool, cases_lt}
 use Rattle.std.proofs.lemmas.Option.{slice_get_within, slice_get-get_or, same_Some}
 use Rattle.cfb_streams.specs.Contents.{NamedBytes, AreStreams}
-use Rattle.cfb_directory.specs.Directory.{ComesBefore}
+use Rattle.cfb_directory.specs.Directory.{IsNameBefore}
 use Rattle.cfb_streams.specs.Names.{wd_name, second_table_name}
 use Rattle.cfb_layout.specs.Layout.{lengths_of}
 use Rattle.full_save.specs.Streams.{is_name_before, saved_streams, IsPlaceFor}
@@ -78,28 +78,28 @@ name_at others i first stream has here =
     same_Some first stream.name (sym has ∙ ap (option_map (λ (s : NamedBytes). s.name)) here)
 
 pub place_here : (name : List ℕ) (others : List NamedBytes) (i : ℕ) (first : List ℕ) → AreBefore name others i →
-    i < length others → option_map (λ s. s.name) (slice_get others i) ≡ Some first → ¬ ComesBefore first name →
+    i < length others → option_map (λ s. s.name) (slice_get others i) ≡ Some first → ¬ IsNameBefore first name →
     IsPlaceFor name others i
 place_here name others i first before low has not = record {
   within = omega arith;
   before = before;
   after = λ stream here. elim (cases_Bool (is_name_before stream.name name)) [
     | inl is ↦
-        absurd (not (subst (λ (n : List ℕ). ComesBefore n name) (sym (name_at others i first stream has here))
+        absurd (not (subst (λ (n : List ℕ). IsNameBefore n name) (sym (name_at others i first stream has here))
         (before_is stream.name name is)))
     | inr behind ↦ behind
   ];
 }
 
 pub place_later : (name : List ℕ) (others : List NamedBytes) (i : ℕ) (first : List ℕ) → AreBefore name others i →
-    option_map (λ s. s.name) (slice_get others i) ≡ Some first → ComesBefore first name → AreBefore name others (i + 1)
+    option_map (λ s. s.name) (slice_get others i) ≡ Some first → IsNameBefore first name → AreBefore name others (i + 1)
 place_later name others i first before has is k stream low here = elim (cases_lt k i) [
   | inl less ↦ before k stream less here
   | inr end ↦
       let same : k ≡ i = omega arith in
       let there : slice_get others i ≡ Some stream = subst (λ (n : ℕ). slice_get others n ≡ Some stream) same here in
       before_from stream.name name
-      (subst (λ (n : List ℕ). ComesBefore n name) (name_at others i first stream has there) is)
+      (subst (λ (n : List ℕ). IsNameBefore n name) (name_at others i first stream has there) is)
 ]
 
 pub place_end : (name : List ℕ) (others : List NamedBytes) (i : ℕ) → AreBefore name others i → length others ≤ i →

@@ -8,7 +8,7 @@ use Rattle.std.proofs.lemmas.List.Elements.{filter-append}
 use Rattle.std.proofs.lemmas.List.Sums.{sum_by-append, sum_by-cons}
 use Rattle.std.proofs.lemmas.Option.{slice_get_within, same_Some, none-some}
 use Rattle.std.proofs.lemmas.Bool.{cases_Bool}
-use Rattle.cfb_directory.specs.Directory.{AreSameNames, ComesBefore}
+use Rattle.cfb_directory.specs.Directory.{AreSameNames, IsNameBefore}
 use Rattle.cfb_streams.proofs.Public.{comes_before-trans}
 use Rattle.cfb_streams.specs.Contents.{NamedBytes, AreStreams}
 use Rattle.doc_bits.proofs.Public.{in_front, in_back}
@@ -41,7 +41,7 @@ at_put (first ∷ front) put back (suc i) x here = elim (at_put front put back i
 abbrev pub Ascend : List NamedBytes → Type 0
 Ascend streams =
     (i j : ℕ) (stream later : NamedBytes) → i < j → slice_get streams i ≡ Some stream →
-    slice_get streams j ≡ Some later → ComesBefore stream.name later.name
+    slice_get streams j ≡ Some later → IsNameBefore stream.name later.name
 
 -- the names of those in front come before its own, and its own comes before those behind
 pub record IsPutAmong (put : NamedBytes) (old new : List NamedBytes) : Type 0 where
@@ -49,8 +49,8 @@ pub record IsPutAmong (put : NamedBytes) (old new : List NamedBytes) : Type 0 wh
   pub back : List NamedBytes
   pub old_is : old ≡ front ++ back
   pub new_is : new ≡ front ++ (put ∷ back)
-  pub behind : (i : ℕ) (stream : NamedBytes) → slice_get front i ≡ Some stream → ComesBefore stream.name put.name
-  pub before : (i : ℕ) (stream : NamedBytes) → slice_get back i ≡ Some stream → ComesBefore put.name stream.name
+  pub behind : (i : ℕ) (stream : NamedBytes) → slice_get front i ≡ Some stream → IsNameBefore stream.name put.name
+  pub before : (i : ℕ) (stream : NamedBytes) → slice_get back i ≡ Some stream → IsNameBefore put.name stream.name
 
 pub length-put : (put : NamedBytes) (old new : List NamedBytes) → IsPutAmong put old new →
     length new ≡ length old + 1
@@ -111,15 +111,15 @@ each_put P put old new is each it i stream here =
 -- the order of the names
 order_put : (front back : List NamedBytes) (put : NamedBytes) →
     Ascend (front ++ back) →
-    ((i : ℕ) (stream : NamedBytes) → slice_get front i ≡ Some stream → ComesBefore stream.name put.name) →
-    ((i : ℕ) (stream : NamedBytes) → slice_get back i ≡ Some stream → ComesBefore put.name stream.name) → (i j : ℕ)
+    ((i : ℕ) (stream : NamedBytes) → slice_get front i ≡ Some stream → IsNameBefore stream.name put.name) →
+    ((i : ℕ) (stream : NamedBytes) → slice_get back i ≡ Some stream → IsNameBefore put.name stream.name) → (i j : ℕ)
     (stream later : NamedBytes) → i < j → slice_get (front ++ (put ∷ back)) i ≡ Some stream →
-    slice_get (front ++ (put ∷ back)) j ≡ Some later → ComesBefore stream.name later.name
+    slice_get (front ++ (put ∷ back)) j ≡ Some later → IsNameBefore stream.name later.name
 order_put front back put order behind before i j stream later less here there =
     elim (at_put front put back i stream here) [
       | inl low ↦ elim (at_put front put back j later there) [
         | inl high ↦ order i j stream later less (in_front front back i stream low) (in_front front back j later high)
-        | inr (inl same) ↦ subst (λ s. ComesBefore stream.name s.name) same.1 (behind i stream low)
+        | inr (inl same) ↦ subst (λ s. IsNameBefore stream.name s.name) same.1 (behind i stream low)
         | inr (inr far) ↦
             let e = far.1.0 in
             let within = slice_get_within front i stream low in
@@ -133,7 +133,7 @@ order_put front back put order behind before i j stream later less here there =
             let within = slice_get_within front j later high in
             absurd (omega (arith, e, within, less))
         | inr (inl same) ↦ let e = it.0 in let f = same.0 in absurd (omega (arith, e, f, less))
-        | inr (inr far) ↦ subst (λ s. ComesBefore s.name later.name) it.1 (before far.0 later far.1.1)
+        | inr (inr far) ↦ subst (λ s. IsNameBefore s.name later.name) it.1 (before far.0 later far.1.1)
       ]
       | inr (inr near) ↦ elim (at_put front put back j later there) [
         | inl high ↦
@@ -198,18 +198,18 @@ HaveOtherNames streams name =
     (i : ℕ) (stream : NamedBytes) → slice_get streams i ≡ Some stream → ¬ AreSameNames stream.name name
 
 first_or_later : (put other : NamedBytes) (others : List NamedBytes) → Ascend (other ∷ others) →
-    ComesBefore put.name other.name → (i : ℕ) (stream : NamedBytes) → slice_get (other ∷ others) i ≡ Some stream →
-    ComesBefore put.name stream.name
+    IsNameBefore put.name other.name → (i : ℕ) (stream : NamedBytes) → slice_get (other ∷ others) i ≡ Some stream →
+    IsNameBefore put.name stream.name
 first_or_later put other others order before zero stream here =
-    subst (λ s. ComesBefore put.name s.name) (same_Some other stream here) before
+    subst (λ s. IsNameBefore put.name s.name) (same_Some other stream here) before
 first_or_later put other others order before (suc i) stream here =
     comes_before-trans put.name other.name stream.name before (order 0 (suc i) other stream (omega arith) refl here)
 
-behind_more : (put other : NamedBytes) (front : List NamedBytes) → ComesBefore other.name put.name →
-    ((i : ℕ) (stream : NamedBytes) → slice_get front i ≡ Some stream → ComesBefore stream.name put.name) → (i : ℕ)
-    (stream : NamedBytes) → slice_get (other ∷ front) i ≡ Some stream → ComesBefore stream.name put.name
+behind_more : (put other : NamedBytes) (front : List NamedBytes) → IsNameBefore other.name put.name →
+    ((i : ℕ) (stream : NamedBytes) → slice_get front i ≡ Some stream → IsNameBefore stream.name put.name) → (i : ℕ)
+    (stream : NamedBytes) → slice_get (other ∷ front) i ≡ Some stream → IsNameBefore stream.name put.name
 behind_more put other front first rest zero stream here =
-    subst (λ s. ComesBefore s.name put.name) (same_Some other stream here) first
+    subst (λ s. IsNameBefore s.name put.name) (same_Some other stream here) first
 behind_more put other front first rest (suc i) stream here = rest i stream here
 
 pub put_among : (put : NamedBytes) (old : List NamedBytes) → Ascend old → HaveOtherNames old put.name →

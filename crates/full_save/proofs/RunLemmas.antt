@@ -7,15 +7,15 @@ use Rattle.std.proofs.Math.Seq.{take-append_seam, drop-append_seam}
 use Rattle.doc_bits.proofs.Public.{slice_get_push, slice_get_before, from_behind}
 use Rattle.fkp_pages.specs.declared.kind.PageKind.{PageKind}
 use Rattle.fkp_pages.specs.declared.lists.Run.{Run}
-use Rattle.plain_doc.specs.declared.item.Item.{Item}
-use Rattle.plain_doc.specs.Stretches.{stretches, IsJoined, goes_over, BeginsStretch}
-use Rattle.plain_doc.proofs.Public.{stretches-first, stretches-nil, joins_nothing}
+use Rattle.doc_model.specs.declared.item.Item.{Item}
+use Rattle.doc_model.specs.Stretches.{stretches, IsJoinedStretch, goes_over, BeginsStretch}
+use Rattle.doc_model.proofs.Public.{stretches-first, stretches-nil, joins_nothing}
 use Rattle.full_save.specs.Runs.{joins_run, run_at, runs_from, text_runs}
 use Rattle.full_save.specs.RunsSoFar.{AreRunsSoFar}
 
 -- a part whose elements join, and whose last one does not join what follows, is the first stretch
 pub first_cut :
-    {A : Type 0} (joins : A → A → Bool) (part more : List A) → 1 ≤ length part → IsJoined joins part →
+    {A : Type 0} (joins : A → A → Bool) (part more : List A) → 1 ≤ length part → IsJoinedStretch joins part →
     goes_over joins part more ≡ false → stretches joins (part ++ more) ≡ part ∷ stretches joins more
 first_cut joins part more some joined ends =
     let last : length part - 1 < length part = omega arith in
@@ -34,8 +34,8 @@ first_cut joins part more some joined ends =
 
 -- a joined part with one element more
 pub joined_more :
-    {A : Type 0} (joins : A → A → Bool) (part : List A) (x : A) → IsJoined joins part →
-    (1 ≤ length part → goes_over joins part (x ∷ []) ≡ true) → IsJoined joins (part ++ x ∷ [])
+    {A : Type 0} (joins : A → A → Bool) (part : List A) (x : A) → IsJoinedStretch joins part →
+    (1 ≤ length part → goes_over joins part (x ∷ []) ≡ true) → IsJoinedStretch joins (part ++ x ∷ [])
 joined_more joins part x joined last k h =
     let len = length-append part (x ∷ []) in
     elim (cases_lt (k + 1) (length part)) [
@@ -52,7 +52,7 @@ joined_more joins part x joined last k h =
 -- one item more in the last run
 pub grow_part :
     (kind : PageKind) (at : ℕ) (done : List Item) (closed : List Run) (from : ℕ) (part : List Item) (x : Item) →
-    IsJoined (joins_run kind) (part ++ x ∷ []) →
+    IsJoinedStretch (joins_run kind) (part ++ x ∷ []) →
     AreRunsSoFar kind at done (record { closed = closed; from = from; part = part }) →
     AreRunsSoFar kind at (done ++ x ∷ []) (record { closed = closed; from = from; part = part ++ x ∷ [] })
 grow_part kind at done closed from part x joined runs = record {
@@ -64,7 +64,7 @@ grow_part kind at done closed from part x joined runs = record {
 -- the last run is closed before what it does not join
 pub close_part :
     (kind : PageKind) (closed : List Run) (from : ℕ) (part more : List Item) → 1 ≤ length part →
-    IsJoined (joins_run kind) part → goes_over (joins_run kind) part more ≡ false →
+    IsJoinedStretch (joins_run kind) part → goes_over (joins_run kind) part more ≡ false →
     (closed ++ run_at kind from part ∷ []) ++ runs_from kind (from + 2 * length part) (stretches (joins_run kind) more)
     ≡ closed ++ runs_from kind from (stretches (joins_run kind) (part ++ more))
 unfolding runs_from

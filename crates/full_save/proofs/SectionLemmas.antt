@@ -4,8 +4,8 @@ use Rattle.std.proofs.Common.{get_or, Option, Some, None, arith}
 use Rattle.std.proofs.lemmas.List.{append_assoc, length-append, append-nil, drop_all}
 use Rattle.prop_map.specs.Settings.{Properties}
 use Rattle.doc_parts.specs.declared.lists.Sed.{Sed}
-use Rattle.plain_doc.specs.declared.item.Item.{Item}
-use Rattle.plain_doc.specs.Collected.{collected, entry_before, sections_of}
+use Rattle.doc_model.specs.declared.item.Item.{Item}
+use Rattle.doc_model.specs.Collected.{collected, entry_before, sections_of}
 pub use Rattle.full_save.specs.Sections.{SectionsSoFar}
 use Rattle.full_save.specs.Sections.{sepx_bytes, sepxes, fc_sepx, seds_from, SectionsSoFar, left_from, AreSepxesUpTo}
 use Rattle.full_save.proofs.ListLemmas.{drop_here}

@@ -10,11 +10,11 @@ use Rattle.prop_map.specs.Settings.{Properties}
 use Rattle.fkp_pages.specs.declared.kind.PageKind.{PageKind}
 use Rattle.fkp_pages.specs.declared.kind.PageKind.TheVariants.{Chpx, Papx}
 use Rattle.fkp_pages.specs.declared.lists.Run.{Run}
-use Rattle.plain_doc.specs.declared.item.Mark.{Mark}
-use Rattle.plain_doc.specs.declared.item.Item.{Item}
-use Rattle.plain_doc.specs.Settings.{is_alike, is_inside, same_properties}
-use Rattle.plain_doc.specs.Stretches.{joins_next, goes_over}
-use Rattle.plain_doc.proofs.Public.{same_properties-Decides}
+use Rattle.doc_model.specs.declared.item.Mark.{Mark}
+use Rattle.doc_model.specs.declared.item.Item.{Item}
+use Rattle.doc_model.specs.Settings.{is_alike, is_inside, same_properties}
+use Rattle.doc_model.specs.Stretches.{joins_next, goes_over}
+use Rattle.doc_model.proofs.Public.{same_properties-Decides}
 use Rattle.full_save.specs.declared.runs.CharacterRuns.{CharacterRuns}
 use Rattle.full_save.specs.declared.runs.ParagraphRuns.{ParagraphRuns}
 use Rattle.full_save.specs.Runs.{item_properties, mark_properties, run_at, text_runs}

@@ -10,7 +10,7 @@ use Rattle.std.proofs.Common.{length-append}
 use Rattle.std.proofs.lemmas.Bool.{and_parts, cond_both}
 use Rattle.std.proofs.lemmas.List.{length-map, length-replicate}
 use Rattle.std.proofs.lemmas.List.Elements.{All-head, All-tail}
-use Rattle.doc_bits.specs.Number.{number_bytes, numbers}
+use Rattle.doc_bits.specs.Number.{number_bytes, u32_list_bytes}
 use Rattle.doc_bits.proofs.Public.{length-number_bytes, length-numbers}
 use Rattle.prop_map.specs.Settings.{Properties}
 use Rattle.prop_map.specs.Printing.{printed_list}
@@ -23,7 +23,7 @@ use Rattle.fkp_pages.specs.PageBytes.{last_fc}
 use Rattle.fkp_pages.specs.InARow.{numbered_bins}
 use Rattle.fkp_pages.proofs.Public.{length-numbered_bins}
 use Rattle.piece_table.specs.Printing.{pcd_bytes, cps_of, plc_bytes}
-use Rattle.cfb_layout.specs.Sectors.{padded}
+use Rattle.cfb_layout.specs.Sectors.{padded_to_unit}
 use Rattle.cfb_layout.proofs.Public.{length-table, length-padded}
 use Rattle.style_sheet.specs.declared.styles.Style.{Style}
 use Rattle.style_sheet.specs.Sheet.{Sheet}
@@ -37,24 +37,24 @@ use Rattle.doc_parts.specs.Sections.{sed_form, printed_sections}
 use Rattle.doc_parts.specs.Fields.{fld_form, printed_fields}
 use Rattle.doc_parts.specs.Stories.{ref_form, cut_form, printed_refs, printed_texts}
 use Rattle.doc_parts.specs.PrintedBookmarks.{printed_names, printed_starts, printed_ends}
-use Rattle.plain_doc.specs.declared.item.Item.{Item}
-use Rattle.plain_doc.specs.declared.item.NoteKind.{NoteKind}
-use Rattle.plain_doc.specs.declared.carried.Carried.{Carried}
-use Rattle.plain_doc.specs.declared.document.Document.{Document}
+use Rattle.doc_model.specs.declared.item.Item.{Item}
+use Rattle.doc_model.specs.declared.item.NoteKind.{NoteKind}
+use Rattle.doc_model.specs.declared.carried.Carried.{Carried}
+use Rattle.doc_model.specs.declared.document.Document.{Document}
 use Rattle.doc_bits.specs.declared.places.Where.TheVariants.{Main}
-use Rattle.plain_doc.specs.Collected.{joined_texts, entry_before, collected, sections_of, field_of, fields_of}
-use Rattle.plain_doc.specs.Collected.{refs_of, is_auto}
-use Rattle.plain_doc.specs.TextLists.{cuts_of}
-use Rattle.plain_doc.specs.Carried.{ArePartsShort}
-use Rattle.plain_doc.specs.Formed.{IsFormed, carried_parts}
+use Rattle.doc_model.specs.Collected.{joined_texts, entry_before, collected, sections_of, field_character, fields_of}
+use Rattle.doc_model.specs.Collected.{refs_of, is_auto}
+use Rattle.doc_model.specs.TextLists.{cuts_of}
+use Rattle.doc_model.specs.Carried.{ArePartsShort}
+use Rattle.doc_model.specs.Formed.{IsFormed, carried_parts}
 use Rattle.plain_doc.specs.RightDocument.{IsValidDocument}
-use Rattle.plain_doc.specs.Stretches.{stretches}
-use Rattle.plain_doc.proofs.Public.{length-cuts_from, are_stretches, collected_from}
+use Rattle.doc_model.specs.Stretches.{stretches}
+use Rattle.doc_model.proofs.Public.{length-cuts_from, are_stretches, collected_from}
 use Rattle.full_save.specs.Text.{text_items, text_counts}
 use Rattle.full_save.specs.Runs.{joins_run, runs_from, text_runs}
 use Rattle.full_save.specs.Sections.{is_plain_section, sepx_bytes, sepxes, seds_from}
-use Rattle.full_save.specs.TableStream.{entry_bytes, entries_bytes}
-use Rattle.full_save.specs.WordDocument.{text_at, text_bytes, document_runs, document_pages, pages_end, wd_body}
+use Rattle.full_save.specs.TableStream.{table_entry_bytes, entries_bytes}
+use Rattle.full_save.specs.WordDocument.{text_offset, text_bytes, document_runs, document_pages, pages_end, wd_body}
 use Rattle.full_save.specs.WordDocument.{bin_table}
 use Rattle.full_save.specs.WordDocument.{one_piece_clx, full_text, full_entries, table_stream}
 use Rattle.full_save.specs.WordDocument.{first_character_page, first_paragraph_page}
@@ -91,7 +91,7 @@ pub few_pages : (kind : PageKind) (document : Document) → IsFormed document �
     length (document_pages kind document).starts ≤ length (text_items document)
 few_pages kind document formed right =
     let few = (whole_pages kind document formed right).few in
-    omega (arith, few, few_runs kind text_at (text_items document))
+    omega (arith, few, few_runs kind text_offset (text_items document))
 
 -- ---- sections
 
@@ -168,7 +168,7 @@ short_body document formed right =
     let few = few_items document right in
     let units = length-text document in
     let whole = length-padded 512 0 text (omega arith) in
-    let a = length-append (padded 512 0 text) (chp ++ (pap ++ sepx)) in
+    let a = length-append (padded_to_unit 512 0 text) (chp ++ (pap ++ sepx)) in
     let b = length-append chp (pap ++ sepx) in
     let c = length-append pap sepx in
     let chp_size = length-pages Chpx document formed right in
@@ -182,7 +182,7 @@ short_body document formed right =
 
 -- a part is shorter than this
 pub record IsShortEntry (part : TableEntry) : Type 0 where
-  pub short : length (entry_bytes part) ≤ 2 ^ 41
+  pub short : length (table_entry_bytes part) ≤ 2 ^ 41
 
 abbrev AreShortEntries : List TableEntry → Type 0
 AreShortEntries [] = ⊤
@@ -194,7 +194,7 @@ short_entries [] short = omega arith
 short_entries (part ∷ parts) short =
     let first = short.0.short in
     let rest = short_entries parts short.1 in
-    omega (arith, first, rest, length-append (entry_bytes part) (entries_bytes parts))
+    omega (arith, first, rest, length-append (table_entry_bytes part) (entries_bytes parts))
 
 short_entry : (number : ℕ) (bytes : List ℕ) → length bytes ≤ 2 ^ 41 → IsShortEntry (entry number bytes)
 short_entry number bytes short = record { short = omega (arith, short, length-append bytes []) }
@@ -203,8 +203,8 @@ fields_short : (items : List Item) (len : ℕ) →
     length (printed_fields (fields_of items) len) ≤ 16 * length items + 4
 fields_short items len =
     let make : ℕ × (ℕ × ℕ) → Fld = λ e. record { cp = e.0; unit = e.1.0; byte = e.1.1 } in
-    let count = length-map (collected field_of 0 items) make in
-    let few = few_collected field_of 0 items in
+    let count = length-map (collected field_character 0 items) make in
+    let few = few_collected field_character 0 items in
     omega (arith, count, few, length-printed fld_form 2 (fields_of items) len (λ fld. omega arith) (omega arith))
 
 refs_short : (main : List Item) (len : ℕ) → length (printed_refs (refs_of main) len) ≤ 16 * length main + 4
@@ -256,7 +256,7 @@ bins_short : (bins : List Bin) (end : ℕ) → length (printed_bin bins end) ≤
 bins_short bins end =
     let firsts : List ℕ = map (λ (bin : Bin). bin.first) bins in
     let pages : List ℕ = map (λ (bin : Bin). bin.page) bins in
-    let a = length-append (numbers (firsts ++ end ∷ [])) (numbers pages) in
+    let a = length-append (u32_list_bytes (firsts ++ end ∷ [])) (u32_list_bytes pages) in
     let b = length-append firsts (end ∷ []) in
     let c = length-map bins (λ (bin : Bin). bin.first) in
     let d = length-map bins (λ (bin : Bin). bin.page) in
@@ -271,13 +271,13 @@ table_short kind document number formed right =
 
 pub clx_short : (len : ℕ) → length (one_piece_clx len) ≤ 64
 clx_short len =
-    let pcd = pcd_bytes (record { at = text_at; wide = true; len = len }) 0 in
+    let pcd = pcd_bytes (record { at = text_offset; wide = true; len = len }) 0 in
     let cps = cps_of (len ∷ []) in
     let plc = plc_bytes (len ∷ []) (pcd ∷ []) in
     let a = length-append (number_bytes 4 (length plc)) plc in
-    let b = length-append (numbers cps) (flat_map (λ bytes. bytes) (pcd ∷ [])) in
+    let b = length-append (u32_list_bytes cps) (flat_map (λ bytes. bytes) (pcd ∷ [])) in
     let c = length-append pcd [] in
-    let number : List ℕ = number_bytes 4 text_at in
+    let number : List ℕ = number_bytes 4 text_offset in
     let d = length-append (number_bytes 2 0) (number ++ number_bytes 2 0) in
     let e = length-append number (number_bytes 2 0) in
     let two : length cps ≡ 2 = refl in
@@ -292,7 +292,7 @@ clx_short len =
       length-numbers cps,
       length-number_bytes 4 (length plc),
       length-number_bytes 2 0,
-      length-number_bytes 4 text_at,
+      length-number_bytes 4 text_offset,
     )
 
 -- ---- the sheet

@@ -17,13 +17,13 @@ use Rattle.prop_map.proofs.Public.{IsPropertyMap-empty, entries-empty}
 use Rattle.fkp_pages.specs.declared.kind.PageKind.{PageKind}
 use Rattle.fkp_pages.specs.declared.kind.PageKind.TheVariants.{Chpx, Papx}
 use Rattle.fkp_pages.specs.declared.lists.Run.{Run}
-use Rattle.fkp_pages.specs.Runs.{run_groups, most_printed, IsWritableRun, AreRuns, HasFileNumbers}
-use Rattle.plain_doc.specs.declared.item.Mark.{Mark}
-use Rattle.plain_doc.specs.declared.item.Item.{Item}
-use Rattle.plain_doc.specs.Collected.{joined_texts}
-use Rattle.plain_doc.specs.Stretches.{stretches, joins_next, IsJoined}
-use Rattle.plain_doc.specs.Settings.{is_alike, is_inside}
-use Rattle.plain_doc.proofs.Public.{are_stretches, same_properties-Decides, in_joined}
+use Rattle.fkp_pages.specs.Runs.{run_groups, most_printed, IsWritableRun, AreRuns, HasRunNumbers}
+use Rattle.doc_model.specs.declared.item.Mark.{Mark}
+use Rattle.doc_model.specs.declared.item.Item.{Item}
+use Rattle.doc_model.specs.Collected.{joined_texts}
+use Rattle.doc_model.specs.Stretches.{stretches, joins_next, IsJoinedStretch}
+use Rattle.doc_model.specs.Settings.{is_alike, is_inside}
+use Rattle.doc_model.proofs.Public.{are_stretches, same_properties-Decides, in_joined}
 use Rattle.full_save.specs.Runs.{joins_run, mark_properties, item_properties, run_at, runs_from, text_runs}
 use Rattle.fkp_pages.specs.Rows.{IsInRun}
 
@@ -104,7 +104,7 @@ in_run kind at parts i item found =
 -- ---- what the items of a stretch have in common
 
 -- an item of a stretch joins the next one
-joined_next : (joins : Item → Item → Bool) (part : List Item) (k : ℕ) (item next : Item) → IsJoined joins part →
+joined_next : (joins : Item → Item → Bool) (part : List Item) (k : ℕ) (item next : Item) → IsJoinedStretch joins part →
     slice_get part k ≡ Some item → slice_get part (k + 1) ≡ Some next → joins item next ≡ true
 joined_next joins part k item next joined here there =
     let within = slice_get_within part (k + 1) next there in
@@ -113,7 +113,7 @@ joined_next joins part k item next joined here there =
     (subst (λ o. joins_next joins o (slice_get part (k + 1)) ≡ true) here is)
 
 -- so many items later the properties of characters are the same
-alike_later : (part : List Item) (k n : ℕ) (item later : Item) → IsJoined is_alike part →
+alike_later : (part : List Item) (k n : ℕ) (item later : Item) → IsJoinedStretch is_alike part →
     slice_get part k ≡ Some item → slice_get part (k + n) ≡ Some later → item.chp ≡ later.chp
 alike_later part k zero item later joined here there =
     let e : k + 0 ≡ k = omega arith in
@@ -135,7 +135,7 @@ character_run at items i item here =
     let parts = stretches is_alike items in
     let cut = are_stretches is_alike items in
     let found = in_part parts i item (subst (λ xs. slice_get xs i ≡ Some item) (sym cut.whole) here) in
-    let joined = All_at (IsJoined is_alike) parts found.number found.part cut.joined found.there in
+    let joined = All_at (IsJoinedStretch is_alike) parts found.number found.part cut.joined found.there in
     let within = slice_get_within found.part found.offset item found.here in
     let last = there_is found.part (length found.part - 1) (omega (arith, within)) in
     let e : length found.part - 1 ≡ found.offset + (length found.part - 1 - found.offset) = omega (arith, within) in
@@ -149,7 +149,7 @@ character_run at items i item here =
     )
 
 -- an item with a mark is the last of its paragraph
-marked_last : (part : List Item) (k : ℕ) (item : Item) (mark : Mark) → IsJoined is_inside part →
+marked_last : (part : List Item) (k : ℕ) (item : Item) (mark : Mark) → IsJoinedStretch is_inside part →
     slice_get part k ≡ Some item → item.mark ≡ Some mark → k + 1 ≡ length part
 marked_last part k item mark joined here marked =
     let within = slice_get_within part k item here in
@@ -170,7 +170,7 @@ paragraph_run at items i item mark here marked =
     let parts = stretches is_inside items in
     let cut = are_stretches is_inside items in
     let found = in_part parts i item (subst (λ xs. slice_get xs i ≡ Some item) (sym cut.whole) here) in
-    let joined = All_at (IsJoined is_inside) parts found.number found.part cut.joined found.there in
+    let joined = All_at (IsJoinedStretch is_inside) parts found.number found.part cut.joined found.there in
     let last = marked_last found.part found.offset item mark joined found.here marked in
     let e : found.offset ≡ length found.part - 1 = omega (arith, last) in
     let there : slice_get found.part (length found.part - 1) ≡ Some item =
@@ -289,13 +289,13 @@ runs_touch kind at (part ∷ (other ∷ parts)) (suc k) run next here there =
     runs_touch kind (at + 2 * length part) (other ∷ parts) k run next here later
 
 runs_numbers : (kind : PageKind) (at : ℕ) (parts : List (List Item)) → All (IsWritablePart kind) parts →
-    at + 2 * length (joined_texts parts) < 2 ^ 32 → All HasFileNumbers (runs_from kind at parts)
+    at + 2 * length (joined_texts parts) < 2 ^ 32 → All HasRunNumbers (runs_from kind at parts)
 unfolding runs_from
-runs_numbers kind at [] writable small = All-nil HasFileNumbers
+runs_numbers kind at [] writable small = All-nil HasRunNumbers
 runs_numbers kind at (part ∷ parts) writable small =
     let is = All-head (IsWritablePart kind) part parts writable in
     let len = length-append part (joined_texts parts) in
-    All-cons HasFileNumbers (run_at kind at part) (runs_from kind (at + 2 * length part) parts)
+    All-cons HasRunNumbers (run_at kind at part) (runs_from kind (at + 2 * length part) parts)
     (record { from = omega (arith, small, len); to = omega (arith, small, len); istd = is.properties.istd })
     (runs_numbers kind (at + 2 * length part) parts (All-tail (IsWritablePart kind) part parts writable)
     (omega (arith, small, len)))
@@ -309,7 +309,7 @@ some_run kind at (part ∷ parts) some = omega arith
 -- the runs of items that can be written
 pub record AreTextRuns (kind : PageKind) (runs : List Run) : Type 0 where
   pub right : AreRuns kind runs
-  pub numbers : All HasFileNumbers runs
+  pub numbers : All HasRunNumbers runs
   pub some : 0 < length runs
 
 pub text_runs_right : (kind : PageKind) (at : ℕ) (items : List Item) → All IsWritableItem items → 0 < length items →

@@ -9,7 +9,8 @@ use Rattle.fib_form.specs.declared.table_parts.TablePart.{TablePart}
 use Rattle.fib_form.specs.FibFields.{empty_pairs}
 use Rattle.fib_form.specs.TableEntries.{TableEntry}
 use Rattle.full_save.specs.declared.table_parts.TableParts.{TableParts}
-use Rattle.full_save.specs.TableStream.{entry_bytes, entries_bytes, named_entry, WritesPart, WritesParts, put_pair}
+use Rattle.full_save.specs.TableStream.{table_entry_bytes, entries_bytes, named_entry, WritesPart, WritesParts}
+use Rattle.full_save.specs.TableStream.{put_pair}
 use Rattle.full_save.specs.TableStream.{pairs_from, AreWritten}
 
 -- the pairs with one part more
@@ -20,27 +21,28 @@ pairs_more :
 unfolding pairs_from
 pairs_more at pairs [] part = let e : at ≡ at + 0 = omega arith in ap (λ (n : ℕ). put_pair n part pairs) e
 pairs_more at pairs (first ∷ parts) part =
-    let next = at + length (entry_bytes first) in
+    let next = at + length (table_entry_bytes first) in
     let put = put_pair at first pairs in
-    let e : next + length (entries_bytes parts) ≡ at + length (entry_bytes first ++ entries_bytes parts) =
-    omega (arith, length-append (entry_bytes first) (entries_bytes parts)) in
+    let e : next + length (entries_bytes parts) ≡ at + length (table_entry_bytes first ++ entries_bytes parts) =
+    omega (arith, length-append (table_entry_bytes first) (entries_bytes parts)) in
     pairs_more next put parts part ∙ ap (λ (n : ℕ). put_pair n part (pairs_from next put parts)) e
 
 -- the bytes with one part more
 bytes_more : (parts : List TableEntry) (part : TableEntry) → entries_bytes (parts ++ part ∷ []) ≡ entries_bytes parts
-    ++ entry_bytes part
-bytes_more [] part = append-nil (entry_bytes part)
+    ++ table_entry_bytes part
+bytes_more [] part = append-nil (table_entry_bytes part)
 bytes_more (first ∷ parts) part =
-    ap (λ (bytes : List ℕ). entry_bytes first ++ bytes) (bytes_more parts part)
-    ∙ sym (append_assoc (entry_bytes first) (entries_bytes parts) (entry_bytes part))
+    ap (λ (bytes : List ℕ). table_entry_bytes first ++ bytes) (bytes_more parts part)
+    ∙ sym (append_assoc (table_entry_bytes first) (entries_bytes parts) (table_entry_bytes part))
 
 -- one part more is written
 pub written_more :
     (parts : List TableEntry) (part : TableEntry) (old new : TableParts) →
-    new.bytes ≡ old.bytes ++ entry_bytes part → new.pairs ≡ put_pair (length old.bytes) part old.pairs →
+    new.bytes ≡ old.bytes ++ table_entry_bytes part → new.pairs ≡ put_pair (length old.bytes) part old.pairs →
     AreWritten parts old → AreWritten (parts ++ part ∷ []) new
 written_more parts part old new bytes pairs written = record {
-  bytes_are = bytes ∙ (ap (λ (front : List ℕ). front ++ entry_bytes part) written.bytes_are ∙ sym (bytes_more parts
+  bytes_are = bytes ∙ (ap (λ (front : List ℕ). front ++ table_entry_bytes part) written.bytes_are ∙ sym (bytes_more
+      parts
       part));
   pairs_are =
       let at : length old.bytes ≡ 0 + length (entries_bytes parts) = let e = ap length written.bytes_are in
@@ -60,7 +62,12 @@ pub length-entries : (parts : List TableEntry) → length (entries_bytes parts) 
 length-entries [] = refl
 length-entries (part ∷ parts) =
     let rest = length-entries parts in
-    omega (arith, length-append (entry_bytes part) (entries_bytes parts), length-append part.bytes part.behind, rest)
+    omega (
+      arith,
+      length-append (table_entry_bytes part) (entries_bytes parts),
+      length-append part.bytes part.behind,
+      rest,
+    )
 
 -- how far parts are written one by one
 pub record AreWrittenUpTo (parts : List (TablePart × Bor (List ℕ))) (count : ℕ) (old new : TableParts) : Type 0 where
@@ -74,9 +81,10 @@ pub part_fits :
     ≤ length (entries_bytes (map named_entry parts))
 part_fits parts count d within =
     let here : count < length (map named_entry parts) = omega (arith, length-map parts named_entry) in
-    let fits = length-flat_map-take entry_bytes (map named_entry parts) count (named_entry d) here in
+    let fits = length-flat_map-take table_entry_bytes (map named_entry parts) count (named_entry d) here in
     let front = ap (λ (xs : List TableEntry). length (entries_bytes xs)) (take-map named_entry count parts) in
-    let part = ap (λ (x : TableEntry). length (entry_bytes x)) (get_or-map named_entry parts count d (named_entry d)
+    let part = ap (λ (x : TableEntry). length (table_entry_bytes x)) (get_or-map named_entry parts count d (named_entry
+    d)
     within) in
     let bytes = ap length (append-nil (get_or parts count d).1.now) in
     omega (arith, fits, front, part, bytes)
@@ -100,7 +108,7 @@ up_to_next parts count d old now new within writes len before =
           let all = ap (λ (xs : List TableEntry). length (entries_bytes xs)) more in
           let last = ap length (bytes_more named part) in
           let bytes = ap length (append-nil (get_or parts count d).1.now) in
-          omega (arith, all, last, bytes, before.len, length-append (entries_bytes named) (entry_bytes part));
+          omega (arith, all, last, bytes, before.len, length-append (entries_bytes named) (table_entry_bytes part));
     }
 
 -- all of them

@@ -3,8 +3,8 @@ use Rattle.std.proofs.Common.{◌≡◌, refl, ℕ, List, [], ◌∷◌, length,
 use Rattle.std.proofs.lemmas.List.{nil_from_length}
 use Rattle.doc_bits.specs.Number.{number_at}
 use Rattle.doc_parts.specs.Levels.{levels_before, level_start, AreLevelsFrom, level_count}
-use Rattle.plain_doc.specs.declared.document.Document.{Document}
-use Rattle.plain_doc.specs.Carried.{AreListsWithLevels}
+use Rattle.doc_model.specs.declared.document.Document.{Document}
+use Rattle.doc_model.specs.Carried.{AreListsWithLevels}
 use Rattle.fib_form.specs.TableEntries.{entry}
 use Rattle.full_save.specs.declared.table_text.TableText.{TableText}
 use Rattle.full_save.specs.TableText.{table_entries}

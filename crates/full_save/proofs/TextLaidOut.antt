@@ -12,23 +12,24 @@ use Rattle.doc_bits.specs.declared.places.Where.TheVariants.{Main, Note, Head}
 use Rattle.doc_bits.proofs.Public.{All_at, All-from_slice_get}
 use Rattle.prop_map.specs.Printing.{printed_list}
 use Rattle.prop_map.proofs.Public.{IsPropertyMap-empty, entries-empty}
-use Rattle.fib_form.specs.FibFields.{AreCounts}
+use Rattle.fib_form.specs.FibFields.{AreFibCcps}
 use Rattle.fib_form.proofs.Public.{sum-three}
 use Rattle.fkp_pages.specs.declared.kind.PageKind.{PageKind}
 use Rattle.fkp_pages.specs.Pages.{ArePagesOf, AreWholePages}
 use Rattle.fkp_pages.proofs.Public.{runs_have_pages, pages_are_whole}
 use Rattle.cfb_layout.proofs.Public.{length-table}
-use Rattle.plain_doc.specs.declared.item.Mark.{Mark}
-use Rattle.plain_doc.specs.declared.item.Item.{Item}
-use Rattle.plain_doc.specs.declared.document.Document.{Document}
-use Rattle.plain_doc.specs.Collected.{joined_texts}
-use Rattle.plain_doc.specs.Document.{IsFormedItem, IsFormedText}
-use Rattle.plain_doc.specs.Formed.{IsFormed}
+use Rattle.doc_model.specs.declared.item.Mark.{Mark}
+use Rattle.doc_model.specs.declared.item.Item.{Item}
+use Rattle.doc_model.specs.declared.document.Document.{Document}
+use Rattle.doc_model.specs.Collected.{joined_texts}
+use Rattle.doc_model.specs.Document.{IsFormedItem, IsFormedText}
+use Rattle.doc_model.specs.Formed.{IsFormed}
 use Rattle.plain_doc.specs.RulesOfItems.{HasShortProperties}
 use Rattle.plain_doc.specs.RightDocument.{IsValidDocument}
-use Rattle.plain_doc.proofs.Public.{main_ends, joined_all}
+use Rattle.plain_doc.proofs.Public.{main_ends}
+use Rattle.doc_model.proofs.Public.{joined_all}
 use Rattle.full_save.specs.Text.{extra_mark, with_mark, note_story, head_story, text_items, text_counts}
-use Rattle.full_save.specs.WordDocument.{text_at, text_bytes, document_runs, document_pages}
+use Rattle.full_save.specs.WordDocument.{text_offset, text_bytes, document_runs, document_pages}
 use Rattle.full_save.proofs.StretchRuns.{IsWritableItem, IsWritableMark, AreTextRuns, text_runs_right}
 
 -- ---- what can be written of its items
@@ -141,7 +142,7 @@ few_items d right =
       all = omega (arith, all, some, most, notes, heads, n, h, both, last);
     }
 
-pub counts_are : (document : Document) → IsValidDocument document → AreCounts (text_counts document)
+pub counts_are : (document : Document) → IsValidDocument document → AreFibCcps (text_counts document)
 unfolding text_counts
 counts_are document right =
     let few = few_items document right in
@@ -154,7 +155,10 @@ pub runs_are : (kind : PageKind) (document : Document) → IsFormed document →
     AreTextRuns kind (document_runs kind document)
 runs_are kind document formed right =
     let few = few_items document right in
-    text_runs_right kind text_at (text_items document) (items_writable document formed right) (omega (arith, few.some))
+    text_runs_right kind text_offset (text_items document) (items_writable document formed right) (omega (
+      arith,
+      few.some,
+    ))
     (omega (arith, few.all))
 
 pub pages_are : (kind : PageKind) (document : Document) → IsFormed document → IsValidDocument document →

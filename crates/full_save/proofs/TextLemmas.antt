@@ -6,9 +6,9 @@ use Rattle.std.proofs.lemmas.List.{append_assoc, length-append, append-nil, take
 use Rattle.std.proofs.lemmas.Grind.{flat_map-append}
 use Rattle.std.proofs.lemmas.Bool.{cases_lt}
 use Rattle.doc_bits.specs.Number.{number_bytes}
-use Rattle.plain_doc.specs.declared.item.Item.{Item}
-use Rattle.plain_doc.specs.declared.document.Document.{Document}
-use Rattle.plain_doc.specs.Collected.{joined_texts}
+use Rattle.doc_model.specs.declared.item.Item.{Item}
+use Rattle.doc_model.specs.declared.document.Document.{Document}
+use Rattle.doc_model.specs.Collected.{joined_texts}
 use Rattle.full_save.specs.declared.text.TextSoFar.{TextSoFar}
 use Rattle.full_save.specs.Text.{with_mark, mark_if, note_story, head_story, text_items}
 use Rattle.full_save.specs.WordDocument.{units_bytes, items_bytes}

@@ -1,6 +1,6 @@
 -- Items that are in a row and have something in common.
 use Rattle.std.specs.Prelude.{◌≡◌, ◌<◌, ◌≤◌, ◌+◌, ℕ, List, length, Some, slice_get}
-use Rattle.plain_doc.specs.declared.item.Item.{Item}
+use Rattle.doc_model.specs.declared.item.Item.{Item}
 
 -- so many items of a text, from a place on, have this
 pub record HaveAlike {A : Type 0} (what : Item → A) (value : A) (text : List Item) (place count : ℕ) : Type 0 where

@@ -3,7 +3,7 @@ use Rattle.std.specs.Prelude.{◌≡◌, ◌<◌, ◌≤◌, ℕ, List}
 use Rattle.cfb_streams.specs.Contents.{NamedBytes}
 use Rattle.cfb_layout.specs.Counts.{sectors_needed, most_sectors}
 use Rattle.cfb_layout.specs.Layout.{lengths_of, compound_file}
-use Rattle.plain_doc.specs.declared.document.Document.{Document}
+use Rattle.doc_model.specs.declared.document.Document.{Document}
 use Rattle.full_save.specs.declared.fault.SaveFault.{SaveFault}
 use Rattle.full_save.specs.declared.fault.SaveFault.TheVariants.{TooLarge, Memory}
 use Rattle.full_save.specs.WordDocument.{wd_stream, table_stream}
@@ -18,13 +18,14 @@ unfoldable pub full_save_image : Document → List ℕ
 full_save_image document = compound_file (layout_streams document) document.carried.clsid
 
 -- the sectors that it needs
-abbrev pub sectors_of : Document → ℕ
-sectors_of document = sectors_needed (lengths_of (layout_streams document))
+abbrev pub full_save_sectors : Document → ℕ
+full_save_sectors document = sectors_needed (lengths_of (layout_streams document))
 
 abbrev pub FitsCompoundFile : Document → Type 0
-FitsCompoundFile document = sectors_of document ≤ most_sectors
+FitsCompoundFile document = full_save_sectors document ≤ most_sectors
 
 -- too many sectors, with their number, or want of memory, which is free
 abbrev pub IsTooLarge : Document → SaveFault → Type 0
-IsTooLarge document (TooLarge sectors) = (most_sectors < sectors_of document) × (sectors ≡ sectors_of document)
+IsTooLarge document (TooLarge sectors) = (most_sectors < full_save_sectors document) × (sectors ≡ full_save_sectors
+    document)
 IsTooLarge document Memory = Unit {0}

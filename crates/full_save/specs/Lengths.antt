@@ -6,17 +6,17 @@ use Rattle.prop_map.specs.Settings.{Properties}
 use Rattle.fkp_pages.specs.declared.kind.PageKind.TheVariants.{Chpx, Papx}
 use Rattle.cfb_layout.specs.Sectors.{units_for}
 use Rattle.style_sheet.specs.Written.{written_sheet}
-use Rattle.doc_parts.specs.declared.bookmark_order.Bookmark.{Bookmark}
-use Rattle.plain_doc.specs.declared.item.Item.{Item}
-use Rattle.plain_doc.specs.declared.document.Document.{Document}
-use Rattle.plain_doc.specs.Collected.{joined_texts}
+use Rattle.document_bookmarks.specs.declared.bookmark_order.Bookmark.{Bookmark}
+use Rattle.doc_model.specs.declared.item.Item.{Item}
+use Rattle.doc_model.specs.declared.document.Document.{Document}
+use Rattle.doc_model.specs.Collected.{joined_texts}
 use Rattle.doc_columns.specs.declared.attached.Attached.{Attached}
 use Rattle.doc_columns.specs.Attached.{attached_of}
 use Rattle.full_save.specs.declared.measures.Measure.{Measure}
 use Rattle.full_save.specs.declared.measures.Measure.TheVariants.{Notes, Sections, Fields, SepxBytes}
 use Rattle.full_save.specs.declared.lengths.PageCounts.{PageCounts}
 use Rattle.full_save.specs.Sections.{sepx_bytes, IsSavableSection}
-use Rattle.full_save.specs.WordDocument.{document_pages, text_at, least_length}
+use Rattle.full_save.specs.WordDocument.{document_pages, text_offset, least_length}
 use Rattle.full_save.specs.Made.{carried_length}
 
 -- ---- measures of a text
@@ -70,14 +70,15 @@ abbrev pub bins_length : PageCounts → ℕ
 bins_length pages = 8 * pages.characters + 4 + (8 * pages.paragraphs + 4)
 
 -- a count and the units of a name
-abbrev pub name_length : Bookmark → ℕ
-name_length bookmark = 2 + 2 * length bookmark.name
+abbrev pub bookmark_name_length : Bookmark → ℕ
+bookmark_name_length bookmark = 2 + 2 * length bookmark.name
 
 -- the three parts of bookmarks
 abbrev pub bookmarks_length : List Bookmark → ℕ
 bookmarks_length bookmarks =
     let count = length bookmarks in
-    (if count == 0 then 0 else 6 + sum_by name_length bookmarks) + plc_length count (4 * count) + plc_length count 0
+    (if count == 0 then 0 else 6 + sum_by bookmark_name_length bookmarks) + plc_length count (4 * count) + plc_length
+    count 0
 
 -- a Clx of one piece
 abbrev pub clx_length : ℕ
@@ -107,4 +108,4 @@ table_length document pages =
 abbrev pub wd_length : ℕ → PageCounts → List Item → ℕ
 wd_length units pages main =
     let all = units_for 512 (2 * units) + pages.characters + pages.paragraphs in
-    max (text_at + (512 * all + text_measure SepxBytes main)) least_length
+    max (text_offset + (512 * all + text_measure SepxBytes main)) least_length

@@ -3,9 +3,9 @@ use Rattle.std.specs.Prelude.{◌≡◌, ℕ, ◌+◌, Option, List, [], ◌++�
 use Rattle.run_lists.specs.declared.runs.Run.{Run}
 use Rattle.doc_parts.specs.declared.lists.Fld.{Fld}
 use Rattle.doc_parts.specs.declared.lists.NoteRef.{NoteRef}
-use Rattle.plain_doc.specs.declared.item.Item.{Item}
-use Rattle.plain_doc.specs.declared.item.NoteKind.{NoteKind}
-use Rattle.plain_doc.specs.Collected.{collected, field_of, is_auto}
+use Rattle.doc_model.specs.declared.item.Item.{Item}
+use Rattle.doc_model.specs.declared.item.NoteKind.{NoteKind}
+use Rattle.doc_model.specs.Collected.{collected, field_character, is_auto}
 use Rattle.doc_columns.specs.declared.attached.Attached.{Attached}
 use Rattle.doc_columns.specs.Attached.{attached_of}
 use Rattle.full_save.specs.Alike.{HaveAlike}
@@ -19,7 +19,8 @@ ref_entry entry = record { cp = entry.0; auto = is_auto entry.1 }
 
 -- those of items that are from a CP on
 abbrev pub fields_from : ℕ → List Item → List Fld
-fields_from cp items = map (λ entry. record { cp = entry.0; unit = entry.1.0; byte = entry.1.1 }) (collected field_of
+fields_from cp items = map (λ entry. record { cp = entry.0; unit = entry.1.0; byte = entry.1.1 }) (collected
+    field_character
     cp items)
 
 -- a list has what the items before a place have, which are from a CP on, behind what it had
@@ -31,8 +32,9 @@ pub record IsListedUpTo {A B : Type 0} (what : Item → Option A) (entry : ℕ �
 abbrev pub FieldsGoOn : List ℕ → ℕ → Run Attached → ℕ → List Fld → List Fld → Type 0
 FieldsGoOn units cp run place old new =
     (text : List Item) (start : List Fld) → units ≡ map (λ item. item.unit) text →
-    HaveAlike attached_of run.value text place run.count → IsListedUpTo field_of field_entry cp text place start old →
-    IsListedUpTo field_of field_entry cp text (place + run.count) start new
+    HaveAlike attached_of run.value text place run.count → IsListedUpTo field_character field_entry cp text place start
+    old →
+    IsListedUpTo field_character field_entry cp text (place + run.count) start new
 
 -- so does the list of references
 abbrev pub RefsGoOn : Run Attached → ℕ → List NoteRef → List NoteRef → Type 0

@@ -4,19 +4,19 @@ use Rattle.style_sheet.specs.Written.{written_sheet}
 use Rattle.doc_parts.specs.Sections.{printed_sections}
 use Rattle.doc_parts.specs.Fields.{printed_fields}
 use Rattle.doc_parts.specs.Stories.{printed_refs, printed_texts}
-use Rattle.doc_parts.specs.declared.bookmark_order.Bookmark.{Bookmark}
+use Rattle.document_bookmarks.specs.declared.bookmark_order.Bookmark.{Bookmark}
 use Rattle.doc_parts.specs.PrintedBookmarks.{printed_names, printed_starts, printed_ends}
-use Rattle.fib_form.specs.TableParts.{pair_of}
+use Rattle.fib_form.specs.TableParts.{pair_number}
 use Rattle.fib_form.specs.declared.table_parts.TablePart.TheVariants.{Stshf, PlcffndRef, PlcffndTxt, PlcfSed}
 use Rattle.fib_form.specs.declared.table_parts.TablePart.TheVariants.{PlcfHdd, PlcfBteChpx, PlcfBtePapx, SttbfFfn}
 use Rattle.fib_form.specs.declared.table_parts.TablePart.TheVariants.{PlcfFldMom, PlcfFldHdr, PlcfFldFtn, SttbfBkmk}
 use Rattle.fib_form.specs.declared.table_parts.TablePart.TheVariants.{PlcfBkf, PlcfBkl, Dop, SttbfAssoc, Clx, PlfLst}
 use Rattle.fib_form.specs.declared.table_parts.TablePart.TheVariants.{PlfLfo}
 use Rattle.fib_form.specs.TableEntries.{TableEntry, entry}
-use Rattle.plain_doc.specs.declared.carried.Carried.{Carried}
-use Rattle.plain_doc.specs.declared.document.Document.{Document}
-use Rattle.plain_doc.specs.Collected.{joined_texts, fields_of, refs_of}
-use Rattle.plain_doc.specs.TextLists.{cuts_of}
+use Rattle.doc_model.specs.declared.carried.Carried.{Carried}
+use Rattle.doc_model.specs.declared.document.Document.{Document}
+use Rattle.doc_model.specs.Collected.{joined_texts, fields_of, refs_of}
+use Rattle.doc_model.specs.TextLists.{cuts_of}
 use Rattle.full_save.specs.declared.table_text.TableText.{TableText}
 use Rattle.full_save.specs.declared.made_parts.FieldParts.{FieldParts}
 use Rattle.full_save.specs.declared.made_parts.ListParts.{ListParts}
@@ -61,25 +61,25 @@ pub record AreMadeOf (document : Document) (text : TableText) (made : MadeParts)
 -- the parts in the order of their pairs
 abbrev pub made_entries : Carried → TableText → MadeParts → List TableEntry
 made_entries carried text made =
-    entry (pair_of Stshf) made.sheet
-    ∷ entry (pair_of PlcffndRef) made.refs
-    ∷ entry (pair_of PlcffndTxt) made.note_cuts
-    ∷ entry (pair_of PlcfSed) made.sections
-    ∷ entry (pair_of PlcfHdd) made.head_cuts
-    ∷ entry (pair_of PlcfBteChpx) text.characters
-    ∷ entry (pair_of PlcfBtePapx) text.paragraphs
-    ∷ entry (pair_of SttbfFfn) carried.fonts
-    ∷ entry (pair_of PlcfFldMom) made.fields.main
-    ∷ entry (pair_of PlcfFldHdr) made.fields.heads
-    ∷ entry (pair_of PlcfFldFtn) made.fields.notes
-    ∷ entry (pair_of SttbfBkmk) made.marks.names
-    ∷ entry (pair_of PlcfBkf) made.marks.starts
-    ∷ entry (pair_of PlcfBkl) made.marks.ends
-    ∷ entry (pair_of Dop) carried.dop
-    ∷ entry (pair_of SttbfAssoc) carried.assoc
-    ∷ entry (pair_of Clx) text.clx
-    ∷ record { number = pair_of PlfLst; bytes = carried.lst; behind = carried.levels }
-    ∷ entry (pair_of PlfLfo) carried.lfo
+    entry (pair_number Stshf) made.sheet
+    ∷ entry (pair_number PlcffndRef) made.refs
+    ∷ entry (pair_number PlcffndTxt) made.note_cuts
+    ∷ entry (pair_number PlcfSed) made.sections
+    ∷ entry (pair_number PlcfHdd) made.head_cuts
+    ∷ entry (pair_number PlcfBteChpx) text.characters
+    ∷ entry (pair_number PlcfBtePapx) text.paragraphs
+    ∷ entry (pair_number SttbfFfn) carried.fonts
+    ∷ entry (pair_number PlcfFldMom) made.fields.main
+    ∷ entry (pair_number PlcfFldHdr) made.fields.heads
+    ∷ entry (pair_number PlcfFldFtn) made.fields.notes
+    ∷ entry (pair_number SttbfBkmk) made.marks.names
+    ∷ entry (pair_number PlcfBkf) made.marks.starts
+    ∷ entry (pair_number PlcfBkl) made.marks.ends
+    ∷ entry (pair_number Dop) carried.dop
+    ∷ entry (pair_number SttbfAssoc) carried.assoc
+    ∷ entry (pair_number Clx) text.clx
+    ∷ record { number = pair_number PlfLst; bytes = carried.lst; behind = carried.levels }
+    ∷ entry (pair_number PlfLfo) carried.lfo
     ∷ []
 
 -- the number of bytes of these three

@@ -5,10 +5,10 @@ use Rattle.prop_map.specs.Settings.{Properties}
 use Rattle.fkp_pages.specs.declared.kind.PageKind.{PageKind}
 use Rattle.fkp_pages.specs.declared.kind.PageKind.TheVariants.{Chpx, Papx}
 use Rattle.fkp_pages.specs.declared.lists.Run.{Run}
-use Rattle.plain_doc.specs.declared.item.Mark.{Mark}
-use Rattle.plain_doc.specs.declared.item.Item.{Item}
-use Rattle.plain_doc.specs.Settings.{is_alike, is_inside}
-use Rattle.plain_doc.specs.Stretches.{stretches}
+use Rattle.doc_model.specs.declared.item.Mark.{Mark}
+use Rattle.doc_model.specs.declared.item.Item.{Item}
+use Rattle.doc_model.specs.Settings.{is_alike, is_inside}
+use Rattle.doc_model.specs.Stretches.{stretches}
 
 -- when an item and the next one are in one run
 abbrev pub joins_run : PageKind → Item → Item → Bool

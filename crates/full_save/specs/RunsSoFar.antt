@@ -7,10 +7,10 @@ use Rattle.fkp_pages.specs.declared.kind.PageKind.TheVariants.{Chpx, Papx}
 use Rattle.fkp_pages.specs.declared.lists.Run.{Run}
 use Rattle.run_lists.specs.declared.runs.Run.{Run as ValueRun}
 use Rattle.run_lists.specs.Spread.{expanded}
-use Rattle.plain_doc.specs.declared.item.Mark.{Mark}
-use Rattle.plain_doc.specs.declared.item.Item.{Item}
-use Rattle.plain_doc.specs.declared.document.Document.{Document}
-use Rattle.plain_doc.specs.Stretches.{stretches, IsJoined}
+use Rattle.doc_model.specs.declared.item.Mark.{Mark}
+use Rattle.doc_model.specs.declared.item.Item.{Item}
+use Rattle.doc_model.specs.declared.document.Document.{Document}
+use Rattle.doc_model.specs.Stretches.{stretches, IsJoinedStretch}
 use Rattle.doc_columns.specs.declared.attached.Attached.{Attached}
 use Rattle.doc_columns.specs.Attached.{attached_of}
 use Rattle.full_save.specs.declared.runs.CharacterRuns.{CharacterRuns}
@@ -20,7 +20,7 @@ use Rattle.full_save.specs.declared.text.SavedText.{SavedText}
 use Rattle.full_save.specs.Runs.{joins_run, runs_from, text_runs}
 use Rattle.full_save.specs.Alike.{HaveAlike}
 use Rattle.full_save.specs.Text.{text_items, text_counts}
-use Rattle.full_save.specs.WordDocument.{text_at}
+use Rattle.full_save.specs.WordDocument.{text_offset}
 
 -- closed runs, where the last run begins, and its items
 pub record RunsSoFar : Type 0 where
@@ -31,7 +31,7 @@ pub record RunsSoFar : Type 0 where
 -- the runs of a text that begins at a place: whatever items follow, they are the closed ones and those from the last
 -- one on
 pub record AreRunsSoFar (kind : PageKind) (at : ℕ) (done : List Item) (runs : RunsSoFar) : Type 0 where
-  pub joined : IsJoined (joins_run kind) runs.part
+  pub joined : IsJoinedStretch (joins_run kind) runs.part
   pub stands : runs.from + 2 * length runs.part ≡ at + 2 * length done
   pub goes_on :
       (more : List Item) →
@@ -90,8 +90,8 @@ ParagraphsGoOnBy runs start old new =
 -- the number of units and the runs of a text that begins where the text of a document does
 pub record IsTextSoFar (done : List Item) (text : TextSoFar) : Type 0 where
   pub long : text.len ≡ length done
-  pub characters : AreCharactersSoFar text_at done text.characters
-  pub paragraphs : AreParagraphsSoFar text_at done text.paragraphs
+  pub characters : AreCharactersSoFar text_offset done text.characters
+  pub paragraphs : AreParagraphsSoFar text_offset done text.paragraphs
 
 -- these items are put behind a text
 abbrev pub GoesOnBy : List Item → TextSoFar → TextSoFar → Type 0
@@ -100,10 +100,10 @@ GoesOnBy items old new = (done : List Item) → IsTextSoFar done old → IsTextS
 -- how long a text is, its runs, and these counts
 pub record IsWholeText (items : List Item) (counts : List ℕ) (text : SavedText) : Type 0 where
   pub long : text.len ≡ length items
-  pub characters : text.characters ≡ text_runs Chpx text_at items
-  pub paragraphs : text.paragraphs ≡ text_runs Papx text_at items
+  pub characters : text.characters ≡ text_runs Chpx text_offset items
+  pub paragraphs : text.paragraphs ≡ text_runs Papx text_offset items
   pub counts_are : text.counts ≡ counts
 
 -- the text of a document
-abbrev pub IsTextOf : Document → SavedText → Type 0
-IsTextOf document text = IsWholeText (text_items document) (text_counts document) text
+abbrev pub IsSavedTextOf : Document → SavedText → Type 0
+IsSavedTextOf document text = IsWholeText (text_items document) (text_counts document) text

@@ -2,19 +2,19 @@
 use Rattle.std.specs.Prelude.{◌≡◌, ℕ, ◌+◌, ◌==◌, List, [], ◌∷◌, ◌++◌, length, slice_set, if◌then◌else◌}
 use Rattle.std.specs.List.{flat_map}
 use Rattle.std.specs.Borrow.{Bor}
-use Rattle.fib_form.specs.TableParts.{pair_of}
+use Rattle.fib_form.specs.TableParts.{pair_number}
 use Rattle.fib_form.specs.declared.table_parts.TablePart.{TablePart}
 use Rattle.fib_form.specs.FibFields.{empty_pairs}
 use Rattle.fib_form.specs.TableEntries.{TableEntry, entry}
 use Rattle.full_save.specs.declared.table_parts.TableParts.{TableParts}
 
 -- the bytes of a part, and those that its pair does not count
-abbrev pub entry_bytes : TableEntry → List ℕ
-entry_bytes part = part.bytes ++ part.behind
+abbrev pub table_entry_bytes : TableEntry → List ℕ
+table_entry_bytes part = part.bytes ++ part.behind
 
 -- the parts one after the other
 abbrev pub entries_bytes : List TableEntry → List ℕ
-entries_bytes parts = flat_map entry_bytes parts
+entries_bytes parts = flat_map table_entry_bytes parts
 
 -- fc and lcb of a part that is at a place; an empty part has no place
 abbrev pub put_pair : ℕ → TableEntry → List (ℕ × ℕ) → List (ℕ × ℕ)
@@ -23,7 +23,7 @@ put_pair at part pairs = if length part.bytes == 0 then pairs else slice_set pai
 -- the pairs of parts that are one after the other from a place on, over other pairs
 unfoldable pub pairs_from : ℕ → List (ℕ × ℕ) → List TableEntry → List (ℕ × ℕ)
 pairs_from at pairs [] = pairs
-pairs_from at pairs (part ∷ parts) = pairs_from (at + length (entry_bytes part)) (put_pair at part pairs) parts
+pairs_from at pairs (part ∷ parts) = pairs_from (at + length (table_entry_bytes part)) (put_pair at part pairs) parts
 
 -- the pairs of the parts of a table stream
 abbrev pub entries_pairs : List TableEntry → List (ℕ × ℕ)
@@ -44,4 +44,4 @@ WritesParts more old new = (parts : List TableEntry) → AreWritten parts old �
 
 -- a part by its name, with its bytes
 abbrev pub named_entry : TablePart × Bor (List ℕ) → TableEntry
-named_entry part = entry (pair_of part.0) part.1.now
+named_entry part = entry (pair_number part.0) part.1.now

@@ -1,22 +1,22 @@
 -- The parts of the table stream of a document.
 use Rattle.std.specs.Prelude.{◌≤◌, List, [], ◌∷◌, length, slice_index, All}
-use Rattle.fib_form.specs.TableParts.{pair_of}
+use Rattle.fib_form.specs.TableParts.{pair_number}
 use Rattle.fib_form.specs.declared.table_parts.TablePart.TheVariants.{Stshf, PlcffndRef, PlcffndTxt, PlcfSed}
 use Rattle.fib_form.specs.declared.table_parts.TablePart.TheVariants.{PlcfHdd, PlcfBteChpx, PlcfBtePapx, SttbfFfn}
 use Rattle.fib_form.specs.declared.table_parts.TablePart.TheVariants.{PlcfFldMom, PlcfFldHdr, PlcfFldFtn, SttbfBkmk}
 use Rattle.fib_form.specs.declared.table_parts.TablePart.TheVariants.{PlcfBkf, PlcfBkl, Dop, SttbfAssoc, Clx, PlfLst}
 use Rattle.fib_form.specs.declared.table_parts.TablePart.TheVariants.{PlfLfo}
-use Rattle.doc_parts.specs.declared.bookmark_order.Bookmark.{Bookmark}
+use Rattle.document_bookmarks.specs.declared.bookmark_order.Bookmark.{Bookmark}
 use Rattle.doc_parts.specs.Sections.{printed_sections}
 use Rattle.doc_parts.specs.Fields.{printed_fields}
 use Rattle.doc_parts.specs.Stories.{printed_refs, printed_texts}
 use Rattle.doc_parts.specs.PrintedBookmarks.{printed_names, printed_starts, printed_ends}
 use Rattle.style_sheet.specs.Written.{written_sheet}
-use Rattle.plain_doc.specs.declared.document.Document.{Document}
-use Rattle.plain_doc.specs.Collected.{joined_texts, fields_of, refs_of}
-use Rattle.plain_doc.specs.Marks.{most_bookmarks}
+use Rattle.doc_model.specs.declared.document.Document.{Document}
+use Rattle.doc_model.specs.Collected.{joined_texts, fields_of, refs_of}
+use Rattle.doc_model.specs.Marks.{most_bookmarks}
 use Rattle.full_save.specs.declared.table_text.TableText.{TableText}
-use Rattle.plain_doc.specs.TextLists.{cuts_of}
+use Rattle.doc_model.specs.TextLists.{cuts_of}
 use Rattle.fib_form.specs.TableEntries.{TableEntry, entry}
 
 -- bookmarks that the three parts can hold
@@ -34,23 +34,23 @@ table_entries document text =
     let main_count = slice_index text.counts 0 in
     let note_count = slice_index text.counts 1 in
     let head_count = slice_index text.counts 2 in
-    entry (pair_of Stshf) (written_sheet document.sheet)
-    ∷ entry (pair_of PlcffndRef) (printed_refs (refs_of main) main_count)
-    ∷ entry (pair_of PlcffndTxt) (printed_texts (cuts_of notes document.notes) note_count)
-    ∷ entry (pair_of PlcfSed) (printed_sections text.seds main_count)
-    ∷ entry (pair_of PlcfHdd) (printed_texts (cuts_of heads document.heads) head_count)
-    ∷ entry (pair_of PlcfBteChpx) text.characters
-    ∷ entry (pair_of PlcfBtePapx) text.paragraphs
-    ∷ entry (pair_of SttbfFfn) document.carried.fonts
-    ∷ entry (pair_of PlcfFldMom) (printed_fields (fields_of main) main_count)
-    ∷ entry (pair_of PlcfFldHdr) (printed_fields (fields_of heads) head_count)
-    ∷ entry (pair_of PlcfFldFtn) (printed_fields (fields_of notes) note_count)
-    ∷ entry (pair_of SttbfBkmk) (printed_names document.bookmarks)
-    ∷ entry (pair_of PlcfBkf) (printed_starts document.bookmarks main_count)
-    ∷ entry (pair_of PlcfBkl) (printed_ends document.bookmarks main_count)
-    ∷ entry (pair_of Dop) document.carried.dop
-    ∷ entry (pair_of SttbfAssoc) document.carried.assoc
-    ∷ entry (pair_of Clx) text.clx
-    ∷ record { number = pair_of PlfLst; bytes = document.carried.lst; behind = document.carried.levels }
-    ∷ entry (pair_of PlfLfo) document.carried.lfo
+    entry (pair_number Stshf) (written_sheet document.sheet)
+    ∷ entry (pair_number PlcffndRef) (printed_refs (refs_of main) main_count)
+    ∷ entry (pair_number PlcffndTxt) (printed_texts (cuts_of notes document.notes) note_count)
+    ∷ entry (pair_number PlcfSed) (printed_sections text.seds main_count)
+    ∷ entry (pair_number PlcfHdd) (printed_texts (cuts_of heads document.heads) head_count)
+    ∷ entry (pair_number PlcfBteChpx) text.characters
+    ∷ entry (pair_number PlcfBtePapx) text.paragraphs
+    ∷ entry (pair_number SttbfFfn) document.carried.fonts
+    ∷ entry (pair_number PlcfFldMom) (printed_fields (fields_of main) main_count)
+    ∷ entry (pair_number PlcfFldHdr) (printed_fields (fields_of heads) head_count)
+    ∷ entry (pair_number PlcfFldFtn) (printed_fields (fields_of notes) note_count)
+    ∷ entry (pair_number SttbfBkmk) (printed_names document.bookmarks)
+    ∷ entry (pair_number PlcfBkf) (printed_starts document.bookmarks main_count)
+    ∷ entry (pair_number PlcfBkl) (printed_ends document.bookmarks main_count)
+    ∷ entry (pair_number Dop) document.carried.dop
+    ∷ entry (pair_number SttbfAssoc) document.carried.assoc
+    ∷ entry (pair_number Clx) text.clx
+    ∷ record { number = pair_number PlfLst; bytes = document.carried.lst; behind = document.carried.levels }
+    ∷ entry (pair_number PlfLfo) document.carried.lfo
     ∷ []

@@ -16,10 +16,10 @@ use Rattle.fkp_pages.specs.Packed.{pages_of}
 use Rattle.fkp_pages.specs.InARow.{numbered_bins}
 use Rattle.piece_table.specs.Clx.{pcdt_bytes}
 use Rattle.piece_table.specs.Printing.{plc_bytes, pcd_bytes}
-use Rattle.cfb_layout.specs.Sectors.{units_for, filled, padded}
-use Rattle.plain_doc.specs.declared.item.Item.{Item}
-use Rattle.plain_doc.specs.declared.document.Document.{Document}
-use Rattle.plain_doc.specs.Collected.{sections_of}
+use Rattle.cfb_layout.specs.Sectors.{units_for, filled, padded_to_unit}
+use Rattle.doc_model.specs.declared.item.Item.{Item}
+use Rattle.doc_model.specs.declared.document.Document.{Document}
+use Rattle.doc_model.specs.Collected.{sections_of}
 use Rattle.full_save.specs.declared.table_text.TableText.{TableText}
 use Rattle.fib_form.specs.TableEntries.{TableEntry}
 use Rattle.full_save.specs.TableText.{table_entries}
@@ -29,8 +29,8 @@ use Rattle.full_save.specs.Runs.{text_runs}
 use Rattle.full_save.specs.Sections.{sepxes, seds_from}
 
 -- Profile: the text begins at 1,024, which is a multiple of the size of a page
-abbrev pub text_at : ℕ
-text_at = 1024
+abbrev pub text_offset : ℕ
+text_offset = 1024
 
 -- the bytes of 16-bit units
 abbrev pub units_bytes : List ℕ → List ℕ
@@ -45,11 +45,11 @@ abbrev pub text_bytes : Document → List ℕ
 text_bytes document = items_bytes (text_items document)
 
 abbrev pub text_end : Document → ℕ
-text_end document = text_at + 2 * length (text_items document)
+text_end document = text_offset + 2 * length (text_items document)
 
 -- its runs and their pages
 abbrev pub document_runs : PageKind → Document → List Run
-document_runs kind document = text_runs kind text_at (text_items document)
+document_runs kind document = text_runs kind text_offset (text_items document)
 
 abbrev pub document_pages : PageKind → Document → Pages
 document_pages kind document = pages_of kind (document_runs kind document)
@@ -69,7 +69,7 @@ pages_end document = 512 * (first_paragraph_page document + length (document_pag
 -- WordDocument from the text on: the text and zeros up to a page, the pages, the Sepxes
 unfoldable pub wd_body : Document → List ℕ
 wd_body document =
-    padded 512 0 (text_bytes document)
+    padded_to_unit 512 0 (text_bytes document)
     ++ ((document_pages Chpx document).bytes ++ ((document_pages Papx document).bytes ++ sepxes (sections_of
     document.main)))
 
@@ -79,7 +79,8 @@ bin_table kind runs number = printed_bin (numbered_bins number (pages_of kind ru
 
 -- [MS-DOC] Clx: one Pcdt with one piece of so many units, and no modifier
 abbrev pub one_piece_clx : ℕ → List ℕ
-one_piece_clx len = pcdt_bytes (plc_bytes (len ∷ []) (pcd_bytes (record { at = text_at; wide = true; len = len }) 0 ∷
+one_piece_clx len = pcdt_bytes (plc_bytes (len ∷ []) (pcd_bytes (record { at = text_offset; wide = true; len = len }) 0
+    ∷
     []))
 
 -- what the table stream has beside the document
@@ -108,7 +109,7 @@ full_fib document = record {
   quick_saves = 0;
   complex = false;
   which_table = 1;
-  cb_mac = text_at + length (wd_body document);
+  cb_mac = text_offset + length (wd_body document);
   ccps = text_counts document;
   pairs = entries_pairs (full_entries document);
 }
@@ -119,4 +120,4 @@ least_length = 4096
 
 -- WordDocument: the FIB and zeros up to the text, then the rest, and zeros where it would be too short
 unfoldable pub wd_stream : Document → List ℕ
-wd_stream document = filled least_length 0 (filled text_at 0 (written_fib (full_fib document)) ++ wd_body document)
+wd_stream document = filled least_length 0 (filled text_offset 0 (written_fib (full_fib document)) ++ wd_body document)

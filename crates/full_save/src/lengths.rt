@@ -4,14 +4,14 @@ ghost use Rattle.fkp_pages.specs.declared.kind.PageKind.{PageKind};
 ghost use Rattle.fkp_pages.specs.Runs.{AreRuns};
 ghost use Rattle.fkp_pages.specs.Packed.{pages_of};
 ghost use Rattle.style_sheet.specs.Written.{IsWritable, written_sheet};
-ghost use Rattle.plain_doc.specs.Collected.{joined_texts};
-ghost use Rattle.plain_doc.specs.Formed.{IsFormed};
+ghost use Rattle.doc_model.specs.Collected.{joined_texts};
+ghost use Rattle.doc_model.specs.Formed.{IsFormed};
 ghost use Rattle.plain_doc.specs.RightDocument.{IsValidDocument};
 ghost use Rattle.full_save.specs.TableText.{FitParts};
 ghost use Rattle.full_save.specs.Text.{text_items};
 ghost use Rattle.full_save.specs.WordDocument.{table_stream, wd_stream};
 ghost use Rattle.full_save.specs.Lengths.{plc_length, main_length, texts_length, bins_length, bookmarks_length};
-ghost use Rattle.full_save.specs.Lengths.{name_length, pages_counted};
+ghost use Rattle.full_save.specs.Lengths.{bookmark_name_length, pages_counted};
 
 use crate::made_parts::carried_len;
 use crate::measures::{Measure, measure_of, measure_of_texts};
@@ -161,7 +161,7 @@ fn bookmarks_len(bookmarks: &Bookmarks) -> u64
 /// SttbfBkmk.
 fn names_len(bookmarks: &Bookmarks) -> u64
     requires { FitParts bookmarks.now }
-    ensures is { result ≡ (if length bookmarks.now == 0 then 0 else 6 + sum_by name_length bookmarks.now) }
+    ensures is { result ≡ (if length bookmarks.now == 0 then 0 else 6 + sum_by bookmark_name_length bookmarks.now) }
     ensures bound { result < 2 ^ 32 }
 {
     if bookmarks.len() == 0 {
@@ -177,7 +177,7 @@ fn names_len(bookmarks: &Bookmarks) -> u64
 /// The count and the units of a name.
 fn name_len(bookmark: &Bookmark) -> u64
     requires { length bookmark.now.name ≤ 255 }
-    ensures { result ≡ name_length bookmark.now }
+    ensures { result ≡ bookmark_name_length bookmark.now }
 {
     2 + 2 * bookmark.name.as_slice().len() as u64
 }

@@ -1,7 +1,7 @@
 // The lists that the table stream has of the texts of a document: one step for each run of what is beside units.
 ghost use Rattle.std.specs.Prelude.{◌≡◌, ◌+◌, ◌^◌, ◌<◌, ◌≤◌, ◌++◌, length, OnOk, IfOk};
-ghost use Rattle.plain_doc.specs.Collected.{joined_texts, refs_of, fields_of, is_auto};
-ghost use Rattle.plain_doc.specs.TextLists.{cuts_of};
+ghost use Rattle.doc_model.specs.Collected.{joined_texts, refs_of, fields_of, is_auto};
+ghost use Rattle.doc_model.specs.TextLists.{cuts_of};
 ghost use Rattle.full_save.specs.Lists.{fields_from, FieldsGoOn, RefsGoOn};
 
 use doc_bits::Memory;

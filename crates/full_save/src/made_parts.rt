@@ -4,8 +4,8 @@ ghost use Rattle.std.specs.Prelude.{◌≡◌, ◌+◌, ◌^◌, ◌<◌, length
 ghost use Rattle.doc_parts.specs.Fields.{printed_fields};
 ghost use Rattle.doc_parts.specs.Stories.{printed_refs, printed_texts};
 ghost use Rattle.style_sheet.specs.Written.{IsWritable};
-ghost use Rattle.plain_doc.specs.Collected.{joined_texts, fields_of, refs_of};
-ghost use Rattle.plain_doc.specs.TextLists.{cuts_of};
+ghost use Rattle.doc_model.specs.Collected.{joined_texts, fields_of, refs_of};
+ghost use Rattle.doc_model.specs.TextLists.{cuts_of};
 ghost use Rattle.full_save.specs.TableText.{FitParts, table_entries};
 ghost use Rattle.full_save.specs.TableStream.{entries_bytes, AreWritten};
 ghost use Rattle.full_save.specs.Made.{AreFieldParts, AreListParts, AreMadeOf, made_entries, carried_length};

@@ -1,7 +1,7 @@
 // What is beside the units of a text, counted run by run.
 ghost use Rattle.std.specs.Prelude.{◌≡◌, ◌+◌, ◌*◌, ◌^◌, ◌<◌, ◌≤◌, length, All, sum_by};
 ghost use Rattle.run_lists.specs.Spread.{expanded, total_len};
-ghost use Rattle.plain_doc.specs.Collected.{joined_texts};
+ghost use Rattle.doc_model.specs.Collected.{joined_texts};
 ghost use Rattle.doc_columns.specs.Attached.{attached_of};
 ghost use Rattle.full_save.specs.declared.measures.Measure.TheVariants.{Fields};
 ghost use Rattle.full_save.specs.Sections.{sepx_bytes, IsSavableSection};

@@ -1,7 +1,7 @@
 // The runs of a text that is gone through once, run by run of its columns.
 ghost use Rattle.std.specs.Prelude.{◌≡◌, ◌+◌, ◌*◌, ◌^◌, ◌<◌, ℕ, List, [], length, Some, OnOk, IfOk};
 ghost use Rattle.fkp_pages.specs.declared.kind.PageKind.{PageKind};
-ghost use Rattle.plain_doc.specs.declared.item.Item.{Item as TextItem};
+ghost use Rattle.doc_model.specs.declared.item.Item.{Item as TextItem};
 ghost use Rattle.full_save.specs.Runs.{text_runs};
 ghost use Rattle.full_save.specs.RunsSoFar.{AreCharactersSoFar, AreParagraphsSoFar, CharactersGoOn, CharactersGoOnBy};
 ghost use Rattle.full_save.specs.RunsSoFar.{ParagraphEnds, ParagraphsGoOn, ParagraphsGoOnBy};

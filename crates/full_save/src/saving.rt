@@ -2,12 +2,13 @@
 ghost use Rattle.std.specs.Prelude.{◌≡◌, ◌<◌, length, IfOk, MatchResult};
 ghost use Rattle.plain_doc.specs.Sound.{IsSound};
 ghost use Rattle.full_save.specs.WordDocument.{table_stream};
-ghost use Rattle.full_save.specs.Layout.{full_save_image, layout_streams, sectors_of, FitsCompoundFile, IsTooLarge};
-ghost use Rattle.plain_doc.specs.Formed.{IsFormed};
+ghost use Rattle.full_save.specs.Layout.{full_save_image, layout_streams, full_save_sectors, FitsCompoundFile};
+ghost use Rattle.full_save.specs.Layout.{IsTooLarge};
+ghost use Rattle.doc_model.specs.Formed.{IsFormed};
 ghost use Rattle.plain_doc.specs.RightDocument.{IsValidDocument};
 ghost use Rattle.full_save.specs.WordDocument.{full_fib};
 ghost use Rattle.full_save.specs.Made.{IsBodyOf};
-ghost use Rattle.full_save.specs.RunsSoFar.{IsTextOf};
+ghost use Rattle.full_save.specs.RunsSoFar.{IsSavedTextOf};
 
 use crate::SaveFault;
 use crate::lengths::{PageCounts, table_len_with, wd_len};
@@ -53,7 +54,7 @@ pub fn full_of_columns(alloc: Global, document: &ColumnDocument) -> Result<Bytes
 /// The number of sectors that the full save of a document needs, whether it fits a file or not.
 pub fn sectors(alloc: Global, document: &Document) -> Result<u64, Memory>
     requires { IsSound document.now }
-    ensures { IfOk result (λ sectors. sectors ≡ sectors_of document.now) }
+    ensures { IfOk result (λ sectors. sectors ≡ full_save_sectors document.now) }
 {
     let columns = ColumnDocument::from_document(alloc, document)?;
     let sectors = sectors_of_columns(alloc, &columns);
@@ -64,7 +65,7 @@ pub fn sectors(alloc: Global, document: &Document) -> Result<u64, Memory>
 /// The number of sectors that the full save of a document by columns needs, whether it fits a file or not.
 pub fn sectors_of_columns(alloc: Global, document: &ColumnDocument) -> Result<u64, Memory>
     requires { IsSound document.now }
-    ensures { IfOk result (λ sectors. sectors ≡ sectors_of document.now) }
+    ensures { IfOk result (λ sectors. sectors ≡ full_save_sectors document.now) }
 {
     columns_are_formed(document);
     let text = text_of(alloc, document)?;
@@ -77,8 +78,8 @@ pub fn sectors_of_columns(alloc: Global, document: &ColumnDocument) -> Result<u6
 fn sectors_with(alloc: Global, document: &ColumnDocument, text: &SavedText) -> Result<u64, Memory>
     requires formed { IsFormed document.now }
     requires right { IsValidDocument document.now }
-    requires text { IsTextOf document.now text.now }
-    ensures { IfOk result (λ sectors. sectors ≡ sectors_of document.now) }
+    requires text { IsSavedTextOf document.now text.now }
+    ensures { IfOk result (λ sectors. sectors ≡ full_save_sectors document.now) }
 {
     let pages = PageCounts::of(text);
     let table = table_len_with(alloc, document, pages)?;
@@ -91,7 +92,7 @@ fn sectors_with(alloc: Global, document: &ColumnDocument, text: &SavedText) -> R
 fn file_with(alloc: Global, document: &ColumnDocument, text: &SavedText) -> Result<Bytes, SaveFault>
     requires formed { IsFormed document.now }
     requires right { IsValidDocument document.now }
-    requires text { IsTextOf document.now text.now }
+    requires text { IsSavedTextOf document.now text.now }
     ensures { MatchResult result
         (λ file. (file ≡ full_save_image document.now) × FitsCompoundFile document.now)
         (IsTooLarge document.now) }

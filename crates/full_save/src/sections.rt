@@ -2,7 +2,7 @@
 ghost use Rattle.std.specs.Prelude.{◌≡◌, ◌+◌, ◌*◌, ◌^◌, ◌<◌, ◌++◌, length, All, OnOk, IfOk};
 ghost use Rattle.std.specs.Option.{ForSome};
 ghost use Rattle.style_sheet.specs.Counted.{written_counted};
-ghost use Rattle.plain_doc.specs.Collected.{sections_of};
+ghost use Rattle.doc_model.specs.Collected.{sections_of};
 ghost use Rattle.full_save.specs.Sections.{sepx_bytes, sepxes, fc_sepx, seds_from, HasSavableSection, IsSavableSection};
 ghost use Rattle.full_save.specs.Sections.{SepxesGoOn};
 

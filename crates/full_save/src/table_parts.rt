@@ -2,7 +2,7 @@
 ghost use Rattle.std.specs.Prelude.{◌≡◌, ◌+◌, ◌^◌, ◌<◌, [], length, map, slice_set, OnOk, OnErr};
 ghost use Rattle.std.specs.Prelude.{if◌then◌else◌, ◌==◌};
 ghost use Rattle.std.specs.Io.{StartsWith};
-ghost use Rattle.fib_form.specs.TableParts.{pair_of};
+ghost use Rattle.fib_form.specs.TableParts.{pair_number};
 ghost use Rattle.fib_form.specs.TableEntries.{entry};
 ghost use Rattle.full_save.specs.TableStream.{entries_bytes, AreWritten, WritesPart, WritesParts, named_entry};
 
@@ -31,7 +31,7 @@ impl TableParts {
     /// Appends a part. Its pair names it where it is not empty.
     pub fn put(&mut self, part: TablePart, bytes: &[u8]) -> Result<(), Memory>
         requires { length self.old.bytes + length bytes.now < 2 ^ 32 }
-        ensures part { OnOk result (WritesPart (entry (pair_of part) bytes.now) self.old self.new) }
+        ensures part { OnOk result (WritesPart (entry (pair_number part) bytes.now) self.old self.new) }
         ensures count { OnOk result (length self.new.bytes ≡ length self.old.bytes + length bytes.now) }
         ensures err { OnErr result (self.new ≡ self.old) }
     {
@@ -57,7 +57,7 @@ impl TableParts {
     pub fn put_lists(&mut self, lists: &[u8], levels: &[u8]) -> Result<(), Memory>
         requires { length self.old.bytes + length lists.now + length levels.now < 2 ^ 32 }
         ensures part { OnOk result (WritesPart
-            (record { number = pair_of TablePart.PlfLst; bytes = lists.now; behind = levels.now })
+            (record { number = pair_number TablePart.PlfLst; bytes = lists.now; behind = levels.now })
             self.old self.new) }
         ensures count { OnOk result
             (length self.new.bytes ≡ length self.old.bytes + length lists.now + length levels.now) }
@@ -79,7 +79,7 @@ impl TableParts {
 
 /// Puts the pair of a part that is not empty.
 fn put_pair(pairs: &mut Pairs, part: TablePart, at: u32, len: u32)
-    ensures { pairs.new ≡ (if len == 0 then pairs.old else slice_set pairs.old (pair_of part) (at, len)) }
+    ensures { pairs.new ≡ (if len == 0 then pairs.old else slice_set pairs.old (pair_number part) (at, len)) }
 {
     if len > 0 {
         pairs.put(part.pair(), at, len);

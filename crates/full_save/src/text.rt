@@ -1,10 +1,10 @@
 // The text of a document, as runs: the main text, the notes and the header texts, with the marks behind
 // stories.
 ghost use Rattle.std.specs.Prelude.{◌≡◌, ◌+◌, ◌^◌, ◌<◌, ◌≤◌, List, [], ◌∷◌, length, nat_lt, OnOk, IfOk};
-ghost use Rattle.plain_doc.specs.Collected.{joined_texts};
+ghost use Rattle.doc_model.specs.Collected.{joined_texts};
 ghost use Rattle.full_save.specs.Text.{extra_mark, mark_if, with_mark, text_items};
-ghost use Rattle.full_save.specs.RunsSoFar.{IsTextSoFar, GoesOnBy, IsWholeText, IsTextOf};
-ghost use Rattle.plain_doc.specs.declared.item.Item.{Item as TextItem};
+ghost use Rattle.full_save.specs.RunsSoFar.{IsTextSoFar, GoesOnBy, IsWholeText, IsSavedTextOf};
+ghost use Rattle.doc_model.specs.declared.item.Item.{Item as TextItem};
 
 use crate::runs::{CharacterRuns, ParagraphRuns, UNIT_LEN};
 use doc_bits::Memory;
@@ -29,7 +29,7 @@ pub(crate) struct SavedText {
 /// The text of a document.
 pub(crate) fn text_of(alloc: Global, document: &ColumnDocument) -> Result<SavedText, Memory>
     requires { length (text_items document.now) ≤ 500001 }
-    ensures { IfOk result (IsTextOf document.now) }
+    ensures { IfOk result (IsSavedTextOf document.now) }
 {
     let mut text = TextSoFar::new(alloc);
     text.push_text(&document.main)?;

@@ -2,14 +2,14 @@
 ghost use Rattle.std.specs.Prelude.{◌≡◌, ◌+◌, ◌-◌, ◌*◌, ◌/◌, ◌^◌, ◌<◌, ◌≤◌, ◌++◌, length, replicate, OnOk, IfOk};
 ghost use Rattle.fib_form.specs.FibBytes.{written_fib};
 ghost use Rattle.fkp_pages.specs.Bin.{ArePrintableBins, printed_bin};
-ghost use Rattle.cfb_layout.specs.Sectors.{units_for, filled, padded};
+ghost use Rattle.cfb_layout.specs.Sectors.{units_for, filled, padded_to_unit};
 ghost use Rattle.full_save.specs.WordDocument.{units_bytes, items_bytes, text_bytes, one_piece_clx, least_length};
 ghost use Rattle.full_save.specs.Text.{mark_if, text_items, text_counts};
-ghost use Rattle.plain_doc.specs.Collected.{joined_texts};
-ghost use Rattle.plain_doc.specs.Formed.{IsFormed};
+ghost use Rattle.doc_model.specs.Collected.{joined_texts};
+ghost use Rattle.doc_model.specs.Formed.{IsFormed};
 ghost use Rattle.plain_doc.specs.RightDocument.{IsValidDocument};
 ghost use Rattle.full_save.specs.Made.{IsBodyOf};
-ghost use Rattle.full_save.specs.RunsSoFar.{IsTextOf};
+ghost use Rattle.full_save.specs.RunsSoFar.{IsSavedTextOf};
 
 use crate::pages::{append_chpx_pages, append_papx_pages, append_units};
 use crate::runs::UNIT_LEN;
@@ -44,7 +44,7 @@ impl WordBody {
     ) -> Result<WordBody, Memory>
         requires formed { IsFormed document.now }
         requires right { IsValidDocument document.now }
-        requires text { IsTextOf document.now text.now }
+        requires text { IsSavedTextOf document.now text.now }
         ensures { IfOk result (IsBodyOf document.now) }
     {
         let end = TEXT_START + UNIT_LEN * text.len;
@@ -133,7 +133,7 @@ fn front_of(alloc: Global, fib: &Fib) -> Result<Bytes, Memory>
 /// Appends the text, and zeros up to a page.
 pub fn append_text(out: &mut Bytes, units: &[u16]) -> Result<(), Memory>
     requires { length units.now < 2 ^ 31 }
-    ensures { OnOk result (out.new ≡ out.old ++ padded 512 0 (units_bytes units.now)) }
+    ensures { OnOk result (out.new ≡ out.old ++ padded_to_unit 512 0 (units_bytes units.now)) }
 {
     append_units(out, units)?;
     push_fill(out, units.len())?;
@@ -146,9 +146,9 @@ fn append_document(
     document: &ColumnDocument,
     text: &SavedText,
 ) -> Result<(), Memory>
-    requires text { IsTextOf document.now text.now }
+    requires text { IsSavedTextOf document.now text.now }
     requires few { length (text_items document.now) < 2 ^ 30 }
-    ensures { OnOk result (out.new ≡ out.old ++ padded 512 0 (text_bytes document.now)) }
+    ensures { OnOk result (out.new ≡ out.old ++ padded_to_unit 512 0 (text_bytes document.now)) }
 {
     append_stories(out, document, text.counts)?;
     push_fill(out, text.len as usize)?;

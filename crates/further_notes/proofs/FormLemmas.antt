@@ -5,10 +5,10 @@ use Rattle.std.specs.Prelude.{◌==◌, slice_get, slice_range}
 use Rattle.std.specs.List.{splice}
 use Rattle.std.proofs.lemmas.List.{take_all, drop_all, take_rest}
 use Rattle.doc_bits.proofs.Public.{All_at}
-use Rattle.plain_doc.specs.declared.item.Item.{Item}
-use Rattle.plain_doc.specs.Document.{HasPropertyMaps, IsFormedItem, IsFormedText}
+use Rattle.doc_model.specs.declared.item.Item.{Item}
+use Rattle.doc_model.specs.Document.{HasPropertyMaps, IsFormedItem, IsFormedText}
 use Rattle.doc_mends.specs.declared.mends.NoteStory.{NoteStory}
-use Rattle.further_notes.specs.Forms.{note_mark, story_mark, marks_by, own_marks, note_text, title_units}
+use Rattle.further_notes.specs.Forms.{note_mark, story_mark, marks_by, own_marks, as_note_text, bracketed_units}
 
 -- ---- marks
 
@@ -49,7 +49,7 @@ mark_maps text item made formed there is =
 -- ---- titles
 
 pub title_made : (initials made : List ℕ) → 0 ≢ length initials →
-    made ≡ (((0x5B ∷ []) ++ initials) ++ 0x5D ∷ []) ++ 0x20 ∷ [] → made ≡ title_units initials
+    made ≡ (((0x5B ∷ []) ++ initials) ++ 0x5D ∷ []) ++ 0x20 ∷ [] → made ≡ bracketed_units initials
 title_made [] made some is = absurd (some refl)
 title_made (unit ∷ units) made some is =
     is ∙ ap (λ (l : List ℕ). 0x5B ∷ l) (append_assoc (unit ∷ units) (0x5D ∷ []) (0x20 ∷ []))
@@ -64,7 +64,7 @@ spliced_behind {A = A} xs ys len is =
 
 pub note_text_made : (story : NoteStory) (title text marks rest titled made : List Item) (from to : ℕ) →
     marks ≡ own_marks story text → from ≡ length marks → to ≡ length text → rest ≡ slice_range text from to →
-    titled ≡ title ++ rest → made ≡ marks ++ titled → made ≡ note_text story title text
+    titled ≡ title ++ rest → made ≡ marks ++ titled → made ≡ as_note_text story title text
 note_text_made story title text marks rest titled made from to marks_are from_is to_is rest_is titled_is made_is =
     let begin : from ≡ length (own_marks story text) = from_is ∙ ap length marks_are in
     let rest_there : rest ≡ drop (length (own_marks story text)) text =

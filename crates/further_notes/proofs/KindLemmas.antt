@@ -13,13 +13,13 @@ use Rattle.std.proofs.lemmas.List.Elements.{All-head, All-tail, All-cons, All-we
 use Rattle.std.proofs.lemmas.List.Sums.{sum_by-cons, sum_by_more}
 use Rattle.prop_map.specs.Settings.{Properties}
 use Rattle.doc_bits.proofs.Public.{there_is, from_map, get-map}
-use Rattle.plain_doc.specs.declared.item.Item.{Item}
-use Rattle.plain_doc.specs.declared.item.NoteKind.{NoteKind}
-use Rattle.plain_doc.specs.Document.{HasPropertyMaps, IsFormedItem, IsFormedText}
+use Rattle.doc_model.specs.declared.item.Item.{Item}
+use Rattle.doc_model.specs.declared.item.NoteKind.{NoteKind}
+use Rattle.doc_model.specs.Document.{HasPropertyMaps, IsFormedItem, IsFormedText}
 use Rattle.doc_columns.specs.declared.attached.Attached.{Attached}
 use Rattle.doc_columns.specs.Attached.{attached_of}
 use Rattle.doc_columns.specs.Columns.{item_of, items_of}
-use Rattle.further_notes.specs.Sources.{note_kinds, kind_at, notes_before}
+use Rattle.further_notes.specs.Sources.{note_kinds, note_kind_at, notes_before}
 use Rattle.doc_mends.specs.declared.mends.NoteStory.{NoteStory}
 use Rattle.further_notes.specs.Splices.{item_noted, attached_noted, unit_with, with_kinds, text_noted}
 
@@ -39,23 +39,23 @@ one_counted kind =
     let one = sum_by-cons (λ (k : Option NoteKind). cond (is_some k) 1 0) kind [] in omega (arith, one)
 
 pub before_more : (kinds : List (Option NoteKind)) (at : ℕ) →
-    notes_before kinds (at + 1) ≡ notes_before kinds at + count_by is_some (kind_at kinds at ∷ [])
+    notes_before kinds (at + 1) ≡ notes_before kinds at + count_by is_some (note_kind_at kinds at ∷ [])
 before_more kinds at = elim (cases_lt at (length kinds)) [
   | inl low ↦
       let it = there_is kinds at low in
       let kind : Option NoteKind = it.0 in
-      let here : kind_at kinds at ≡ kind = ap (λ (o : Option (Option NoteKind)). unwrap_or o None) it.1 in
+      let here : note_kind_at kinds at ≡ kind = ap (λ (o : Option (Option NoteKind)). unwrap_or o None) it.1 in
       let more : notes_before kinds (at + 1) ≡ notes_before kinds at + cond (is_some kind) 1 0 =
       sum_by_more (λ (k : Option NoteKind). cond (is_some k) 1 0) kinds at kind low
       ∙ ap (λ (k : Option NoteKind). notes_before kinds at + cond (is_some k) 1 0)
       (get_or_from_slice_get kinds at kind kind it.1) in
-      let one : count_by is_some (kind_at kinds at ∷ []) ≡ cond (is_some kind) 1 0 =
+      let one : count_by is_some (note_kind_at kinds at ∷ []) ≡ cond (is_some kind) 1 0 =
       ap (λ (k : Option NoteKind). count_by is_some (k ∷ [])) here ∙ one_counted kind in
       omega (arith, more, one)
   | inr past ↦
-      let here : kind_at kinds at ≡ None =
+      let here : note_kind_at kinds at ≡ None =
       ap (λ (o : Option (Option NoteKind)). unwrap_or o None) (slice_get_past kinds at past) in
-      let one : count_by is_some (kind_at kinds at ∷ []) ≡ 0 =
+      let one : count_by is_some (note_kind_at kinds at ∷ []) ≡ 0 =
       ap (λ (k : Option NoteKind). count_by is_some (k ∷ [])) here ∙ one_counted None in
       let all : notes_before kinds at ≡ count_by is_some kinds = ap (count_by is_some) (take_all at kinds past) in
       let more : notes_before kinds (at + 1) ≡ count_by is_some kinds =
@@ -67,7 +67,7 @@ before_more kinds at = elim (cases_lt at (length kinds)) [
 
 pub changed_at_place : {A : Type 0} (change : Option NoteKind → A → A) (kinds : List (Option NoteKind)) (xs : List A)
     (at : ℕ) (x : A) → ((y : A) → change None y ≡ y) → slice_get xs at ≡ Some x →
-    slice_get (with_kinds change kinds xs) at ≡ Some (change (kind_at kinds at) x)
+    slice_get (with_kinds change kinds xs) at ≡ Some (change (note_kind_at kinds at) x)
 unfolding with_kinds
 changed_at_place change kinds [] at x plain is = absurd (cc is)
 changed_at_place {A = A} change [] (y ∷ xs) at x plain is = is ∙ ap (λ (z : A). Some z) (sym (plain x))

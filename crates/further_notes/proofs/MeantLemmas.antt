@@ -11,9 +11,9 @@ use Rattle.fib_form.specs.FibFields.{fib_fields}
 use Rattle.fib_versions.specs.Early.{early_fields, early_pairs}
 use Rattle.fib_versions.specs.VersionRules.{version_rules}
 use Rattle.fib_versions.proofs.Public.{early-read_back}
-use Rattle.plain_doc.specs.declared.document.Document.{Document}
+use Rattle.doc_model.specs.declared.document.Document.{Document}
 use Rattle.file_rules.specs.BinRules.{rules_of_bins}
-use Rattle.file_rules.specs.FileRules.{FileText, HasText, source_of, table_stream_name}
+use Rattle.file_rules.specs.FileRules.{FileText, HasFileText, doc_source_of, table_stream_name}
 use Rattle.file_rules.proofs.Public.{streams-small, named_one, hold_out}
 use Rattle.doc_meaning.specs.Meaning.{MeansDocument}
 use Rattle.doc_meaning.proofs.Public.{meaning_is_one}
@@ -35,19 +35,20 @@ front_fields file contents name wd bytes has named hold =
 -- the rules on the bin tables hold of the text that the streams name
 text_bins : (file : List ℕ) (contents : Contents) (wd table : List ℕ) (text : FileText) → AreBytes file →
     HasContents file contents → HasNamed contents.streams wd_name wd →
-    HasNamed contents.streams (table_stream_name wd) table → HasText contents text → Hold (version_rules wd) →
-    Hold (lifted_table_rules wd table) → Hold (rules_of_bins (source_of text))
+    HasNamed contents.streams (table_stream_name wd) table → HasFileText contents text → Hold (version_rules wd) →
+    Hold (lifted_table_rules wd table) → Hold (rules_of_bins (doc_source_of text))
 text_bins file contents wd table text bytes has named table_named has_text version hold =
     let wd_is : wd ≡ text.wd = named_one file contents wd_name wd text.wd has named has_text.has_wd in
     let there : HasNamed contents.streams (table_stream_name text.wd) table =
     subst (λ w. HasNamed contents.streams (table_stream_name w) table) wd_is table_named in
     let table_is : table ≡ text.table =
     named_one file contents (table_stream_name text.wd) table text.table has there has_text.has_table in
-    lifted_bins wd table (source_of text) (front_fields file contents wd_name wd bytes has named version) (sym wd_is)
+    lifted_bins wd table (doc_source_of text) (front_fields file contents wd_name wd bytes has named version) (sym
+    wd_is)
     (sym table_is) hold
 
 meant_bins : (file : List ℕ) (document : Document) → AreBytes file → Hold (lifted_rules file) →
-    (means : MeansDocument file document) → Hold (rules_of_bins (source_of means.parts.text))
+    (means : MeansDocument file document) → Hold (rules_of_bins (doc_source_of means.parts.text))
 meant_bins file document bytes hold means =
     let has = means.has_parts.has_contents in
     let same : hold.1.0 ≡ means.parts.contents =

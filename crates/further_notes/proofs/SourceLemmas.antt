@@ -5,23 +5,23 @@ use Rattle.std.specs.Option.{unwrap_or}
 use Rattle.std.specs.List.{filter_map}
 use Rattle.doc_parts.specs.Tabulated.{tabulate}
 use Rattle.doc_losses.proofs.Public.{listed_more}
-use Rattle.plain_doc.specs.declared.item.NoteKind.{NoteKind}
+use Rattle.doc_model.specs.declared.item.NoteKind.{NoteKind}
 use Rattle.doc_mends.specs.declared.mends.MadeNote.{MadeNote}
 use Rattle.further_notes.specs.declared.sources.NoteSource.{NoteSource}
 use Rattle.further_notes.specs.declared.origins.NoteOrigin.{NoteOrigin}
-use Rattle.further_notes.specs.Sources.{source_by, source_at, made_by, made_at, origin_at, kind_at, notes_before}
+use Rattle.further_notes.specs.Sources.{source_by, source_at, made_by, made_at, origin_at, note_kind_at, notes_before}
 
 -- one item more
 pub source_more : (own others : List (Option NoteKind)) (at before more : ℕ) (here : Option NoteKind)
     (list : List NoteSource) → slice_get own at ≡ Some here → before ≡ notes_before own at →
     more ≡ notes_before others at → list ≡ filter_map (λ s. s) (tabulate (source_at own others) at) →
-    list ++ filter_map (λ s. s) (source_by here (kind_at others at) before more ∷ [])
+    list ++ filter_map (λ s. s) (source_by here (note_kind_at others at) before more ∷ [])
     ≡ filter_map (λ s. s) (tabulate (source_at own others) (at + 1))
 source_more own others at before more here list is before_is more_is list_is =
     let pick : List (Option NoteSource) → List NoteSource = filter_map (λ (o : Option NoteSource). o) in
     let by : Option NoteKind → ℕ → ℕ → Option NoteSource =
-    λ kind m n. source_by kind (kind_at others at) m n in
-    let there : kind_at own at ≡ here = ap (λ (o : Option (Option NoteKind)). unwrap_or o None) is in
+    λ kind m n. source_by kind (note_kind_at others at) m n in
+    let there : note_kind_at own at ≡ here = ap (λ (o : Option (Option NoteKind)). unwrap_or o None) is in
     let same : by here before more ≡ source_at own others at =
     λ i. by (sym there i) (before_is i) (more_is i) in
     ap (λ (l : List NoteSource). l ++ pick (by here before more ∷ [])) list_is

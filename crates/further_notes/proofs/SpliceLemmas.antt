@@ -3,9 +3,9 @@ use Rattle.std.proofs.Common.{◌≡◌, ◌∙◌, ◌≤◌, true, ap, sym, su
 use Rattle.std.specs.Prelude.{MatchOption}
 use Rattle.doc_bits.specs.Number.{AreBytes}
 use Rattle.fib_versions.specs.Versions.{further_count}
-use Rattle.plain_doc.specs.declared.document.Document.{Document}
-use Rattle.plain_doc.specs.Marks.{HasFormedBookmarks}
-use Rattle.doc_parts.specs.Bookmarks.{AreFormedBookmarks}
+use Rattle.doc_model.specs.declared.document.Document.{Document}
+use Rattle.doc_model.specs.Marks.{HasFormedBookmarks}
+use Rattle.document_bookmarks.specs.Bookmarks.{AreFormedBookmarks}
 use Rattle.doc_mends.specs.declared.mends.MadeNote.{MadeNote}
 use Rattle.doc_mends.specs.declared.mends.NoteStory.{NoteStory}
 use Rattle.doc_mends.specs.declared.mends.NoteStory.TheVariants as note_story
@@ -16,11 +16,11 @@ use Rattle.further_notes.specs.declared.splicing.Spliced.{Spliced}
 use Rattle.further_notes.specs.declared.stories.NotedStories.{NotedStories}
 use Rattle.further_notes.specs.declared.stories.NotedStories.TheVariants.{Both, Endnotes, Comments}
 use Rattle.further_notes.specs.declared.forms.NoteForm.{NoteForm}
-use Rattle.further_notes.specs.Forms.{form_of}
-use Rattle.further_notes.specs.NoteFiles.{HasNoteFile, note_file, story_of}
+use Rattle.further_notes.specs.Forms.{note_form_of}
+use Rattle.further_notes.specs.NoteFiles.{HasNoteFile, note_file, story_behind}
 use Rattle.further_notes.specs.Sources.{note_kinds, made_notes}
-use Rattle.further_notes.specs.Splices.{item_noted, with_notes, document_with, state_of, first_state, NoteState}
-use Rattle.further_notes.specs.Splices.{CanSplice, IsSplice, IsSplicedBy, IsStep, HasNoSpliceBy, HasNoStep}
+use Rattle.further_notes.specs.Splices.{item_noted, with_notes, document_with, note_state_of, first_state, NoteState}
+use Rattle.further_notes.specs.Splices.{CanSpliceNotes, IsSplice, IsSplicedBy, IsStorySplice, HasNoSpliceBy, HasNoStep}
 use Rattle.further_notes.specs.Noted.{AreSteps, AreTwoSteps, IsSplicedFrom, IsSpliced, HasNoSplice, SpliceIsOne}
 use Rattle.further_notes.specs.Noted.{has_story}
 use Rattle.further_notes.proofs.MeantLemmas.{meant_one}
@@ -35,17 +35,17 @@ spliced_one file form old one two a b =
     ∙ (ap (with_notes form old) (meant_one file a.other b.other a.bytes a.rules a.means b.means)
     ∙ sym b.splice.is)
 
-step_one : (story : NoteStory) (wd table : List ℕ) (old one two : NoteState) → IsStep story wd table old one →
-    IsStep story wd table old two → one ≡ two
+step_one : (story : NoteStory) (wd table : List ℕ) (old one two : NoteState) → IsStorySplice story wd table old one →
+    IsStorySplice story wd table old two → one ≡ two
 step_one story wd table old one two a b =
-    spliced_one (note_file story wd table) (form_of story wd table) old one two a.by b.by
+    spliced_one (note_file story wd table) (note_form_of story wd table) old one two a.by b.by
 
 steps_one : (stories : NotedStories) (wd table : List ℕ) (old one two : NoteState) →
     AreSteps stories wd table old one → AreSteps stories wd table old two → one ≡ two
 steps_one Both wd table old one two a b =
     let middle : a.middle ≡ b.middle = step_one note_story.Endnotes wd table old a.middle b.middle a.first b.first in
     step_one note_story.Comments wd table b.middle one two
-    (subst (λ (m : NoteState). IsStep note_story.Comments wd table m one) middle a.second) b.second
+    (subst (λ (m : NoteState). IsStorySplice note_story.Comments wd table m one) middle a.second) b.second
 steps_one Endnotes wd table old one two a b = step_one note_story.Endnotes wd table old one two a b
 steps_one Comments wd table old one two a b = step_one note_story.Comments wd table old one two a b
 
@@ -59,12 +59,12 @@ splice_is_one stories wd table document one two made others a b =
 -- ---- bookmarks
 
 -- the main text is as long as it was
-step_formed : (story : NoteStory) (wd table : List ℕ) (old new : NoteState) → IsStep story wd table old new →
+step_formed : (story : NoteStory) (wd table : List ℕ) (old new : NoteState) → IsStorySplice story wd table old new →
     HasFormedBookmarks old.document → HasFormedBookmarks new.document
 step_formed story wd table old new is formed =
     let document = old.document in
     let other = is.by.other in
-    let form = form_of story wd table in
+    let form = note_form_of story wd table in
     let same : length (document_with form document other).main ≡ length document.main =
     length-with_kinds (item_noted story) (note_kinds other.main) document.main in
     subst (λ (s : NoteState). HasFormedBookmarks s.document) (sym is.by.splice.is)
@@ -88,7 +88,7 @@ splice_formed stories wd table document spliced made is formed =
 -- ---- the stories have something
 
 steps_some : (stories : NotedStories) (wd table : List ℕ) (old new : NoteState) → AreSteps stories wd table old new →
-    (story : NoteStory) → has_story stories story ≡ true → 1 ≤ further_count wd (story_of story)
+    (story : NoteStory) → has_story stories story ≡ true → 1 ≤ further_count wd (story_behind story)
 steps_some Both wd table old new are note_story.Endnotes among = are.first.has.some
 steps_some Both wd table old new are note_story.Comments among = are.second.has.some
 steps_some Endnotes wd table old new is note_story.Endnotes among = is.has.some
@@ -98,7 +98,7 @@ steps_some Comments wd table old new is note_story.Comments among = is.has.some
 
 pub has_some : (stories : NotedStories) (wd table : List ℕ) (document spliced : Document) (made : List MadeNote) →
     IsSpliced stories wd table document spliced made → (story : NoteStory) → has_story stories story ≡ true →
-    1 ≤ further_count wd (story_of story)
+    1 ≤ further_count wd (story_behind story)
 has_some stories wd table document spliced made is story among =
     steps_some stories wd table (first_state document) is.last is.steps story among
 
@@ -106,11 +106,11 @@ has_some stories wd table document spliced made is story among =
 
 pub splice_found : (file : List ℕ) (form : NoteForm) (old : NoteState) (lifted : Lifted)
     (found : Option NotedDocument) → AreBytes file → IsLifted file lifted →
-    MatchOption found (¬ CanSplice old.document lifted.document)
-    (λ new. IsSplice form old lifted.document (state_of new)) →
-    MatchOption found (HasNoSpliceBy file form old) (λ new. IsSplicedBy file form old (state_of new))
+    MatchOption found (¬ CanSpliceNotes old.document lifted.document)
+    (λ new. IsSplice form old lifted.document (note_state_of new)) →
+    MatchOption found (HasNoSpliceBy file form old) (λ new. IsSplicedBy file form old (note_state_of new))
 splice_found file form old lifted None bytes is never = λ new by.
-    never (subst (λ (d : Document). CanSplice old.document d)
+    never (subst (λ (d : Document). CanSpliceNotes old.document d)
     (meant_one file by.other lifted.document bytes is.rules by.means is.means) by.splice.can)
 splice_found file form old lifted (Some new) bytes is splice = record {
   bytes = bytes;
@@ -122,27 +122,27 @@ splice_found file form old lifted (Some new) bytes is splice = record {
 
 pub step_found : (story : NoteStory) (wd table file : List ℕ) (form : NoteForm) (old : NoteState)
     (found : Option NotedDocument) → HasNoteFile story wd table → file ≡ note_file story wd table →
-    form ≡ form_of story wd table →
-    MatchOption found (HasNoSpliceBy file form old) (λ new. IsSplicedBy file form old (state_of new)) →
-    MatchOption found (HasNoStep story wd table old) (λ new. IsStep story wd table old (state_of new))
+    form ≡ note_form_of story wd table →
+    MatchOption found (HasNoSpliceBy file form old) (λ new. IsSplicedBy file form old (note_state_of new)) →
+    MatchOption found (HasNoStep story wd table old) (λ new. IsStorySplice story wd table old (note_state_of new))
 step_found story wd table file form old None has is form_is never = λ new step.
     never new (subst (λ (f : List ℕ). IsSplicedBy f form old new) (sym is)
     (subst (λ (f : NoteForm). IsSplicedBy (note_file story wd table) f old new) (sym form_is) step.by))
 step_found story wd table file form old (Some new) has is form_is by = record {
   has = has;
-  by = subst (λ (f : NoteForm). IsSplicedBy (note_file story wd table) f old (state_of new)) form_is
-      (subst (λ (f : List ℕ). IsSplicedBy f form old (state_of new)) is by);
+  by = subst (λ (f : NoteForm). IsSplicedBy (note_file story wd table) f old (note_state_of new)) form_is
+      (subst (λ (f : List ℕ). IsSplicedBy f form old (note_state_of new)) is by);
 }
 
 -- a second story, behind the first one
 pub second_found : (wd table : List ℕ) (old middle : NoteState) (found : Option NotedDocument) →
-    IsStep note_story.Endnotes wd table old middle →
+    IsStorySplice note_story.Endnotes wd table old middle →
     MatchOption found (HasNoStep note_story.Comments wd table middle)
-    (λ new. IsStep note_story.Comments wd table middle (state_of new)) →
+    (λ new. IsStorySplice note_story.Comments wd table middle (note_state_of new)) →
     MatchOption found ((new : NoteState) → ¬ AreTwoSteps wd table old new)
-    (λ new. AreTwoSteps wd table old (state_of new))
+    (λ new. AreTwoSteps wd table old (note_state_of new))
 second_found wd table old middle None first never = λ new two.
-    never new (subst (λ (m : NoteState). IsStep note_story.Comments wd table m new)
+    never new (subst (λ (m : NoteState). IsStorySplice note_story.Comments wd table m new)
     (step_one note_story.Endnotes wd table old two.middle middle two.first first) two.second)
 second_found wd table old middle (Some new) first second =
     record { middle = middle; first = first; second = second }

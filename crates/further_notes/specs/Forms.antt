@@ -10,7 +10,7 @@ use Rattle.fib_form.specs.Fib.{table_part}
 use Rattle.fib_versions.specs.declared.further.Further.TheVariants as further
 use Rattle.doc_parts.specs.Table.{plc_part}
 use Rattle.doc_parts.specs.Tabulated.{tabulate}
-use Rattle.plain_doc.specs.declared.item.Item.{Item}
+use Rattle.doc_model.specs.declared.item.Item.{Item}
 use Rattle.doc_columns.specs.Columns.{bare_items}
 use Rattle.doc_losses.specs.References.{mark_pair, mark_size}
 use Rattle.doc_mends.specs.declared.mends.NoteStory.{NoteStory}
@@ -38,16 +38,16 @@ abbrev pub initials : List ℕ → List ℕ
 initials entry = tabulate (λ k. u16_at entry (2 + 2 * k)) (min (u16_at entry 0) 9)
 
 -- they are in brackets, and a space is behind them, where there are some
-abbrev pub title_units : List ℕ → List ℕ
-title_units [] = []
-title_units (unit ∷ units) = 0x5B ∷ ((unit ∷ units) ++ 0x5D ∷ 0x20 ∷ [])
+abbrev pub bracketed_units : List ℕ → List ℕ
+bracketed_units [] = []
+bracketed_units (unit ∷ units) = 0x5B ∷ ((unit ∷ units) ++ 0x5D ∷ 0x20 ∷ [])
 
-abbrev pub title_of : List ℕ → List Item
-title_of entry = bare_items empty (title_units (initials entry))
+abbrev pub initials_items : List ℕ → List Item
+initials_items entry = bare_items empty (bracketed_units (initials entry))
 
 -- those of the comments of PlcfandRef, in their order
 abbrev pub comment_titles : PlcPart → List (List Item)
-comment_titles plc = tabulate (λ k. title_of (plc_entry plc k)) plc.count
+comment_titles plc = tabulate (λ k. initials_items (plc_entry plc k)) plc.count
 
 -- endnotes have none
 abbrev pub story_titles : NoteStory → (wd table : List ℕ) → List (List Item)
@@ -58,12 +58,12 @@ story_titles Comments wd table =
 -- ---- texts
 
 -- the texts of a story, and what is put in front of each
-abbrev pub form_of : NoteStory → (wd table : List ℕ) → NoteForm
-form_of story wd table = record { story = story; titles = story_titles story wd table }
+abbrev pub note_form_of : NoteStory → (wd table : List ℕ) → NoteForm
+note_form_of story wd table = record { story = story; titles = story_titles story wd table }
 
 -- the text of this number; there is none where these are fewer
-abbrev pub text_at : List (List Item) → ℕ → List Item
-text_at texts number = unwrap_or (slice_get texts number) []
+abbrev pub text_or_empty : List (List Item) → ℕ → List Item
+text_or_empty texts number = unwrap_or (slice_get texts number) []
 
 -- the mark that a text begins with, as that of a note
 abbrev pub marks_by : NoteStory → Option Item → List Item
@@ -75,5 +75,5 @@ abbrev pub own_marks : NoteStory → List Item → List Item
 own_marks story text = marks_by story (slice_get text 0)
 
 -- a text as that of a note: the title is behind its mark
-abbrev pub note_text : NoteStory → List Item → List Item → List Item
-note_text story title text = own_marks story text ++ (title ++ drop (length (own_marks story text)) text)
+abbrev pub as_note_text : NoteStory → List Item → List Item → List Item
+as_note_text story title text = own_marks story text ++ (title ++ drop (length (own_marks story text)) text)

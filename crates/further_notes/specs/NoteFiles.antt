@@ -8,7 +8,7 @@ use Rattle.cfb_streams.specs.Contents.{NamedBytes}
 use Rattle.cfb_streams.specs.Names.{wd_name}
 use Rattle.cfb_layout.specs.Counts.{Fits}
 use Rattle.cfb_layout.specs.Layout.{lengths_of, compound_file}
-use Rattle.fib_form.specs.Fib.{CcpText, CcpFtn, CcpHdd, CcpAtn, field_offset, pair_place, fib_pair, table_part}
+use Rattle.fib_form.specs.Fib.{CcpText, CcpFtn, CcpHdd, CcpAtn, field_offset, fib_pair_place, fib_pair, table_part}
 use Rattle.fib_versions.specs.declared.further.Further.{Further}
 use Rattle.fib_versions.specs.declared.further.Further.TheVariants as further
 use Rattle.fib_versions.specs.Versions.{further_count, further_start}
@@ -20,9 +20,9 @@ use Rattle.doc_mends.specs.declared.mends.NoteStory.{NoteStory}
 use Rattle.doc_mends.specs.declared.mends.NoteStory.TheVariants.{Endnotes, Comments}
 
 -- the story behind the header texts
-abbrev pub story_of : NoteStory → Further
-story_of Endnotes = further.Endnotes
-story_of Comments = further.Comments
+abbrev pub story_behind : NoteStory → Further
+story_behind Endnotes = further.Endnotes
+story_behind Comments = further.Comments
 
 -- [MS-DOC] PlcfendTxt, PlcfandTxt: the pair of the CPs of its texts
 abbrev pub text_pair : NoteStory → ℕ
@@ -66,19 +66,23 @@ ref_field Comments wd table = (length table, length (comment_refs wd table))
 -- is the footnotes; no story of headers or comments is between
 abbrev pub count_fields : NoteStory → List ℕ → List (ℕ × ℕ)
 count_fields story wd =
-    (field_offset CcpText, further_start wd (story_of story)) ∷
-    (field_offset CcpFtn, further_count wd (story_of story)) ∷ (field_offset CcpHdd, 0) ∷ (field_offset CcpAtn, 0) ∷
+    (field_offset CcpText, further_start wd (story_behind story)) ∷
+    (field_offset CcpFtn, further_count wd (story_behind story)) ∷ (field_offset CcpHdd, 0) ∷ (field_offset CcpAtn, 0) ∷
     (field_offset CcpAtn + 4, count_behind story wd) ∷ []
 
 -- the references, the texts and the fields represent PlcffndRef, PlcffndTxt and PlcfFldFtn (2, 3, 18); PlcfHdd,
 -- PlcfFldHdr and SttbfBkmk (11, 17, 21) are empty
 abbrev pub part_fields : NoteStory → List ℕ → ℕ × ℕ → List (ℕ × ℕ)
 part_fields story wd refs =
-    (pair_place 2, refs.0) ∷ (pair_place 2 + 4, refs.1) ∷ (pair_place 3, (fib_pair wd (text_pair story)).0) ∷
-    (pair_place 3 + 4, (fib_pair wd (text_pair story)).1) ∷
-    (pair_place 18, (fib_pair wd (field_pair story)).0) ∷
-    (pair_place 18 + 4, (fib_pair wd (field_pair story)).1) ∷ (pair_place 11 + 4, 0) ∷ (pair_place 17 + 4, 0) ∷
-    (pair_place 21 + 4, 0) ∷ []
+    (fib_pair_place 2, refs.0) ∷ (fib_pair_place 2 + 4, refs.1) ∷ (fib_pair_place 3, (fib_pair wd (text_pair story)).0)
+    ∷
+    (fib_pair_place 3 + 4, (fib_pair wd (text_pair story)).1) ∷
+    (fib_pair_place 18, (fib_pair wd (field_pair story)).0) ∷
+    (fib_pair_place 18 + 4, (fib_pair wd (field_pair story)).1) ∷ (fib_pair_place 11 + 4, 0) ∷ (
+      fib_pair_place 17 + 4,
+      0,
+    ) ∷
+    (fib_pair_place 21 + 4, 0) ∷ []
 
 -- the bytes with a number at a place
 abbrev pub with_number : List ℕ → ℕ × ℕ → List ℕ
@@ -110,5 +114,5 @@ pub record FitsNoteFile (story : NoteStory) (wd table : List ℕ) : Type 0 where
 
 -- and the story has a text
 pub record HasNoteFile (story : NoteStory) (wd table : List ℕ) : Type 0 where
-  pub some : 1 ≤ further_count wd (story_of story)
+  pub some : 1 ≤ further_count wd (story_behind story)
   pub fits : FitsNoteFile story wd table

@@ -1,6 +1,6 @@
 -- A document with the texts of some of its further stories as notes.
 use Rattle.std.specs.Prelude.{◌≡◌, ℕ, Bool, true, false, List}
-use Rattle.plain_doc.specs.declared.document.Document.{Document}
+use Rattle.doc_model.specs.declared.document.Document.{Document}
 use Rattle.doc_mends.specs.declared.mends.MadeNote.{MadeNote}
 use Rattle.doc_mends.specs.declared.mends.NoteStory.{NoteStory}
 use Rattle.doc_mends.specs.declared.mends.NoteStory.TheVariants as note_story
@@ -8,7 +8,7 @@ use Rattle.further_notes.specs.declared.splicing.Spliced.{Spliced}
 use Rattle.further_notes.specs.declared.stories.NotedStories.{NotedStories}
 use Rattle.further_notes.specs.declared.stories.NotedStories.TheVariants.{Endnotes, Comments, Both}
 use Rattle.further_notes.specs.Sources.{made_notes}
-use Rattle.further_notes.specs.Splices.{NoteState, first_state, IsStep}
+use Rattle.further_notes.specs.Splices.{NoteState, first_state, IsStorySplice}
 
 -- whether a story is among them
 abbrev pub has_story : NotedStories → NoteStory → Bool
@@ -21,13 +21,13 @@ has_story Comments note_story.Comments = true
 -- one story after the other
 pub record AreTwoSteps (wd table : List ℕ) (old new : NoteState) : Type 0 where
   pub middle : NoteState
-  pub first : IsStep note_story.Endnotes wd table old middle
-  pub second : IsStep note_story.Comments wd table middle new
+  pub first : IsStorySplice note_story.Endnotes wd table old middle
+  pub second : IsStorySplice note_story.Comments wd table middle new
 
 abbrev pub AreSteps : NotedStories → (wd table : List ℕ) → (old new : NoteState) → Type 0
 AreSteps Both wd table old new = AreTwoSteps wd table old new
-AreSteps Endnotes wd table old new = IsStep note_story.Endnotes wd table old new
-AreSteps Comments wd table old new = IsStep note_story.Comments wd table old new
+AreSteps Endnotes wd table old new = IsStorySplice note_story.Endnotes wd table old new
+AreSteps Comments wd table old new = IsStorySplice note_story.Comments wd table old new
 
 -- what is spliced is made of this state
 pub record IsSplicedFrom (stories : NotedStories) (wd table : List ℕ) (old : NoteState) (spliced : Spliced) : Type 0

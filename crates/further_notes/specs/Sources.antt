@@ -4,23 +4,23 @@ use Rattle.std.specs.Prelude.{ℕ, List, [], length, map, take, Option, Some, No
 use Rattle.std.specs.Option.{unwrap_or}
 use Rattle.std.specs.List.{count_by, filter_map}
 use Rattle.doc_parts.specs.Tabulated.{tabulate}
-use Rattle.plain_doc.specs.declared.item.Item.{Item}
-use Rattle.plain_doc.specs.declared.item.NoteKind.{NoteKind}
+use Rattle.doc_model.specs.declared.item.Item.{Item}
+use Rattle.doc_model.specs.declared.item.NoteKind.{NoteKind}
 use Rattle.doc_mends.specs.declared.mends.MadeNote.{MadeNote}
 use Rattle.doc_mends.specs.declared.mends.NoteStory.{NoteStory}
 use Rattle.further_notes.specs.declared.sources.NoteSource.{NoteSource}
 use Rattle.further_notes.specs.declared.sources.NoteSource.TheVariants.{Own, Other}
 use Rattle.further_notes.specs.declared.origins.NoteOrigin.{NoteOrigin}
 use Rattle.further_notes.specs.declared.forms.NoteForm.{NoteForm}
-use Rattle.further_notes.specs.Forms.{note_text, text_at}
+use Rattle.further_notes.specs.Forms.{as_note_text, text_or_empty}
 
 -- what note each item of a text refers to
 abbrev pub note_kinds : List Item → List (Option NoteKind)
 note_kinds text = map (λ item. item.note) text
 
 -- that of one item; behind the text there is none
-abbrev pub kind_at : List (Option NoteKind) → ℕ → Option NoteKind
-kind_at kinds at = unwrap_or (slice_get kinds at) None
+abbrev pub note_kind_at : List (Option NoteKind) → ℕ → Option NoteKind
+note_kind_at kinds at = unwrap_or (slice_get kinds at) None
 
 -- how many references are before an item
 abbrev pub notes_before : List (Option NoteKind) → ℕ → ℕ
@@ -34,7 +34,7 @@ source_by None None own others = None
 
 abbrev pub source_at : List (Option NoteKind) → List (Option NoteKind) → ℕ → Option NoteSource
 source_at own others at =
-    source_by (kind_at own at) (kind_at others at) (notes_before own at) (notes_before others at)
+    source_by (note_kind_at own at) (note_kind_at others at) (notes_before own at) (notes_before others at)
 
 -- the references of a text, by the kinds of its own notes and of the others
 abbrev pub note_sources : List (Option NoteKind) → List (Option NoteKind) → List NoteSource
@@ -42,8 +42,9 @@ note_sources own others = filter_map (λ source. source) (tabulate (source_at ow
 
 -- the text of a note
 abbrev pub source_text : NoteForm → List (List Item) → List (List Item) → NoteSource → List Item
-source_text form own others (Own number) = text_at own number
-source_text form own others (Other number) = note_text form.story (text_at form.titles number) (text_at others number)
+source_text form own others (Own number) = text_or_empty own number
+source_text form own others (Other number) = as_note_text form.story (text_or_empty form.titles number) (text_or_empty
+    others number)
 
 abbrev pub note_texts : NoteForm → List (List Item) → List (List Item) → List NoteSource → List (List Item)
 note_texts form own others sources = map (source_text form own others) sources

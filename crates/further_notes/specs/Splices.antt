@@ -3,9 +3,9 @@
 use Rattle.std.specs.Prelude.{◌≡◌, ℕ, ◌<◌, ◌≤◌, ◌&&◌, false, List, [], ◌∷◌, length, Option, Some, None, is_some}
 use Rattle.doc_bits.specs.Number.{AreBytes}
 use Rattle.doc_bits.specs.Rules.{Hold}
-use Rattle.plain_doc.specs.declared.item.Item.{Item}
-use Rattle.plain_doc.specs.declared.item.NoteKind.{NoteKind}
-use Rattle.plain_doc.specs.declared.document.Document.{Document}
+use Rattle.doc_model.specs.declared.item.Item.{Item}
+use Rattle.doc_model.specs.declared.item.NoteKind.{NoteKind}
+use Rattle.doc_model.specs.declared.document.Document.{Document}
 use Rattle.doc_columns.specs.declared.attached.Attached.{Attached}
 use Rattle.doc_mends.specs.declared.mends.NoteStory.{NoteStory}
 use Rattle.doc_meaning.specs.Meaning.{MeansDocument}
@@ -14,9 +14,9 @@ use Rattle.further_notes.specs.declared.origins.NoteOrigin.{NoteOrigin}
 use Rattle.further_notes.specs.declared.sources.NoteSource.{NoteSource}
 use Rattle.further_notes.specs.declared.splicing.NotedDocument.{NotedDocument}
 use Rattle.further_notes.specs.declared.forms.NoteForm.{NoteForm}
-use Rattle.further_notes.specs.Forms.{form_of, unit_noted}
+use Rattle.further_notes.specs.Forms.{note_form_of, unit_noted}
 use Rattle.further_notes.specs.NoteFiles.{HasNoteFile, note_file}
-use Rattle.further_notes.specs.Sources.{note_kinds, kind_at, notes_before, note_sources, note_texts, note_origins}
+use Rattle.further_notes.specs.Sources.{note_kinds, note_kind_at, notes_before, note_sources, note_texts, note_origins}
 
 -- ---- the main text
 
@@ -50,18 +50,18 @@ text_noted story kinds text = with_kinds (item_noted story) kinds text
 pub record HasReferences (own others : List (Option NoteKind)) (count : ℕ) : Type 0 where
   pub some : 1 ≤ count
   pub within : notes_before others (length own) ≡ count
-  pub apart : (at : ℕ) → at < length own → (is_some (kind_at own at) && is_some (kind_at others at)) ≡ false
+  pub apart : (at : ℕ) → at < length own → (is_some (note_kind_at own at) && is_some (note_kind_at others at)) ≡ false
 
-abbrev pub CanSplice : Document → Document → Type 0
-CanSplice document other = HasReferences (note_kinds document.main) (note_kinds other.main) (length other.notes)
+abbrev pub CanSpliceNotes : Document → Document → Type 0
+CanSpliceNotes document other = HasReferences (note_kinds document.main) (note_kinds other.main) (length other.notes)
 
 -- a document, and which of its notes are of further stories
 pub record NoteState : Type 0 where
   pub document : Document
   pub origins : List (Option NoteOrigin)
 
-abbrev pub state_of : NotedDocument → NoteState
-state_of noted = record { document = noted.document; origins = noted.origins.items }
+abbrev pub note_state_of : NotedDocument → NoteState
+note_state_of noted = record { document = noted.document; origins = noted.origins.items }
 
 -- none is
 abbrev pub first_state : Document → NoteState
@@ -85,7 +85,7 @@ with_notes form old other = record {
 }
 
 pub record IsSplice (form : NoteForm) (old : NoteState) (other : Document) (new : NoteState) : Type 0 where
-  pub can : CanSplice old.document other
+  pub can : CanSpliceNotes old.document other
   pub is : new ≡ with_notes form old other
 
 -- so of the notes of a file that breaks none of the rules 1 to 57 that are left
@@ -97,13 +97,13 @@ pub record IsSplicedBy (file : List ℕ) (form : NoteForm) (old new : NoteState)
   pub splice : IsSplice form old other new
 
 -- the texts of a story of two streams become notes
-pub record IsStep (story : NoteStory) (wd table : List ℕ) (old new : NoteState) : Type 0 where
+pub record IsStorySplice (story : NoteStory) (wd table : List ℕ) (old new : NoteState) : Type 0 where
   pub has : HasNoteFile story wd table
-  pub by : IsSplicedBy (note_file story wd table) (form_of story wd table) old new
+  pub by : IsSplicedBy (note_file story wd table) (note_form_of story wd table) old new
 
 -- they cannot
 abbrev pub HasNoSpliceBy : (file : List ℕ) → NoteForm → NoteState → Type 0
 HasNoSpliceBy file form old = (new : NoteState) → ¬ IsSplicedBy file form old new
 
 abbrev pub HasNoStep : NoteStory → (wd table : List ℕ) → NoteState → Type 0
-HasNoStep story wd table old = (new : NoteState) → ¬ IsStep story wd table old new
+HasNoStep story wd table old = (new : NoteState) → ¬ IsStorySplice story wd table old new

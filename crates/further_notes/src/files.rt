@@ -2,8 +2,8 @@
 ghost use Rattle.std.specs.Prelude.{◌≡◌, ◌+◌, ◌++◌, ◌<◌, ◌≤◌, ◌^◌, length, All, IfOk, MatchOption};
 ghost use Rattle.doc_bits.specs.Rules.{Hold};
 ghost use Rattle.fib_versions.specs.VersionRules.{version_rules};
-ghost use Rattle.fib_form.specs.Fib.{pair_place as place_of_pair};
-ghost use Rattle.further_notes.specs.NoteFiles.{story_of as further_of, text_pair as pair_of_texts};
+ghost use Rattle.fib_form.specs.Fib.{fib_pair_place as place_of_pair};
+ghost use Rattle.further_notes.specs.NoteFiles.{story_behind as further_of, text_pair as pair_of_texts};
 ghost use Rattle.further_notes.specs.NoteFiles.{field_pair as pair_of_fields, count_behind as count_behind_of};
 ghost use Rattle.further_notes.specs.NoteFiles.{count_fields as counts_of, part_fields as parts_of};
 ghost use Rattle.further_notes.specs.NoteFiles.{ref_field as field_of_refs, with_numbers};
@@ -17,6 +17,7 @@ use doc_bits::{Bytes, Memory, put32};
 use doc_mends::NoteStory;
 use fib_form::{CCP_ATN, CCP_FTN, CCP_HDD, CCP_TEXT, RG_FC_LCB};
 use fib_versions::{AnyFib, Further};
+use file_mends::{PLCF_FLD_FTN, PLCF_FLD_HDR, PLCF_HDD, STTBF_BKMK};
 use std::alloc::Global;
 
 /// [MS-DOC] FibRgFcLcb97: the pairs of the parts of endnotes, of comments, of footnotes, of header texts and of
@@ -34,14 +35,6 @@ const PLCF_FLD_ATN: u16 = 19;
 const PLCFFND_REF: usize = 2;
 
 const PLCFFND_TXT: usize = 3;
-
-const PLCF_FLD_FTN: usize = 18;
-
-const PLCF_HDD: usize = 11;
-
-const PLCF_FLD_HDR: usize = 17;
-
-const STTBF_BKMK: usize = 21;
 
 /// The file in which the story is the footnotes, where its streams fit one.
 pub(crate) fn note_file(

@@ -2,14 +2,16 @@
 ghost use Rattle.std.specs.Prelude.{◌≡◌, ◌+◌, ◌*◌, ◌<◌, ◌≤◌, ◌^◌, ◌++◌, length, IfOk};
 ghost use Rattle.doc_bits.specs.Plc.{plc_entry};
 ghost use Rattle.doc_parts.specs.Table.{plc_part};
-ghost use Rattle.further_notes.specs.Forms.{form_of, story_mark as mark_of_story, unit_noted as noted_unit};
-ghost use Rattle.further_notes.specs.Forms.{initials as initials_of, title_units as units_of_title, title_of as title_items};
+ghost use Rattle.further_notes.specs.Forms.{note_form_of, story_mark as mark_of_story, unit_noted as noted_unit};
+ghost use Rattle.further_notes.specs.Forms.{initials as initials_of, bracketed_units as units_of_title};
+ghost use Rattle.further_notes.specs.Forms.{initials_items as title_items};
 ghost use Rattle.further_notes.specs.Forms.{comment_titles as titles_of, story_titles as titles_of_story};
-ghost use Rattle.further_notes.specs.Forms.{note_mark, own_marks as marks_of, note_text as text_of_note};
+ghost use Rattle.further_notes.specs.Forms.{note_mark, own_marks as marks_of, as_note_text as text_of_note};
 
 use crate::references::{ATRD_SIZE, PLCFAND_REF, comment_count};
 use doc_bits::{Memory, get16};
 use doc_columns::{ColumnTexts, Columns};
+use doc_losses::COMMENT_MARK;
 use doc_mends::NoteStory;
 use fib_versions::AnyFib;
 use plain_doc::Item;
@@ -19,10 +21,8 @@ use std::alloc::Global;
 /// [MS-DOC] the character of a note's number, and that of a comment's mark.
 const NOTE_MARK: u16 = 0x02;
 
-const COMMENT_MARK: u16 = 0x05;
-
 /// How many characters the initials have at most.
-const MOST_INITIALS: usize = 9;
+const MAX_INITIALS: usize = 9;
 
 /// The texts of a story, and what is put in front of each.
 #[derive(Drop)]
@@ -38,7 +38,7 @@ pub(crate) fn note_form(
     fib: &AnyFib<'_>,
     table: &[u8],
 ) -> Result<NoteForm, Memory>
-    ensures { IfOk result (λ form. form ≡ form_of story fib.now table.now) }
+    ensures { IfOk result (λ form. form ≡ note_form_of story fib.now table.now) }
 {
     let titles = story_titles(alloc, story, fib, table)?;
     Ok(NoteForm { story, titles })
@@ -107,7 +107,7 @@ fn initials(alloc: Global, entry: &[u8]) -> Result<Vec<u16>, Memory>
     requires { length entry.now ≡ 30 }
     ensures { IfOk result (λ units. units.items ≡ initials_of entry.now) }
 {
-    let count = (get16(entry, 0) as usize).min(MOST_INITIALS);
+    let count = (get16(entry, 0) as usize).min(MAX_INITIALS);
     let mut units = Vec::with_capacity(alloc, count)?;
     for k in 0..count {
         let unit = get16(entry, 2 + 2 * k);

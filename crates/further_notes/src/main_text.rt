@@ -1,7 +1,7 @@
 // The main text, of which items refer to notes.
 ghost use Rattle.std.specs.Prelude.{◌≡◌, map, IfOk};
 ghost use Rattle.doc_columns.specs.Attached.{attached_of};
-ghost use Rattle.further_notes.specs.Sources.{note_kinds as kinds_of, kind_at as kind_there};
+ghost use Rattle.further_notes.specs.Sources.{note_kinds as kinds_of, note_kind_at as kind_there};
 ghost use Rattle.further_notes.specs.Splices.{attached_noted as noted_of, text_noted as noted_text, with_kinds};
 ghost use Rattle.further_notes.specs.Splices.{unit_with as unit_of};
 

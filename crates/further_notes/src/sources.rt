@@ -3,7 +3,7 @@ ghost use Rattle.std.specs.Prelude.{◌≡◌, ◌∷◌, [], ◌++◌, ◌≤�
 ghost use Rattle.std.specs.List.{count_by, filter_map};
 ghost use Rattle.further_notes.specs.Sources.{source_by as source_of, note_sources as sources_by};
 ghost use Rattle.further_notes.specs.Sources.{source_text, note_texts as texts_of};
-ghost use Rattle.further_notes.specs.Forms.{note_text as text_of_note, text_at as text_there};
+ghost use Rattle.further_notes.specs.Forms.{as_note_text as text_of_note, text_or_empty as text_there};
 
 use crate::forms::{NoteForm, note_text};
 use crate::main_text::kind_at;

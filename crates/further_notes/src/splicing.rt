@@ -3,9 +3,9 @@ ghost use Rattle.std.specs.Prelude.{◌≡◌, ◌↔◌, ◌<◌, ◌^◌, ◌&
 ghost use Rattle.doc_bits.specs.Rules.{Hold};
 ghost use Rattle.fib_versions.specs.VersionRules.{version_rules};
 ghost use Rattle.further_notes.specs.Noted.{AreSteps, AreTwoSteps, HasNoSplice, IsSpliced, IsSplicedFrom};
-ghost use Rattle.further_notes.specs.Splices.{CanSplice, HasNoSpliceBy, HasNoStep, HasReferences, NoteState};
-ghost use Rattle.further_notes.specs.Splices.{IsSplice, IsSplicedBy, IsStep, document_with, first_state};
-ghost use Rattle.further_notes.specs.Splices.{sources_of, state_of, with_notes};
+ghost use Rattle.further_notes.specs.Splices.{CanSpliceNotes, HasNoSpliceBy, HasNoStep, HasReferences, NoteState};
+ghost use Rattle.further_notes.specs.Splices.{IsSplice, IsSplicedBy, IsStorySplice, document_with, first_state};
+ghost use Rattle.further_notes.specs.Splices.{sources_of, note_state_of, with_notes};
 ghost use Rattle.further_notes.specs.Sources.{made_notes as made_from, note_kinds as kinds_of};
 
 use crate::files::{further_story, note_file};
@@ -59,7 +59,7 @@ pub fn with_further_notes(
 
 /// The document, of which no note is of a further story.
 fn start_of(alloc: Global, document: &ColumnDocument) -> Result<NotedDocument, Memory>
-    ensures { IfOk result (λ start. state_of start ≡ first_state document.now) }
+    ensures { IfOk result (λ start. note_state_of start ≡ first_state document.now) }
 {
     let copy = document.copy(alloc)?;
     Ok(NotedDocument {
@@ -81,8 +81,8 @@ fn spliced_from(
     requires version { Hold (version_rules wd.now) }
     requires small { length wd.now < 2 ^ 32 }
     ensures { IfOk result (λ found. MatchOption found
-        ((new : NoteState) → ¬ AreSteps stories wd.now table.now (state_of start.now) new)
-        (λ spliced. IsSplicedFrom stories wd.now table.now (state_of start.now) spliced)) }
+        ((new : NoteState) → ¬ AreSteps stories wd.now table.now (note_state_of start.now) new)
+        (λ spliced. IsSplicedFrom stories wd.now table.now (note_state_of start.now) spliced)) }
 {
     let last = steps(alloc, stories, fib, wd, table, start)?;
     match last {
@@ -126,8 +126,8 @@ fn steps(
     requires version { Hold (version_rules wd.now) }
     requires small { length wd.now < 2 ^ 32 }
     ensures { IfOk result (λ found. MatchOption found
-        ((new : NoteState) → ¬ AreSteps stories wd.now table.now (state_of noted.now) new)
-        (λ last. AreSteps stories wd.now table.now (state_of noted.now) (state_of last))) }
+        ((new : NoteState) → ¬ AreSteps stories wd.now table.now (note_state_of noted.now) new)
+        (λ last. AreSteps stories wd.now table.now (note_state_of noted.now) (note_state_of last))) }
 {
     match stories {
         NotedStories::Both => {
@@ -157,8 +157,8 @@ fn two_steps(
     requires version { Hold (version_rules wd.now) }
     requires small { length wd.now < 2 ^ 32 }
     ensures { IfOk result (λ found. MatchOption found
-        ((new : NoteState) → ¬ AreTwoSteps wd.now table.now (state_of noted.now) new)
-        (λ last. AreTwoSteps wd.now table.now (state_of noted.now) (state_of last))) }
+        ((new : NoteState) → ¬ AreTwoSteps wd.now table.now (note_state_of noted.now) new)
+        (λ last. AreTwoSteps wd.now table.now (note_state_of noted.now) (note_state_of last))) }
 {
     let Some(middle) = step(alloc, NoteStory::Endnotes, fib, wd, table, noted)? else {
         return Ok(None);
@@ -180,8 +180,8 @@ fn step(
     requires version { Hold (version_rules wd.now) }
     requires small { length wd.now < 2 ^ 32 }
     ensures { IfOk result (λ found. MatchOption found
-        (HasNoStep story wd.now table.now (state_of noted.now))
-        (λ new. IsStep story wd.now table.now (state_of noted.now) (state_of new))) }
+        (HasNoStep story wd.now table.now (note_state_of noted.now))
+        (λ new. IsStorySplice story wd.now table.now (note_state_of noted.now) (note_state_of new))) }
 {
     if fib.further(further_story(story)) == 0 {
         return Ok(None);
@@ -204,8 +204,8 @@ fn splice_file(
     noted: &NotedDocument,
 ) -> Result<Option<NotedDocument>, Memory>
     ensures { IfOk result (λ found. MatchOption found
-        (HasNoSpliceBy file.now form.now (state_of noted.now))
-        (λ new. IsSplicedBy file.now form.now (state_of noted.now) (state_of new))) }
+        (HasNoSpliceBy file.now form.now (note_state_of noted.now))
+        (λ new. IsSplicedBy file.now form.now (note_state_of noted.now) (note_state_of new))) }
 {
     match lift(alloc, file) {
         Ok(lifted) => {
@@ -225,8 +225,8 @@ fn splice(
     other: &ColumnDocument,
 ) -> Result<Option<NotedDocument>, Memory>
     ensures { IfOk result (λ found. MatchOption found
-        (¬ CanSplice noted.now.document other.now)
-        (λ new. IsSplice form.now (state_of noted.now) other.now (state_of new))) }
+        (¬ CanSpliceNotes noted.now.document other.now)
+        (λ new. IsSplice form.now (note_state_of noted.now) other.now (note_state_of new))) }
 {
     let own = note_kinds(alloc, &noted.document.main)?;
     let others = note_kinds(alloc, &other.main)?;
@@ -248,7 +248,7 @@ fn splice_kinds(
 ) -> Result<NotedDocument, Memory>
     requires own { own.now ≡ kinds_of noted.now.document.main }
     requires others { others.now ≡ kinds_of other.now.main }
-    ensures { IfOk result (λ new. state_of new ≡ with_notes form.now (state_of noted.now) other.now) }
+    ensures { IfOk result (λ new. note_state_of new ≡ with_notes form.now (note_state_of noted.now) other.now) }
 {
     let sources = note_sources(alloc, own, others)?;
     let document = spliced_document(alloc, form, &noted.document, other, others, &sources)?;

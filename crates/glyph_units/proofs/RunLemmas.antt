@@ -4,7 +4,7 @@ use Rattle.std.specs.Prelude.{slice_index}
 use Rattle.std.proofs.lemmas.List.{map-append, take_more}
 use Rattle.std.specs.Prelude.{if◌then◌else◌}
 use Rattle.view_paths.specs.Events.{Event, Leaf, Turn, closes, events_up_to, opens, transition, turns}
-use Rattle.view_paths.specs.Paths.{Place, behind, last_path, shared}
+use Rattle.view_paths.specs.Paths.{PathPlace, behind_shared, last_path, shared}
 use Rattle.view_places.specs.declared.element.Element.{Element}
 use Rattle.view_places.specs.declared.glyph.Glyph.{Glyph}
 use Rattle.view_places.specs.declared.glyph.Glyph.TheVariants.{Unit}
@@ -13,10 +13,10 @@ use Rattle.view_places.specs.SameLaws.{same_exact}
 use Rattle.glyph_units.specs.Glyphs.{leaves, unit_place, unit_places}
 
 -- nothing is left of a path behind itself
-behind-self : (path : List Element) → behind same path path ≡ []
+behind-self : (path : List Element) → behind_shared same path path ≡ []
 behind-self [] = refl
 behind-self (e ∷ path) =
-    ap (λ (b : Bool). if b then behind same path path else e ∷ path) ((same_exact e e).1 refl) ∙ behind-self path
+    ap (λ (b : Bool). if b then behind_shared same path path else e ∷ path) ((same_exact e e).1 refl) ∙ behind-self path
 
 -- nothing is opened and closed on the way from a path to itself
 turns-self : (path : List Element) → turns {G = Glyph} same path path ≡ []
@@ -50,4 +50,4 @@ pub unit_places-more : (path : List Element) (units : List ℕ) (i : ℕ) → i 
     units) ≡ unit_places path (take i units) ++ unit_place path (slice_index units i) ∷ []
 unit_places-more path units i within =
     ap (unit_places path) (take_more units i 0 within)
-    ∙ map-append {B = Place Element Glyph} (unit_place path) (take i units) (slice_index units i ∷ [])
+    ∙ map-append {B = PathPlace Element Glyph} (unit_place path) (take i units) (slice_index units i ∷ [])

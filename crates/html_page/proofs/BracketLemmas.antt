@@ -17,19 +17,22 @@ use Rattle.view_places.specs.declared.glyph.Glyph.TheVariants.{Unit, Tab, LineBr
 use Rattle.view_places.specs.declared.glyph.Glyph.TheVariants.{Object}
 use Rattle.view_places.specs.Same.{same}
 use Rattle.view_places.specs.SameLaws.{same_exact}
-use Rattle.html_page.specs.Tags.{attribute, attributes_of, attributes_text, ends_line, has_tags, name_of, start_text}
+use Rattle.html_page.specs.Tags.{attribute, attributes_of, attributes_text, ends_line, has_tags, element_name}
+use Rattle.html_page.specs.Tags.{start_text}
 use Rattle.glyph_units.specs.Units.{unit_text}
-use Rattle.html_page.specs.Pages.{Events, Head, Places, characters, start, end, close_tokens, open_tokens, other_tokens}
+use Rattle.html_page.specs.Pages.{Events, Head, Places, characters, start_tag, end, close_tokens, open_tokens}
+use Rattle.html_page.specs.Pages.{other_tokens}
 use Rattle.html_page.specs.Pages.{end_tokens, start_tokens}
 use Rattle.html_page.specs.Pages.{glyph_tokens, image, style_text}
 use Rattle.html_page.specs.Pages.{event_tokens, event_half, tokens_of, half_of, body_tokens, front_tokens, style_tokens}
 use Rattle.html_page.specs.Pages.{back_tokens, page_tokens, page_text, picture_tokens}
-use Rattle.html_page.specs.Brackets.{AreBrackets, IsBehind, End, Start, TagKind, Void, kind_of, kind_of_word, word_of}
+use Rattle.html_page.specs.Brackets.{AreBrackets, IsBehindTag, End, Start, TagKind, Void, tag_kind, kind_of_word}
+use Rattle.html_page.specs.Brackets.{tag_name}
 use Rattle.html_page.specs.Laws.{PagesNest}
 use Rattle.html_page.proofs.CloseLemmas.{by_name, page_read}
-use Rattle.plain_doc.specs.declared.document.Document.{Document}
+use Rattle.doc_model.specs.declared.document.Document.{Document}
 use Rattle.doc_pictures.specs.declared.names.PictureName.{PictureName}
-use Rattle.doc_pictures.specs.Files.{ImageFiles, name_at}
+use Rattle.doc_pictures.specs.Files.{ImageFiles, picture_name_at}
 use Rattle.html_page.specs.Sources.{PageSource}
 use Rattle.html_page.specs.Languages.{language_attributes}
 use Rattle.html_page.specs.Pages.{meta_tokens}
@@ -55,7 +58,7 @@ brackets-characters a (code ∷ text) = brackets-characters a text
 abbrev IsWord : List ℕ → Type 0
 IsWord name = list_all (λ code. not (code == 32)) name ≡ true
 
-word-attributes : (name : List ℕ) (attributes : List (List ℕ)) → IsWord name → word_of (name ++ attributes_text
+word-attributes : (name : List ℕ) (attributes : List (List ℕ)) → IsWord name → tag_name (name ++ attributes_text
     attributes) ≡
     name
 word-attributes [] [] h = refl
@@ -64,26 +67,26 @@ word-attributes (code ∷ name) attributes h =
     let here : (code == 32) ≡ false =
     not_true (code == 32) (and_first (not (code == 32)) (list_all (λ c. not (c == 32)) name) h) in
     let more : IsWord name = and_second (not (code == 32)) (list_all (λ c. not (c == 32)) name) h in
-    ap (λ (b : Bool). if b then [] else code ∷ word_of (name ++ attributes_text attributes)) here ∙ ap (λ (w : List
+    ap (λ (b : Bool). if b then [] else code ∷ tag_name (name ++ attributes_text attributes)) here ∙ ap (λ (w : List
     ℕ). code
     ∷ w) (word-attributes name attributes more)
 
-kind-start : (name : List ℕ) (attributes : List (List ℕ)) → IsWord name → kind_of_word name ≡ Start name → kind_of
+kind-start : (name : List ℕ) (attributes : List (List ℕ)) → IsWord name → kind_of_word name ≡ Start name → tag_kind
     (start_text name attributes) ≡ Start name
 kind-start name attributes word kind = ap kind_of_word (word-attributes name attributes word) ∙ kind
 
-kind-end : (name : List ℕ) → IsWord name → kind_of (47 ∷ name) ≡ End name
+kind-end : (name : List ℕ) → IsWord name → tag_kind (47 ∷ name) ≡ End name
 kind-end name word =
-    ap (λ (w : List ℕ). End w) (ap word_of (sym (append-nil name)) ∙ word-attributes name [] word)
+    ap (λ (w : List ℕ). End w) (ap tag_name (sym (append-nil name)) ∙ word-attributes name [] word)
 
 brackets-start : (a : Names) (name : List ℕ) (attributes : List (List ℕ)) (more : List Token) (b : Names) → IsWord
     name →
-    kind_of_word name ≡ Start name → AreBrackets (a ++ name ∷ []) more b → AreBrackets a (start name attributes ∷
+    kind_of_word name ≡ Start name → AreBrackets (a ++ name ∷ []) more b → AreBrackets a (start_tag name attributes ∷
     more) b
 brackets-start a name attributes more b word kind rest = (
   a ++ name ∷ [],
   (
-    subst (λ (k : TagKind). IsBehind k a (a ++ name ∷ [])) (sym (kind-start name attributes word kind)) refl,
+    subst (λ (k : TagKind). IsBehindTag k a (a ++ name ∷ [])) (sym (kind-start name attributes word kind)) refl,
     rest,
   ),
 )
@@ -91,14 +94,14 @@ brackets-start a name attributes more b word kind rest = (
 brackets-end : (a : Names) (name : List ℕ) (more : List Token) (b : Names) → IsWord name → AreBrackets a more b →
     AreBrackets (a ++ name ∷ []) (end name ∷ more) b
 brackets-end a name more b word rest =
-    (a, (subst (λ (k : TagKind). IsBehind k (a ++ name ∷ []) a) (sym (kind-end name word)) refl, rest))
+    (a, (subst (λ (k : TagKind). IsBehindTag k (a ++ name ∷ []) a) (sym (kind-end name word)) refl, rest))
 
-is_word : (e : Element) → IsWord (name_of e)
+is_word : (e : Element) → IsWord (element_name e)
 is_word e =
     by_name e IsWord refl refl refl refl refl refl refl refl refl refl refl refl refl refl refl refl refl refl refl refl
     refl refl refl refl refl refl
 
-starts : (e : Element) → kind_of_word (name_of e) ≡ Start (name_of e)
+starts : (e : Element) → kind_of_word (element_name e) ≡ Start (element_name e)
 starts e =
     by_name e (λ (name : List ℕ). kind_of_word name ≡ Start name) refl refl refl refl refl refl refl refl refl refl refl
     refl refl refl refl refl refl refl refl refl refl refl refl refl refl refl
@@ -111,27 +114,30 @@ brackets-line a false = refl
 
 -- the names of elements, and of one
 abbrev own_names : Element → Names
-own_names e = if has_tags e then name_of e ∷ [] else []
+own_names e = if has_tags e then element_name e ∷ [] else []
 
 abbrev names_of : List Element → Names
 names_of path = flat_map own_names path
 
-brackets-name : (document : Document) (a : Names) (e : Element) → AreBrackets a (start_tokens document e) (a ++ name_of e ∷ [])
-brackets-name document a e = brackets-start a (name_of e) (attributes_of document e) [] (a ++ name_of e ∷ []) (is_word e) (starts e) refl
+brackets-name : (document : Document) (a : Names) (e : Element) → AreBrackets a (start_tokens document e) (a ++
+    element_name e ∷ [])
+brackets-name document a e = brackets-start a (element_name e) (attributes_of document e) [] (a ++ element_name e ∷ [])
+    (is_word e) (starts e) refl
 
 brackets-open : (document : Document) (a : Names) (e : Element) → AreBrackets a (open_tokens document e) (a ++ own_names e)
 brackets-open document a e =
     elim (has_tags e) as (λ (b : Bool). AreBrackets a (if b then start_tokens document e else []) (a ++ (if b then
-    name_of e ∷ [] else []))) [ true ↦ brackets-name document a e | false ↦ sym (append-nil a) ]
+    element_name e ∷ [] else []))) [ true ↦ brackets-name document a e | false ↦ sym (append-nil a) ]
 
-brackets-ended : (a : Names) (e : Element) → AreBrackets (a ++ name_of e ∷ []) (end_tokens e) a
+brackets-ended : (a : Names) (e : Element) → AreBrackets (a ++ element_name e ∷ []) (end_tokens e) a
 brackets-ended a e =
-    brackets-end a (name_of e) (if ends_line e then Character 10 ∷ [] else []) a (is_word e) (brackets-line a
+    brackets-end a (element_name e) (if ends_line e then Character 10 ∷ [] else []) a (is_word e) (brackets-line a
     (ends_line e))
 
 brackets-close : (a : Names) (e : Element) → AreBrackets (a ++ own_names e) (close_tokens e) a
 brackets-close a e =
-    elim (has_tags e) as (λ (b : Bool). AreBrackets (a ++ (if b then name_of e ∷ [] else [])) (if b then end_tokens e
+    elim (has_tags e) as (λ (b : Bool). AreBrackets (a ++ (if b then element_name e ∷ [] else [])) (if b then end_tokens
+    e
     else []) a) [ true ↦ brackets-ended a e | false ↦ append-nil a ]
 
 brackets-image : (a : Names) (name : List ℕ) → AreBrackets a (image name) a
@@ -154,7 +160,7 @@ brackets-other a images Tab = refl
 brackets-other a images LineBreak = (a, (refl, refl))
 brackets-other a images PageBreak = (a, (refl, refl))
 brackets-other a images (NoteMark number) = brackets-characters a (decimal number)
-brackets-other a images (Picture place) = brackets-picture a images.folder (name_at images.pictures place)
+brackets-other a images (Picture place) = brackets-picture a images.folder (picture_name_at images.pictures place)
 brackets-other a images Object = brackets-image a (codes "object")
 
 brackets-behind : (a b : Names) (half : Option ℕ) (tokens : List Token) → AreBrackets a tokens b → AreBrackets a
@@ -248,7 +254,7 @@ brackets-front language = (
 
 abbrev behind_style : List Token
 behind_style =
-    end (codes "style") ∷ Character 10 ∷ end (codes "head") ∷ Character 10 ∷ start (codes "body") [] ∷ Character 10 ∷ []
+    end (codes "style") ∷ Character 10 ∷ end (codes "head") ∷ Character 10 ∷ start_tag (codes "body") [] ∷ Character 10 ∷ []
 
 brackets-style : AreBrackets in_title style_tokens in_body
 brackets-style = (

@@ -6,7 +6,7 @@ use Rattle.std.specs.Fmt.{decimal, digits, digits_onto, digit_glyph}
 use Rattle.std.specs.List.{list_all}
 use Rattle.std.proofs.lemmas.Bool.Decides.{nat_tests}
 use Rattle.std.proofs.lemmas.List.Folds.{list_all-append}
-use Rattle.html_text.specs.Tokens.{Token, Character, Tag, is_closed}
+use Rattle.html_text.specs.Tokens.{Token, Character, Tag, is_closed_token}
 use Rattle.html_text.specs.Reading.{read}
 use Rattle.html_text.proofs.Public.{read_back, no_markup}
 use Rattle.view_paths.specs.Events.{Event, Turn, Leaf, Open, Close, events_from}
@@ -21,7 +21,7 @@ use Rattle.view_places.specs.declared.glyph.Glyph.{Glyph}
 use Rattle.view_places.specs.declared.glyph.Glyph.TheVariants.{Unit, Tab, LineBreak, PageBreak, NoteMark, Picture}
 use Rattle.view_places.specs.declared.glyph.Glyph.TheVariants.{Object}
 use Rattle.view_places.specs.Same.{same}
-use Rattle.html_page.specs.Tags.{attribute, attributes_of, attributes_text, ends_line, has_tags, name_of, optional}
+use Rattle.html_page.specs.Tags.{attribute, attributes_of, attributes_text, ends_line, has_tags, element_name, optional}
 use Rattle.html_page.specs.Tags.{reach_attributes, span_attributes}
 use Rattle.view_places.specs.declared.element.Span.{Span}
 use Rattle.html_page.specs.Tags.{paragraph_attributes, paragraph_name, start_text}
@@ -35,9 +35,9 @@ use Rattle.std.specs.Prelude.{◌||◌, ◌*◌, ◌+◌, ◌-◌, ◌&&◌, sli
 use Rattle.html_page.proofs.PutLemmas.{all-slice}
 use Rattle.html_text.specs.Tokens.{escaped_text}
 use Rattle.html_text.specs.Safe.{is_safe}
-use Rattle.plain_doc.specs.declared.document.Document.{Document}
+use Rattle.doc_model.specs.declared.document.Document.{Document}
 use Rattle.doc_pictures.specs.declared.names.PictureName.{PictureName}
-use Rattle.doc_pictures.specs.Files.{ImageFiles, name_at}
+use Rattle.doc_pictures.specs.Files.{ImageFiles, picture_name_at}
 use Rattle.html_page.specs.Images.{image_attributes, image_url}
 use Rattle.html_page.specs.Sources.{PageSource}
 use Rattle.field_links.specs.Urls.{anchor_name}
@@ -282,7 +282,7 @@ pub by_name : (e : Element) (P : List ℕ → Type 0) → P (codes "section") �
     (codes "li") → P (codes "p") → P (codes "h1") → P (codes "h2") → P (codes "h3") → P (codes "h4") → P (codes "h5")
     → P
     (codes "h6") → P (codes "span") → P (codes "a") → P (codes "b") → P (codes "i") → P (codes "u") → P (codes "s") → P
-    (codes "sup") → P (codes "sub") → P (name_of e)
+    (codes "sup") → P (codes "sub") → P (element_name e)
 by_name Notes P section aside table thead tbody tr td th ol ul li p h1 h2 h3 h4 h5 h6 span a b i u s sup sub = section
 by_name (Note number) P section aside table thead tbody tr td th ol ul li p h1 h2 h3 h4 h5 h6 span a b i u s sup sub =
     aside
@@ -325,7 +325,7 @@ by_name (Link link) P section aside table thead tbody tr td th ol ul li p h1 h2 
 by_name (Anchor number) P section aside table thead tbody tr td th ol ul li p h1 h2 h3 h4 h5 h6 span a b i u s sup sub =
     span
 
-no_end-name : (e : Element) → HasNoEnd (name_of e)
+no_end-name : (e : Element) → HasNoEnd (element_name e)
 no_end-name e =
     by_name e HasNoEnd refl refl refl refl refl refl refl refl refl refl refl refl refl refl refl refl refl refl refl
     refl
@@ -334,11 +334,12 @@ no_end-name e =
 -- ---- tokens
 
 abbrev AreClosed : List Token → Type 0
-AreClosed tokens = list_all is_closed tokens ≡ true
+AreClosed tokens = list_all is_closed_token tokens ≡ true
 
 closed-append : (xs ys : List Token) → AreClosed xs → AreClosed ys → AreClosed (xs ++ ys)
 closed-append xs ys one other =
-    list_all-append is_closed xs ys ∙ and_true (list_all is_closed xs) (list_all is_closed ys) one other
+    list_all-append is_closed_token xs ys ∙ and_true (list_all is_closed_token xs) (list_all is_closed_token ys) one
+    other
 
 closed-characters : (text : List ℕ) → AreClosed (characters text)
 closed-characters [] = refl
@@ -346,8 +347,8 @@ closed-characters (code ∷ text) = closed-characters text
 
 closed-start : (document : Document) (e : Element) → AreClosed (start_tokens document e)
 closed-start document e =
-    and_true (list_all (λ code. not (code == 62)) (start_text (name_of e) (attributes_of document e))) true
-    (no_end-append (name_of
+    and_true (list_all (λ code. not (code == 62)) (start_text (element_name e) (attributes_of document e))) true
+    (no_end-append (element_name
     e)
     (attributes_text (attributes_of document e)) (no_end-name e) (no_end-attributes document e)) refl
 
@@ -364,7 +365,8 @@ closed-line false = refl
 
 closed-end : (e : Element) → AreClosed (end_tokens e)
 closed-end e =
-    and_true (list_all (λ code. not (code == 62)) (name_of e)) (list_all is_closed (if ends_line e then Character 10 ∷
+    and_true (list_all (λ code. not (code == 62)) (element_name e)) (list_all is_closed_token (if ends_line e then
+    Character 10 ∷
     []
     else
     [])) (no_end-name e) (closed-line (ends_line e))
@@ -387,7 +389,7 @@ closed-other images Tab = refl
 closed-other images LineBreak = refl
 closed-other images PageBreak = refl
 closed-other images (NoteMark number) = closed-characters (decimal number)
-closed-other images (Picture place) = closed-image images.folder (name_at images.pictures place)
+closed-other images (Picture place) = closed-image images.folder (picture_name_at images.pictures place)
 closed-other images Object = refl
 
 closed-behind : (half : Option ℕ) (tokens : List Token) → AreClosed tokens → AreClosed (characters (half_text half) ++

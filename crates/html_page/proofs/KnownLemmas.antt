@@ -19,24 +19,26 @@ use Rattle.view_places.specs.declared.glyph.Glyph.{Glyph}
 use Rattle.view_places.specs.declared.glyph.Glyph.TheVariants.{Unit, Tab, LineBreak, PageBreak, NoteMark, Picture}
 use Rattle.view_places.specs.declared.glyph.Glyph.TheVariants.{Object}
 use Rattle.view_places.specs.Same.{same}
-use Rattle.html_page.specs.Tags.{attribute, attributes_of, ends_line, has_tags, name_of, optional, paragraph_attributes}
+use Rattle.html_page.specs.Tags.{attribute, attributes_of, ends_line, has_tags, element_name, optional}
+use Rattle.html_page.specs.Tags.{paragraph_attributes}
 use Rattle.html_page.specs.Tags.{span_attributes}
 use Rattle.view_places.specs.declared.element.Span.{Span}
 use Rattle.html_page.specs.Tags.{start_text}
 use Rattle.glyph_units.specs.Units.{unit_text}
-use Rattle.html_page.specs.Pages.{Events, Head, Places, characters, start, end, close_tokens, open_tokens, other_tokens}
+use Rattle.html_page.specs.Pages.{Events, Head, Places, characters, start_tag, end, close_tokens, open_tokens}
+use Rattle.html_page.specs.Pages.{other_tokens}
 use Rattle.html_page.specs.Pages.{end_tokens, start_tokens}
 use Rattle.html_page.specs.Pages.{glyph_tokens, image, style_text}
 use Rattle.html_page.specs.Pages.{event_tokens, event_half, tokens_of, half_of, body_tokens, front_tokens, style_tokens}
 use Rattle.html_page.specs.Pages.{back_tokens, page_tokens, page_text, picture_tokens}
-use Rattle.html_page.specs.Known.{IsKnown, IsKnownName, IsKnownAttribute, IsKnownStart, IsKnownEnd}
+use Rattle.html_page.specs.Known.{IsKnownToken, IsKnownName, IsKnownAttribute, IsKnownStart, IsKnownEnd}
 use Rattle.html_page.specs.Laws.{TagsAreKnown}
 use Rattle.html_page.proofs.CloseLemmas.{by_name, page_read}
 use Rattle.std.specs.Prelude.{◌==◌, ◌&&◌, ◌-◌, ◌%◌, ◌⊎◌}
 use Rattle.html_text.specs.Tokens.{escaped_text}
-use Rattle.plain_doc.specs.declared.document.Document.{Document}
+use Rattle.doc_model.specs.declared.document.Document.{Document}
 use Rattle.doc_pictures.specs.declared.names.PictureName.{PictureName}
-use Rattle.doc_pictures.specs.Files.{ImageFiles, name_at}
+use Rattle.doc_pictures.specs.Files.{ImageFiles, picture_name_at}
 use Rattle.html_page.specs.Images.{image_attributes, image_url}
 use Rattle.html_page.specs.Sources.{PageSource}
 use Rattle.field_links.specs.Laws.{IsSchemeUrl, IsLocalUrl}
@@ -49,16 +51,17 @@ use Rattle.html_page.specs.Tags.{anchor_attributes, link_attributes, plain_attri
 use Rattle.text_codes.specs.Halves.{half_text}
 
 abbrev AreKnown : ImageFiles → List Token → Type 0
-AreKnown images tokens = All (IsKnown images) tokens
+AreKnown images tokens = All (IsKnownToken images) tokens
 
 none_known : (images : ImageFiles) → AreKnown images []
-none_known images = All-nil (IsKnown images)
+none_known images = All-nil (IsKnownToken images)
 
 known-append : (images : ImageFiles) (xs ys : List Token) → AreKnown images xs → AreKnown images ys → AreKnown images (xs ++ ys)
-known-append images xs ys one other = All-append (IsKnown images) xs ys one other
+known-append images xs ys one other = All-append (IsKnownToken images) xs ys one other
 
-known-cons : (images : ImageFiles) (token : Token) (tokens : List Token) → IsKnown images token → AreKnown images tokens → AreKnown images (token ∷ tokens)
-known-cons images token tokens one other = All-cons (IsKnown images) token tokens one other
+known-cons : (images : ImageFiles) (token : Token) (tokens : List Token) → IsKnownToken images token → AreKnown images
+    tokens → AreKnown images (token ∷ tokens)
+known-cons images token tokens one other = All-cons (IsKnownToken images) token tokens one other
 
 known-characters : (images : ImageFiles) (text : List ℕ) → AreKnown images (characters text)
 known-characters images [] = none_known images
@@ -84,14 +87,14 @@ one_attribute : (images : ImageFiles) (text : List ℕ) → IsKnownAttribute ima
 one_attribute images text known = attribute-cons images text [] known (no_attributes images)
 
 start_is_known : (images : ImageFiles) (name : List ℕ) (attributes : List (List ℕ)) → IsKnownName name → AreKnownAttributes images attributes →
-    IsKnown images (start name attributes)
+    IsKnownToken images (start_tag name attributes)
 start_is_known images name attributes known all =
     inl (record { name = name; attributes = attributes; text = refl; known = known; all = all })
 
-end_is_known : (images : ImageFiles) (name : List ℕ) → IsKnownName name → IsKnown images (end name)
+end_is_known : (images : ImageFiles) (name : List ℕ) → IsKnownName name → IsKnownToken images (end name)
 end_is_known images name known = inr (record { name = name; text = refl; known = known })
 
-known_name : (e : Element) → IsKnownName (name_of e)
+known_name : (e : Element) → IsKnownName (element_name e)
 known_name e =
     by_name e IsKnownName (7, refl) (8, refl) (9, refl) (10, refl) (11, refl) (12, refl) (13, refl) (14, refl) (
       15,
@@ -228,7 +231,8 @@ known-where images false tokens is = none_known images
 
 known-start : (images : ImageFiles) (document : Document) (e : Element) → AreKnown images (start_tokens document e)
 known-start images document e =
-    known-cons images (start (name_of e) (attributes_of document e)) [] (start_is_known images (name_of e) (attributes_of document e) (known_name e)
+    known-cons images (start_tag (element_name e) (attributes_of document e)) [] (start_is_known images (element_name e)
+    (attributes_of document e) (known_name e)
     (known_attributes_of images document e)) (none_known images)
 
 known-open : (images : ImageFiles) (document : Document) (e : Element) → AreKnown images (open_tokens document e)
@@ -236,7 +240,8 @@ known-open images document e = known-where images (has_tags e) (start_tokens doc
 
 known-end : (images : ImageFiles) (e : Element) → AreKnown images (end_tokens e)
 known-end images e =
-    known-cons images (end (name_of e)) (if ends_line e then Character 10 ∷ [] else []) (end_is_known images (name_of e) (known_name
+    known-cons images (end (element_name e)) (if ends_line e then Character 10 ∷ [] else []) (end_is_known images
+    (element_name e) (known_name
     e))
     (known-line images (ends_line e))
 
@@ -246,7 +251,7 @@ known-close images e = known-where images (has_tags e) (end_tokens e) (known-end
 known-image : (images : ImageFiles) (name : List ℕ) → IsKnownAttribute images (attribute (codes "aria-label") name) → AreKnown images (image name)
 known-image images name known =
     let attributes = attribute (codes "role") (codes "img") ∷ attribute (codes "aria-label") name ∷ [] in
-    known-cons images (start (codes "span") attributes) (characters (91 ∷ (name ++ 93 ∷ [])) ++ end (codes "span") ∷ [])
+    known-cons images (start_tag (codes "span") attributes) (characters (91 ∷ (name ++ 93 ∷ [])) ++ end (codes "span") ∷ [])
     (start_is_known images (codes "span") attributes (25, refl) (attribute-cons images (attribute (codes "role") (codes "img"))
     (attribute
     (codes "aria-label") name ∷ []) (inl (0, (20, refl))) (one_attribute images (attribute (codes "aria-label") name) known)))
@@ -255,13 +260,13 @@ known-image images name known =
 
 -- the image of the file of a picture, or what it is called
 known-picture : (images : ImageFiles) (place : Option ℕ) (name : Option PictureName) →
-    name_at images.pictures place ≡ name → AreKnown images (picture_tokens images.folder name)
+    picture_name_at images.pictures place ≡ name → AreKnown images (picture_tokens images.folder name)
 known-picture images place None is = known-image images (codes "picture") (inl (0, (21, refl)))
 known-picture images place (Some name) is =
     let src = attribute (codes "src") (escaped_text (image_url images.folder name)) in
     let alt = attribute (codes "alt") [] in
     let attributes = image_attributes images.folder name in
-    known-cons images (start (codes "img") attributes) [] (start_is_known images (codes "img") attributes (34, refl)
+    known-cons images (start_tag (codes "img") attributes) [] (start_is_known images (codes "img") attributes (34, refl)
     (attribute-cons images src (alt ∷ []) (inr (inr (inr (record {
       place = place;
       name = name;
@@ -273,15 +278,15 @@ known-other : (images : ImageFiles) (g : Glyph) → AreKnown images (other_token
 known-other images (Unit unit) = none_known images
 known-other images Tab = known-cons images (Character 9) [] tt (none_known images)
 known-other images LineBreak =
-    known-cons images (start (codes "br") []) [] (start_is_known images (codes "br") [] (33, refl) (no_attributes images)) (none_known images)
+    known-cons images (start_tag (codes "br") []) [] (start_is_known images (codes "br") [] (33, refl) (no_attributes images)) (none_known images)
 known-other images PageBreak =
-    known-cons images (start (codes "br") (attribute (codes "style") (codes "break-after:page") ∷ [])) [] (start_is_known images
+    known-cons images (start_tag (codes "br") (attribute (codes "style") (codes "break-after:page") ∷ [])) [] (start_is_known images
     (codes
     "br") (attribute (codes "style") (codes "break-after:page") ∷ []) (33, refl) (one_attribute images (attribute (codes
     "style")
     (codes "break-after:page")) (inl (0, (23, refl))))) (none_known images)
 known-other images (NoteMark number) = known-characters images (decimal number)
-known-other images (Picture place) = known-picture images place (name_at images.pictures place) refl
+known-other images (Picture place) = known-picture images place (picture_name_at images.pictures place) refl
 known-other images Object = known-image images (codes "object") (inl (0, (22, refl)))
 
 known-behind : (images : ImageFiles) (half : Option ℕ) (tokens : List Token) → AreKnown images tokens → AreKnown images (characters (half_text half) ++
@@ -320,11 +325,13 @@ known-body source places =
 abbrev line_end : Token
 line_end = Character 10
 
-plain_start : (images : ImageFiles) (name : List ℕ) (more : List Token) → IsKnownName name → AreKnown images more → AreKnown images (start name [] ∷
+plain_start : (images : ImageFiles) (name : List ℕ) (more : List Token) → IsKnownName name → AreKnown images more →
+    AreKnown images (start_tag name [] ∷
     line_end ∷
     more)
 plain_start images name more known rest =
-    known-cons images (start name []) (line_end ∷ more) (start_is_known images name [] known (no_attributes images)) (known-cons images line_end
+    known-cons images (start_tag name []) (line_end ∷ more) (start_is_known images name [] known (no_attributes images))
+    (known-cons images line_end
     more tt
     rest)
 
@@ -334,13 +341,14 @@ plain_end images name more known rest =
     known-cons images (end name) (line_end ∷ more) (end_is_known images name known) (known-cons images line_end more tt rest)
 
 a_start : (images : ImageFiles) (name : List ℕ) (attributes : List (List ℕ)) (more : List Token) → IsKnownName name → AreKnownAttributes images
-    attributes → AreKnown images more → AreKnown images (start name attributes ∷ line_end ∷ more)
+    attributes → AreKnown images more → AreKnown images (start_tag name attributes ∷ line_end ∷ more)
 a_start images name attributes more known all rest =
-    known-cons images (start name attributes) (line_end ∷ more) (start_is_known images name attributes known all) (known-cons images line_end
+    known-cons images (start_tag name attributes) (line_end ∷ more) (start_is_known images name attributes known all)
+    (known-cons images line_end
     more tt rest)
 
 abbrev in_head : List Token
-in_head = start (codes "title") [] ∷ []
+in_head = start_tag (codes "title") [] ∷ []
 
 abbrev viewport : List (List ℕ)
 viewport =
@@ -349,10 +357,10 @@ viewport =
     ∷ []
 
 abbrev in_metas : List Token
-in_metas = start (codes "meta") viewport ∷ line_end ∷ in_head
+in_metas = start_tag (codes "meta") viewport ∷ line_end ∷ in_head
 
 abbrev in_html : List Token
-in_html = start (codes "meta") (attribute (codes "charset") (codes "utf-8") ∷ []) ∷ line_end ∷ in_metas
+in_html = start_tag (codes "meta") (attribute (codes "charset") (codes "utf-8") ∷ []) ∷ line_end ∷ in_metas
 
 known-metas : (images : ImageFiles) → AreKnown images meta_tokens
 known-metas images =
@@ -361,7 +369,7 @@ known-metas images =
     (codes "meta") viewport in_head (3, refl) (attribute-cons images (attribute (codes "name") (codes "viewport")) (attribute
     (codes "content") (codes "width=device-width,initial-scale=1") ∷ []) (inl (0, (2, refl))) (one_attribute images (attribute
     (codes "content") (codes "width=device-width,initial-scale=1")) (inl (0, (3, refl)))))
-    (known-cons images (start (codes "title") []) [] (start_is_known images (codes "title") [] (4, refl) (no_attributes images))
+    (known-cons images (start_tag (codes "title") []) [] (start_is_known images (codes "title") [] (4, refl) (no_attributes images))
     (none_known images))))
 
 known-language : (images : ImageFiles) (language : Option ℕ) → AreKnownAttributes images (language_attributes language)
@@ -376,20 +384,20 @@ known-language images (Some identifier) =
 
 known-front : (images : ImageFiles) (language : Option ℕ) → AreKnown images (front_tokens language)
 known-front images language =
-    a_start images (codes "!DOCTYPE") (codes "html" ∷ []) (start (codes "html") (language_attributes language) ∷ line_end ∷
+    a_start images (codes "!DOCTYPE") (codes "html" ∷ []) (start_tag (codes "html") (language_attributes language) ∷ line_end ∷
     meta_tokens) (0, refl) (one_attribute images (codes "html") (inl (0, (0, refl)))) (a_start images (codes "html")
     (language_attributes language) meta_tokens (1, refl) (known-language images language) (known-metas images))
 
 abbrev in_body : List Token
-in_body = end (codes "style") ∷ line_end ∷ end (codes "head") ∷ line_end ∷ start (codes "body") [] ∷ line_end ∷ []
+in_body = end (codes "style") ∷ line_end ∷ end (codes "head") ∷ line_end ∷ start_tag (codes "body") [] ∷ line_end ∷ []
 
 known-style : (images : ImageFiles) → AreKnown images style_tokens
 known-style images =
-    plain_end images (codes "title") (start (codes "style") [] ∷ (characters style_text ++ in_body)) (4, refl) (known-cons images
-    (start
+    plain_end images (codes "title") (start_tag (codes "style") [] ∷ (characters style_text ++ in_body)) (4, refl) (known-cons images
+    (start_tag
     (codes "style") []) (characters style_text ++ in_body) (start_is_known images (codes "style") [] (5, refl) (no_attributes images))
     (known-append images (characters style_text) in_body (known-characters images style_text) (plain_end images (codes "style") (end (codes
-    "head") ∷ line_end ∷ start (codes "body") [] ∷ line_end ∷ []) (5, refl) (plain_end images (codes "head") (start (codes
+    "head") ∷ line_end ∷ start_tag (codes "body") [] ∷ line_end ∷ []) (5, refl) (plain_end images (codes "head") (start_tag (codes
     "body") [] ∷ line_end ∷ []) (2, refl) (plain_start images (codes "body") [] (6, refl) (none_known images))))))
 
 known-back : (images : ImageFiles) → AreKnown images back_tokens
@@ -408,5 +416,6 @@ known-page source head places =
 
 pub tags_known : TagsAreKnown
 tags_known source head places =
-    subst (λ (tokens : List Token). All (IsKnown source.images) tokens) (sym (page_read source head places)) (known-page source
+    subst (λ (tokens : List Token). All (IsKnownToken source.images) tokens) (sym (page_read source head places))
+    (known-page source
     head places)

@@ -17,7 +17,7 @@ use Rattle.inline_pictures.specs.declared.kind.PictureKind.TheVariants.{Compress
 use Rattle.doc_pictures.specs.declared.names.PictureName.{PictureName}
 use Rattle.doc_pictures.specs.Names.{picture_name, suffix_of}
 use Rattle.html_page.specs.Images.{coded_byte, image_attributes, image_url, is_path_byte, path_byte, path_url}
-use Rattle.html_page.specs.Pages.{picture_tokens, start}
+use Rattle.html_page.specs.Pages.{picture_tokens, start_tag}
 use Rattle.html_page.specs.Tags.{attribute}
 use Rattle.html_page.proofs.PutLemmas.{is_plain, printed-characters, printed-plain}
 
@@ -136,7 +136,7 @@ tail-pieces value alt =
     ∙ append_assoc value (34 ∷ alt) (62 ∷ []))
 
 tag-pieces : (value : List ℕ) → codes "<img src=\"" ++ (value ++ codes "\" alt=\"\">")
-    ≡ printed (start (codes "img") (attribute (codes "src") value ∷ attribute (codes "alt") [] ∷ []) ∷ [])
+    ≡ printed (start_tag (codes "img") (attribute (codes "src") value ∷ attribute (codes "alt") [] ∷ []) ∷ [])
 tag-pieces value =
     ap (λ (more : List ℕ). codes "<img src=\"" ++ more) (sym (tail-pieces value (codes " alt=\"\"")))
 

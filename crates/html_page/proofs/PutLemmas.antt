@@ -15,10 +15,10 @@ use Rattle.page_out.specs.declared.page.Page.{Page}
 use Rattle.page_out.specs.Printed.{Prints}
 use Rattle.page_out.proofs.Public.{put_then, put_none}
 use Rattle.html_text.specs.Tokens.{Token, Character, Tag, escaped, escaped_text, printed, printed_token}
-use Rattle.view_paths.specs.Paths.{Place, last_path}
+use Rattle.view_paths.specs.Paths.{PathPlace, last_path}
 use Rattle.view_paths.specs.Events.{Event, Turn, Leaf, Open, Close, closes, opens, transition, turns, leaf}
 use Rattle.view_paths.specs.Events.{events_up_to}
-use Rattle.view_paths.specs.Turns.{IsShared, IsFront}
+use Rattle.view_paths.specs.Turns.{IsSharedFront, IsFront}
 use Rattle.view_paths.proofs.Public.{events_up_to-append, last_path-append, transition-shared, closes-next, closes-none}
 use Rattle.view_paths.proofs.Public.{take-closed, opens-next, opens-none}
 use Rattle.view_places.specs.declared.element.Element.{Element}
@@ -35,9 +35,9 @@ use Rattle.glyph_units.specs.Units.{unit_text, unit_half}
 use Rattle.html_page.specs.Pages.{Events, Places, characters, close_tokens, open_tokens, event_tokens, event_half}
 use Rattle.html_page.specs.Pages.{glyph_tokens, glyph_half, other_tokens, tokens_of, half_of}
 use Rattle.html_page.specs.Printed.{PutsEvents, PutsPlaces}
-use Rattle.doc_pictures.specs.Files.{ImageFiles, files_of}
+use Rattle.doc_pictures.specs.Files.{ImageFiles, image_files}
 use Rattle.html_page.specs.declared.source.Source.{Source}
-use Rattle.html_page.specs.Sources.{PageSource, source_of}
+use Rattle.html_page.specs.Sources.{PageSource, page_source_of}
 use Rattle.doc_bits.proofs.Public.{and_true, and_first, and_second, not_true}
 use Rattle.text_codes.specs.Halves.{half_text}
 
@@ -96,7 +96,8 @@ none_put : {K : Type 0} (sink : Ghosts K) (at : K) (html left : HtmlPage) → le
 unfolding tokens_of half_of
 none_put sink at html left page half source = record {
   prints =
-      subst (λ (p : Page). Prints sink at html.page at p (printed (tokens_of (source_of html.source) html.half []))) (sym
+      subst (λ (p : Page). Prints sink at html.page at p (printed (tokens_of (page_source_of html.source) html.half
+      []))) (sym
       page) (put_none sink at html.page);
   half = half;
   path = refl;
@@ -109,11 +110,14 @@ pub events_then : {K : Type 0} (sink : Ghosts K) (a b c : K) (p q r : HtmlPage) 
 events_then sink a b c p q r xs ys first second one other = record {
   prints =
       subst (λ (tokens : List Token). Prints sink a p.page c r.page (printed tokens)) (sym (tokens_of-append
-      (source_of p.source) p.half xs ys))
-      (tokens_then sink a b c p.page q.page r.page (tokens_of (source_of p.source) p.half xs) (tokens_of (source_of p.source)
+      (page_source_of p.source) p.half xs ys))
+      (tokens_then sink a b c p.page q.page r.page (tokens_of (page_source_of p.source) p.half xs) (tokens_of
+      (page_source_of p.source)
       (half_of p.half xs) ys) one.prints
-      (subst (λ (s : Source). Prints sink b q.page c r.page (printed (tokens_of (source_of s) (half_of p.half xs) ys)))
-      one.source (subst (λ (h : Option ℕ). Prints sink b q.page c r.page (printed (tokens_of (source_of q.source) h ys)))
+      (subst (λ (s : Source). Prints sink b q.page c r.page (printed (tokens_of (page_source_of s) (half_of p.half xs)
+      ys)))
+      one.source (subst (λ (h : Option ℕ). Prints sink b q.page c r.page (printed (tokens_of (page_source_of q.source) h
+      ys)))
       one.half other.prints)));
   half = other.half ∙ ap (λ (h : Option ℕ). half_of h ys) one.half ∙ sym (half_of-append p.half xs ys);
   path = other.path;
@@ -122,13 +126,14 @@ events_then sink a b c p q r xs ys first second one other = record {
 
 pub one_event : {K : Type 0} (sink : Ghosts K) (a b : K) (html left : HtmlPage) (event : Event Element Glyph) (path :
     List
-    Element) → Prints sink a html.page b left.page (printed (event_tokens (source_of html.source) html.half event)) →
+    Element) → Prints sink a html.page b left.page (printed (event_tokens (page_source_of html.source) html.half event))
+    →
     left.half ≡ event_half html.half event → left.path ≡ path → left.source ≡ html.source → PutsEvents sink
     a html b left (event ∷ []) path
 one_event sink a b html left event path prints half is source = record {
   prints =
       subst (λ (tokens : List Token). Prints sink a html.page b left.page (printed tokens)) (sym (tokens_of-one
-      (source_of html.source) html.half event)) prints;
+      (page_source_of html.source) html.half event)) prints;
   half = half ∙ sym (half_of-one html.half event);
   path = is;
   source = source;
@@ -221,7 +226,7 @@ open_step sink a b c html next left new to e is front prints path half source re
 -- ---- from a path to another one
 
 pub way_put : {K : Type 0} (sink : Ghosts K) (a b c : K) (html next left : HtmlPage) (to : List Element) (count : ℕ) →
-    IsShared
+    IsSharedFront
     same html.path to count → PutsEvents sink a html b next (map Turn (closes (take count html.path) (drop count
     html.path)))
     (take count html.path) → PutsEvents sink b next c left (map Turn (opens next.path (drop (length next.path) to)))
@@ -259,7 +264,7 @@ place_bare sink a b html left to puts =
 pub place_shown : {K : Type 0} (sink : Ghosts K) (a b c : K) (html next left : HtmlPage) (to : List Element) (g :
     Glyph) →
     PutsEvents sink a html b next (turns same html.path to) to → Prints sink b next.page c left.page (printed
-    (glyph_tokens (files_of next.source.images)
+    (glyph_tokens (image_files next.source.images)
     next.half g)) → left.path ≡ next.path → left.half ≡ glyph_half next.half g → left.source ≡ next.source →
     PutsPlaces sink a html c left
     (place_of to

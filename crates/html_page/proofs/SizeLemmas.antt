@@ -28,9 +28,9 @@ use Rattle.view_places.specs.declared.glyph.Glyph.TheVariants.{Object}
 use Rattle.view_places.specs.Same.{same}
 use Rattle.view_places.specs.SameLaws.{same_exact}
 use Rattle.view_places.proofs.Public.{IsSmall, IsSmallSpan, IsSmallSpanIn}
-use Rattle.plain_doc.specs.declared.document.Document.{Document}
+use Rattle.doc_model.specs.declared.document.Document.{Document}
 use Rattle.doc_pictures.specs.declared.names.PictureName.{PictureName}
-use Rattle.doc_pictures.specs.Files.{ImageFiles, name_at}
+use Rattle.doc_pictures.specs.Files.{ImageFiles, picture_name_at}
 use Rattle.field_links.specs.Urls.{anchor_name}
 use Rattle.link_targets.specs.Links.{bookmark_name, instruction_of, url_in}
 use Rattle.glyph_units.specs.Units.{unit_half, unit_text, units_text}
@@ -42,11 +42,12 @@ use Rattle.html_page.specs.Images.{image_attributes, image_url}
 use Rattle.html_page.specs.Lengths.{address_bytes, url_bytes}
 use Rattle.html_page.specs.Languages.{language_attributes, language_code, language_codes}
 use Rattle.html_page.specs.Tags.{anchor_attributes, attribute, attributes_of, attributes_text, ends_line, has_tags}
-use Rattle.html_page.specs.Tags.{link_attributes, name_of, optional, paragraph_attributes, paragraph_name}
+use Rattle.html_page.specs.Tags.{link_attributes, element_name, optional, paragraph_attributes, paragraph_name}
 use Rattle.html_page.specs.Tags.{plain_attributes, reach_attributes, span_attributes, start_text}
 use Rattle.html_page.specs.Pages.{Events, Head, Places, back_tokens, body_tokens, characters, close_tokens, end}
 use Rattle.html_page.specs.Pages.{end_tokens, event_half, event_tokens, front_tokens, glyph_half, glyph_tokens, half_of}
-use Rattle.html_page.specs.Pages.{meta_tokens, open_tokens, other_tokens, page_text, page_tokens, picture_tokens, start}
+use Rattle.html_page.specs.Pages.{meta_tokens, open_tokens, other_tokens, page_text, page_tokens, picture_tokens}
+use Rattle.html_page.specs.Pages.{start_tag}
 use Rattle.html_page.specs.Pages.{start_tokens, style_tokens, tokens_of}
 use Rattle.html_page.proofs.CloseLemmas.{by_level}
 use Rattle.html_page.proofs.PutLemmas.{printed-append}
@@ -183,7 +184,7 @@ tag_size inner =
       size-append inner back,
     )
 
-start_size : (name : List ℕ) (attributes : List (List ℕ)) → tokens_size (start name attributes ∷ []) ≡ size name +
+start_size : (name : List ℕ) (attributes : List (List ℕ)) → tokens_size (start_tag name attributes ∷ []) ≡ size name +
     (attributes_size attributes + 2)
 start_size name attributes =
     omega (arith, tag_size (start_text name attributes), size-append name (attributes_text attributes))
@@ -215,14 +216,15 @@ where_size bound false tokens few =
     let none : tokens_size [] ≡ 0 = refl in
     omega (arith, none)
 
-open_few : (document : Document) (e : Element) → open_size document e ≤ size (name_of e) + (attributes_size
+open_few : (document : Document) (e : Element) → open_size document e ≤ size (element_name e) + (attributes_size
     (attributes_of document e) + 2)
 open_few document e =
-    where_size (size (name_of e) + (attributes_size (attributes_of document e) + 2)) (has_tags e)
-    (start_tokens document e) (omega (arith, start_size (name_of e) (attributes_of document e)))
+    where_size (size (element_name e) + (attributes_size (attributes_of document e) + 2)) (has_tags e)
+    (start_tokens document e) (omega (arith, start_size (element_name e) (attributes_of document e)))
 
-close_few : (e : Element) → close_size e ≤ size (name_of e) + 4
-close_few e = where_size (size (name_of e) + 4) (has_tags e) (end_tokens e) (end_size (name_of e) (ends_line e))
+close_few : (e : Element) → close_size e ≤ size (element_name e) + 4
+close_few e = where_size (size (element_name e) + 4) (has_tags e) (end_tokens e) (end_size (element_name e) (ends_line
+    e))
 
 -- ---- the tags of elements
 
@@ -330,17 +332,18 @@ bookmark_size (Some name) =
     )
 
 -- both tags of an element, by its name and its attributes
-tags_within : (document : Document) (e : Element) (name attributes : ℕ) → size (name_of e) ≤ name → attributes_size
+tags_within : (document : Document) (e : Element) (name attributes : ℕ) → size (element_name e) ≤ name → attributes_size
     (attributes_of document e) ≤ attributes → open_size document e + close_size e ≤ 2 * name + (attributes + 6)
 tags_within document e name attributes short few =
     omega (arith, short, few, open_few document e, close_few e)
 
 -- an element without attributes
-bare_tags : (document : Document) (e : Element) → nat_le (size (name_of e)) 7 ≡ true → attributes_of document e ≡ [] →
+bare_tags : (document : Document) (e : Element) → nat_le (size (element_name e)) 7 ≡ true → attributes_of document e ≡
+    [] →
     open_size document e + close_size e ≤ 63
 bare_tags document e name bare =
     let none : attributes_size (attributes_of document e) ≡ 0 = ap (λ (a : List (List ℕ)). attributes_size a) bare in
-    omega (arith, none, tags_within document e 7 0 (closed_size (name_of e) 7 name) (omega (arith, none)))
+    omega (arith, none, tags_within document e 7 0 (closed_size (element_name e) 7 name) (omega (arith, none)))
 
 paragraph_name_size : (level : ℕ) → size (paragraph_name level) ≤ 2
 unfolding encode_utf8
@@ -349,13 +352,13 @@ paragraph_name_size level =
     (closed_size (codes "h2") 2 refl) (closed_size (codes "h3") 2 refl) (closed_size (codes "h4") 2 refl)
     (closed_size (codes "h5") 2 refl) (closed_size (codes "h6") 2 refl)
 
-list_size : (document : Document) (e : Element) (is_ordered : Bool) → name_of e ≡ (if is_ordered then codes "ol" else
+list_size : (document : Document) (e : Element) (is_ordered : Bool) → element_name e ≡ (if is_ordered then codes "ol" else
     codes "ul") → attributes_of document e ≡ optional is_ordered (attribute (codes "style") (codes "list-style:none")) →
     open_size document e + close_size e ≤ 63
 unfolding encode_utf8
 list_size document e is_ordered name attributes =
     let own = attribute (codes "style") (codes "list-style:none") in
-    let short : size (name_of e) ≤ 2 =
+    let short : size (element_name e) ≤ 2 =
     subst (λ (text : List ℕ). size text ≤ 2) (sym name) (either_size 2 is_ordered (codes "ol") (codes "ul")
     (closed_size (codes "ol") 2 refl) (closed_size (codes "ul") 2 refl)) in
     let few : attributes_size (attributes_of document e) ≤ 24 =
@@ -540,10 +543,11 @@ image_size folder (Some name) most short =
       own_attribute alt 7 refl,
     )
 
-pub picture_size : (images : ImageFiles) (place : Option ℕ) (most : ℕ) → ((name : PictureName) → name_at images.pictures
+pub picture_size : (images : ImageFiles) (place : Option ℕ) (most : ℕ) → ((name : PictureName) → picture_name_at
+    images.pictures
     place ≡ Some name → size (escaped_text (image_url images.folder name)) ≤ most) → show_size images (Picture place) ≤
     54 + most
-picture_size images place most short = image_size images.folder (name_at images.pictures place) most short
+picture_size images place most short = image_size images.folder (picture_name_at images.pictures place) most short
 
 behind_half : (images : ImageFiles) (half : Option ℕ) (glyph : Glyph) → tokens_size (characters (half_text half) ++
     other_tokens images glyph) + 6 * waiting None ≤ 6 * waiting half + tokens_size (other_tokens images glyph)
@@ -652,8 +656,8 @@ language_size (Some identifier) =
 front_size : (language : Option ℕ) → tokens_size (front_tokens language) ≤ 150
 unfolding encode_utf8
 front_size language =
-    let first = start (codes "!DOCTYPE") (codes "html" ∷ []) ∷ Character 10 ∷ [] in
-    let second = start (codes "html") (language_attributes language) ∷ [] in
+    let first = start_tag (codes "!DOCTYPE") (codes "html" ∷ []) ∷ Character 10 ∷ [] in
+    let second = start_tag (codes "html") (language_attributes language) ∷ [] in
     let third : List Token = Character 10 ∷ meta_tokens in
     let name : size (codes "html") ≡ 4 = refl in
     omega (

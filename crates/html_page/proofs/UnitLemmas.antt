@@ -9,7 +9,7 @@ use Rattle.std.proofs.lemmas.List.Elements.{All-from_get_or, All-get_or, All-hea
 use Rattle.doc_outer.specs.declared.sink.Sink.{Ghosts}
 use Rattle.page_out.specs.Printed.{Prints}
 use Rattle.html_text.specs.Tokens.{Character, Token, escaped, printed}
-use Rattle.html_page.specs.Sources.{PageSource, source_of}
+use Rattle.html_page.specs.Sources.{PageSource, page_source_of}
 use Rattle.view_paths.specs.Events.{turns}
 use Rattle.view_paths.specs.Paths.{last_path}
 use Rattle.view_paths.specs.Events.{events_up_to}
@@ -126,7 +126,7 @@ run_put sink a b c d html next mid left to (unit ∷ units) all some puts before
     let shown : PutsEvents sink b next d left (leaves to run) to = record {
       prints =
           subst (λ (tokens : List Token). Prints sink b next.page d left.page (printed tokens)) (run_tokens
-          (source_of next.source) to next.half unit units all)
+          (page_source_of next.source) to next.half unit units all)
           (characters_then sink b c d next.page mid.page left.page (half_text next.half) run before after);
       half = half ∙ sym (run_half to next.half unit units all);
       path = path ∙ puts.path;

@@ -10,9 +10,9 @@ pub data TagKind : Type 0 where
   End : List ℕ → TagKind
 
 -- what is before the first space of a tag
-abbrev pub word_of : List ℕ → List ℕ
-word_of [] = []
-word_of (code ∷ rest) = if code == 32 then [] else code ∷ word_of rest
+abbrev pub tag_name : List ℕ → List ℕ
+tag_name [] = []
+tag_name (code ∷ rest) = if code == 32 then [] else code ∷ tag_name rest
 
 abbrev pub is_void : List ℕ → Bool
 is_void name =
@@ -24,18 +24,18 @@ kind_of_word [] = Start []
 kind_of_word (code ∷ name) =
     if code == 47 then End name else if is_void (code ∷ name) then Void else Start (code ∷ name)
 
-abbrev pub kind_of : List ℕ → TagKind
-kind_of inner = kind_of_word (word_of inner)
+abbrev pub tag_kind : List ℕ → TagKind
+tag_kind inner = kind_of_word (tag_name inner)
 
 -- from the names of the open elements, the outermost first, to those behind a tag
-abbrev pub IsBehind : TagKind → List (List ℕ) → List (List ℕ) → Type 0
-IsBehind Void around behind = behind ≡ around
-IsBehind (Start name) around behind = behind ≡ around ++ name ∷ []
-IsBehind (End name) around behind = around ≡ behind ++ name ∷ []
+abbrev pub IsBehindTag : TagKind → List (List ℕ) → List (List ℕ) → Type 0
+IsBehindTag Void around behind = behind ≡ around
+IsBehindTag (Start name) around behind = behind ≡ around ++ name ∷ []
+IsBehindTag (End name) around behind = around ≡ behind ++ name ∷ []
 
 -- tags of a page nest, from the names of the elements that are open to those at its end
 abbrev pub AreBrackets : List (List ℕ) → List Token → List (List ℕ) → Type 0
 AreBrackets around [] end = around ≡ end
 AreBrackets around (Character code ∷ more) end = AreBrackets around more end
 AreBrackets around (Tag inner ∷ more) end =
-    (behind : List (List ℕ)) × (IsBehind (kind_of inner) around behind × AreBrackets behind more end)
+    (behind : List (List ℕ)) × (IsBehindTag (tag_kind inner) around behind × AreBrackets behind more end)

@@ -8,7 +8,7 @@ use Rattle.field_links.specs.Laws.{IsSchemeUrl, IsLocalUrl}
 use Rattle.html_page.specs.Tags.{attribute, start_text}
 use Rattle.html_page.specs.Languages.{language_code}
 use Rattle.doc_pictures.specs.declared.names.PictureName.{PictureName}
-use Rattle.doc_pictures.specs.Files.{ImageFiles, name_at}
+use Rattle.doc_pictures.specs.Files.{ImageFiles, picture_name_at}
 use Rattle.html_page.specs.Images.{image_url}
 
 -- the names of elements
@@ -75,7 +75,7 @@ pub record IsAnchorAttribute (text : List ℕ) : Type 0 where
 pub record IsSourceAttribute (images : ImageFiles) (text : List ℕ) : Type 0 where
   pub place : Option ℕ
   pub name : PictureName
-  pub file : name_at images.pictures place ≡ Some name
+  pub file : picture_name_at images.pictures place ≡ Some name
   pub value : text ≡ attribute (codes "src") (escaped_text (image_url images.folder name))
 
 abbrev pub IsKnownAttribute : ImageFiles → List ℕ → Type 0
@@ -97,6 +97,6 @@ pub record IsKnownEnd (inner : List ℕ) : Type 0 where
   pub known : IsKnownName name
 
 -- a character, or a tag of these
-abbrev pub IsKnown : ImageFiles → Token → Type 0
-IsKnown images (Character code) = ⊤
-IsKnown images (Tag inner) = IsKnownStart images inner ⊎ IsKnownEnd inner
+abbrev pub IsKnownToken : ImageFiles → Token → Type 0
+IsKnownToken images (Character code) = ⊤
+IsKnownToken images (Tag inner) = IsKnownStart images inner ⊎ IsKnownEnd inner

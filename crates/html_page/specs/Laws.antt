@@ -4,7 +4,7 @@ use Rattle.std.specs.List.{All}
 use Rattle.html_text.specs.Reading.{read}
 use Rattle.html_page.specs.Sources.{PageSource}
 use Rattle.html_page.specs.Pages.{Head, Places, page_tokens, page_text}
-use Rattle.html_page.specs.Known.{IsKnown}
+use Rattle.html_page.specs.Known.{IsKnownToken}
 use Rattle.html_page.specs.Brackets.{AreBrackets}
 
 -- a page is read as the characters and tags that it was printed of
@@ -17,7 +17,7 @@ PagesAreReadBack =
 -- of its pictures
 abbrev pub TagsAreKnown : Type 0
 TagsAreKnown = (source : PageSource) (head : Head) (places : Places) →
-    All (IsKnown source.images) (read (page_text source head places))
+    All (IsKnownToken source.images) (read (page_text source head places))
 
 -- the tags that are read of a page nest, and at its end nothing is open
 abbrev pub PagesNest : Type 0

@@ -1,8 +1,8 @@
 -- How many bytes of a page its document says: those of the addresses of links, and of images.
 use Rattle.std.specs.Prelude.{◌≡◌, ℕ, ◌≤◌, List, length, Option, None, Some, encode_utf8_all}
-use Rattle.plain_doc.specs.declared.document.Document.{Document}
+use Rattle.doc_model.specs.declared.document.Document.{Document}
 use Rattle.doc_pictures.specs.declared.names.PictureName.{PictureName}
-use Rattle.doc_pictures.specs.Files.{ImageFiles, name_at}
+use Rattle.doc_pictures.specs.Files.{ImageFiles, picture_name_at}
 use Rattle.view_places.specs.declared.element.Element.{Element}
 use Rattle.view_places.specs.declared.element.Element.TheVariants.{Link}
 use Rattle.link_targets.specs.Links.{instruction_of, url_in}
@@ -26,4 +26,4 @@ address_bytes document element = 0
 abbrev pub AreShortImages : ImageFiles → ℕ → Type 0
 AreShortImages images most =
     (place : Option ℕ) (name : PictureName) →
-    name_at images.pictures place ≡ Some name → value_bytes (image_url images.folder name) ≤ most
+    picture_name_at images.pictures place ≡ Some name → value_bytes (image_url images.folder name) ≤ most

@@ -1,11 +1,11 @@
 -- The tokens of a page: what its events open, close and show.
 use Rattle.std.specs.Prelude.{ℕ, Bool, ◌==◌, ◌||◌, List, [], ◌∷◌, ◌++◌, map, codes, Option, None, Some, if◌then◌else◌}
 use Rattle.std.specs.Fmt.{decimal}
-use Rattle.plain_doc.specs.declared.document.Document.{Document}
+use Rattle.doc_model.specs.declared.document.Document.{Document}
 use Rattle.doc_pictures.specs.declared.names.PictureName.{PictureName}
-use Rattle.doc_pictures.specs.Files.{ImageFiles, name_at}
+use Rattle.doc_pictures.specs.Files.{ImageFiles, picture_name_at}
 use Rattle.html_text.specs.Tokens.{Token, Character, Tag, printed}
-use Rattle.view_paths.specs.Paths.{Place}
+use Rattle.view_paths.specs.Paths.{PathPlace}
 use Rattle.view_paths.specs.Events.{Event, Turn, Leaf, Open, Close, events_from}
 use Rattle.view_paths.specs.Events.{Tag as PathTag}
 use Rattle.view_places.specs.declared.element.Element.{Element}
@@ -13,7 +13,7 @@ use Rattle.view_places.specs.declared.glyph.Glyph.{Glyph}
 use Rattle.view_places.specs.declared.glyph.Glyph.TheVariants.{Unit, Tab, LineBreak, PageBreak, NoteMark, Picture}
 use Rattle.view_places.specs.declared.glyph.Glyph.TheVariants.{Object}
 use Rattle.view_places.specs.Same.{same}
-use Rattle.html_page.specs.Tags.{name_of, attributes_of, attribute, start_text, ends_line, has_tags}
+use Rattle.html_page.specs.Tags.{element_name, attributes_of, attribute, start_text, ends_line, has_tags}
 use Rattle.html_page.specs.Languages.{language_attributes}
 use Rattle.html_page.specs.Sources.{PageSource}
 use Rattle.html_page.specs.Images.{image_attributes}
@@ -21,7 +21,7 @@ use Rattle.glyph_units.specs.Units.{unit_text, unit_half}
 use Rattle.text_codes.specs.Halves.{half_text}
 
 abbrev pub Places : Type 0
-Places = List (Place Element Glyph)
+Places = List (PathPlace Element Glyph)
 
 abbrev pub Events : Type 0
 Events = List (Event Element Glyph)
@@ -34,18 +34,18 @@ characters text = map Character text
 abbrev pub is_referred : ℕ → Bool
 is_referred code = code == 38 || (code == 60 || (code == 62 || code == 34))
 
-abbrev pub start : List ℕ → List (List ℕ) → Token
-start name attributes = Tag (start_text name attributes)
+abbrev pub start_tag : List ℕ → List (List ℕ) → Token
+start_tag name attributes = Tag (start_text name attributes)
 
 abbrev pub end : List ℕ → Token
 end name = Tag (47 ∷ name)
 
 -- an element is opened or closed
 abbrev pub start_tokens : Document → Element → List Token
-start_tokens document element = start (name_of element) (attributes_of document element) ∷ []
+start_tokens document element = start_tag (element_name element) (attributes_of document element) ∷ []
 
 abbrev pub end_tokens : Element → List Token
-end_tokens element = end (name_of element) ∷ (if ends_line element then Character 10 ∷ [] else [])
+end_tokens element = end (element_name element) ∷ (if ends_line element then Character 10 ∷ [] else [])
 
 abbrev pub open_tokens : Document → Element → List Token
 open_tokens document element = if has_tags element then start_tokens document element else []
@@ -60,25 +60,25 @@ tag_tokens document (Close path element) = close_tokens element
 -- an image that is not shown, by what it is called
 abbrev pub image : List ℕ → List Token
 image name =
-    start (codes "span") (attribute (codes "role") (codes "img") ∷ attribute (codes "aria-label") name ∷ [])
+    start_tag (codes "span") (attribute (codes "role") (codes "img") ∷ attribute (codes "aria-label") name ∷ [])
     ∷ (characters (91 ∷ (name ++ 93 ∷ [])) ++ end (codes "span") ∷ [])
 
 -- a picture by its file in a folder; one without a file is not shown
 abbrev pub picture_tokens : List ℕ → Option PictureName → List Token
 picture_tokens folder None = image (codes "picture")
-picture_tokens folder (Some name) = start (codes "img") (image_attributes folder name) ∷ []
+picture_tokens folder (Some name) = start_tag (codes "img") (image_attributes folder name) ∷ []
 
 abbrev pub page_break_tokens : List Token
-page_break_tokens = start (codes "br") (attribute (codes "style") (codes "break-after:page") ∷ []) ∷ []
+page_break_tokens = start_tag (codes "br") (attribute (codes "style") (codes "break-after:page") ∷ []) ∷ []
 
 -- a glyph that is no unit; the number of a note is in the link to it
 abbrev pub other_tokens : ImageFiles → Glyph → List Token
 other_tokens images (Unit unit) = []
 other_tokens images Tab = Character 9 ∷ []
-other_tokens images LineBreak = start (codes "br") [] ∷ []
+other_tokens images LineBreak = start_tag (codes "br") [] ∷ []
 other_tokens images PageBreak = page_break_tokens
 other_tokens images (NoteMark number) = characters (decimal number)
-other_tokens images (Picture place) = picture_tokens images.folder (name_at images.pictures place)
+other_tokens images (Picture place) = picture_tokens images.folder (picture_name_at images.pictures place)
 other_tokens images Object = image (codes "object")
 
 -- a glyph where a half of a character waits or none
@@ -141,21 +141,21 @@ pub record Head : Type 0 where
 -- what is before the title
 abbrev pub meta_tokens : List Token
 meta_tokens =
-    start (codes "head") []
+    start_tag (codes "head") []
     ∷ Character 10
-    ∷ start (codes "meta") (attribute (codes "charset") (codes "utf-8") ∷ [])
+    ∷ start_tag (codes "meta") (attribute (codes "charset") (codes "utf-8") ∷ [])
     ∷ Character 10
-    ∷ start (codes "meta") (attribute (codes "name") (codes "viewport")
+    ∷ start_tag (codes "meta") (attribute (codes "name") (codes "viewport")
     ∷ attribute (codes "content") (codes "width=device-width,initial-scale=1") ∷ [])
     ∷ Character 10
-    ∷ start (codes "title") []
+    ∷ start_tag (codes "title") []
     ∷ []
 
 abbrev pub front_tokens : Option ℕ → List Token
 front_tokens language =
-    start (codes "!DOCTYPE") (codes "html" ∷ [])
+    start_tag (codes "!DOCTYPE") (codes "html" ∷ [])
     ∷ Character 10
-    ∷ start (codes "html") (language_attributes language)
+    ∷ start_tag (codes "html") (language_attributes language)
     ∷ Character 10
     ∷ meta_tokens
 
@@ -164,13 +164,13 @@ abbrev pub style_tokens : List Token
 style_tokens =
     end (codes "title")
     ∷ Character 10
-    ∷ start (codes "style") []
+    ∷ start_tag (codes "style") []
     ∷ (characters style_text
     ++ (end (codes "style")
     ∷ Character 10
     ∷ end (codes "head")
     ∷ Character 10
-    ∷ start (codes "body") []
+    ∷ start_tag (codes "body") []
     ∷ Character 10
     ∷ []))
 

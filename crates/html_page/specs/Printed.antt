@@ -9,13 +9,14 @@ use Rattle.view_paths.specs.Events.{Tag as PathTag}
 use Rattle.view_places.specs.declared.element.Element.{Element}
 use Rattle.view_places.specs.Same.{same}
 use Rattle.html_page.specs.declared.printer.HtmlPage.{HtmlPage}
-use Rattle.html_page.specs.Sources.{source_of}
+use Rattle.html_page.specs.Sources.{page_source_of}
 use Rattle.html_page.specs.Pages.{Events, Places, tokens_of, half_of}
 
 -- events were printed; then this path is open
 pub record PutsEvents {K : Type 0} (sink : Ghosts K) (before : K) (html : HtmlPage) (after : K) (left : HtmlPage)
     (events : Events) (to : List Element) : Type 0 where
-  pub prints : Prints sink before html.page after left.page (printed (tokens_of (source_of html.source) html.half events))
+  pub prints : Prints sink before html.page after left.page (printed (tokens_of (page_source_of html.source) html.half
+      events))
   pub half : left.half ≡ half_of html.half events
   pub path : left.path ≡ to
   pub source : left.source ≡ html.source

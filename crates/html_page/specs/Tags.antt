@@ -5,7 +5,7 @@ use Rattle.std.specs.Prelude.{Option, None, Some, is_some}
 use Rattle.std.specs.Fmt.{decimal}
 use Rattle.std.specs.List.{flat_map}
 use Rattle.html_text.specs.Tokens.{escaped_text}
-use Rattle.plain_doc.specs.declared.document.Document.{Document}
+use Rattle.doc_model.specs.declared.document.Document.{Document}
 use Rattle.field_links.specs.Urls.{anchor_name}
 use Rattle.view_places.specs.declared.element.Element.{Element}
 use Rattle.view_places.specs.declared.element.Element.TheVariants.{Notes, Note, Table, TableHead, TableBody, Row, Cell}
@@ -27,34 +27,34 @@ paragraph_name level =
     if level == 4 then codes "h4" else
     if level == 5 then codes "h5" else codes "h6"
 
-abbrev pub name_of : Element → List ℕ
-name_of Notes = codes "section"
-name_of (Note number) = codes "aside"
-name_of (Table first) = codes "table"
-name_of TableHead = codes "thead"
-name_of TableBody = codes "tbody"
-name_of (Row first) = codes "tr"
-name_of (Cell cell) = codes "td"
-name_of (HeadCell cell) = codes "th"
-name_of (NestedTable first) = codes "table"
-name_of (NestedRow first) = codes "tr"
-name_of (NestedCell number) = codes "td"
-name_of (AList list) = if list.is_ordered then codes "ol" else codes "ul"
-name_of (Item number) = codes "li"
-name_of (Paragraph paragraph) = paragraph_name paragraph.level
-name_of Label = codes "span"
-name_of (Reference number) = codes "a"
-name_of (BackLink number) = codes "a"
-name_of Bold = codes "b"
-name_of Italic = codes "i"
-name_of Underline = codes "u"
-name_of Strike = codes "s"
-name_of SmallCaps = codes "span"
-name_of Caps = codes "span"
-name_of Raised = codes "sup"
-name_of Lowered = codes "sub"
-name_of (Link link) = codes "a"
-name_of (Anchor number) = codes "span"
+abbrev pub element_name : Element → List ℕ
+element_name Notes = codes "section"
+element_name (Note number) = codes "aside"
+element_name (Table first) = codes "table"
+element_name TableHead = codes "thead"
+element_name TableBody = codes "tbody"
+element_name (Row first) = codes "tr"
+element_name (Cell cell) = codes "td"
+element_name (HeadCell cell) = codes "th"
+element_name (NestedTable first) = codes "table"
+element_name (NestedRow first) = codes "tr"
+element_name (NestedCell number) = codes "td"
+element_name (AList list) = if list.is_ordered then codes "ol" else codes "ul"
+element_name (Item number) = codes "li"
+element_name (Paragraph paragraph) = paragraph_name paragraph.level
+element_name Label = codes "span"
+element_name (Reference number) = codes "a"
+element_name (BackLink number) = codes "a"
+element_name Bold = codes "b"
+element_name Italic = codes "i"
+element_name Underline = codes "u"
+element_name Strike = codes "s"
+element_name SmallCaps = codes "span"
+element_name Caps = codes "span"
+element_name Raised = codes "sup"
+element_name Lowered = codes "sub"
+element_name (Link link) = codes "a"
+element_name (Anchor number) = codes "span"
 
 -- a name, and what is between quotes behind it
 abbrev pub attribute : List ℕ → List ℕ → List ℕ

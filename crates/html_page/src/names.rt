@@ -1,13 +1,13 @@
 // The names of elements.
 ghost use Rattle.std.specs.Prelude.{◌≡◌, codes, if◌then◌else◌};
 ghost use Rattle.std.specs.Str.{IsAscii};
-ghost use Rattle.html_page.specs.Tags.{ends_line, has_tags, name_of, paragraph_name};
+ghost use Rattle.html_page.specs.Tags.{ends_line, has_tags, element_name, paragraph_name};
 
 use view_places::Element;
 
 /// The name of an element in a page.
 pub(crate) fn name_of(element: Element) -> &'static [u8]
-    ensures is { result.now ≡ name_of element }
+    ensures is { result.now ≡ element_name element }
     ensures ascii { IsAscii result.now }
 {
     match element {

@@ -2,7 +2,7 @@
 ghost use Rattle.std.specs.Prelude.{◌≡◌, ◌≤◌, ◌++◌, [], ◌∷◌, length, take, drop, map, false, true, Some, None, OnOk, OnErr};
 ghost use Rattle.std.specs.Char.{IsScalar};
 ghost use Rattle.std.specs.List.{All};
-ghost use Rattle.doc_outer.specs.Counts.{GoesOn};
+ghost use Rattle.doc_outer.specs.Counts.{CountGoesOn};
 ghost use Rattle.doc_outer.specs.Written.{Appends};
 ghost use Rattle.page_out.specs.Printed.{FailsIn, Prints};
 ghost use Rattle.html_text.specs.Tokens.{printed};
@@ -12,8 +12,8 @@ ghost use Rattle.view_places.specs.Same.{same};
 ghost use Rattle.html_page.specs.Pages.{back_tokens, characters, close_tokens, front_tokens, glyph_half, glyph_tokens};
 ghost use Rattle.html_page.specs.Pages.{half_of, open_tokens, style_tokens, tokens_of};
 ghost use Rattle.html_page.specs.Printed.{PutsEvents, PutsPlaces};
-ghost use Rattle.html_page.specs.Sources.{source_of};
-ghost use Rattle.doc_pictures.specs.Files.{files_of};
+ghost use Rattle.html_page.specs.Sources.{page_source_of};
+ghost use Rattle.doc_pictures.specs.Files.{image_files};
 ghost use Rattle.glyph_units.specs.Glyphs.{unit_places};
 ghost use Rattle.glyph_units.specs.Units.{first_text, unit_half, unit_text, units_text};
 ghost use Rattle.text_codes.specs.Halves.{half_text, first_half};
@@ -98,7 +98,7 @@ impl<'a> HtmlPage<'a> {
     /// Closes all that is open, and puts what is behind the text.
     pub fn end<K: Sink>(&mut self, out: &mut K)
         ensures { Prints K.Sink out.old self.old.page out.new self.new.page
-            (printed (tokens_of (source_of self.old.source) self.old.half (turns same self.old.path [])
+            (printed (tokens_of (page_source_of self.old.source) self.old.half (turns same self.old.path [])
             ++ (characters (half_text (half_of self.old.half (turns same self.old.path []))) ++ back_tokens))) }
     {
         self.go(out, &Path::new(Element::Notes));
@@ -112,7 +112,7 @@ impl<'a> HtmlPage<'a> {
         ensures ok { OnOk result (Appends (K.written out.old) (K.written out.new) self.entry.page.block) }
         ensures fails { OnErr result (self.entry.page.failed ≡ false → FailsIn K.Sink out.old self.entry.page out.new []) }
         ensures stays { OnErr result (self.entry.page.failed ≡ true → K.written out.new ≡ K.written out.old) }
-        ensures faults { GoesOn (K.faults out.old) (K.faults out.new) }
+        ensures faults { CountGoesOn (K.faults out.old) (K.faults out.new) }
     {
         self.page.finish(out)
     }
@@ -196,7 +196,7 @@ impl<'a> HtmlPage<'a> {
     /// Puts a glyph.
     fn show<K: Sink>(&mut self, out: &mut K, glyph: Glyph)
         ensures prints { Prints K.Sink out.old self.old.page out.new self.new.page
-            (printed (glyph_tokens (files_of self.old.source.images) self.old.half glyph)) }
+            (printed (glyph_tokens (image_files self.old.source.images) self.old.half glyph)) }
         ensures path { self.new.path ≡ self.old.path }
         ensures half { self.new.half ≡ glyph_half self.old.half glyph }
         ensures source { self.new.source ≡ self.old.source }

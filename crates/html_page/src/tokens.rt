@@ -1,7 +1,7 @@
 // The tokens of a page, as they are printed.
 ghost use Rattle.std.specs.Prelude.{◌≡◌, [], ◌∷◌, codes, if◌then◌else◌};
 ghost use Rattle.std.specs.Fmt.{decimal};
-ghost use Rattle.doc_pictures.specs.Files.{files_of};
+ghost use Rattle.doc_pictures.specs.Files.{image_files};
 ghost use Rattle.std.specs.Char.{IsScalar};
 ghost use Rattle.std.specs.Str.{IsAscii};
 ghost use Rattle.page_out.specs.Printed.{Prints};
@@ -137,7 +137,7 @@ fn push_end<K: Sink>(page: &mut Page, out: &mut K, name: &[u8])
 
 /// Puts a glyph that is no unit. A picture is named by its file, where it has one.
 pub(crate) fn push_other<K: Sink>(page: &mut Page, out: &mut K, images: &Images<'_>, glyph: Glyph)
-    ensures { Prints K.Sink out.old page.old out.new page.new (printed (other_tokens (files_of images.now) glyph)) }
+    ensures { Prints K.Sink out.old page.old out.new page.new (printed (other_tokens (image_files images.now) glyph)) }
 {
     match glyph {
         Glyph::Unit(_) => {}

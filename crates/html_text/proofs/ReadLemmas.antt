@@ -6,7 +6,7 @@ use Rattle.std.specs.Prelude.{codes}
 use Rattle.std.specs.List.{list_all}
 use Rattle.std.proofs.lemmas.Bool.{eqb-true}
 use Rattle.html_text.specs.Tokens.{Token, Character, Tag, escaped, escaped_text, printed}
-use Rattle.html_text.specs.Tokens.{printed_token, is_closed}
+use Rattle.html_text.specs.Tokens.{printed_token, is_closed_token}
 use Rattle.std.proofs.lemmas.List.Folds.{list_all-append}
 use Rattle.html_text.specs.Reading.{In_text, In_tag, In_reference, read_from}
 use Rattle.html_text.specs.Safe.{is_safe}
@@ -58,7 +58,8 @@ read-character code rest =
           ] refl
     ] refl
 
-read-token : (token : Token) (rest : List ℕ) → is_closed token ≡ true → read_from In_text (printed_token token ++ rest)
+read-token : (token : Token) (rest : List ℕ) → is_closed_token token ≡ true → read_from In_text (printed_token token ++
+    rest)
     ≡ token ∷ read_from In_text rest
 read-token (Character code) rest closed = read-character code rest
 read-token (Tag inner) rest closed =
@@ -67,8 +68,9 @@ read-token (Tag inner) rest closed =
 pub read_back : HtmlIsReadBack
 read_back [] closed = refl
 read_back (token ∷ tokens) closed =
-    read-token token (printed tokens) (and_first (is_closed token) (list_all is_closed tokens) closed)
-    ∙ ap (λ more. token ∷ more) (read_back tokens (and_second (is_closed token) (list_all is_closed tokens) closed))
+    read-token token (printed tokens) (and_first (is_closed_token token) (list_all is_closed_token tokens) closed)
+    ∙ ap (λ more. token ∷ more) (read_back tokens (and_second (is_closed_token token) (list_all is_closed_token tokens)
+    closed))
 
 no_or : (a b : Bool) → a ≡ false → b ≡ false → not (cond a true b) ≡ true
 no_or a b e f = rw (e, f) refl

@@ -1,13 +1,13 @@
 -- What the definitions imply.
 use Rattle.std.specs.Prelude.{◌≡◌, ℕ, true, List, map}
 use Rattle.std.specs.List.{list_all}
-use Rattle.html_text.specs.Tokens.{Token, Character, escaped_text, printed, is_closed}
+use Rattle.html_text.specs.Tokens.{Token, Character, escaped_text, printed, is_closed_token}
 use Rattle.html_text.specs.Reading.{read}
 use Rattle.html_text.specs.Safe.{is_safe}
 
 -- a page is read as what it was printed of, where no tag has a > of its own
 abbrev pub HtmlIsReadBack : Type 0
-HtmlIsReadBack = (tokens : List Token) → list_all is_closed tokens ≡ true → read (printed tokens) ≡ tokens
+HtmlIsReadBack = (tokens : List Token) → list_all is_closed_token tokens ≡ true → read (printed tokens) ≡ tokens
 
 -- a text is read as its characters, and as nothing else
 abbrev pub TextsAreReadBack : Type 0

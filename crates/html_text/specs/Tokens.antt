@@ -29,6 +29,6 @@ abbrev pub printed : List Token → List ℕ
 printed tokens = flat_map printed_token tokens
 
 -- a tag has no > of its own
-abbrev pub is_closed : Token → Bool
-is_closed (Character code) = true
-is_closed (Tag inner) = list_all (λ code. not (code == 62)) inner
+abbrev pub is_closed_token : Token → Bool
+is_closed_token (Character code) = true
+is_closed_token (Tag inner) = list_all (λ code. not (code == 62)) inner

@@ -6,16 +6,16 @@ use Rattle.doc_bits.specs.Number.{AreBytes}
 use Rattle.doc_bits.proofs.Public.{one_byte}
 use Rattle.doc_bits.specs.declared.places.Story.{Story}
 use Rattle.doc_bits.specs.declared.places.Story.TheVariants.{Main, Note, Head}
-use Rattle.doc_parts.specs.Bookmarks.{AreFormedBookmarks}
+use Rattle.document_bookmarks.specs.Bookmarks.{AreFormedBookmarks}
 use Rattle.prop_map.specs.Settings.{Properties}
 use Rattle.prop_map.specs.Formed.{IsMapEntry, IsPropertyMap, character_groups, paragraph_groups}
 use Rattle.prop_map.specs.Modifiers.{IsFormedModifier}
 use Rattle.prop_map.proofs.Public.{IsPropertyMap-empty, stay_formed}
-use Rattle.plain_doc.specs.declared.document.Document.{Document}
-use Rattle.plain_doc.specs.Marks.{HasFormedBookmarks}
+use Rattle.doc_model.specs.declared.document.Document.{Document}
+use Rattle.doc_model.specs.Marks.{HasFormedBookmarks}
 use Rattle.doc_patch.specs.Changes.{changed, all_changed, modified_item}
 use Rattle.doc_patch.specs.Makes.{CanMakeAll}
-use Rattle.doc_patch.specs.Places.{text_at, HasText, HasRange}
+use Rattle.doc_patch.specs.Places.{story_text, HasText, HasRange}
 use Rattle.doc_mends.proofs.Public.{length-map_range, texts_kept, range_kept}
 use Rattle.huge_papx.specs.declared.rows.DefinedRow.{DefinedRow}
 use Rattle.huge_papx.specs.Rows.{row_set, defining}
@@ -71,7 +71,8 @@ defining_formed cells bytes short = record {
 row_stays : (document : Document) (row other : DefinedRow) → IsRowOf document row → IsRowOf document other →
     IsRowOf (changed (definition_change row) document) other
 row_stays document row other here is = record {
-  there = range_kept (text_at document other.story) (text_at (changed (definition_change row) document) other.story)
+  there = range_kept (story_text document other.story) (story_text (changed (definition_change row) document)
+      other.story)
       other.at (other.at + 1)
       (texts_kept document row.story other.story row.at (row.at + 1) (modified_item (defining row.cells)) here.there)
       is.there;

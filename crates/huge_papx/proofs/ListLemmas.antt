@@ -8,11 +8,11 @@ use Rattle.std.proofs.lemmas.Option.{none-some}
 use Rattle.std.proofs.lemmas.List.{append-nil}
 use Rattle.std.proofs.lemmas.List.Elements.{filter-append}
 use Rattle.sprm_table.specs.Sprm.{Prl, SpellsSprmList}
-use Rattle.sprm_table.specs.Cursor.{SprmCursor, left, Takes}
+use Rattle.sprm_table.specs.Cursor.{SprmCursor, left, TakesFirstPrl}
 use Rattle.sprm_table.proofs.Public.{spelt_unique}
-use Rattle.deleted_text.proofs.Public.{last_or_both}
 use Rattle.huge_papx.specs.declared.lists.Sought.{Sought}
 use Rattle.huge_papx.specs.Lists.{is_sought, sought_among, last_value, HasLastValue}
+use Rattle.prop_map.proofs.Public.{last_or_both}
 
 abbrev value_of : Option Prl → Option (List ℕ)
 value_of o = option_map (λ (prl : Prl). prl.1) o
@@ -66,7 +66,7 @@ found_none sought prls bytes cursor start spelt = record {
 }
 
 pub found_more : (sought : Sought) (prls : List Prl) (old new : SprmCursor) (last next : Option (List ℕ))
-    (code from to : ℕ) → (so_far : FoundSoFar sought prls old last) → Takes old new so_far.others code from to →
+    (code from to : ℕ) → (so_far : FoundSoFar sought prls old last) → TakesFirstPrl old new so_far.others code from to →
     next ≡ option_or (last_value sought ((code, slice_range old.bytes from to) ∷ [])) last →
     FoundSoFar sought prls new next
 found_more sought prls old new last next code from to so_far takes is =

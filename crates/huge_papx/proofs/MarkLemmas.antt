@@ -4,15 +4,15 @@ use Rattle.std.proofs.Common.{◌≡◌, ◌∙◌, sym, ap, subst, refl, ℕ, z
 use Rattle.std.specs.Option.{option_and_then, ForSome}
 use Rattle.std.proofs.lemmas.List.Elements.{All-head, All-tail}
 use Rattle.prop_map.specs.Formed.{IsPropertyMap, paragraph_groups}
-use Rattle.plain_doc.specs.declared.item.Item.{Item}
-use Rattle.plain_doc.specs.declared.item.Mark.{Mark}
-use Rattle.plain_doc.specs.Document.{IsFormedItem, IsFormedText}
+use Rattle.doc_model.specs.declared.item.Item.{Item}
+use Rattle.doc_model.specs.declared.item.Mark.{Mark}
+use Rattle.doc_model.specs.Document.{IsFormedItem, IsFormedText}
 use Rattle.doc_columns.specs.declared.attached.Attached.{Attached}
 use Rattle.doc_columns.specs.Attached.{attached_of}
-use Rattle.huge_papx.specs.Rows.{HasParagraphMap, mark_of}
+use Rattle.huge_papx.specs.Rows.{HasParagraphMap, item_mark_at}
 
 pub mark_there : (text : List Item) (at : ℕ) (attached : Attached) →
-    slice_get (map attached_of text) at ≡ Some attached → mark_of text at ≡ attached.mark
+    slice_get (map attached_of text) at ≡ Some attached → item_mark_at text at ≡ attached.mark
 mark_there [] at attached there = absurd (cc there)
 mark_there (item ∷ items) zero attached there = let same : attached_of item ≡ attached = cc there in ap (λ (a : Attached). a.mark) same
 mark_there (item ∷ items) (suc at) attached there = mark_there items at attached there

@@ -26,15 +26,15 @@ use Rattle.direct_props.specs.PageRules.{IsValidPlace}
 use Rattle.direct_props.specs.Stretches.{HasValidList}
 use Rattle.direct_props.proofs.Public.{right_places_have_lists}
 use Rattle.piece_table.specs.Piece.{UnitPlace, flat_pieces}
-use Rattle.plain_doc.specs.declared.item.Item.{Item}
-use Rattle.plain_doc.specs.Entries.{entry_at}
-use Rattle.plain_doc.specs.declared.document.Document.{Document}
+use Rattle.doc_model.specs.declared.item.Item.{Item}
+use Rattle.doc_model.specs.Entries.{entry_at_cp}
+use Rattle.doc_model.specs.declared.document.Document.{Document}
 use Rattle.plain_doc.specs.declared.rules_texts.Side.{Side}
 use Rattle.plain_doc.specs.declared.rules_texts.Side.TheVariants.{Notes, Heads}
-use Rattle.file_rules.specs.Source.{part_bytes, story_length}
+use Rattle.file_rules.specs.Source.{table_part_bytes, story_length}
 use Rattle.file_rules.specs.Units.{unit_at, text_units}
 use Rattle.file_rules.specs.FormatRules.{text_count, judged_places}
-use Rattle.file_rules.specs.FileRules.{source_of}
+use Rattle.file_rules.specs.FileRules.{doc_source_of}
 use Rattle.doc_read.specs.Sections.{section_marks}
 use Rattle.doc_read.proofs.Public.{RightText, mark_place, read_at_place}
 use Rattle.doc_patch.specs.Changes.{all_changed}
@@ -50,7 +50,7 @@ use Rattle.huge_papx.specs.declared.rows.DefinedRow.{DefinedRow}
 use Rattle.huge_papx.specs.Lists.{is_sought, last_value, HasLastValue}
 use Rattle.huge_papx.specs.Definitions.{IsDefinitionOf, AreDefinitions}
 use Rattle.huge_papx.specs.Offsets.{NamesOffset, IsNamedAt, IsOffsetOf}
-use Rattle.huge_papx.specs.Rows.{row_with, mark_of, row_at, text_rows, texts_rows, document_rows}
+use Rattle.huge_papx.specs.Rows.{row_with, item_mark_at, defined_row_at, text_rows, texts_rows, document_rows}
 use Rattle.huge_papx.specs.Defined.{definition_change, definition_mend, most_defined}
 use Rattle.huge_papx.specs.Texts.{AreTextOffsets, IsDefinedText, IsStruckDefined}
 use Rattle.huge_papx.proofs.OffsetLemmas.{bare_names_none}
@@ -144,12 +144,12 @@ no_place : UnitPlace
 no_place = record { at = 0; wide = false; modifier = no_modifier }
 
 -- each end of a cell or of a row is at a right place
-cell_right : (r : RightText) (k : ℕ) → k < length (judged_places (source_of r.text)) →
+cell_right : (r : RightText) (k : ℕ) → k < length (judged_places (doc_source_of r.text)) →
     slice_index (text_units r.text.wd r.text.pieces) k ≡ cell_mark →
-    IsValidPlace Papx r.text.wd (part_bytes (source_of r.text) PlcfBtePapx)
-    (slice_index (judged_places (source_of r.text)) k)
+    IsValidPlace Papx r.text.wd (table_part_bytes (doc_source_of r.text) PlcfBtePapx)
+    (slice_index (judged_places (doc_source_of r.text)) k)
 cell_right r k low cell =
-    let source = source_of r.text in
+    let source = doc_source_of r.text in
     let flat = flat_pieces r.text.pieces in
     let places = length-take (text_count source) source.text.places in
     let all = length-map flat (λ (p : UnitPlace). p.at) in
@@ -161,7 +161,7 @@ cell_right r k low cell =
     let read = read_at_place (unit_at r.text.wd) r.text.pieces k (text_count source) place here count in
     let own = get_or-take (text_count source) source.text.units k 0 count in
     let unit : unit_at r.text.wd place ≡ cell_mark = sym read ∙ (own ∙ cell) in
-    let section = entry_at (section_marks r.lists.sections (story_length source stories.Main) []) k in
+    let section = entry_at_cp (section_marks r.lists.sections (story_length source stories.Main) []) k in
     let item : Item = record {
       unit = unit_at r.text.wd place;
       fld = None;
@@ -170,7 +170,7 @@ cell_right r k low cell =
       mark = None;
       sect = section;
     } in
-    subst (IsValidPlace Papx r.text.wd (part_bytes source PlcfBtePapx)) (sym at)
+    subst (IsValidPlace Papx r.text.wd (table_part_bytes source PlcfBtePapx)) (sym at)
     (mark_place r [] k place item count here refl refl
     (cell_ends (unit_at r.text.wd place) (is_some section) unit))
 
@@ -178,9 +178,9 @@ held_none : (r : RightText) (offsets : List (Option ℕ)) → AreTextOffsets r.t
 held_none r offsets are = λ k. elim (cases_lt k (length offsets)) [
   | inr past ↦ get_or_past offsets k None past
   | inl low ↦
-      let source = source_of r.text in
+      let source = doc_source_of r.text in
       none_some (slice_index_or offsets k None) (are.each k low) (λ offset named.
-      right_names source.wd (part_bytes source PlcfBtePapx) (slice_index (judged_places source) k)
+      right_names source.wd (table_part_bytes source PlcfBtePapx) (slice_index (judged_places source) k)
       (slice_index (text_units r.text.wd r.text.pieces) k) offset
       (cell_right r k (omega (arith, low, are.len)) named.cell) named)
 ]
@@ -207,13 +207,13 @@ back_none : {A : Type 0} (list : List (Option A)) (n : ℕ) → AreNone list →
 back_none list n none = λ k. get_or-drop n list k None ∙ none (n + k)
 
 no_row : (story : Story) (found : List (Option RowDefinition)) (text : List Item) (at : ℕ) → AreNone found →
-    row_at story found text at ≡ None
-no_row story found text at none = ap (option_and_then (row_with story at (mark_of text at))) (none at)
+    defined_row_at story found text at ≡ None
+no_row story found text at none = ap (option_and_then (row_with story at (item_mark_at text at))) (none at)
 
 text_none : (story : Story) (found : List (Option RowDefinition)) (text : List Item) → AreNone found →
     text_rows story found text ≡ []
 text_none story found text none =
-    none_listed (row_at story found text) (length text) (λ at. no_row story found text at none)
+    none_listed (defined_row_at story found text) (length text) (λ at. no_row story found text at none)
 
 texts_none : (side : Side) (found : List (Option RowDefinition)) (texts : List (List Item)) → AreNone found →
     texts_rows side found texts ≡ []

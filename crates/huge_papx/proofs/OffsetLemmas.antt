@@ -1,9 +1,7 @@
 -- Which place of Data the paragraph of a place names.
 use Rattle.std.specs.Prelude.{MatchOption}
-use Rattle.std.proofs.Common.{◌≡◌, sym, subst, refl, inl, ℕ, ◌+◌, ◌*◌, ◌<◌, ◌≤◌, List, [], ◌∷◌, length, drop, arith}
+use Rattle.std.proofs.Common.{◌≡◌, sym, subst, ℕ, ◌+◌, ◌*◌, ◌<◌, ◌≤◌, List, [], ◌∷◌, length, drop, arith}
 use Rattle.std.proofs.Common.{Option, Some, None}
-use Rattle.std.proofs.lemmas.List.Elements.{All-nil}
-use Rattle.sprm_table.specs.Sprm.{IsPrl, SpellsSprmList}
 use Rattle.text_codes.specs.Paragraph.{cell_mark}
 use Rattle.fkp_pages.specs.declared.kind.PageKind.TheVariants.{Papx}
 use Rattle.fkp_pages.specs.declared.kind.RunAnswer.{RunAnswer}
@@ -16,11 +14,9 @@ use Rattle.huge_papx.specs.declared.lists.Sought.TheVariants.{HugePapx}
 use Rattle.huge_papx.specs.Lists.{HasLastValue}
 use Rattle.huge_papx.specs.Offsets.{NamesOffset, IsNamedAt, NamesNothing, IsOffsetOf, IsInPage, AnswersList}
 use Rattle.huge_papx.proofs.ListLemmas.{nothing_last}
+use Rattle.deleted_text.proofs.Public.{spells_nothing}
 
 -- ---- answers
-
-spells_nothing : SpellsSprmList [] []
-spells_nothing = record { rest = []; entries = All-nil IsPrl; spelt = refl; ends = inl (omega arith) }
 
 -- the list of a run without properties names none
 pub bare_names_none : (offset : ℕ) → NamesOffset (0 ∷ 0 ∷ []) offset → ⊥

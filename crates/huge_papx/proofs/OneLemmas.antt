@@ -1,19 +1,19 @@
 -- A document is struck, and its rows get their cells, in one way.
 use Rattle.std.specs.Prelude.{IsTrue, slice_index, slice_index_or, MatchOption}
-use Rattle.std.proofs.Common.{◌≡◌, ◌∙◌, ◌↔◌, ◌++◌, sym, ap, subst, refl, ℕ, ◌<◌, Bool, true, false, List, [], ◌∷◌, length, map}
+use Rattle.std.proofs.Common.{◌≡◌, ◌∙◌, ◌↔◌, ◌++◌, sym, ap, subst, refl, ℕ, ◌<◌, List, [], ◌∷◌, length, map}
 use Rattle.std.proofs.Common.{take, Option, Some, None, arith}
 use Rattle.std.proofs.lemmas.List.{ext_get_or}
 use Rattle.doc_bits.specs.Number.{u32_at}
 use Rattle.fkp_pages.specs.declared.kind.PageKind.TheVariants.{Papx}
 use Rattle.fkp_pages.specs.Bin.{IsBinTable}
 use Rattle.fkp_pages.proofs.Public.{list_at_one}
-use Rattle.plain_doc.specs.declared.document.Document.{Document}
+use Rattle.doc_model.specs.declared.document.Document.{Document}
 use Rattle.file_rules.specs.FileRules.{FileText}
 use Rattle.doc_mends.specs.declared.mends.Mend.{Mend}
 use Rattle.doc_patch.specs.Changes.{all_changed}
 use Rattle.deleted_text.specs.declared.ranges.StoryBegins.{StoryBegins}
 use Rattle.deleted_text.specs.Ranges.{begins_of}
-use Rattle.deleted_text.proofs.Public.{struck_one}
+use Rattle.deleted_text.proofs.Public.{struck_one, flag_one}
 use Rattle.huge_papx.specs.declared.lists.Sought.TheVariants.{HugePapx, RowEnd, Definition}
 use Rattle.huge_papx.specs.declared.definitions.RowDefinition.{RowDefinition}
 use Rattle.huge_papx.specs.declared.rows.DefinedRow.{DefinedRow}
@@ -35,12 +35,6 @@ option_one P None None one x y = refl
 option_one P None (Some b) one x y = absurd (x b y)
 option_one P (Some a) None one x y = absurd (y a x)
 option_one P (Some a) (Some b) one x y = ap Some (one a b x y)
-
-flag_one : {P : Type 0} (a b : Bool) → (IsTrue a ↔ P) → (IsTrue b ↔ P) → a ≡ b
-flag_one true true x y = refl
-flag_one true false x y = absurd (cc (y.1 (x.0 refl)))
-flag_one false true x y = absurd (cc (x.1 (y.0 refl)))
-flag_one false false x y = refl
 
 -- ---- offsets
 

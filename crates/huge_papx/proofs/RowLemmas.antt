@@ -1,6 +1,6 @@
 -- The rows of a document that get their cells are rows of it.
 use Rattle.std.specs.Prelude.{slice_get, MatchOption, nat_le, if◌then◌else◌}
-use Rattle.std.proofs.Common.{◌≡◌, ◌∙◌, sym, ap, subst, refl, ℕ, ◌+◌, ◌<◌, ◌≤◌, Bool, true, false, ◌&&◌, List, [], ◌∷◌}
+use Rattle.std.proofs.Common.{◌≡◌, ◌∙◌, sym, ap, subst, refl, ℕ, ◌+◌, ◌<◌, ◌≤◌, Bool, true, false, List, [], ◌∷◌}
 use Rattle.std.proofs.Common.{◌++◌, length, drop, get_or, Option, Some, None, All, arith}
 use Rattle.std.specs.Option.{option_and_then, unwrap_or}
 use Rattle.std.proofs.lemmas.Bool.{leb-true}
@@ -8,38 +8,33 @@ use Rattle.std.proofs.lemmas.List.Elements.{All-append}
 use Rattle.std.proofs.lemmas.Option.{slice_get-get_or}
 use Rattle.doc_bits.specs.declared.places.Story.{Story}
 use Rattle.doc_bits.specs.declared.places.Story.TheVariants.{Main}
-use Rattle.plain_doc.specs.declared.item.Item.{Item}
-use Rattle.plain_doc.specs.declared.item.Mark.{Mark}
-use Rattle.plain_doc.specs.declared.document.Document.{Document}
+use Rattle.doc_model.specs.declared.item.Item.{Item}
+use Rattle.doc_model.specs.declared.item.Mark.{Mark}
+use Rattle.doc_model.specs.declared.document.Document.{Document}
 use Rattle.plain_doc.specs.declared.rules_texts.Side.{Side}
 use Rattle.plain_doc.specs.declared.rules_texts.Side.TheVariants.{Notes, Heads}
-use Rattle.doc_patch.specs.Places.{text_at, HasText, HasRange}
+use Rattle.doc_patch.specs.Places.{story_text, HasText, HasRange}
 use Rattle.doc_mends.specs.Sides.{side_name}
 use Rattle.deleted_text.specs.declared.ranges.StoryBegins.{StoryBegins}
 use Rattle.deleted_text.specs.Ranges.{items_before}
-use Rattle.deleted_text.proofs.Public.{all_listed, all_joined}
+use Rattle.deleted_text.proofs.Public.{all_joined}
 use Rattle.huge_papx.specs.declared.definitions.RowDefinition.{RowDefinition}
 use Rattle.huge_papx.specs.declared.rows.DefinedRow.{DefinedRow}
-use Rattle.huge_papx.specs.Rows.{lacks_cells, is_short_mark, takes_cells, row_with, mark_of, row_at, text_rows}
+use Rattle.huge_papx.specs.Rows.{lacks_cells, is_short_mark, takes_cells, row_with, item_mark_at, defined_row_at}
+use Rattle.huge_papx.specs.Rows.{text_rows}
 use Rattle.huge_papx.specs.Rows.{texts_rows, document_rows}
+use Rattle.doc_mends.proofs.Public.{listed_all}
+use Rattle.doc_bits.proofs.Public.{and_first, and_second}
 
 -- a row of a document, with cells that fit a page
 pub record IsRowOf (document : Document) (row : DefinedRow) : Type 0 where
   pub there : HasText document row.story (HasRange row.at (row.at + 1))
   pub short : length row.cells ≤ 480
 
-both_last : (a b : Bool) → (a && b) ≡ true → b ≡ true
-both_last true b is = is
-both_last false b is = absurd (cc is)
-
-both_first : (a b : Bool) → (a && b) ≡ true → a ≡ true
-both_first true b is = refl
-both_first false b is = absurd (cc is)
-
 short_cells : (mark : Option Mark) (cells : List ℕ) → is_short_mark mark cells ≡ true → length cells ≤ 480
 short_cells None cells is = absurd (cc is)
 short_cells (Some mark) cells is =
-    let few : nat_le (length cells) 480 ≡ true = both_first (nat_le (length cells) 480) _ is in
+    let few : nat_le (length cells) 480 ≡ true = and_first (nat_le (length cells) 480) _ is in
     leb-true (length cells) 480 few
 
 found_row : (found : Bool) (here row : DefinedRow) → (if found then Some here else None) ≡ Some row →
@@ -63,11 +58,11 @@ row_is story at mark (Some definition) row is =
       story_is = refl;
       at_is = refl;
       short = short_cells mark definition.cells
-          (both_last (lacks_cells mark definition) (is_short_mark mark definition.cells) found.0);
+          (and_second (lacks_cells mark definition) (is_short_mark mark definition.cells) found.0);
     })
 
 row_there : (document : Document) (story : Story) (text : List Item) (at : ℕ) (row : DefinedRow) →
-    text_at document story ≡ Some text → at < length text → IsRowIn story at row → IsRowOf document row
+    story_text document story ≡ Some text → at < length text → IsRowIn story at row → IsRowOf document row
 row_there document story text at row there low is =
     let low_row = is.at_is in
     let such : HasText document story (HasRange row.at (row.at + 1)) =
@@ -79,13 +74,13 @@ row_there document story text at row there low is =
     }
 
 text_there : (document : Document) (story : Story) (definitions : List (Option RowDefinition)) (text : List Item) →
-    text_at document story ≡ Some text → All (IsRowOf document) (text_rows story definitions text)
+    story_text document story ≡ Some text → All (IsRowOf document) (text_rows story definitions text)
 text_there document story definitions text there =
-    all_listed (IsRowOf document) (row_at story definitions text) (length text) (λ at row low is.
-    row_there document story text at row there low (row_is story at (mark_of text at) _ row is))
+    listed_all (IsRowOf document) (defined_row_at story definitions text) (length text) (λ at row low is.
+    row_there document story text at row there low (row_is story at (item_mark_at text at) _ row is))
 
 texts_there : (document : Document) (side : Side) (definitions : List (Option RowDefinition))
-    (texts : List (List Item)) → ((i : ℕ) → text_at document (side_name side i) ≡ slice_get texts i) →
+    (texts : List (List Item)) → ((i : ℕ) → story_text document (side_name side i) ≡ slice_get texts i) →
     All (IsRowOf document) (texts_rows side definitions texts)
 texts_there document side definitions texts named =
     all_joined (IsRowOf document)

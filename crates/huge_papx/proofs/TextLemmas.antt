@@ -1,8 +1,8 @@
 -- What a text whose rows got their cells keeps.
 use Rattle.std.proofs.Common.{◌≡◌, sym, subst, refl, ℕ, List, [], ◌∷◌, Option, length, take, All, arith}
 use Rattle.std.proofs.lemmas.List.Elements.{All-take}
-use Rattle.plain_doc.specs.declared.document.Document.{Document}
-use Rattle.plain_doc.specs.Marks.{HasFormedBookmarks}
+use Rattle.doc_model.specs.declared.document.Document.{Document}
+use Rattle.doc_model.specs.Marks.{HasFormedBookmarks}
 use Rattle.file_rules.specs.FileRules.{FileText}
 use Rattle.doc_mends.specs.declared.mends.Mend.{Mend}
 use Rattle.deleted_text.specs.declared.ranges.StoryBegins.{StoryBegins}

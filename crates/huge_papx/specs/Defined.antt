@@ -1,6 +1,6 @@
 -- Rows get the cells that the stream Data has for them.
 use Rattle.std.specs.Prelude.{◌≡◌, ℕ, ◌+◌, Bool, List, ◌++◌, map, take, Option}
-use Rattle.plain_doc.specs.declared.document.Document.{Document}
+use Rattle.doc_model.specs.declared.document.Document.{Document}
 use Rattle.doc_patch.specs.declared.changes.Change.{Change}
 use Rattle.doc_patch.specs.declared.changes.Change.TheVariants.{ModifyItems}
 use Rattle.doc_patch.specs.Changes.{all_changed}

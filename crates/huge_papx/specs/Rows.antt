@@ -12,12 +12,12 @@ use Rattle.prop_map.specs.Formed.{IsPropertyMap, paragraph_groups}
 use Rattle.prop_map.specs.Settings.{Properties}
 use Rattle.prop_map.specs.Overlay.{modified_paragraph}
 use Rattle.prop_map.specs.Printing.{printed_list}
-use Rattle.plain_doc.specs.declared.item.Item.{Item}
-use Rattle.plain_doc.specs.declared.item.Mark.{Mark}
-use Rattle.plain_doc.specs.declared.document.Document.{Document}
+use Rattle.doc_model.specs.declared.item.Item.{Item}
+use Rattle.doc_model.specs.declared.item.Mark.{Mark}
+use Rattle.doc_model.specs.declared.document.Document.{Document}
 use Rattle.plain_doc.specs.declared.rules_texts.Side.{Side}
 use Rattle.plain_doc.specs.declared.rules_texts.Side.TheVariants.{Notes, Heads}
-use Rattle.plain_doc.specs.Rows.{value_in, is_on}
+use Rattle.plain_doc.specs.Rows.{mark_value_in, is_byte_one}
 use Rattle.doc_patch.specs.Modifiers.{property_paragraphs}
 use Rattle.doc_mends.specs.Sides.{side_name}
 use Rattle.deleted_text.specs.declared.ranges.StoryBegins.{StoryBegins}
@@ -48,7 +48,7 @@ is_short_mark (Some mark) cells = is_short_pap mark.pap cells
 -- the mark ends a row, as it says itself or as Data says, and has no cells of its own
 abbrev pub lacks_cells : Option Mark → RowDefinition → Bool
 lacks_cells mark definition =
-    (definition.ends_row || is_on (value_in mark 0x2417)) && not (is_some (value_in mark 0xD608))
+    (definition.ends_row || is_byte_one (mark_value_in mark 0x2417)) && not (is_some (mark_value_in mark 0xD608))
 
 -- it gets those of a definition
 abbrev pub takes_cells : Option Mark → RowDefinition → Bool
@@ -58,16 +58,17 @@ abbrev pub row_with : Story → ℕ → Option Mark → RowDefinition → Option
 row_with story at mark definition =
     if takes_cells mark definition then Some (record { story = story; at = at; cells = definition.cells }) else None
 
-abbrev pub mark_of : List Item → ℕ → Option Mark
-mark_of text at = option_and_then (λ item. item.mark) (slice_get text at)
+abbrev pub item_mark_at : List Item → ℕ → Option Mark
+item_mark_at text at = option_and_then (λ item. item.mark) (slice_get text at)
 
-abbrev pub row_at : Story → List (Option RowDefinition) → List Item → ℕ → Option DefinedRow
-row_at story definitions text at =
-    option_and_then (row_with story at (mark_of text at)) (slice_index_or definitions at None)
+abbrev pub defined_row_at : Story → List (Option RowDefinition) → List Item → ℕ → Option DefinedRow
+defined_row_at story definitions text at =
+    option_and_then (row_with story at (item_mark_at text at)) (slice_index_or definitions at None)
 
 -- those of a text
 abbrev pub text_rows : Story → List (Option RowDefinition) → List Item → List DefinedRow
-text_rows story definitions text = filter_map (λ row. row) (tabulate (row_at story definitions text) (length text))
+text_rows story definitions text = filter_map (λ row. row) (tabulate (defined_row_at story definitions text) (length
+    text))
 
 -- those of the notes, or of the header texts: each text begins where the one before it ends
 abbrev pub texts_rows : Side → List (Option RowDefinition) → List (List Item) → List DefinedRow

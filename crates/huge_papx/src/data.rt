@@ -4,15 +4,13 @@ ghost use Rattle.huge_papx.specs.Data.{data_of as bytes_of_data, IsPrcAt};
 
 use cfb_streams::{Streams, equal_names};
 use doc_bits::get16;
+use piece_table::MAX_GRPPRL;
 
 /// [MS-DOC] Data.
-const DATA: [u16; 4] = [68, 97, 116, 97];
+pub const DATA: [u16; 4] = [68, 97, 116, 97];
 
 /// [MS-DOC] PrcData: so many bytes are before the list.
 const PRC_START: usize = 2;
-
-/// [MS-DOC] PrcData.cbGrpprl: at most.
-const MAX_GRPPRL: usize = 0x3FA2;
 
 /// The bytes of the stream Data of a document, or none.
 pub(crate) fn data_of(streams: &Streams) -> &[u8]

@@ -8,5 +8,6 @@ mod lists;
 mod offsets;
 mod rows;
 
+pub use data::DATA;
 pub use defining::{MAX_DEFINED, strike_and_define};
 pub use offsets::huge_offsets;

@@ -11,12 +11,9 @@ use crate::lists::{Sought, last_value};
 use deleted_text::{is_bin_table, page_in};
 use direct_props::Places;
 use doc_bits::{Memory, get32};
-use fkp_pages::{RunAnswer, bin_at, papx_at};
+use fkp_pages::{ISTD_LEN, RunAnswer, bin_at, papx_at};
 use std::alloc::Global;
 use text_codes::CELL_MARK;
-
-/// [MS-DOC] GrpPrlAndIstd: the number of the style is before the list.
-const ISTD_LEN: usize = 2;
 
 /// Of each of these places, which place of Data its paragraph names, where it is the end of a cell or of a row. Where
 /// the bin table is none nothing is said.

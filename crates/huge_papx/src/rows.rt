@@ -5,24 +5,23 @@ ghost use Rattle.std.specs.Option.{option_and_then};
 ghost use Rattle.std.specs.List.{filter_map};
 ghost use Rattle.prop_map.specs.Formed.{IsPropertyMap, paragraph_groups};
 ghost use Rattle.prop_map.specs.Modifiers.{IsFormedModifier};
-ghost use Rattle.plain_doc.specs.Rows.{value_in, is_on};
+ghost use Rattle.plain_doc.specs.Rows.{mark_value_in, is_byte_one};
 ghost use Rattle.huge_papx.specs.Rows.{row_set as set_of_row, defining as modifier_of_row, HasParagraphMap};
 ghost use Rattle.huge_papx.specs.Rows.{lacks_cells, is_short_pap, is_short_mark, takes_cells, row_with};
 ghost use Rattle.huge_papx.specs.Rows.{text_rows, texts_rows, document_rows as rows_of_document};
 
 use crate::definitions::RowDefinition;
-use deleted_text::{StoryBegins, side_name};
+use deleted_text::StoryBegins;
 use doc_bits::{Bytes, Memory, Story};
 use doc_columns::{ColumnDocument, ColumnTexts, Columns};
+use doc_mends::side_name;
 use doc_patch::property_paragraphs;
+use piece_table::MAX_PAP;
 use plain_doc::{Mark, Side, value_at};
 use prop_map::{Modifier, PropMap};
 use run_lists::{Cursor, seek};
 use sprm_table::{SPRM_P_F_IN_TABLE, SPRM_P_F_TTP, SPRM_T_DEF_TABLE};
 use std::alloc::Global;
-
-/// The most bytes of the properties of a mark, as they are printed.
-const MAX_PAP: u64 = 480;
 
 /// The mark of a row by the number of its item, and the cells that it gets.
 #[derive(Drop)]
@@ -177,7 +176,7 @@ fn needs_cells(mark: &Option<Mark>, definition: &RowDefinition) -> bool
 
 /// Whether a mark has cells of its own.
 fn has_cells(mark: &Option<Mark>) -> bool
-    ensures { result ≡ is_some (value_in mark.now 0xD608) }
+    ensures { result ≡ is_some (mark_value_in mark.now 0xD608) }
 {
     match value_at(mark, SPRM_T_DEF_TABLE) {
         None => false,
@@ -187,7 +186,7 @@ fn has_cells(mark: &Option<Mark>) -> bool
 
 /// Whether a mark has the value 01 at sprmPFTtp.
 fn ends_row(mark: &Option<Mark>) -> bool
-    ensures { result ≡ is_on (value_in mark.now 0x2417) }
+    ensures { result ≡ is_byte_one (mark_value_in mark.now 0x2417) }
 {
     match value_at(mark, SPRM_P_F_TTP) {
         None => false,

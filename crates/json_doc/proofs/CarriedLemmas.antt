@@ -15,15 +15,16 @@ use Rattle.doc_bits.specs.Number.{AreBytes}
 use Rattle.edit_script.specs.Json.{◌>>=◌}
 use Rattle.edit_script.specs.Values.{bytes_of, short_number}
 use Rattle.cfb_streams.specs.Contents.{NamedBytes, AreStreams, AreStored, IsStored}
-use Rattle.plain_doc.specs.declared.carried.Carried.{Carried}
-use Rattle.plain_doc.specs.Formed.{IsFormedCarried}
-use Rattle.plain_doc.proofs.Public.{AreStreams-take}
+use Rattle.doc_model.specs.declared.carried.Carried.{Carried}
+use Rattle.doc_model.specs.Formed.{IsFormedCarried}
+use Rattle.doc_model.proofs.Public.{AreStreams-take}
 use Rattle.json_values.specs.Digits.{bytes_json, units_json, hex_units_of}
 use Rattle.json_values.specs.Plain.{HasKeysInOrder, MembersHaveKeysInOrder}
-use Rattle.json_values.specs.Rows.{number_json, taken, need, ended}
+use Rattle.json_values.specs.Rows.{number_json, taken, need, no_member_left}
 use Rattle.json_doc.specs.declared.carried_reading.CarriedFields.{CarriedFields}
 use Rattle.json_doc.specs.CarriedParts.{stream_json, streams_json, carried_json}
-use Rattle.json_doc.specs.CarriedReading.{stream_of_items, stream_of, AreFormedStreams, carried_values, HasFields}
+use Rattle.json_doc.specs.CarriedReading.{stream_of_items, stream_of_value, AreFormedStreams, carried_values}
+use Rattle.json_doc.specs.CarriedReading.{HasCarriedFields}
 use Rattle.json_doc.specs.CarriedReading.{AreValidFields, IsStreamAdded, IsNoStream}
 use Rattle.json_doc.proofs.FieldLemmas.{numbers_one, bytes_are_one, units_are_one}
 use Rattle.json_doc.proofs.ListLemmas.{array_is, AreGiven, given_more, given_one, given_same}
@@ -32,7 +33,7 @@ use Rattle.json_doc.proofs.RowLemmas.{AreOne, then_found, need_one, need_back, t
 
 -- ---- a stream
 
-stream_back : (s : NamedBytes) → IsStored s.name s.bytes → stream_of (stream_json s) ≡ Some s
+stream_back : (s : NamedBytes) → IsStored s.name s.bytes → stream_of_value (stream_json s) ≡ Some s
 stream_back s is =
     then_found (hex_units_of (units_json s.name)) _ s.name s (units_are_one.back s.name is.units)
     (then_found (bytes_of (bytes_json s.bytes)) _ s.bytes s (bytes_are_one.back s.bytes is.small) refl)
@@ -52,7 +53,7 @@ stream_items_one (item a (item b no_items)) s e =
     subst (λ t. IsStored t.name t.bytes × (array (item a (item b no_items)) ≡ stream_json t)) made
     (record { units = name.0; small = bytes.0 }, λ t. array (item (name.1 t) (item (bytes.1 t) no_items)))
 
-pub streams_are_one : AreOne stream_of stream_json (λ s. IsStored s.name s.bytes)
+pub streams_are_one : AreOne stream_of_value stream_json (λ s. IsStored s.name s.bytes)
 streams_are_one = record {
   back = stream_back;
   one = λ value s order e.
@@ -70,11 +71,11 @@ not_two (a ∷ b ∷ c ∷ more) other = refl
 
 -- ---- the streams of an array
 
-pub one_added : (ds : List Data) (old new : List NamedBytes) (d : Data) → AreGiven stream_of ds old →
-    IsStreamAdded d old new → AreGiven stream_of (ds ++ d ∷ []) new
+pub one_added : (ds : List Data) (old new : List NamedBytes) (d : Data) → AreGiven stream_of_value ds old →
+    IsStreamAdded d old new → AreGiven stream_of_value (ds ++ d ∷ []) new
 one_added ds old new d before added =
-    subst (λ xs. AreGiven stream_of (ds ++ d ∷ []) xs) (sym added.grown)
-    (given_more stream_of ds old d added.stream before added.read)
+    subst (λ xs. AreGiven stream_of_value (ds ++ d ∷ []) xs) (sym added.grown)
+    (given_more stream_of_value ds old d added.stream before added.read)
 
 all_stored : (xs : List NamedBytes) → AreFormedStreams xs → All (λ s. IsStored s.name s.bytes) xs
 all_stored xs formed = formed.stored
@@ -85,7 +86,7 @@ take-map (suc i) [] = refl
 take-map (suc i) (x ∷ xs) = ap (λ more. stream_json x ∷ more) (take-map i xs)
 
 pub streams_unread : (ds : List Data) (i : ℕ) (old : List NamedBytes) → i < length ds →
-    AreGiven stream_of (take i ds) old → IsNoStream (get_or ds i null) old → (xs : List NamedBytes) →
+    AreGiven stream_of_value (take i ds) old → IsNoStream (get_or ds i null) old → (xs : List NamedBytes) →
     AreFormedStreams xs → array (items_of ds) ≢ streams_json xs
 streams_unread ds i old within given none xs formed e =
     let same = same_items ds (map stream_json xs) e in
@@ -98,17 +99,17 @@ streams_unread ds i old within given none xs formed e =
     (All-take (λ s. IsStored s.name s.bytes) i xs formed.stored) front in
     let value : get_or ds i null ≡ stream_json x =
     ap (λ l. get_or l i null) same ∙ get_or-map stream_json xs i nothing null less in
-    let read : stream_of (get_or ds i null) ≡ Some x =
-    ap stream_of value ∙ streams_are_one.back x (formed.stored i nothing less) in
+    let read : stream_of_value (get_or ds i null) ≡ Some x =
+    ap stream_of_value value ∙ streams_are_one.back x (formed.stored i nothing less) in
     none x read (subst AreStreams (take_more xs i nothing less ∙ ap (λ l. l ++ x ∷ []) (sym before))
     (AreStreams-take (i + 1) xs formed.ordered))
 
-pub streams_same : (ds : List Data) (streams xs : List NamedBytes) → AreGiven stream_of ds streams →
+pub streams_same : (ds : List Data) (streams xs : List NamedBytes) → AreGiven stream_of_value ds streams →
     AreFormedStreams xs → array (items_of ds) ≡ streams_json xs → streams ≡ xs
 streams_same ds streams xs given formed e =
     given_same streams_are_one ds streams xs given formed.stored (same_items ds (map stream_json xs) e)
 
-pub streams_read : (ds : List Data) (streams : List NamedBytes) → AreGiven stream_of ds streams →
+pub streams_read : (ds : List Data) (streams : List NamedBytes) → AreGiven stream_of_value ds streams →
     HasKeysInOrder (array (items_of ds)) → array (items_of ds) ≡ streams_json streams
 streams_read ds streams given order = (given_one streams_are_one ds streams given order).1
 
@@ -212,7 +213,7 @@ rest_of front ms = do
   lid_fe ← need (codes "lidfe") short_number lid.1
   lst ← need (codes "lst") bytes_of lid_fe.1
   streams ← taken (codes "streams") lst.1
-  end ← ended streams.1
+  end ← no_member_left streams.1
   Some (
     record {
       assoc = front.assoc;
@@ -253,7 +254,7 @@ rest_one front ms p order e =
     let lst = need_one bytes_are_one (codes "lst") d.0.1 f.0 lid_fe.order f.1 in
     let g = step_found (taken (codes "streams") f.0.1) _ p f.2 in
     let streams = taken_is (codes "streams") f.0.1 g.0.0 g.0.1 g.1 in
-    let h = step_found (ended g.0.1) _ p g.2 in
+    let h = step_found (no_member_left g.0.1) _ p g.2 in
     let last = ended_is g.0.1 h.0 h.1 in
     let ordered : MembersHaveKeysInOrder (member (codes "streams") g.0.0 g.0.1) =
     subst MembersHaveKeysInOrder streams lst.order in
@@ -381,7 +382,7 @@ carried_unread value f d read none c formed e =
     (ap (λ q. q.1) (sym same))
 
 pub carried_told : (value : Data) (f : CarriedFields) (d : Data) (streams : List NamedBytes) (c : Carried) →
-    carried_values value ≡ Some (f, d) → (HasKeysInOrder d → d ≡ streams_json streams) → HasFields f streams c →
+    carried_values value ≡ Some (f, d) → (HasKeysInOrder d → d ≡ streams_json streams) → HasCarriedFields f streams c →
     HasKeysInOrder value → value ≡ carried_json c
 carried_told value f d streams c read told has order =
     let fields = fields_one value (f, d) order read in

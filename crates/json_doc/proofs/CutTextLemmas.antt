@@ -12,10 +12,11 @@ use Rattle.std.proofs.lemmas.Option.{same_Some, get_or_from_slice_get}
 use Rattle.doc_bits.proofs.Public.{slice_get_before, from_behind}
 use Rattle.serde_json.specs.Data.{Data, null, array, item}
 use Rattle.serde_json.specs.View.{items_of}
-use Rattle.plain_doc.specs.declared.item.Item.{Item}
-use Rattle.plain_doc.specs.Document.{IsFormedItem, IsFormedText}
-use Rattle.plain_doc.specs.Stretches.{stretches, joins_next, IsJoined, goes_over, BeginsStretch}
-use Rattle.plain_doc.proofs.Public.{stretches-first, stretches-nil, cut_into_stretches}
+use Rattle.doc_model.specs.declared.item.Item.{Item}
+use Rattle.doc_model.specs.Document.{IsFormedItem, IsFormedText}
+use Rattle.doc_model.specs.Stretches.{stretches, joins_next, IsJoinedStretch, goes_over, BeginsStretch}
+use Rattle.plain_doc.proofs.Public.{cut_into_stretches}
+use Rattle.doc_model.proofs.Public.{stretches-first, stretches-nil}
 use Rattle.json_values.specs.Plain.{ItemsHaveKeysInOrder}
 use Rattle.json_doc.specs.declared.pieces.Piece.{Piece}
 use Rattle.json_doc.specs.Pieces.{is_one_piece, piece_from, piece_json, stretch_json, text_json}
@@ -41,7 +42,7 @@ joins_none None = refl
 joins_none (Some x) = refl
 
 -- a part whose items join, and whose last one does not join what follows, is the first stretch
-first_cut : (part more : List Item) → 0 < length part → IsJoined is_one_piece part →
+first_cut : (part more : List Item) → 0 < length part → IsJoinedStretch is_one_piece part →
     goes_over is_one_piece part more ≡ false →
     stretches is_one_piece (part ++ more) ≡ part ∷ stretches is_one_piece more
 first_cut part more some joined ends =
@@ -183,7 +184,7 @@ taken_same ds items t order =
 -- a stretch of a formed text
 pub record IsGoodPart (part : List Item) : Type 0 where
   pub some : 0 < length part
-  pub joined : IsJoined is_one_piece part
+  pub joined : IsJoinedStretch is_one_piece part
   pub formed : All IsFormedItem part
 
 abbrev pub AreGood : List (List Item) → Type 0
@@ -266,7 +267,7 @@ good_front [] back good = tt
 good_front (f ∷ more) back good = (good.0, good_front more back good.1)
 
 -- the stretches of a formed text
-good_by : (parts : List (List Item)) → All (λ part. 0 < length part) parts → All (IsJoined is_one_piece) parts →
+good_by : (parts : List (List Item)) → All (λ part. 0 < length part) parts → All (IsJoinedStretch is_one_piece) parts →
     All IsFormedItem (flat parts) → AreGood parts
 good_by [] some joined formed = tt
 good_by (p ∷ ps) some joined formed = (

@@ -14,23 +14,23 @@ use Rattle.cfb_streams.specs.Contents.{NamedBytes, IsStored}
 use Rattle.style_sheet.specs.declared.styles.Style.{Style}
 use Rattle.style_sheet.specs.Sheet.{Sheet}
 use Rattle.style_sheet.specs.Formed.{IsFormedSlot, IsFormedSheet}
-use Rattle.plain_doc.specs.declared.item.Item.{Item}
-use Rattle.plain_doc.specs.declared.carried.Carried.{Carried}
-use Rattle.plain_doc.specs.declared.document.Document.{Document}
-use Rattle.plain_doc.specs.Carried.{ArePartsShort, AreListsWithLevels, AreCarriedStreams}
-use Rattle.plain_doc.specs.Document.{IsFormedText, AreFormedTexts}
-use Rattle.plain_doc.specs.Formed.{IsFormed, IsFormedCarried}
+use Rattle.doc_model.specs.declared.item.Item.{Item}
+use Rattle.doc_model.specs.declared.carried.Carried.{Carried}
+use Rattle.doc_model.specs.declared.document.Document.{Document}
+use Rattle.doc_model.specs.Carried.{ArePartsShort, AreListsWithLevels, AreCarriedStreams}
+use Rattle.doc_model.specs.Document.{IsFormedText, AreFormedTexts}
+use Rattle.doc_model.specs.Formed.{IsFormed, IsFormedCarried}
 use Rattle.json_values.specs.Plain.{HasKeysInOrder}
 use Rattle.json_doc.specs.CarriedParts.{stream_json, streams_json, carried_json}
 use Rattle.json_doc.specs.declared.carried_reading.CarriedFields.{CarriedFields}
 use Rattle.json_doc.specs.CarriedReading.{carried_values}
 use Rattle.json_doc.specs.StyleReading.{sheet_values}
-use Rattle.doc_parts.specs.Bookmarks.{AreFormedBookmarks}
+use Rattle.document_bookmarks.specs.Bookmarks.{AreFormedBookmarks}
 use Rattle.json_doc.specs.DocumentReading.{AreMarks, SixValues, document_values}
 use Rattle.json_doc.specs.Documents.{bookmarks_json, json_value}
 use Rattle.json_doc.specs.Pieces.{text_json, texts_json}
-use Rattle.json_doc.specs.ReadValues.{Reads}
-use Rattle.json_doc.specs.Reading.{IsWhole}
+use Rattle.json_doc.specs.ReadValues.{ReadsValue}
+use Rattle.json_doc.specs.Reading.{IsWholeDocument}
 use Rattle.json_doc.specs.Styles.{slot_json, slots_json, sheet_json}
 use Rattle.json_doc.proofs.CarriedLemmas.{fields_of, carried_known, streams_are_one, stored_all}
 use Rattle.json_doc.proofs.CutTextLemmas.{texts_same}
@@ -41,7 +41,7 @@ use Rattle.json_doc.proofs.ReadLemmas.{same_items}
 use Rattle.json_doc.proofs.RowLemmas.{AreOne, taken_is, ended_is}
 use Rattle.json_doc.proofs.SheetLemmas.{sheet_known}
 use Rattle.json_doc.proofs.StyleReadLemmas.{styles_one, style_spelt}
-use Rattle.json_values.specs.Rows.{taken, ended}
+use Rattle.json_values.specs.Rows.{taken, no_member_left}
 use Rattle.json_values.proofs.Public.{object_is, step_found}
 
 -- ---- the six values
@@ -91,7 +91,7 @@ six_is value six e =
     let five = taken_is (codes "notes") d.0.1 f.0.0 f.0.1 f.1 in
     let g = step_found (taken (codes "sheet") f.0.1) _ six f.2 in
     let last = taken_is (codes "sheet") f.0.1 g.0.0 g.0.1 g.1 in
-    let h = step_found (ended g.0.1) _ six g.2 in
+    let h = step_found (no_member_left g.0.1) _ six g.2 in
     let end = ended_is g.0.1 h.0 h.1 in
     let found : SixValues = record {
       bookmarks = a.0.0;
@@ -141,7 +141,7 @@ document_told value six d read are order =
 
 -- what a misfit of a wrong shape says
 pub none_reads : {A : Type 0} (json : A → Data) (Is : A → Type 0) (value : Data) (e : ShapeError) → e ≡ Shape →
-    Reads json Is value (Err e) → (x : A) → Is x → value ≢ json x
+    ReadsValue json Is value (Err e) → (x : A) → Is x → value ≢ json x
 none_reads json Is value Shape shape none = none
 none_reads json Is value Memory shape none = absurd (cc (shape))
 
@@ -154,8 +154,8 @@ main_same value main d formed e text read =
 
 pub marks_unread : (value : Data) (six : SixValues) (main : List Item) (len : ℕ) (e : ShapeError) →
     document_values value ≡ Some six → IsFormedText main → (HasKeysInOrder six.main → six.main ≡ text_json main) →
-    len ≡ length main → e ≡ Shape → Reads bookmarks_json (AreMarks len) six.bookmarks (Err e) →
-    (d : Document) → IsWhole d → value ≢ json_value d
+    len ≡ length main → e ≡ Shape → ReadsValue bookmarks_json (AreMarks len) six.bookmarks (Err e) →
+    (d : Document) → IsWholeDocument d → value ≢ json_value d
 marks_unread value six main len e read text told is shape none d whole same =
     let six_are = six_same value six d read same in
     let main_is = main_same six.main main d whole.parts (ap (λ (s : SixValues). s.main) six_are) text told in

@@ -12,7 +12,7 @@ use Rattle.serde_json.specs.Data.{Items, no_items, item, Members, no_members, me
 use Rattle.serde_json.specs.Data.{members_depth}
 use Rattle.serde_json.specs.View.{items_of}
 use Rattle.serde_json.specs.Written.{has_float, items_have_float, members_have_float}
-use Rattle.json_values.specs.Plain.{IsBelow, Ascend, IsPlain, ArePlainItems, ArePlainMembers, HasTexts}
+use Rattle.json_values.specs.Plain.{IsBelow, KeysAscend, IsPlain, ArePlainItems, ArePlainMembers, HasTexts}
 use Rattle.json_values.specs.Plain.{ItemsHaveTexts, MembersHaveTexts, HasKeysInOrder, ItemsHaveKeysInOrder}
 use Rattle.json_values.specs.Plain.{MembersHaveKeysInOrder}
 use Rattle.json_values.specs.Rows.{number_json, member_if}
@@ -96,7 +96,7 @@ pub good_if : {A : Type 0} (n : ℕ) (json : A → Data) (Is : A → Type 0) →
 good_if n json Is each None is d e = absurd (none-some d e)
 good_if n json Is each (Some x) is d e = subst (IsGood n) (same_Some (json x) d e) (each x (is x refl))
 
-pub good_object : (n : ℕ) (ms : Members) → Ascend ms → AreGoodMembers n ms → IsGood (suc n) (object ms)
+pub good_object : (n : ℕ) (ms : Members) → KeysAscend ms → AreGoodMembers n ms → IsGood (suc n) (object ms)
 good_object n ms ascend good = record {
   plain = (good.plain, ascend);
   texts = good.texts;
@@ -108,8 +108,8 @@ pub below_if : (key other : List ℕ) (d : Option Data) (ms : Members) → slice
 below_if key other None ms less below = below
 below_if key other (Some d) ms less below = (less, below)
 
-pub ascend_if : (key : List ℕ) (d : Option Data) (ms : Members) → IsBelow key ms → Ascend ms →
-    Ascend (member_if key d ms)
+pub ascend_if : (key : List ℕ) (d : Option Data) (ms : Members) → IsBelow key ms → KeysAscend ms →
+    KeysAscend (member_if key d ms)
 ascend_if key None ms below ascend = ascend
 ascend_if key (Some d) ms below ascend = (below, ascend)
 

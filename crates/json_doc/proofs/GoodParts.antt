@@ -15,18 +15,18 @@ use Rattle.prop_map.specs.Settings.{Properties}
 use Rattle.style_sheet.specs.declared.styles.Style.{Style}
 use Rattle.style_sheet.specs.Formed.{IsFormedSlot, IsFormedSheet}
 use Rattle.style_sheet.specs.Sheet.{Sheet}
-use Rattle.plain_doc.specs.declared.item.Item.{Item}
-use Rattle.plain_doc.specs.declared.item.Mark.{Mark}
-use Rattle.plain_doc.specs.declared.item.NoteKind.{NoteKind}
-use Rattle.plain_doc.specs.declared.item.NoteKind.TheVariants.{Auto, Custom}
-use Rattle.plain_doc.specs.declared.carried.Carried.{Carried}
-use Rattle.plain_doc.specs.declared.document.Document.{Document}
-use Rattle.plain_doc.specs.Document.{IsFormedText, AreFormedTexts}
-use Rattle.plain_doc.specs.Formed.{IsFormed, IsFormedCarried}
-use Rattle.plain_doc.specs.Stretches.{stretches}
+use Rattle.doc_model.specs.declared.item.Item.{Item}
+use Rattle.doc_model.specs.declared.item.Mark.{Mark}
+use Rattle.doc_model.specs.declared.item.NoteKind.{NoteKind}
+use Rattle.doc_model.specs.declared.item.NoteKind.TheVariants.{Auto, Custom}
+use Rattle.doc_model.specs.declared.carried.Carried.{Carried}
+use Rattle.doc_model.specs.declared.document.Document.{Document}
+use Rattle.doc_model.specs.Document.{IsFormedText, AreFormedTexts}
+use Rattle.doc_model.specs.Formed.{IsFormed, IsFormedCarried}
+use Rattle.doc_model.specs.Stretches.{stretches}
 use Rattle.cfb_streams.specs.Contents.{NamedBytes, IsStored}
-use Rattle.doc_parts.specs.declared.bookmark_order.Bookmark.{Bookmark}
-use Rattle.doc_parts.specs.Bookmarks.{HasFileNumbers}
+use Rattle.document_bookmarks.specs.declared.bookmark_order.Bookmark.{Bookmark}
+use Rattle.document_bookmarks.specs.Bookmarks.{HasFileNumbers}
 use Rattle.json_values.specs.Digits.{bytes_json, units_json, AreUnits}
 use Rattle.json_values.specs.Rows.{number_json, member_if}
 use Rattle.json_values.specs.Settings.{properties_json, properties_members, AreSpelt}

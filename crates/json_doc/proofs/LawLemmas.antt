@@ -5,15 +5,15 @@ use Rattle.serde_json.specs.Data.{Data}
 use Rattle.doc_bits.specs.Places.{Upto}
 use Rattle.doc_bits.proofs.Public.{hold_or_first}
 use Rattle.edit_script.specs.Json.{IsJson}
-use Rattle.plain_doc.specs.declared.document.Document.{Document}
-use Rattle.plain_doc.specs.Formed.{IsFormed}
+use Rattle.doc_model.specs.declared.document.Document.{Document}
+use Rattle.doc_model.specs.Formed.{IsFormed}
 use Rattle.plain_doc.specs.Sound.{IsSound, NamesFirstRule, document_rules}
 use Rattle.plain_doc.proofs.Public.{document_rules-IsSingle}
 use Rattle.json_values.proofs.Public.{plain_json}
 use Rattle.json_doc.specs.declared.fault.JsonFault.{JsonFault}
 use Rattle.json_doc.specs.declared.fault.JsonFault.TheVariants.{Json, Shape, Unsound, Memory}
 use Rattle.json_doc.specs.Documents.{json_value, json_text}
-use Rattle.json_doc.specs.Laws.{JsonFormsAreOne, JsonTextsAreRead, JsonIsShallow, TextsAreReadBack}
+use Rattle.json_doc.specs.Laws.{JsonFormsAreOne, JsonTextsAreRead, JsonIsShallow, JsonIsReadBack}
 use Rattle.json_doc.specs.Reading.{IsJsonFault}
 use Rattle.json_doc.proofs.DocumentLemmas.{values_same}
 use Rattle.json_doc.proofs.GoodLemmas.{plain_whole}
@@ -56,7 +56,7 @@ refused_by document (Unsound rule place at) formed sound is =
     (subst (λ d. NamesFirstRule (document_rules d) (record { rule = rule; place = place; at = at })) same is.first))
 refused_by document Memory formed sound is = refl
 
-pub read_back : TextsAreReadBack
+pub read_back : JsonIsReadBack
 read_back = record {
   read = λ document other formed is.
       values_same other document is.formed formed

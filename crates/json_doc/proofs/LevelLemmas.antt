@@ -4,13 +4,13 @@ use Rattle.std.proofs.Common.{slice_index, refl, sym, ap, ◌∙◌, subst, arit
 use Rattle.std.proofs.lemmas.Bool.{cases_lt}
 use Rattle.std.proofs.lemmas.List.{get_or-append-add}
 use Rattle.std.proofs.Math.Seq.{take-append_seam}
-use Rattle.doc_bits.specs.Rules.{Hold, IsFirst}
+use Rattle.doc_bits.specs.Rules.{Hold, IsFirstOffset}
 use Rattle.doc_bits.specs.Number.{u16_at}
 use Rattle.doc_bits.proofs.Public.{number_at-after, zero_more}
 use Rattle.doc_parts.specs.Levels.{level_count, level_end, level_start, list_part, level_rules, HasLists}
 use Rattle.doc_parts.specs.Levels.{HaveLength}
 use Rattle.doc_parts.proofs.Public.{level_start-zero, level_start-more}
-use Rattle.plain_doc.specs.Carried.{AreListsWithLevels}
+use Rattle.doc_model.specs.Carried.{AreListsWithLevels}
 
 -- a level behind the part ends as far behind it
 level_end-behind : (lst levels : List ℕ) (at : ℕ) →
@@ -112,7 +112,7 @@ has_lists lst levels are = elim (cases_lt 0 (length lst)) [
 ]
 
 pub levels_hold : (lst levels : List ℕ) (place : ℕ) → AreListsWithLevels lst levels →
-    ¬ (IsFirst (level_rules (lst ++ levels) 0 (length lst)) 56 place)
+    ¬ (IsFirstOffset (level_rules (lst ++ levels) 0 (length lst)) 56 place)
 levels_hold lst levels place are first = elim first.1.broken [
   | inl wrong ↦ wrong.1 (subst HasLists (sym (part_is lst levels)) (has_lists lst levels are))
   | inr among ↦

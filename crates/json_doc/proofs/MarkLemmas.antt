@@ -7,8 +7,8 @@ use Rattle.serde_json.specs.Find.{as_array}
 use Rattle.serde_json.specs.View.{items_view, view}
 use Rattle.serde_json.specs.declared.value.Value.{Value}
 use Rattle.edit_script.specs.Values.{position, short_number}
-use Rattle.doc_parts.specs.declared.bookmark_order.Bookmark.{Bookmark}
-use Rattle.doc_parts.specs.Bookmarks.{HasFileNumbers}
+use Rattle.document_bookmarks.specs.declared.bookmark_order.Bookmark.{Bookmark}
+use Rattle.document_bookmarks.specs.Bookmarks.{HasFileNumbers}
 use Rattle.json_values.specs.Digits.{units_json, hex_units_of, AreUnits}
 use Rattle.json_values.specs.Rows.{number_json}
 use Rattle.json_values.proofs.Public.{digits_one, step_found}

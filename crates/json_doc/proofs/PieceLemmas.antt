@@ -10,15 +10,16 @@ use Rattle.doc_bits.proofs.Public.{there_is, not_true, both_are}
 use Rattle.prop_map.specs.Settings.{Properties}
 use Rattle.serde_json.specs.Data.{Members, no_members, member}
 use Rattle.serde_json.specs.Written.{compact_text, comma_if}
-use Rattle.plain_doc.specs.declared.item.Item.{Item}
-use Rattle.plain_doc.specs.Settings.{same_properties}
-use Rattle.plain_doc.specs.Stretches.{stretches, BeginsStretch}
-use Rattle.plain_doc.proofs.Public.{equal_are_same, stretches-first, stretches-nil, rest_of, part_of}
-use Rattle.doc_columns.specs.Specials.{is_special}
+use Rattle.doc_model.specs.declared.item.Item.{Item}
+use Rattle.doc_model.specs.Settings.{same_properties}
+use Rattle.doc_model.specs.Stretches.{stretches, BeginsStretch}
+use Rattle.plain_doc.proofs.Public.{equal_are_same}
+use Rattle.doc_model.proofs.Public.{stretches-first, stretches-nil, rest_of, part_of}
+use Rattle.doc_columns.specs.Specials.{is_special_item}
 use Rattle.doc_columns.specs.declared.attached.Attached.{Attached}
 use Rattle.doc_columns.specs.declared.walk.Parts.{Parts}
 use Rattle.doc_columns.specs.Attached.{attached_of, has_something}
-use Rattle.doc_columns.specs.Walks.{items_in, AreParts}
+use Rattle.doc_columns.specs.Walks.{items_in, AreFullParts}
 use Rattle.doc_columns.proofs.Public.{items_long, units_are, range_got, range_long, begins_range}
 use Rattle.json_values.specs.Digits.{units_json}
 use Rattle.json_values.specs.Out.{Output, Adds}
@@ -34,7 +35,7 @@ use Rattle.json_doc.proofs.WrittenLemmas.{HasWritten, one_written, all_written}
 abbrev pub AreAlike : List Item → ℕ → ℕ → Properties → Type 0
 AreAlike items from to chp =
     (k : ℕ) (item : Item) → from ≤ k → k < to → slice_get items k ≡ Some item →
-    (is_special item ≡ false) × (item.chp ≡ chp)
+    (is_special_item item ≡ false) × (item.chp ≡ chp)
 
 pub alike_by : (items : List Item) (from to : ℕ) (chp : Properties) (attached : Attached) → has_something attached ≡
     false →
@@ -83,7 +84,8 @@ pub alike_ends : (items : List Item) (from to end : ℕ) (first next : Propertie
 alike_ends items from to end first next attached some more alike apart chps attachments one other here there =
     let last = alike (to - 1) one (omega (arith, some)) (omega (arith, some)) here in
     let chp = chps to other (omega arith) more there in
-    let bare : is_special other ≡ has_something attached = ap has_something (attachments to other (omega arith) more
+    let bare : is_special_item other ≡ has_something attached = ap has_something (attachments to other (omega arith)
+    more
     there) in
     (λ i. not (last.0 i) && (not (bare i) && same_properties (last.1 i) (chp i))) ∙ sym apart
 
@@ -92,8 +94,8 @@ pub special_ends : (items : List Item) (place : ℕ) (attached : Attached) → h
     ((item : Item) → slice_get items place ≡ Some item → attached_of item ≡ attached) →
     (one other : Item) → slice_get items place ≡ Some one → is_one_piece one other ≡ false
 special_ends items place attached some attachments one other here =
-    let special : is_special one ≡ true = ap has_something (attachments one here) ∙ some in
-    ap (λ (b : Bool). not b && (not (is_special other) && same_properties one.chp other.chp)) special
+    let special : is_special_item one ≡ true = ap has_something (attachments one here) ∙ some in
+    ap (λ (b : Bool). not b && (not (is_special_item other) && same_properties one.chp other.chp)) special
 
 -- ---- the value of a piece
 
@@ -105,7 +107,8 @@ piece_of_items (y ∷ ys) x is =
     (same_Some y x is)
 
 -- that of the items of a range
-pub stretch_json-range : (parts : Parts) → AreParts parts → (at to end : ℕ) (chp : Properties) (attached : Attached) →
+pub stretch_json-range : (parts : Parts) → AreFullParts parts → (at to end : ℕ) (chp : Properties) (attached : Attached)
+    →
     at < to → to ≤ length parts.units.now → at < end →
     ((k : ℕ) (item : Item) → at ≤ k → k < end → slice_get (items_in parts) k ≡ Some item → item.chp ≡ chp) →
     ((k : ℕ) (item : Item) → at ≤ k → k < end → slice_get (items_in parts) k ≡ Some item → attached_of item ≡ attached)
@@ -159,7 +162,7 @@ no_stretch xs at whole all so_far bracket =
     ∙ ap (map stretch_json) (stretches-nil is_one_piece)) so_far bracket
 
 -- one more, by where it ends
-pub next_piece : (parts : Parts) → AreParts parts → (at to : ℕ) (whole : List ℕ) {old now between new : Output} →
+pub next_piece : (parts : Parts) → AreFullParts parts → (at to : ℕ) (whole : List ℕ) {old now between new : Output} →
     at < to → to ≤ length parts.units.now →
     ((k : ℕ) (item next : Item) → at ≤ k → k + 1 < to → slice_get (items_in parts) k ≡ Some item →
     slice_get (items_in parts) (k + 1) ≡ Some next → is_one_piece item next ≡ true) →

@@ -8,18 +8,18 @@ use Rattle.std.proofs.lemmas.Slice.Eq.{bytes_eq-Decides}
 use Rattle.serde_json.specs.Data.{Data, string, object, no_members, member}
 use Rattle.serde_json.specs.Find.{as_object, as_str}
 use Rattle.edit_script.specs.Values.{byte_number, short_number, properties_of}
-use Rattle.plain_doc.specs.declared.item.Mark.{Mark}
-use Rattle.plain_doc.specs.declared.item.NoteKind.{NoteKind}
-use Rattle.plain_doc.specs.declared.item.NoteKind.TheVariants.{Auto, Custom}
+use Rattle.doc_model.specs.declared.item.Mark.{Mark}
+use Rattle.doc_model.specs.declared.item.NoteKind.{NoteKind}
+use Rattle.doc_model.specs.declared.item.NoteKind.TheVariants.{Auto, Custom}
 use Rattle.json_values.specs.Digits.{units_json, hex_units_of, AreUnits}
 use Rattle.json_values.specs.Plain.{HasKeysInOrder, MembersHaveKeysInOrder}
-use Rattle.json_values.specs.Rows.{number_json, member_if, need, may, ended}
+use Rattle.json_values.specs.Rows.{number_json, member_if, need, may, no_member_left}
 use Rattle.json_values.specs.Settings.{properties_json, AreSpelt}
 use Rattle.json_doc.specs.declared.pieces.Piece.{Piece}
 use Rattle.json_doc.specs.Pieces.{mark_json, note_json, piece_members, piece_json}
 use Rattle.prop_map.specs.Formed.{character_groups, paragraph_groups, section_groups}
 use Rattle.json_values.proofs.Public.{properties_one, object_is, step_found, string_is}
-use Rattle.json_doc.specs.PieceReading.{mark_of, note_with_name, note_of, piece_of, IsFormedPiece}
+use Rattle.json_doc.specs.PieceReading.{mark_of, note_with_name, note_kind_of, piece_of, IsFormedPiece}
 use Rattle.json_doc.proofs.FieldLemmas.{numbers_one, units_are_one, properties_are_one}
 use Rattle.json_doc.proofs.RowLemmas.{AreOne, then_found, need_one, need_back, may_one, may_back}
 use Rattle.json_doc.proofs.RowLemmas.{lacks_if, ended_is}
@@ -50,7 +50,7 @@ mark_one value mark order e =
     let pap = need_one properties_are_one (codes "p") a.0 b.0 ordered b.1 in
     let c = step_found (need (codes "s") short_number b.0.1) _ mark b.2 in
     let istd = need_one (numbers_one (2 ^ 16)) (codes "s") b.0.1 c.0 pap.order c.1 in
-    let d = step_found (ended c.0.1) _ mark c.2 in
+    let d = step_found (no_member_left c.0.1) _ mark c.2 in
     let last = ended_is c.0.1 d.0 d.1 in
     let made : record { istd = c.0.0; pap = b.0.0 } ≡ mark = same_Some _ mark d.2 in
     subst (λ m. IsSpeltMark m × (value ≡ mark_json m)) made (
@@ -73,11 +73,11 @@ note_by true custom word note a c e = ap string (a refl) ∙ ap note_json (same_
 note_by false true word note a c e = ap string (c refl) ∙ ap note_json (same_Some Custom note e)
 note_by false false word note a c e = absurd (none-some note e)
 
-note_back : (note : NoteKind) → ⊤ → note_of (note_json note) ≡ Some note
+note_back : (note : NoteKind) → ⊤ → note_kind_of (note_json note) ≡ Some note
 note_back Auto is = refl
 note_back Custom is = refl
 
-note_one : (value : Data) (note : NoteKind) → HasKeysInOrder value → note_of value ≡ Some note →
+note_one : (value : Data) (note : NoteKind) → HasKeysInOrder value → note_kind_of value ≡ Some note →
     ⊤ × (value ≡ note_json note)
 note_one value note order e =
     let a = step_found (as_str value) note_with_name note e in (
@@ -87,7 +87,7 @@ note_one value note order e =
           (bytes_eq-Decides a.0 (codes "auto")).0 (bytes_eq-Decides a.0 (codes "custom")).0 a.2,
     )
 
-pub notes_one : AreOne note_of note_json (λ note. ⊤)
+pub notes_one : AreOne note_kind_of note_json (λ note. ⊤)
 notes_one = record { back = note_back; one = note_one }
 
 -- ---- a piece
@@ -117,7 +117,7 @@ piece_back p is =
     (then_found (may (codes "m") mark_of from_m) _ (p.mark, from_n) p
     (may_back marks_one (codes "m") p.mark from_n is.mark
     (lacks_if (codes "m") (codes "n") (option_map note_json p.note) from_t refl refl))
-    (then_found (may (codes "n") note_of from_n) _ (p.note, from_t) p
+    (then_found (may (codes "n") note_kind_of from_n) _ (p.note, from_t) p
     (may_back notes_one (codes "n") p.note from_t is.note refl)
     (then_found (need (codes "t") hex_units_of from_t) _ (p.units, from_x) p
     (need_back units_are_one (codes "t") p.units from_x is.units)
@@ -136,13 +136,13 @@ piece_one value piece order e =
     let fld = may_one (numbers_one (2 ^ 8)) (codes "f") b.0.1 c.0 chp.order c.1 in
     let d = step_found (may (codes "m") mark_of c.0.1) _ piece c.2 in
     let mark = may_one marks_one (codes "m") c.0.1 d.0 fld.order d.1 in
-    let f = step_found (may (codes "n") note_of d.0.1) _ piece d.2 in
+    let f = step_found (may (codes "n") note_kind_of d.0.1) _ piece d.2 in
     let note = may_one notes_one (codes "n") d.0.1 f.0 mark.order f.1 in
     let g = step_found (need (codes "t") hex_units_of f.0.1) _ piece f.2 in
     let units = need_one units_are_one (codes "t") f.0.1 g.0 note.order g.1 in
     let h = step_found (may (codes "x") properties_of g.0.1) _ piece g.2 in
     let sect = may_one properties_are_one (codes "x") g.0.1 h.0 units.order h.1 in
-    let i = step_found (ended h.0.1) _ piece h.2 in
+    let i = step_found (no_member_left h.0.1) _ piece h.2 in
     let last = ended_is h.0.1 i.0 i.1 in
     let found : Piece = record {
       chp = b.0.0;

@@ -7,9 +7,9 @@ use Rattle.serde_json.specs.Data.{Data, null, array, Items, no_items, item}
 use Rattle.serde_json.specs.View.{items_of}
 use Rattle.edit_script.specs.declared.faults.ShapeError.{ShapeError}
 use Rattle.edit_script.specs.declared.faults.ShapeError.TheVariants.{Shape, Memory}
-use Rattle.edit_script.specs.Json.{Gives}
+use Rattle.edit_script.specs.Json.{GivesReading}
 use Rattle.json_values.specs.Plain.{HasKeysInOrder, ItemsHaveKeysInOrder}
-use Rattle.json_doc.specs.ReadValues.{Reads}
+use Rattle.json_doc.specs.ReadValues.{ReadsValue}
 use Rattle.json_doc.proofs.RowLemmas.{AreOne}
 
 -- ---- one value
@@ -28,12 +28,14 @@ module _ {A : Type 0} {of : Data → Option A} {json : A → Data} {Is : A → T
       wrong (subst Formed (same_Some x found (sym (laws.back x (weaker x formed)) ∙ ap of (sym e) ∙ read)) formed)
 
   -- what comes of a reader's misfit
-  pub misfit : (value : Data) (e : ShapeError) → Gives {A = A} (Err e) (of value) → Reads json Formed value (Err e)
+  pub misfit : (value : Data) (e : ShapeError) → GivesReading {A = A} (Err e) (of value) → ReadsValue json Formed value
+      (Err e)
   misfit value Shape none = unread value none
   misfit value Memory none = tt
 
   -- what is read of it is formed
-  pub accepted : (value : Data) (found : A) → of value ≡ Some found → Formed found → Reads json Formed value (Ok found)
+  pub accepted : (value : Data) (found : A) → of value ≡ Some found → Formed found → ReadsValue json Formed value (Ok
+      found)
   accepted value found read formed = (formed, λ order. (laws.one value found order read).1)
 
 -- ---- lists of values
@@ -43,10 +45,10 @@ abbrev pub AreRead : {A : Type 0} → (A → Data) → (A → Type 0) → List D
 AreRead json Is [] [] = ⊤
 AreRead json Is [] (x ∷ xs) = ⊥
 AreRead json Is (d ∷ ds) [] = ⊥
-AreRead json Is (d ∷ ds) (x ∷ xs) = Reads json Is d (Ok x) × AreRead json Is ds xs
+AreRead json Is (d ∷ ds) (x ∷ xs) = ReadsValue json Is d (Ok x) × AreRead json Is ds xs
 
 pub read_more : {A : Type 0} (json : A → Data) (Is : A → Type 0) (ds : List Data) (xs : List A) (d : Data) (x : A) →
-    AreRead json Is ds xs → Reads json Is d (Ok x) → AreRead json Is (ds ++ d ∷ []) (xs ++ x ∷ [])
+    AreRead json Is ds xs → ReadsValue json Is d (Ok x) → AreRead json Is (ds ++ d ∷ []) (xs ++ x ∷ [])
 read_more json Is [] [] d x before one = (one, tt)
 read_more json Is [] (y ∷ ys) d x before one = absurd before
 read_more json Is (c ∷ cs) [] d x before one = absurd before

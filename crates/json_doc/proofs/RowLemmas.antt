@@ -8,9 +8,9 @@ use Rattle.std.proofs.lemmas.Option.{none-some, same_Some}
 use Rattle.serde_json.specs.Data.{Data, Members, no_members, member}
 use Rattle.edit_script.specs.declared.faults.ShapeError.{ShapeError}
 use Rattle.edit_script.specs.declared.faults.ShapeError.TheVariants.{Shape, Memory}
-use Rattle.edit_script.specs.Json.{◌>>=◌, Gives}
+use Rattle.edit_script.specs.Json.{◌>>=◌, GivesReading}
 use Rattle.json_values.specs.Plain.{HasKeysInOrder, MembersHaveKeysInOrder}
-use Rattle.json_values.specs.Rows.{member_if, taken, taken_if, each_if, need, may, ended}
+use Rattle.json_values.specs.Rows.{member_if, taken, taken_if, each_if, need, may, no_member_left}
 use Rattle.json_values.proofs.Public.{step_found}
 
 -- ---- steps
@@ -30,13 +30,13 @@ pub then_lost : {A B : Type 0} {o : Option A} (f : A → Option B) → o ≡ Non
 then_lost f lost = ap (λ x. x >>= f) lost
 
 -- a reader that gives nothing, since the shape is wrong
-pub gives_lost : {A : Type 0} {found : Option A} {fault : ShapeError} → Gives (Err fault) found → fault ≡ Shape →
+pub gives_lost : {A : Type 0} {found : Option A} {fault : ShapeError} → GivesReading (Err fault) found → fault ≡ Shape →
     found ≡ None
-gives_lost {found = found} lost shape = subst (λ f. Gives (Err f) found) shape lost
+gives_lost {found = found} lost shape = subst (λ f. GivesReading (Err f) found) shape lost
 
 -- what a reader answers of a misfit
 pub gives_err : {A : Type 0} (found : Option A) (fault : ShapeError) → (fault ≡ Shape → found ≡ None) →
-    Gives (Err fault) found
+    GivesReading (Err fault) found
 gives_err found Shape lost = lost refl
 gives_err found Memory lost = tt
 
@@ -208,6 +208,6 @@ may_back {of = of} {json} laws key x more is lacks =
     ap (λ q. each_if of q.0 >>= λ found. Some (found, q.1)) (taken_if_back key (option_map json x) more lacks)
     ∙ then_found (each_if of (option_map json x)) (λ found. Some (found, more)) x (x, more) (each_back laws x is) refl
 
-pub ended_is : (ms : Members) (t : ⊤) → ended ms ≡ Some t → ms ≡ no_members
+pub ended_is : (ms : Members) (t : ⊤) → no_member_left ms ≡ Some t → ms ≡ no_members
 ended_is no_members t e = refl
 ended_is (member name value more) t e = absurd (none-some t e)

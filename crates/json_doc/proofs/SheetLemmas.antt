@@ -9,7 +9,7 @@ use Rattle.edit_script.specs.declared.faults.ShapeError.TheVariants.{Shape, Memo
 use Rattle.style_sheet.specs.declared.styles.Style.{Style}
 use Rattle.style_sheet.specs.Sheet.{Sheet}
 use Rattle.style_sheet.specs.Formed.{IsFormedSheet}
-use Rattle.json_doc.specs.ReadValues.{Reads, Tells}
+use Rattle.json_doc.specs.ReadValues.{ReadsValue, Tells}
 use Rattle.json_doc.specs.Styles.{sheet_json, slots_json}
 use Rattle.json_doc.specs.StyleReading.{sheet_values, AreFormedSlots}
 use Rattle.json_doc.proofs.StyleReadLemmas.{sheet_made, sheet_back, sheet_one}
@@ -37,7 +37,7 @@ formed_slots sheet formed = record { some = formed.some; few = formed.few; each 
 pub sheet_told : (value : Data) (head seven : List ℕ) (slots : Data) (r : Result Sheet ShapeError) →
     sheet_values value ≡ Some (head, slots) → seven ≡ head →
     MatchResult r
-    (λ sheet. (sheet.head ≡ seven) × Reads slots_json AreFormedSlots slots (Ok sheet.styles))
+    (λ sheet. (sheet.head ≡ seven) × ReadsValue slots_json AreFormedSlots slots (Ok sheet.styles))
     (λ fault. fault ≡ Shape → (xs : List (Option Style)) → AreFormedSlots xs → slots ≢ slots_json xs) →
     Tells sheet_json IsFormedSheet value r
 sheet_told value head seven slots (Ok sheet) read same told = λ order.

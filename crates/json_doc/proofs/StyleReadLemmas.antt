@@ -18,12 +18,12 @@ use Rattle.style_sheet.specs.declared.styles.Kind.TheVariants.{Para, Char, Other
 use Rattle.style_sheet.specs.Formed.{IsFormedBase, IsFormedKind, IsFormedStyle}
 use Rattle.json_values.specs.Digits.{units_json, hex_units_of, AreUnits}
 use Rattle.json_values.specs.Plain.{HasKeysInOrder, MembersHaveKeysInOrder}
-use Rattle.json_values.specs.Rows.{number_json, member_if, taken, need, may, ended}
+use Rattle.json_values.specs.Rows.{number_json, member_if, taken, need, may, no_member_left}
 use Rattle.json_values.specs.Settings.{properties_json, AreSpelt}
 use Rattle.json_values.proofs.Public.{properties_one, object_is, step_found}
 use Rattle.json_doc.specs.Styles.{base_json, chp_of_kind, pap_of_kind, stk_of_kind, upxes_of_kind, lists_json}
 use Rattle.json_doc.specs.Styles.{style_json, style_members, numbers_json}
-use Rattle.json_doc.specs.StyleReading.{list_as, base_of, kind_of, read_style_of, sheet_values}
+use Rattle.json_doc.specs.StyleReading.{list_as, base_of, kind_of_parts, read_style_of, sheet_values}
 use Rattle.json_doc.proofs.FieldLemmas.{numbers_one, bytes_are_one, units_are_one, properties_are_one}
 use Rattle.json_doc.proofs.ListLemmas.{lists_one, null_is}
 use Rattle.json_doc.proofs.RowLemmas.{AreOne, then_found, need_one, need_back, may_one, may_back, taken_is}
@@ -73,7 +73,7 @@ kind_made : (chp pap : Option Properties) (stk : Option ℕ) (upxes : Option (Li
 kind_made chp pap stk upxes made kind has e = subst (HasKindParts chp pap stk upxes) (same_Some made kind e) has
 
 kind_parts : (chp pap : Option Properties) (stk : Option ℕ) (upxes : Option (List (List ℕ))) (kind : Kind) →
-    kind_of chp pap stk upxes ≡ Some kind → HasKindParts chp pap stk upxes kind
+    kind_of_parts chp pap stk upxes ≡ Some kind → HasKindParts chp pap stk upxes kind
 kind_parts (Some c) (Some p) None None kind e =
     kind_made _ _ _ _ (Para p c) kind (record { chp_is = refl; pap_is = refl; stk_is = refl; upxes_is = refl }) e
 kind_parts (Some c) None None None kind e =
@@ -88,7 +88,8 @@ kind_parts None (Some p) stk upxes kind e = absurd (none-some kind e)
 kind_parts None None None upxes kind e = absurd (none-some kind e)
 kind_parts None None (Some s) None kind e = absurd (none-some kind e)
 
-kind_back : (kind : Kind) → kind_of (chp_of_kind kind) (pap_of_kind kind) (stk_of_kind kind) (upxes_of_kind kind) ≡
+kind_back : (kind : Kind) → kind_of_parts (chp_of_kind kind) (pap_of_kind kind) (stk_of_kind kind) (upxes_of_kind kind)
+    ≡
     Some kind
 kind_back (Para pap chp) = refl
 kind_back (Char chp) = refl
@@ -142,7 +143,7 @@ style_back s is =
     (lacks_if (codes "stk") (codes "upxes") (option_map lists_json (upxes_of_kind k)) no_members refl tt))
     (then_found (may (codes "upxes") (list_as bytes_of) from_upxes) _ (upxes_of_kind k, no_members) s
     (may_back upxes_one (codes "upxes") (upxes_of_kind k) no_members is.upxes tt)
-    (then_found (kind_of (chp_of_kind k) (pap_of_kind k) (stk_of_kind k) (upxes_of_kind k)) _ k s (kind_back k)
+    (then_found (kind_of_parts (chp_of_kind k) (pap_of_kind k) (stk_of_kind k) (upxes_of_kind k)) _ k s (kind_back k)
     refl))))))))))
 
 -- what is read behind the name
@@ -169,8 +170,8 @@ rest_of front ms = do
   sti ← need (codes "sti") short_number pap.1
   stk ← may (codes "stk") byte_number sti.1
   upxes ← may (codes "upxes") (list_as bytes_of) stk.1
-  end ← ended upxes.1
-  kind ← kind_of front.chp pap.0 stk.0 upxes.0
+  end ← no_member_left upxes.1
+  kind ← kind_of_parts front.chp pap.0 stk.0 upxes.0
   Some (record {
     sti = sti.0;
     flags = front.flags;
@@ -207,9 +208,9 @@ rest_one front ms style order e =
     let stk = may_one (numbers_one (2 ^ 8)) (codes "stk") i.0.1 j.0 sti.order j.1 in
     let l = step_found (may (codes "upxes") (list_as bytes_of) j.0.1) _ style j.2 in
     let upxes = may_one upxes_one (codes "upxes") j.0.1 l.0 stk.order l.1 in
-    let m = step_found (ended l.0.1) _ style l.2 in
+    let m = step_found (no_member_left l.0.1) _ style l.2 in
     let last = ended_is l.0.1 m.0 m.1 in
-    let n = step_found (kind_of front.chp h.0.0 j.0.0 l.0.0) _ style m.2 in
+    let n = step_found (kind_of_parts front.chp h.0.0 j.0.0 l.0.0) _ style m.2 in
     let has = kind_parts front.chp h.0.0 j.0.0 l.0.0 n.0 n.1 in
     let found : Style = record {
       sti = i.0.0;
@@ -378,7 +379,7 @@ sheet_one value head slots order e =
     let first = need_one heads_one (codes "head") start.0 a.0 ordered a.1 in
     let b = step_found (taken (codes "styles") a.0.1) _ (head, slots) a.2 in
     let second = taken_is (codes "styles") a.0.1 b.0.0 b.0.1 b.1 in
-    let c = step_found (ended b.0.1) _ (head, slots) b.2 in
+    let c = step_found (no_member_left b.0.1) _ (head, slots) b.2 in
     let last = ended_is b.0.1 c.0 c.1 in
     let made : (a.0.0, b.0.0) ≡ (head, slots) = same_Some (a.0.0, b.0.0) (head, slots) c.2 in
     let rest : MembersHaveKeysInOrder (member (codes "styles") b.0.0 b.0.1) =

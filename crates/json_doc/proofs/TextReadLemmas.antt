@@ -9,19 +9,19 @@ use Rattle.std.proofs.lemmas.List.{length-map, get_or-map}
 use Rattle.std.proofs.lemmas.Option.{same_Some, slice_get_read}
 use Rattle.serde_json.specs.Data.{Data}
 use Rattle.prop_map.specs.Settings.{Properties}
-use Rattle.plain_doc.specs.declared.item.Item.{Item}
-use Rattle.plain_doc.specs.Document.{HasPropertyMaps, IsFormedItem}
-use Rattle.plain_doc.specs.Settings.{same_properties}
-use Rattle.plain_doc.specs.Stretches.{joins_next, joins_at, IsJoined, goes_over}
-use Rattle.plain_doc.proofs.Public.{same_properties-Decides}
-use Rattle.doc_columns.specs.Specials.{is_special}
+use Rattle.doc_model.specs.declared.item.Item.{Item}
+use Rattle.doc_model.specs.Document.{HasPropertyMaps, IsFormedItem}
+use Rattle.doc_model.specs.Settings.{same_properties}
+use Rattle.doc_model.specs.Stretches.{joins_next, joins_at, IsJoinedStretch, goes_over}
+use Rattle.doc_model.proofs.Public.{same_properties-Decides}
+use Rattle.doc_columns.specs.Specials.{is_special_item}
 use Rattle.doc_columns.specs.Attached.{nothing}
 use Rattle.doc_columns.specs.Columns.{item_of, bare_items}
 use Rattle.json_doc.specs.declared.pieces.Piece.{Piece}
 use Rattle.json_doc.specs.Pieces.{is_one_piece, piece_from, piece_json, stretch_json}
 use Rattle.json_doc.specs.PieceReading.{piece_of, piece_items, item_with, is_special_piece, IsValidPiece}
 use Rattle.json_doc.specs.PieceReading.{IsFormedPiece}
-use Rattle.json_doc.specs.PieceReading.{IsNoPiece, MayFollow, EndsBy, are_joined, goes_on_in}
+use Rattle.json_doc.specs.PieceReading.{IsNoPiece, MayFollow, EndsByPiece, are_joined, joins_last_piece}
 use Rattle.json_doc.proofs.PieceReadLemmas.{pieces_one, piece_spelt}
 use Rattle.doc_bits.proofs.Public.{neither, not_true, both_true, none_is, from_behind}
 
@@ -42,7 +42,7 @@ record IsBare (item : Item) : Type 0 where
   fld : item.fld ≡ None
   note : item.note ≡ None
 
-bare : (item : Item) → is_special item ≡ false → IsBare item
+bare : (item : Item) → is_special_item item ≡ false → IsBare item
 bare item e =
     let a = neither (is_some item.mark) (is_some item.sect || (is_some item.fld || is_some item.note)) e in
     let b = neither (is_some item.sect) (is_some item.fld || is_some item.note) a.1 in
@@ -55,17 +55,18 @@ bare item e =
     }
 
 record AreJoined (item next : Item) : Type 0 where
-  bare_item : is_special item ≡ false
-  bare_next : is_special next ≡ false
+  bare_item : is_special_item item ≡ false
+  bare_next : is_special_item next ≡ false
   properties : item.chp ≡ next.chp
 
 joined : (item next : Item) → is_one_piece item next ≡ true → AreJoined item next
 joined item next e =
-    let a = both_true (not (is_special item)) (not (is_special next) && same_properties item.chp next.chp) e in
-    let b = both_true (not (is_special next)) (same_properties item.chp next.chp) a.1 in
+    let a = both_true (not (is_special_item item)) (not (is_special_item next) && same_properties item.chp next.chp) e
+    in
+    let b = both_true (not (is_special_item next)) (same_properties item.chp next.chp) a.1 in
     record {
-      bare_item = not_true (is_special item) a.0;
-      bare_next = not_true (is_special next) b.0;
+      bare_item = not_true (is_special_item item) a.0;
+      bare_next = not_true (is_special_item next) b.0;
       properties = (same_properties-Decides item.chp next.chp).0 b.1;
     }
 
@@ -85,14 +86,15 @@ same_but_unit item next e =
     }
 
 -- the rest of a stretch is one
-joined_rest : (x y : Item) (more : List Item) → IsJoined is_one_piece (x ∷ y ∷ more) → IsJoined is_one_piece (y ∷ more)
+joined_rest : (x y : Item) (more : List Item) → IsJoinedStretch is_one_piece (x ∷ y ∷ more) → IsJoinedStretch
+    is_one_piece (y ∷ more)
 joined_rest x y more j k less =
     let next : suc k + 1 ≡ suc (k + 1) = omega arith in
     ap (λ i. joins_next is_one_piece (slice_get (y ∷ more) k) (slice_get (x ∷ y ∷ more) i)) (sym next)
     ∙ j (suc k) (omega (arith, less))
 
 -- the items of a stretch are its first one with their units
-pub stretch_same : (item : Item) (more : List Item) → IsJoined is_one_piece (item ∷ more) →
+pub stretch_same : (item : Item) (more : List Item) → IsJoinedStretch is_one_piece (item ∷ more) →
     map (with_unit item) (units_of more) ≡ more
 stretch_same item [] j = refl
 stretch_same item (y ∷ more) j =
@@ -102,12 +104,13 @@ stretch_same item (y ∷ more) j =
     λ i. sym first i ∷ rest i
 
 -- a special item is a stretch of its own
-alone : (item : Item) (more : List Item) → IsJoined is_one_piece (item ∷ more) → is_special item ≡ true → more ≡ []
+alone : (item : Item) (more : List Item) → IsJoinedStretch is_one_piece (item ∷ more) → is_special_item item ≡ true →
+    more ≡ []
 alone item [] j special = refl
 alone item (y ∷ more) j special = absurd (cc (special, (joined item y (j 0 (omega arith))).bare_item))
 
 -- the piece of a stretch has its items
-pub from_items : (item : Item) (more : List Item) → IsJoined is_one_piece (item ∷ more) →
+pub from_items : (item : Item) (more : List Item) → IsJoinedStretch is_one_piece (item ∷ more) →
     piece_items (piece_from item more) ≡ item ∷ more
 from_items item more j = ap (λ rest. item ∷ rest) (stretch_same item more j)
 
@@ -150,7 +153,7 @@ over_end front last piece filled units =
     ∙ sym (goes_over_is items (item_with last unit) piece (are_joined last piece) some own units (λ other. refl))
 
 -- the text of no items goes on in none
-pub none_over : (text : List Item) → text ≡ [] → EndsBy text None
+pub none_over : (text : List Item) → text ≡ [] → EndsByPiece text None
 none_over text is piece units = ap (λ xs. goes_over is_one_piece xs (piece_items piece)) is
 
 -- a piece that was read and may not follow is no piece that may
@@ -197,8 +200,9 @@ pub piece_maps : (piece : Piece) (unit : ℕ) → IsFormedPiece piece → HasPro
 piece_maps piece unit formed = record { chp = formed.0.chp; pap = formed.0.pap; sect = formed.0.sect }
 
 -- a text may not be followed by a piece that it goes on in
-pub may_not : (text : List Item) (last : Option Piece) (piece : Piece) → EndsBy text last → 1 ≤ length piece.units →
-    goes_on_in last piece ≡ true → MayFollow text piece → ⊥
+pub may_not : (text : List Item) (last : Option Piece) (piece : Piece) → EndsByPiece text last → 1 ≤ length piece.units
+    →
+    joins_last_piece last piece ≡ true → MayFollow text piece → ⊥
 may_not text last piece ends some over may = cc (sym over ∙ (sym (ends piece some) ∙ may.apart))
 
 -- ---- formed items and formed pieces
@@ -233,7 +237,7 @@ pairs_join piece (u ∷ v ∷ more) (suc k) less bare =
     (u ∷ v ∷ more)) i)) next
     ∙ pairs_join piece (v ∷ more) k (omega (arith, less)) bare
 
-pub items_joined : (piece : Piece) → IsValidPiece piece → IsJoined is_one_piece (piece_items piece)
+pub items_joined : (piece : Piece) → IsValidPiece piece → IsJoinedStretch is_one_piece (piece_items piece)
 items_joined piece right k less = elim (cases_Bool (is_special_piece piece)) [
   | inl special ↦ let one = right.alone special in
       absurd (omega (arith, one, less, length-map {B = Item} piece.units))
@@ -260,7 +264,7 @@ units_small [] formed i = omega arith
 units_small (x ∷ xs) formed zero = (formed zero x (omega arith)).unit
 units_small (x ∷ xs) formed (suc i) = units_small xs (λ k d less. formed (suc k) d (omega (arith, less))) i
 
-pub formed_from : (item : Item) (more : List Item) → IsJoined is_one_piece (item ∷ more) →
+pub formed_from : (item : Item) (more : List Item) → IsJoinedStretch is_one_piece (item ∷ more) →
     All IsFormedItem (item ∷ more) → IsFormedPiece (piece_from item more)
 formed_from item more joined formed =
     let first = formed zero item (omega arith) in (

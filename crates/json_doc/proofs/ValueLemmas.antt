@@ -10,7 +10,7 @@ use Rattle.serde_json.specs.declared.value.Value.{Value}
 use Rattle.edit_script.specs.declared.faults.ShapeError.{ShapeError}
 use Rattle.edit_script.specs.declared.faults.ShapeError.TheVariants.{Shape, Memory}
 use Rattle.std.proofs.Common.{Err, ◌≢◌}
-use Rattle.json_doc.specs.ReadValues.{Reads, Tells}
+use Rattle.json_doc.specs.ReadValues.{ReadsValue, Tells}
 use Rattle.json_doc.proofs.ReadLemmas.{list_unread}
 
 -- one value more
@@ -37,7 +37,7 @@ all_values values i all = ap (map view) (take_all i values all)
 
 -- what comes of a misfit
 pub reads_err : {A : Type 0} (json : A → Data) (Is : A → Type 0) (value : Data) (e : ShapeError) →
-    (e ≡ Shape → (x : A) → Is x → value ≢ json x) → Reads json Is value (Err e)
+    (e ≡ Shape → (x : A) → Is x → value ≢ json x) → ReadsValue json Is value (Err e)
 reads_err json Is value Shape none = none refl
 reads_err json Is value Memory none = tt
 
@@ -49,7 +49,7 @@ tells_err json Is value Memory none = tt
 -- one of the values was not read
 pub wrong_at : {A : Type 0} (json : A → Data) (Is : A → Type 0) (values : List Value) (i : ℕ) (value : Value) →
     i < length values → value ≡ get_or values i value → (e : ShapeError) → e ≡ Shape →
-    Reads json Is (view value) (Err e) → (xs : List A) → All Is xs →
+    ReadsValue json Is (view value) (Err e) → (xs : List A) → All Is xs →
     array (items_of (map view values)) ≢ array (items_of (map json xs))
 wrong_at json Is values i value within is Shape shape none =
     list_unread json Is (map view values) i (omega (arith, within, length-map {B = Data} values))

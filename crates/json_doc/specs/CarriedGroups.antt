@@ -3,7 +3,7 @@ use Rattle.std.specs.Prelude.{◌≡◌, codes, Option, Some, None}
 use Rattle.serde_json.specs.Data.{Data, Members}
 use Rattle.edit_script.specs.Json.{◌>>=◌}
 use Rattle.edit_script.specs.Values.{bytes_of, short_number}
-use Rattle.json_values.specs.Rows.{taken, need, ended}
+use Rattle.json_values.specs.Rows.{taken, need, no_member_left}
 use Rattle.json_doc.specs.declared.carried_reading.CarriedFields.{CarriedFields}
 use Rattle.json_doc.specs.declared.carried_reading.CarriedFront.{CarriedFront}
 use Rattle.json_doc.specs.declared.carried_reading.CarriedBack.{CarriedBack}
@@ -27,7 +27,7 @@ fields_with front back = record {
 abbrev pub behind_back : CarriedFront → CarriedBack → Members → Option (CarriedFields × Data)
 behind_back front back members = do
   streams ← taken (codes "streams") members
-  end ← ended streams.1
+  end ← no_member_left streams.1
   Some (fields_with front back, streams.0)
 
 -- what is made of the first group and the members behind it
@@ -55,8 +55,8 @@ carried_row members = do
       fonts.1
 
 -- the members have this second group, and others behind it
-abbrev pub IsBehind : Members → CarriedBack → Members → Type 0
-IsBehind members back more =
+abbrev pub IsBackGroup : Members → CarriedBack → Members → Type 0
+IsBackGroup members back more =
     (front : CarriedFront) → behind_front front members ≡ behind_back front back more
 
 -- the members have no second group

@@ -4,7 +4,7 @@ use Rattle.std.specs.Prelude.{List, map, codes}
 use Rattle.serde_json.specs.Data.{Data, array, object, no_items, item, Members, no_members, member}
 use Rattle.serde_json.specs.View.{items_of}
 use Rattle.cfb_streams.specs.Contents.{NamedBytes}
-use Rattle.plain_doc.specs.declared.carried.Carried.{Carried}
+use Rattle.doc_model.specs.declared.carried.Carried.{Carried}
 use Rattle.json_values.specs.Digits.{bytes_json, units_json}
 use Rattle.json_values.specs.Rows.{number_json}
 

@@ -6,10 +6,10 @@ use Rattle.edit_script.specs.Json.{◌>>=◌}
 use Rattle.edit_script.specs.Values.{bytes_of, short_number}
 use Rattle.fib_form.specs.FibFields.{IsKeptFlags}
 use Rattle.cfb_streams.specs.Contents.{NamedBytes, AreStreams, IsStored}
-use Rattle.plain_doc.specs.declared.carried.Carried.{Carried}
-use Rattle.plain_doc.specs.Carried.{ArePartsShort, AreListsWithLevels, AreCarriedStreams}
+use Rattle.doc_model.specs.declared.carried.Carried.{Carried}
+use Rattle.doc_model.specs.Carried.{ArePartsShort, AreListsWithLevels, AreCarriedStreams}
 use Rattle.json_values.specs.Digits.{hex_units_of}
-use Rattle.json_values.specs.Rows.{taken, need, ended}
+use Rattle.json_values.specs.Rows.{taken, need, no_member_left}
 use Rattle.json_doc.specs.declared.carried_reading.CarriedFields.{CarriedFields}
 
 -- a name and bytes
@@ -22,8 +22,8 @@ stream_of_items (item name (item bytes no_items)) = do
   Some (record { name = units; bytes = content })
 stream_of_items (item name (item bytes (item other more))) = None
 
-abbrev pub stream_of : Data → Option NamedBytes
-stream_of value = as_array value >>= stream_of_items
+abbrev pub stream_of_value : Data → Option NamedBytes
+stream_of_value value = as_array value >>= stream_of_items
 
 -- streams that a document may carry
 pub record AreFormedStreams (streams : List NamedBytes) : Type 0 where
@@ -46,7 +46,7 @@ carried_values value = do
   lid_fe ← need (codes "lidfe") short_number lid.1
   lst ← need (codes "lst") bytes_of lid_fe.1
   streams ← taken (codes "streams") lst.1
-  end ← ended streams.1
+  end ← no_member_left streams.1
   Some (
     record {
       assoc = assoc.0;
@@ -77,7 +77,7 @@ pub record AreValidFields (fields : CarriedFields) : Type 0 where
   pub lists : AreListsWithLevels fields.lst fields.levels
 
 -- what is carried has these fields and streams
-pub record HasFields (fields : CarriedFields) (streams : List NamedBytes) (carried : Carried) : Type 0 where
+pub record HasCarriedFields (fields : CarriedFields) (streams : List NamedBytes) (carried : Carried) : Type 0 where
   pub assoc : carried.assoc ≡ fields.assoc
   pub clsid : carried.clsid ≡ fields.clsid
   pub dop : carried.dop ≡ fields.dop
@@ -93,10 +93,10 @@ pub record HasFields (fields : CarriedFields) (streams : List NamedBytes) (carri
 -- the value is that of a stream, which is behind the others
 pub record IsStreamAdded (value : Data) (old new : List NamedBytes) : Type 0 where
   pub stream : NamedBytes
-  pub read : stream_of value ≡ Some stream
+  pub read : stream_of_value value ≡ Some stream
   pub grown : new ≡ old ++ stream ∷ []
 
 -- the value is that of no stream that may be behind the others
 abbrev pub IsNoStream : Data → List NamedBytes → Type 0
 IsNoStream value old =
-    (stream : NamedBytes) → stream_of value ≡ Some stream → ¬ AreStreams (old ++ stream ∷ [])
+    (stream : NamedBytes) → stream_of_value value ≡ Some stream → ¬ AreStreams (old ++ stream ∷ [])

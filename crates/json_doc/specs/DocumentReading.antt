@@ -4,10 +4,10 @@ use Rattle.serde_json.specs.Data.{Data, Items, no_items, item}
 use Rattle.serde_json.specs.Find.{as_array, as_object}
 use Rattle.edit_script.specs.Json.{◌>>=◌}
 use Rattle.edit_script.specs.Values.{position, short_number}
-use Rattle.doc_parts.specs.declared.bookmark_order.Bookmark.{Bookmark}
-use Rattle.doc_parts.specs.Bookmarks.{HasFileNumbers, AreFormedBookmarks}
+use Rattle.document_bookmarks.specs.declared.bookmark_order.Bookmark.{Bookmark}
+use Rattle.document_bookmarks.specs.Bookmarks.{HasFileNumbers, AreFormedBookmarks}
 use Rattle.json_values.specs.Digits.{hex_units_of}
-use Rattle.json_values.specs.Rows.{taken, ended}
+use Rattle.json_values.specs.Rows.{taken, no_member_left}
 
 -- a name, two places and flags
 abbrev pub bookmark_of_items : Items → Option Bookmark
@@ -45,7 +45,7 @@ document_values value = do
   main ← taken (codes "main") heads.1
   notes ← taken (codes "notes") main.1
   sheet ← taken (codes "sheet") notes.1
-  end ← ended sheet.1
+  end ← no_member_left sheet.1
   Some (record {
     bookmarks = bookmarks.0;
     carried = carried.0;

@@ -3,8 +3,8 @@ use Rattle.std.specs.Prelude.{ℕ, List, map, codes}
 use Rattle.serde_json.specs.Data.{Data, array, object, no_items, item, Members, no_members, member}
 use Rattle.serde_json.specs.View.{items_of}
 use Rattle.serde_json.specs.Written.{compact_text}
-use Rattle.doc_parts.specs.declared.bookmark_order.Bookmark.{Bookmark}
-use Rattle.plain_doc.specs.declared.document.Document.{Document}
+use Rattle.document_bookmarks.specs.declared.bookmark_order.Bookmark.{Bookmark}
+use Rattle.doc_model.specs.declared.document.Document.{Document}
 use Rattle.json_values.specs.Digits.{units_json}
 use Rattle.json_values.specs.Rows.{number_json}
 use Rattle.json_doc.specs.Pieces.{text_json, texts_json}

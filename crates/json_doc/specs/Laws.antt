@@ -3,13 +3,13 @@ use Rattle.std.specs.Prelude.{◌≡◌, ◌≤◌, false}
 use Rattle.serde_json.specs.Data.{depth}
 use Rattle.serde_json.specs.Written.{has_float}
 use Rattle.edit_script.specs.Json.{IsJson}
-use Rattle.plain_doc.specs.declared.document.Document.{Document}
-use Rattle.plain_doc.specs.Formed.{IsFormed}
+use Rattle.doc_model.specs.declared.document.Document.{Document}
+use Rattle.doc_model.specs.Formed.{IsFormed}
 use Rattle.plain_doc.specs.Sound.{IsSound}
 use Rattle.json_doc.specs.declared.fault.JsonFault.{JsonFault}
 use Rattle.json_doc.specs.declared.fault.JsonFault.TheVariants.{Memory}
 use Rattle.json_doc.specs.Documents.{json_value, json_text}
-use Rattle.json_doc.specs.Reading.{IsReadAs, IsJsonFault}
+use Rattle.json_doc.specs.Reading.{IsSoundJson, IsJsonFault}
 
 -- no two well-formed documents have the same value, and none have the same text
 pub record JsonFormsAreOne : Type 0 where
@@ -26,7 +26,7 @@ pub record JsonIsShallow : Type 0 where
   pub whole : (document : Document) → IsFormed document → has_float (json_value document) ≡ false
 
 -- the text of a sound document is read as the document, or memory is refused
-pub record TextsAreReadBack : Type 0 where
-  pub read : (document other : Document) → IsFormed document → IsReadAs (json_text document) other → other ≡ document
+pub record JsonIsReadBack : Type 0 where
+  pub read : (document other : Document) → IsFormed document → IsSoundJson (json_text document) other → other ≡ document
   pub refused : (document : Document) (fault : JsonFault) → IsFormed document → IsSound document →
       IsJsonFault (json_text document) fault → fault ≡ Memory

@@ -9,14 +9,14 @@ use Rattle.serde_json.specs.Find.{as_object, as_str}
 use Rattle.edit_script.specs.Json.{◌>>=◌}
 use Rattle.edit_script.specs.Values.{byte_number, short_number, properties_of}
 use Rattle.prop_map.specs.Formed.{IsPropertyMap, character_groups, paragraph_groups, section_groups}
-use Rattle.plain_doc.specs.declared.item.Item.{Item}
-use Rattle.plain_doc.specs.declared.item.Mark.{Mark}
-use Rattle.plain_doc.specs.declared.item.NoteKind.{NoteKind}
-use Rattle.plain_doc.specs.declared.item.NoteKind.TheVariants.{Auto, Custom}
-use Rattle.plain_doc.specs.Settings.{same_properties}
-use Rattle.plain_doc.specs.Stretches.{goes_over}
+use Rattle.doc_model.specs.declared.item.Item.{Item}
+use Rattle.doc_model.specs.declared.item.Mark.{Mark}
+use Rattle.doc_model.specs.declared.item.NoteKind.{NoteKind}
+use Rattle.doc_model.specs.declared.item.NoteKind.TheVariants.{Auto, Custom}
+use Rattle.doc_model.specs.Settings.{same_properties}
+use Rattle.doc_model.specs.Stretches.{goes_over}
 use Rattle.json_values.specs.Digits.{hex_units_of, AreUnits}
-use Rattle.json_values.specs.Rows.{need, may, ended}
+use Rattle.json_values.specs.Rows.{need, may, no_member_left}
 use Rattle.json_doc.specs.declared.pieces.Piece.{Piece}
 use Rattle.json_doc.specs.Pieces.{is_one_piece, piece_json}
 
@@ -25,7 +25,7 @@ mark_of value = do
   start ← as_object value
   pap ← need (codes "p") properties_of start
   istd ← need (codes "s") short_number pap.1
-  end ← ended istd.1
+  end ← no_member_left istd.1
   Some (record { istd = istd.0; pap = pap.0 })
 
 abbrev pub note_with_name : List ℕ → Option NoteKind
@@ -33,8 +33,8 @@ note_with_name word =
     if bytes_eq word (codes "auto") then Some Auto else
     if bytes_eq word (codes "custom") then Some Custom else None
 
-abbrev pub note_of : Data → Option NoteKind
-note_of value = as_str value >>= note_with_name
+abbrev pub note_kind_of : Data → Option NoteKind
+note_kind_of value = as_str value >>= note_with_name
 
 abbrev pub piece_of : Data → Option Piece
 piece_of value = do
@@ -42,10 +42,10 @@ piece_of value = do
   chp ← need (codes "c") properties_of start
   fld ← may (codes "f") byte_number chp.1
   mark ← may (codes "m") mark_of fld.1
-  note ← may (codes "n") note_of mark.1
+  note ← may (codes "n") note_kind_of mark.1
   units ← need (codes "t") hex_units_of note.1
   sect ← may (codes "x") properties_of units.1
-  end ← ended sect.1
+  end ← no_member_left sect.1
   Some (record { chp = chp.0; fld = fld.0; mark = mark.0; note = note.0; units = units.0; sect = sect.0 })
 
 -- the piece has something beside its properties
@@ -109,12 +109,12 @@ are_joined piece next =
     not (is_special_piece piece) && (not (is_special_piece next) && same_properties piece.chp next.chp)
 
 -- those of the last piece, where there is one
-abbrev pub goes_on_in : Option Piece → Piece → Bool
-goes_on_in None next = false
-goes_on_in (Some last) next = are_joined last next
+abbrev pub joins_last_piece : Option Piece → Piece → Bool
+joins_last_piece None next = false
+joins_last_piece (Some last) next = are_joined last next
 
 -- the last piece tells whether these items go on in another one
-abbrev pub EndsBy : List Item → Option Piece → Type 0
-EndsBy text last =
+abbrev pub EndsByPiece : List Item → Option Piece → Type 0
+EndsByPiece text last =
     (piece : Piece) → 1 ≤ length piece.units →
-    goes_over is_one_piece text (piece_items piece) ≡ goes_on_in last piece
+    goes_over is_one_piece text (piece_items piece) ≡ joins_last_piece last piece

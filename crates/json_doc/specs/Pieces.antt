@@ -4,13 +4,13 @@ use Rattle.std.specs.Prelude.{◌&&◌, not, Bool, List, [], ◌∷◌, map, cod
 use Rattle.std.specs.Prelude.{option_map}
 use Rattle.serde_json.specs.Data.{Data, null, string, array, object, Members, no_members, member}
 use Rattle.serde_json.specs.View.{items_of}
-use Rattle.plain_doc.specs.declared.item.Item.{Item}
-use Rattle.plain_doc.specs.declared.item.Mark.{Mark}
-use Rattle.plain_doc.specs.declared.item.NoteKind.{NoteKind}
-use Rattle.plain_doc.specs.declared.item.NoteKind.TheVariants.{Auto, Custom}
-use Rattle.plain_doc.specs.Settings.{same_properties}
-use Rattle.plain_doc.specs.Stretches.{stretches}
-use Rattle.doc_columns.specs.Specials.{is_special}
+use Rattle.doc_model.specs.declared.item.Item.{Item}
+use Rattle.doc_model.specs.declared.item.Mark.{Mark}
+use Rattle.doc_model.specs.declared.item.NoteKind.{NoteKind}
+use Rattle.doc_model.specs.declared.item.NoteKind.TheVariants.{Auto, Custom}
+use Rattle.doc_model.specs.Settings.{same_properties}
+use Rattle.doc_model.specs.Stretches.{stretches}
+use Rattle.doc_columns.specs.Specials.{is_special_item}
 use Rattle.json_values.specs.Digits.{units_json}
 use Rattle.json_values.specs.Settings.{properties_json}
 use Rattle.json_values.specs.Rows.{number_json, member_if}
@@ -18,7 +18,7 @@ use Rattle.json_doc.specs.declared.pieces.Piece.{Piece}
 
 -- the next item is of the same piece
 abbrev pub is_one_piece : Item → Item → Bool
-is_one_piece item next = not (is_special item) && (not (is_special next) && same_properties item.chp next.chp)
+is_one_piece item next = not (is_special_item item) && (not (is_special_item next) && same_properties item.chp next.chp)
 
 -- the style number and the properties of a mark
 abbrev pub mark_json : Mark → Data

@@ -3,10 +3,10 @@
 use Rattle.std.specs.Prelude.{◌≡◌, ◌≢◌, ◌≤◌, ⊤, ℕ, List, length}
 use Rattle.serde_json.specs.Data.{Data}
 use Rattle.edit_script.specs.Json.{IsJson}
-use Rattle.plain_doc.specs.declared.document.Document.{Document}
+use Rattle.doc_model.specs.declared.document.Document.{Document}
 use Rattle.plain_doc.specs.declared.judge.DocFault.{DocFault}
-use Rattle.plain_doc.specs.Formed.{IsFormed}
-use Rattle.plain_doc.specs.Marks.{HasFormedBookmarks}
+use Rattle.doc_model.specs.Formed.{IsFormed}
+use Rattle.doc_model.specs.Marks.{HasFormedBookmarks}
 use Rattle.plain_doc.specs.Sound.{IsSound, NamesFirstRule, document_rules}
 use Rattle.json_values.specs.Out.{Output}
 use Rattle.json_doc.specs.declared.fault.JsonFault.{JsonFault}
@@ -14,12 +14,12 @@ use Rattle.json_doc.specs.declared.fault.JsonFault.TheVariants.{Json, Shape, Uns
 use Rattle.json_doc.specs.Documents.{json_value}
 
 -- a well-formed document, whose bookmarks are so too
-pub record IsWhole (document : Document) : Type 0 where
+pub record IsWholeDocument (document : Document) : Type 0 where
   pub parts : IsFormed document
   pub bookmarks : HasFormedBookmarks document
 
 -- the bytes spell the value of a sound document
-pub record IsReadAs (bytes : List ℕ) (document : Document) : Type 0 where
+pub record IsSoundJson (bytes : List ℕ) (document : Document) : Type 0 where
   pub formed : IsFormed document
   pub sound : IsSound document
   pub json : IsJson bytes (json_value document)
@@ -28,12 +28,12 @@ pub record IsReadAs (bytes : List ℕ) (document : Document) : Type 0 where
 pub record HasWrongShape (bytes : List ℕ) : Type 0 where
   pub value : Data
   pub json : IsJson bytes value
-  pub none : (document : Document) → IsWhole document → value ≢ json_value document
+  pub none : (document : Document) → IsWholeDocument document → value ≢ json_value document
 
 -- the bytes spell the value of a well-formed document, and this names the first rule that it breaks
-pub record IsUnsound (bytes : List ℕ) (fault : DocFault) : Type 0 where
+pub record IsUnsoundJson (bytes : List ℕ) (fault : DocFault) : Type 0 where
   pub document : Document
-  pub whole : IsWhole document
+  pub whole : IsWholeDocument document
   pub json : IsJson bytes (json_value document)
   pub first : NamesFirstRule (document_rules document) fault
 
@@ -41,7 +41,7 @@ pub record IsUnsound (bytes : List ℕ) (fault : DocFault) : Type 0 where
 abbrev pub IsJsonFault : List ℕ → JsonFault → Type 0
 IsJsonFault bytes Json = (value : Data) → ¬ (IsJson bytes value)
 IsJsonFault bytes Shape = HasWrongShape bytes
-IsJsonFault bytes (Unsound rule place at) = IsUnsound bytes (record { rule = rule; place = place; at = at })
+IsJsonFault bytes (Unsound rule place at) = IsUnsoundJson bytes (record { rule = rule; place = place; at = at })
 IsJsonFault bytes Memory = ⊤
 
 -- the fault is the first rule that the document breaks; want of memory is free

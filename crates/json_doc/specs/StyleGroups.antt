@@ -5,15 +5,15 @@ use Rattle.edit_script.specs.Json.{◌>>=◌}
 use Rattle.edit_script.specs.Values.{bytes_of, byte_number, short_number, properties_of}
 use Rattle.style_sheet.specs.declared.styles.Style.{Style}
 use Rattle.json_values.specs.Digits.{hex_units_of}
-use Rattle.json_values.specs.Rows.{need, may, ended}
-use Rattle.json_doc.specs.StyleReading.{list_as, base_of, kind_of}
+use Rattle.json_values.specs.Rows.{need, may, no_member_left}
+use Rattle.json_doc.specs.StyleReading.{list_as, base_of, kind_of_parts}
 use Rattle.json_doc.specs.declared.style_reading.StyleFront.{StyleFront}
 use Rattle.json_doc.specs.declared.style_reading.StyleBack.{StyleBack}
 
 -- the style of both groups
 abbrev pub style_with : StyleFront → StyleBack → Option Style
 style_with front back = do
-  kind ← kind_of front.chp back.pap back.stk back.upxes
+  kind ← kind_of_parts front.chp back.pap back.stk back.upxes
   Some (record {
     sti = back.sti;
     flags = front.flags;
@@ -32,7 +32,7 @@ made_behind front members = do
   sti ← need (codes "sti") short_number pap.1
   stk ← may (codes "stk") byte_number sti.1
   upxes ← may (codes "upxes") (list_as bytes_of) stk.1
-  end ← ended upxes.1
+  end ← no_member_left upxes.1
   style_with front (record { next = next.0; pap = pap.0; sti = sti.0; stk = stk.0; upxes = upxes.0 })
 
 -- the style of the members of an object
@@ -50,7 +50,7 @@ style_row members = do
 -- the members have this second group, and others behind it
 abbrev pub IsMadeBehind : Members → StyleBack → Members → Type 0
 IsMadeBehind members back more =
-    (front : StyleFront) → made_behind front members ≡ (ended more >>= λ end. style_with front back)
+    (front : StyleFront) → made_behind front members ≡ (no_member_left more >>= λ end. style_with front back)
 
 -- the members have no second group
 abbrev pub IsNoneBehind : Members → Type 0

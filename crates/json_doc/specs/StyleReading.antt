@@ -11,7 +11,7 @@ use Rattle.style_sheet.specs.declared.styles.Kind.{Kind}
 use Rattle.style_sheet.specs.declared.styles.Kind.TheVariants.{Para, Char, Other}
 use Rattle.style_sheet.specs.Formed.{IsFormedSlot}
 use Rattle.json_values.specs.Digits.{hex_units_of}
-use Rattle.json_values.specs.Rows.{taken, need, may, ended}
+use Rattle.json_values.specs.Rows.{taken, need, may, no_member_left}
 
 -- what an array is read as, value by value
 abbrev pub list_as : {A : Type 0} → (Data → Option A) → Data → Option (List A)
@@ -22,11 +22,11 @@ abbrev pub base_of : Data → Option (Option ℕ)
 base_of value = if is_some (as_null value) then Some None else option_map Some (short_number value)
 
 -- the kind that has these
-abbrev pub kind_of : Option Properties → Option Properties → Option ℕ → Option (List (List ℕ)) → Option Kind
-kind_of (Some chp) (Some pap) None None = Some (Para pap chp)
-kind_of (Some chp) None None None = Some (Char chp)
-kind_of None None (Some stk) (Some upxes) = Some (Other stk upxes)
-kind_of _ _ _ _ = None
+abbrev pub kind_of_parts : Option Properties → Option Properties → Option ℕ → Option (List (List ℕ)) → Option Kind
+kind_of_parts (Some chp) (Some pap) None None = Some (Para pap chp)
+kind_of_parts (Some chp) None None None = Some (Char chp)
+kind_of_parts None None (Some stk) (Some upxes) = Some (Other stk upxes)
+kind_of_parts _ _ _ _ = None
 
 abbrev pub read_style_of : Data → Option Style
 read_style_of value = do
@@ -41,8 +41,8 @@ read_style_of value = do
   sti ← need (codes "sti") short_number pap.1
   stk ← may (codes "stk") byte_number sti.1
   upxes ← may (codes "upxes") (list_as bytes_of) stk.1
-  end ← ended upxes.1
-  kind ← kind_of chp.0 pap.0 stk.0 upxes.0
+  end ← no_member_left upxes.1
+  kind ← kind_of_parts chp.0 pap.0 stk.0 upxes.0
   Some (record {
     sti = sti.0;
     flags = flags.0;
@@ -59,7 +59,7 @@ sheet_values value = do
   start ← as_object value
   head ← need (codes "head") (list_as short_number) start
   slots ← taken (codes "styles") head.1
-  end ← ended slots.1
+  end ← no_member_left slots.1
   Some (head.0, slots.0)
 
 -- 1 to 4,094 slots, and what each holds

@@ -6,14 +6,15 @@ ghost use Rattle.fib_form.specs.Fib.{kept_flags};
 ghost use Rattle.serde_json.specs.Data.{array};
 ghost use Rattle.serde_json.specs.View.{view, items_view, members_view};
 ghost use Rattle.cfb_streams.specs.Contents.{NamedBytes};
-ghost use Rattle.plain_doc.specs.Carried.{ArePartsShort, AreListsWithLevels, AreCarriedStreams, IsCarriedName};
-ghost use Rattle.plain_doc.specs.Formed.{IsFormedCarried};
+ghost use Rattle.doc_model.specs.Carried.{ArePartsShort, AreListsWithLevels, AreCarriedStreams, IsCarriedName};
+ghost use Rattle.doc_model.specs.Formed.{IsFormedCarried};
 ghost use Rattle.json_doc.specs.CarriedParts.{carried_json, streams_json};
 ghost use Rattle.json_doc.specs.CarriedGroups.{carried_row, behind_front, behind_back, fields_with};
-ghost use Rattle.json_doc.specs.CarriedGroups.{IsBehind, IsNoBack, IsLast, IsNoLast};
-ghost use Rattle.json_doc.specs.CarriedReading.{stream_of, stream_of_items, carried_values, AreFormedStreams};
-ghost use Rattle.json_doc.specs.CarriedReading.{IsStreamAdded, IsNoStream, AreValidFields, AreValidBut, HasFields};
-ghost use Rattle.json_doc.specs.ReadValues.{Reads, Tells};
+ghost use Rattle.json_doc.specs.CarriedGroups.{IsBackGroup, IsNoBack, IsLast, IsNoLast};
+ghost use Rattle.json_doc.specs.CarriedReading.{stream_of_value, stream_of_items, carried_values, AreFormedStreams};
+ghost use Rattle.json_doc.specs.CarriedReading.{IsStreamAdded, IsNoStream, AreValidFields, AreValidBut};
+ghost use Rattle.json_doc.specs.CarriedReading.{HasCarriedFields};
+ghost use Rattle.json_doc.specs.ReadValues.{ReadsValue, Tells};
 
 use cfb_streams::{Streams, TABLE_0, TABLE_1, WORD_DOCUMENT, equal_names};
 use doc_bits::{Bytes, Memory, Units};
@@ -88,7 +89,7 @@ fn carried_front_in(alloc: Global, row: &mut Row<'_>) -> Result<CarriedFront, Sh
 /// What the next five keys have.
 fn carried_back_in(alloc: Global, row: &mut Row<'_>) -> Result<CarriedBack, ShapeError>
     ensures { MatchResult result
-        (λ back. IsBehind (members_view row.old.left) back (members_view row.new.left))
+        (λ back. IsBackGroup (members_view row.old.left) back (members_view row.new.left))
         (λ fault. fault ≡ ShapeError.Shape → IsNoBack (members_view row.old.left)) }
 {
     let levels = row.bytes(alloc, "levels")?;
@@ -180,8 +181,8 @@ fn carried_values_in(alloc: Global, value: &Value) -> Result<(CarriedFields, &Va
 /// A stream: its name and its bytes.
 fn stream_in(alloc: Global, value: &Value) -> Result<(Units, Bytes), ShapeError>
     ensures { MatchResult result
-        (λ parts. stream_of (view value.now) ≡ Some (record { name = parts.0; bytes = parts.1 }))
-        (λ fault. fault ≡ ShapeError.Shape → stream_of (view value.now) ≡ None) }
+        (λ parts. stream_of_value (view value.now) ≡ Some (record { name = parts.0; bytes = parts.1 }))
+        (λ fault. fault ≡ ShapeError.Shape → stream_of_value (view value.now) ≡ None) }
 {
     match value.as_array() {
         None => Err(ShapeError::Shape),
@@ -222,7 +223,7 @@ fn add_stream(alloc: Global, streams: &mut Streams, value: &Value) -> Result<(),
 
 /// Streams that a document may carry: an array of them.
 fn streams_in(alloc: Global, value: &Value) -> Result<Streams, ShapeError>
-    ensures { Reads streams_json AreFormedStreams (view value.now) result }
+    ensures { ReadsValue streams_json AreFormedStreams (view value.now) result }
 {
     match value.as_array() {
         None => Err(ShapeError::Shape),
@@ -232,7 +233,7 @@ fn streams_in(alloc: Global, value: &Value) -> Result<Streams, ShapeError>
 
 /// The streams of an array.
 fn streams_from(alloc: Global, values: &[Value]) -> Result<Streams, ShapeError>
-    ensures { Reads streams_json AreFormedStreams (array (items_view values.now)) result }
+    ensures { ReadsValue streams_json AreFormedStreams (array (items_view values.now)) result }
 {
     let mut streams = Streams::new(alloc);
     for value in values {
@@ -357,7 +358,7 @@ fn streams_attached(
     value: &Value,
 ) -> Result<Streams, ShapeError>
     ensures { MatchResult result
-        (λ streams. AreValidFields fields.now × Reads streams_json AreFormedStreams (view value.now) (Ok streams))
+        (λ streams. AreValidFields fields.now × ReadsValue streams_json AreFormedStreams (view value.now) (Ok streams))
         (λ fault. fault ≡ ShapeError.Shape → (streams : List NamedBytes) → AreValidFields fields.now
         → AreFormedStreams streams → view value.now ≢ streams_json streams) }
 {
@@ -388,7 +389,7 @@ pub(crate) fn carried_in(alloc: Global, value: &Value) -> Result<Carried, ShapeE
 fn carried_from(fields: CarriedFields, streams: Streams) -> Carried
     requires right { AreValidFields fields }
     requires others { AreCarriedStreams streams }
-    ensures { HasFields fields streams result }
+    ensures { HasCarriedFields fields streams result }
 {
     let mut clsid = [0u8; CLSID_LEN];
     clsid.copy_from_slice(fields.clsid.as_slice());

@@ -1,5 +1,5 @@
 // Laws on documents as JSON.
-ghost use Rattle.json_doc.specs.Laws.{JsonFormsAreOne, JsonTextsAreRead, JsonIsShallow, TextsAreReadBack};
+ghost use Rattle.json_doc.specs.Laws.{JsonFormsAreOne, JsonTextsAreRead, JsonIsShallow, JsonIsReadBack};
 
 /// Well-formed documents with the same value, or with the same text, are the same.
 pub fn json_forms_are_one()
@@ -18,5 +18,5 @@ pub fn json_is_shallow()
 
 /// The text of a sound document is read as the document, or memory is refused.
 pub fn texts_are_read_back()
-    ensures { TextsAreReadBack }
+    ensures { JsonIsReadBack }
 {}

@@ -4,18 +4,18 @@ ghost use Rattle.std.specs.Prelude.{MatchResult, ℕ, true};
 ghost use Rattle.std.specs.Option.{ForSome};
 ghost use Rattle.serde_json.specs.Data.{array};
 ghost use Rattle.serde_json.specs.View.{view, items_view, members_view};
-ghost use Rattle.edit_script.specs.Json.{Gives};
+ghost use Rattle.edit_script.specs.Json.{GivesReading};
 ghost use Rattle.prop_map.specs.Formed.{IsPropertyMap, paragraph_groups, section_groups};
-ghost use Rattle.plain_doc.specs.Document.{IsFormedText, AreFormedTexts};
-ghost use Rattle.plain_doc.specs.Stretches.{goes_over};
+ghost use Rattle.doc_model.specs.Document.{IsFormedText, AreFormedTexts};
+ghost use Rattle.doc_model.specs.Stretches.{goes_over};
 ghost use Rattle.json_values.specs.Digits.{AreUnits};
 ghost use Rattle.json_values.specs.Rows.{Steps, may};
 ghost use Rattle.json_doc.specs.Pieces.{is_one_piece, piece_json, text_json, texts_json};
-ghost use Rattle.json_doc.specs.PieceReading.{mark_of, note_with_name, note_of, piece_of, piece_items};
+ghost use Rattle.json_doc.specs.PieceReading.{mark_of, note_with_name, note_kind_of, piece_of, piece_items};
 ghost use Rattle.json_doc.specs.PieceReading.{is_special_piece};
 ghost use Rattle.json_doc.specs.PieceReading.{item_with, IsValidPiece, IsFormedPiece, HasPieceNumbers, IsPieceAdded};
-ghost use Rattle.json_doc.specs.PieceReading.{IsNoPiece, MayFollow, EndsBy, are_joined, goes_on_in};
-ghost use Rattle.json_doc.specs.ReadValues.{Reads};
+ghost use Rattle.json_doc.specs.PieceReading.{IsNoPiece, MayFollow, EndsByPiece, are_joined, joins_last_piece};
+ghost use Rattle.json_doc.specs.ReadValues.{ReadsValue};
 
 use crate::pieces::Piece;
 use doc_bits::Memory;
@@ -32,7 +32,7 @@ use std::alloc::Global;
 
 /// A mark: its properties and its style number.
 fn mark_in(alloc: Global, value: &Value) -> Result<Mark, ShapeError>
-    ensures { Gives result (mark_of (view value.now)) }
+    ensures { GivesReading result (mark_of (view value.now)) }
 {
     let mut row = Row::of(value)?;
     let pap = row.properties(alloc, "p")?;
@@ -64,7 +64,7 @@ fn note_named(word: &str) -> Option<NoteKind>
 
 /// How a note is numbered.
 fn note_in(value: &Value) -> Result<NoteKind, ShapeError>
-    ensures { Gives result (note_of (view value.now)) }
+    ensures { GivesReading result (note_kind_of (view value.now)) }
 {
     match value.as_str().and_then(note_named) {
         None => Err(ShapeError::Shape),
@@ -74,7 +74,7 @@ fn note_in(value: &Value) -> Result<NoteKind, ShapeError>
 
 /// How the note at a key is numbered, where the key comes first.
 fn note_if(row: &mut Row<'_>, key: &str) -> Result<Option<NoteKind>, ShapeError>
-    ensures { Steps (may key.now note_of) (members_view row.old.left) result (members_view row.new.left) }
+    ensures { Steps (may key.now note_kind_of) (members_view row.old.left) result (members_view row.new.left) }
 {
     match row.may(key) {
         None => Ok(None),
@@ -84,7 +84,7 @@ fn note_if(row: &mut Row<'_>, key: &str) -> Result<Option<NoteKind>, ShapeError>
 
 /// A piece, as its object has it.
 fn piece_in(alloc: Global, value: &Value) -> Result<Piece, ShapeError>
-    ensures { Gives result (piece_of (view value.now)) }
+    ensures { GivesReading result (piece_of (view value.now)) }
 {
     let mut row = Row::of(value)?;
     let chp = row.properties(alloc, "c")?;
@@ -182,7 +182,7 @@ fn is_byte(number: u8)
 
 /// A piece whose maps and units are right.
 fn right_piece_in(alloc: Global, value: &Value) -> Result<Piece, ShapeError>
-    ensures pieces { Reads piece_json IsFormedPiece (view value.now) result }
+    ensures pieces { ReadsValue piece_json IsFormedPiece (view value.now) result }
     ensures read { IfOk result (λ piece. piece_of (view value.now) ≡ Some piece) }
 {
     let piece = piece_in(alloc, value)?;
@@ -209,7 +209,7 @@ struct GrowingText {
 
 /// Whether the last piece goes on in the next one.
 fn goes_on(last: &Option<Piece>, next: &Piece) -> bool
-    ensures { result ≡ goes_on_in last.now next.now }
+    ensures { result ≡ joins_last_piece last.now next.now }
 {
     match last {
         None => false,
@@ -226,7 +226,7 @@ fn has_room(text: &Columns, piece: &Piece) -> bool
 
 /// Whether a text does not go on in a piece, and has room for it.
 fn may_follow(text: &GrowingText, piece: &Piece) -> bool
-    requires ends { EndsBy text.now.text text.now.last }
+    requires ends { EndsByPiece text.now.text text.now.last }
     requires some { 1 ≤ length piece.now.units }
     ensures { IsTrue result ↔ MayFollow text.now.text piece.now }
 {
@@ -270,7 +270,7 @@ fn put_piece(alloc: Global, text: GrowingText, piece: Piece) -> Result<GrowingTe
     requires room { length text.text + length piece.units < 2 ^ 32 }
     requires formed { IsFormedPiece piece }
     ensures put { IfOk result (λ made. made.text ≡ text.text ++ piece_items piece) }
-    ensures ends { IfOk result (λ made. EndsBy made.text made.last) }
+    ensures ends { IfOk result (λ made. EndsByPiece made.text made.last) }
 {
     let GrowingText { text, last: _ } = text;
     let text = with_piece(alloc, text, &piece)?;
@@ -282,9 +282,9 @@ fn put_piece(alloc: Global, text: GrowingText, piece: Piece) -> Result<GrowingTe
 
 /// Puts the items of a value's piece behind a text, which does not go on in it.
 fn add_piece(alloc: Global, text: GrowingText, value: &Value) -> Result<GrowingText, ShapeError>
-    requires { EndsBy text.text text.last }
+    requires { EndsByPiece text.text text.last }
     ensures { MatchResult result
-        (λ made. IsPieceAdded (view value.now) text.text made.text × EndsBy made.text made.last)
+        (λ made. IsPieceAdded (view value.now) text.text made.text × EndsByPiece made.text made.last)
         (λ fault. fault ≡ ShapeError.Shape → IsNoPiece (view value.now) text.text) }
 {
     let piece = right_piece_in(alloc, value)?;
@@ -297,7 +297,7 @@ fn add_piece(alloc: Global, text: GrowingText, value: &Value) -> Result<GrowingT
 
 /// A text: an array of pieces, of which none goes on in the next one.
 pub(crate) fn text_in(alloc: Global, value: &Value) -> Result<Columns, ShapeError>
-    ensures { Reads text_json IsFormedText (view value.now) result }
+    ensures { ReadsValue text_json IsFormedText (view value.now) result }
 {
     match value.as_array() {
         None => Err(ShapeError::Shape),
@@ -307,7 +307,7 @@ pub(crate) fn text_in(alloc: Global, value: &Value) -> Result<Columns, ShapeErro
 
 /// The items of the pieces of an array.
 fn items_in(alloc: Global, values: &[Value]) -> Result<Columns, ShapeError>
-    ensures { Reads text_json IsFormedText (array (items_view values.now)) result }
+    ensures { ReadsValue text_json IsFormedText (array (items_view values.now)) result }
 {
     let mut grown = GrowingText {
         text: Columns::new(alloc),
@@ -322,7 +322,7 @@ fn items_in(alloc: Global, values: &[Value]) -> Result<Columns, ShapeError>
 
 /// Texts: an array of them.
 pub(crate) fn texts_in(alloc: Global, value: &Value) -> Result<ColumnTexts, ShapeError>
-    ensures { Reads texts_json AreFormedTexts (view value.now) result }
+    ensures { ReadsValue texts_json AreFormedTexts (view value.now) result }
 {
     match value.as_array() {
         None => Err(ShapeError::Shape),
@@ -332,7 +332,7 @@ pub(crate) fn texts_in(alloc: Global, value: &Value) -> Result<ColumnTexts, Shap
 
 /// The texts of an array.
 fn all_texts(alloc: Global, values: &[Value]) -> Result<ColumnTexts, ShapeError>
-    ensures { Reads texts_json AreFormedTexts (array (items_view values.now)) result }
+    ensures { ReadsValue texts_json AreFormedTexts (array (items_view values.now)) result }
 {
     let mut texts = ColumnTexts::new(alloc);
     if values.len() >= 1 << 32 {

@@ -2,10 +2,10 @@
 ghost use Rattle.std.specs.Prelude.{◌≡◌, ℕ, ◌+◌, ◌-◌, ◌<◌, ◌≤◌, ◌&&◌, length, not, codes, true, false, Some, OnOk};
 ghost use Rattle.std.specs.Prelude.{slice_get, option_map};
 ghost use Rattle.serde_json.specs.Written.{compact_text};
-ghost use Rattle.plain_doc.specs.declared.item.Item.{Item};
-ghost use Rattle.plain_doc.specs.Settings.{same_properties};
+ghost use Rattle.doc_model.specs.declared.item.Item.{Item};
+ghost use Rattle.doc_model.specs.Settings.{same_properties};
 ghost use Rattle.doc_columns.specs.Attached.{attached_of, has_something};
-ghost use Rattle.doc_columns.specs.Walks.{items_in, AreParts, IsWalk};
+ghost use Rattle.doc_columns.specs.Walks.{items_in, AreFullParts, IsColumnWalk};
 ghost use Rattle.json_values.specs.Digits.{units_json};
 ghost use Rattle.json_values.specs.Out.{Adds};
 ghost use Rattle.json_values.specs.Rows.{number_json};
@@ -59,7 +59,7 @@ pub(crate) fn write_text(alloc: Global, out: &mut JsonOut, text: &Columns) -> Re
 
 /// Writes the pieces of columns as an array.
 fn write_pieces(alloc: Global, out: &mut JsonOut, parts: &Parts<'_>) -> Result<(), Memory>
-    requires { AreParts parts.now }
+    requires { AreFullParts parts.now }
     ensures { OnOk result (Adds out.old out.new (compact_text (text_json (items_in parts.now)))) }
 {
     out.push("[")?;
@@ -77,15 +77,15 @@ fn write_pieces(alloc: Global, out: &mut JsonOut, parts: &Parts<'_>) -> Result<(
 
 /// Where the piece of a place ends, which begins with items that have this in common.
 fn piece_end(parts: &Parts<'_>, walk: &mut Walk, first: &Alike<'_>, place: usize) -> usize
-    requires parts { AreParts parts.now }
-    requires walk { IsWalk parts.now walk.old place }
+    requires parts { AreFullParts parts.now }
+    requires walk { IsColumnWalk parts.now walk.old place }
     requires some { place < first.now.end }
     requires within { first.now.end ≤ length parts.now.units.now }
     requires chps { (k : ℕ) (item : Item) → place ≤ k → k < first.now.end
         → slice_get (items_in parts.now) k ≡ Some item → item.chp ≡ first.now.chp.now }
     requires attachments { (k : ℕ) (item : Item) → place ≤ k → k < first.now.end
         → slice_get (items_in parts.now) k ≡ Some item → attached_of item ≡ first.now.attached.now }
-    ensures walk { IsWalk parts.now walk.new result }
+    ensures walk { IsColumnWalk parts.now walk.new result }
     ensures some { place < result }
     ensures within { result ≤ length parts.now.units.now }
     ensures joined { (k : ℕ) (item next : Item) → place ≤ k → k + 1 < result

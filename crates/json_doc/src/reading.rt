@@ -3,16 +3,16 @@ ghost use Rattle.std.specs.Prelude.{◌≡◌, ◌≢◌, ◌⊎◌, MatchResult
 ghost use Rattle.serde_json.specs.Data.{item, no_items};
 ghost use Rattle.serde_json.specs.View.{view, items_view};
 ghost use Rattle.serde_json.specs.Errors.{IsMemory};
-ghost use Rattle.edit_script.specs.Json.{IsJson, Gives, each_of};
-ghost use Rattle.plain_doc.specs.declared.document.Document.{Document};
-ghost use Rattle.plain_doc.specs.Marks.{HasFormedBookmarks};
+ghost use Rattle.edit_script.specs.Json.{IsJson, GivesReading, each_of};
+ghost use Rattle.doc_model.specs.declared.document.Document.{Document};
+ghost use Rattle.doc_model.specs.Marks.{HasFormedBookmarks};
 ghost use Rattle.plain_doc.specs.Sound.{IsSound};
 ghost use Rattle.json_values.specs.Plain.{HasKeysInOrder};
 ghost use Rattle.json_doc.specs.Documents.{bookmarks_json, json_value};
 ghost use Rattle.json_doc.specs.DocumentReading.{bookmark_of, bookmark_of_items, AreMarks, document_values};
-ghost use Rattle.json_doc.specs.DocumentTexts.{AreTextsOf, HasNoTexts};
-ghost use Rattle.json_doc.specs.ReadValues.{Reads};
-ghost use Rattle.json_doc.specs.Reading.{IsWhole, IsReadAs, IsJsonFault, IsFirstFault};
+ghost use Rattle.json_doc.specs.DocumentTexts.{AreTextsOfValues, HasNoTexts};
+ghost use Rattle.json_doc.specs.ReadValues.{ReadsValue};
+ghost use Rattle.json_doc.specs.Reading.{IsWholeDocument, IsSoundJson, IsJsonFault, IsFirstFault};
 ghost use Rattle.json_doc.specs.StyleReading.{list_as};
 
 use crate::JsonFault;
@@ -32,7 +32,7 @@ use std::alloc::Global;
 /// are no JSON, else `Shape` where no well-formed document has their value, else `Unsound` where that document is not
 /// sound. It is read by columns, and put item by item.
 pub fn from_json(alloc: Global, bytes: &[u8]) -> Result<Document, JsonFault>
-    ensures { MatchResult result (IsReadAs bytes.now) (IsJsonFault bytes.now) }
+    ensures { MatchResult result (IsSoundJson bytes.now) (IsJsonFault bytes.now) }
 {
     let columns = from_json_of_columns(alloc, bytes)?;
     let document = columns.expand(alloc);
@@ -42,7 +42,7 @@ pub fn from_json(alloc: Global, bytes: &[u8]) -> Result<Document, JsonFault>
 
 /// Reads a document by columns from JSON.
 pub fn from_json_of_columns(alloc: Global, bytes: &[u8]) -> Result<ColumnDocument, JsonFault>
-    ensures { MatchResult result (IsReadAs bytes.now) (IsJsonFault bytes.now) }
+    ensures { MatchResult result (IsSoundJson bytes.now) (IsJsonFault bytes.now) }
 {
     let value = json_of(alloc, bytes)?;
     let read = document_in(alloc, &value);
@@ -147,7 +147,7 @@ fn parts_in(value: &Value) -> Result<Parts<'_>, ShapeError>
 
 /// A bookmark: its name, where it begins and ends, and its flags.
 fn bookmark_in(alloc: Global, value: &Value) -> Result<Bookmark, ShapeError>
-    ensures { Gives result (bookmark_of (view value.now)) }
+    ensures { GivesReading result (bookmark_of (view value.now)) }
 {
     match value.as_array() {
         None => Err(ShapeError::Shape),
@@ -157,7 +157,7 @@ fn bookmark_in(alloc: Global, value: &Value) -> Result<Bookmark, ShapeError>
 
 /// The bookmark of four values.
 fn bookmark_from(alloc: Global, values: &[Value]) -> Result<Bookmark, ShapeError>
-    ensures { Gives result (bookmark_of_items (items_view values.now)) }
+    ensures { GivesReading result (bookmark_of_items (items_view values.now)) }
 {
     match values {
         [name, from, to, flags] => bookmark_of_four(alloc, name, from, to, flags),
@@ -174,7 +174,7 @@ fn bookmark_of_four(
     to: &Value,
     flags: &Value,
 ) -> Result<Bookmark, ShapeError>
-    ensures { Gives result (bookmark_of_items
+    ensures { GivesReading result (bookmark_of_items
         (item (view name.now) (item (view from.now) (item (view to.now) (item (view flags.now) no_items))))) }
 {
     let units = hex_units_in(alloc, name)?;
@@ -191,7 +191,7 @@ fn bookmark_of_four(
 
 /// The bookmarks of an array. Where there are 2^32 or more memory is refused.
 fn bookmarks_in(alloc: Global, value: &Value) -> Result<Bookmarks, ShapeError>
-    ensures { Gives result (list_as bookmark_of (view value.now)) }
+    ensures { GivesReading result (list_as bookmark_of (view value.now)) }
 {
     match value.as_array() {
         None => Err(ShapeError::Shape),
@@ -201,7 +201,7 @@ fn bookmarks_in(alloc: Global, value: &Value) -> Result<Bookmarks, ShapeError>
 
 /// The bookmarks of the values of an array.
 fn bookmarks_from(alloc: Global, values: &[Value]) -> Result<Bookmarks, ShapeError>
-    ensures { Gives result (each_of bookmark_of (items_view values.now)) }
+    ensures { GivesReading result (each_of bookmark_of (items_view values.now)) }
 {
     if values.len() >= 1 << 32 {
         return Err(ShapeError::Memory);
@@ -217,7 +217,7 @@ fn bookmarks_from(alloc: Global, values: &[Value]) -> Result<Bookmarks, ShapeErr
 
 /// Bookmarks of a main text of `len` units.
 fn marks_in(alloc: Global, value: &Value, len: usize) -> Result<Bookmarks, ShapeError>
-    ensures { Reads bookmarks_json (AreMarks len) (view value.now) result }
+    ensures { ReadsValue bookmarks_json (AreMarks len) (view value.now) result }
 {
     let mut bookmarks = bookmarks_in(alloc, value)?;
     let _ = bookmarks.len();
@@ -241,7 +241,7 @@ pub struct ReadTexts {
 /// The texts and the bookmarks that the values represent.
 fn texts_of(alloc: Global, parts: &Parts<'_>) -> Result<ReadTexts, ShapeError>
     ensures { MatchResult result
-        (AreTextsOf (record {
+        (AreTextsOfValues (record {
           bookmarks = view parts.now.bookmarks.now;
           carried = view parts.now.carried.now;
           heads = view parts.now.heads.now;
@@ -276,7 +276,7 @@ fn document_in(alloc: Global, value: &Value) -> Result<ColumnDocument, ShapeErro
         (λ document. HasFormedBookmarks document
         × (HasKeysInOrder (view value.now) → view value.now ≡ json_value document))
         (λ fault. fault ≡ ShapeError.Shape
-        → (document : Document) → IsWhole document → view value.now ≢ json_value document) }
+        → (document : Document) → IsWholeDocument document → view value.now ≢ json_value document) }
 {
     let parts = parts_in(value)?;
     let texts = texts_of(alloc, &parts)?;

@@ -3,13 +3,14 @@ ghost use Rattle.std.specs.Prelude.{◌≡◌, ◌≢◌, ◌↔◌, ◌<◌, Li
 ghost use Rattle.serde_json.specs.Data.{array};
 ghost use Rattle.serde_json.specs.View.{view, items_view, members_view};
 ghost use Rattle.doc_bits.specs.Number.{AreBytes};
-ghost use Rattle.edit_script.specs.Json.{Gives, each_of};
+ghost use Rattle.edit_script.specs.Json.{GivesReading, each_of};
 ghost use Rattle.edit_script.specs.Values.{short_number, bytes_of};
 ghost use Rattle.style_sheet.specs.declared.styles.Style.{Style};
 ghost use Rattle.style_sheet.specs.Formed.{IsFormedBase, IsFormedKind, IsFormedSlot, IsFormedStyle, IsFormedSheet};
 ghost use Rattle.json_values.specs.Rows.{Steps, need, may};
-ghost use Rattle.json_doc.specs.ReadValues.{Reads, Tells};
-ghost use Rattle.json_doc.specs.StyleReading.{list_as, base_of, kind_of, read_style_of, sheet_values, AreFormedSlots};
+ghost use Rattle.json_doc.specs.ReadValues.{ReadsValue, Tells};
+ghost use Rattle.json_doc.specs.StyleReading.{list_as, base_of, kind_of_parts, read_style_of, sheet_values};
+ghost use Rattle.json_doc.specs.StyleReading.{AreFormedSlots};
 ghost use Rattle.json_doc.specs.StyleGroups.{style_row, made_behind, style_with, IsMadeBehind, IsNoneBehind};
 ghost use Rattle.json_doc.specs.Styles.{style_json, slot_json, slots_json, sheet_json};
 
@@ -29,7 +30,7 @@ const HEAD_LEN: usize = 7;
 
 /// A style that another one is based on, or null.
 fn base_in(value: &Value) -> Result<Option<u16>, ShapeError>
-    ensures { Gives result (base_of (view value.now)) }
+    ensures { GivesReading result (base_of (view value.now)) }
 {
     if value.is_null() {
         return Ok(None);
@@ -46,7 +47,7 @@ fn base_at(row: &mut Row<'_>, key: &str) -> Result<Option<u16>, ShapeError>
 
 /// Property lists as they are: an array of bytes.
 fn upxes_in(alloc: Global, value: &Value) -> Result<UpxList, ShapeError>
-    ensures { Gives result (list_as bytes_of (view value.now)) }
+    ensures { GivesReading result (list_as bytes_of (view value.now)) }
 {
     match value.as_array() {
         None => Err(ShapeError::Shape),
@@ -56,7 +57,7 @@ fn upxes_in(alloc: Global, value: &Value) -> Result<UpxList, ShapeError>
 
 /// The property lists of the values of an array.
 fn upxes_from(alloc: Global, values: &[Value]) -> Result<UpxList, ShapeError>
-    ensures { Gives result (each_of bytes_of (items_view values.now)) }
+    ensures { GivesReading result (each_of bytes_of (items_view values.now)) }
 {
     let mut upxes = UpxList::new(alloc);
     for value in values {
@@ -77,7 +78,7 @@ fn upxes_if(alloc: Global, row: &mut Row<'_>, key: &str) -> Result<Option<UpxLis
 
 /// The numbers of 16 bits of an array.
 fn numbers_in(alloc: Global, value: &Value) -> Result<Units, ShapeError>
-    ensures { Gives result (list_as short_number (view value.now)) }
+    ensures { GivesReading result (list_as short_number (view value.now)) }
 {
     match value.as_array() {
         None => Err(ShapeError::Shape),
@@ -87,7 +88,7 @@ fn numbers_in(alloc: Global, value: &Value) -> Result<Units, ShapeError>
 
 /// The numbers of 16 bits of the values of an array.
 fn numbers_from(alloc: Global, values: &[Value]) -> Result<Units, ShapeError>
-    ensures { Gives result (each_of short_number (items_view values.now)) }
+    ensures { GivesReading result (each_of short_number (items_view values.now)) }
 {
     let mut numbers = Units::new(alloc);
     for value in values {
@@ -103,7 +104,7 @@ fn kind_from(
     stk: Option<u8>,
     upxes: Option<UpxList>,
 ) -> Result<Kind, ShapeError>
-    ensures { Gives result (kind_of chp pap stk upxes) }
+    ensures { GivesReading result (kind_of_parts chp pap stk upxes) }
 {
     match (chp, pap, stk, upxes) {
         (Some(chp), Some(pap), None, None) => Ok(Kind::Para { pap, chp }),
@@ -175,7 +176,7 @@ fn style_back_in(alloc: Global, row: &mut Row<'_>) -> Result<StyleBack, ShapeErr
 
 /// The style of what its keys have.
 fn style_from(front: StyleFront, back: StyleBack) -> Result<Style, ShapeError>
-    ensures { Gives result (style_with front back) }
+    ensures { GivesReading result (style_with front back) }
 {
     let kind = kind_from(front.chp, back.pap, back.stk, back.upxes)?;
     Ok(Style {
@@ -191,7 +192,7 @@ fn style_from(front: StyleFront, back: StyleBack) -> Result<Style, ShapeError>
 
 /// A style, as its object has it.
 fn style_in(alloc: Global, value: &Value) -> Result<Style, ShapeError>
-    ensures { Gives result (read_style_of (view value.now)) }
+    ensures { GivesReading result (read_style_of (view value.now)) }
 {
     let mut row = Row::of(value)?;
     let front = style_front_in(alloc, &mut row)?;
@@ -267,7 +268,7 @@ fn is_valid_style(style: &Style) -> bool
 
 /// A formed style.
 fn right_style_in(alloc: Global, value: &Value) -> Result<Style, ShapeError>
-    ensures { Reads style_json IsFormedStyle (view value.now) result }
+    ensures { ReadsValue style_json IsFormedStyle (view value.now) result }
 {
     let style = style_in(alloc, value)?;
     if !is_valid_style(&style) {
@@ -278,7 +279,7 @@ fn right_style_in(alloc: Global, value: &Value) -> Result<Style, ShapeError>
 
 /// A slot: null, or a style.
 fn slot_in(alloc: Global, value: &Value) -> Result<Option<Style>, ShapeError>
-    ensures { Reads slot_json IsFormedSlot (view value.now) result }
+    ensures { ReadsValue slot_json IsFormedSlot (view value.now) result }
 {
     if value.is_null() {
         return Ok(None);
@@ -293,7 +294,7 @@ fn slot_in(alloc: Global, value: &Value) -> Result<Option<Style>, ShapeError>
 fn sheet_from(alloc: Global, head: [u16; 7], values: &[Value]) -> Result<StyleSheet, ShapeError>
     ensures { MatchResult result
         (λ sheet. (sheet.head ≡ head)
-        × Reads slots_json AreFormedSlots (array (items_view values.now)) (Ok sheet.styles))
+        × ReadsValue slots_json AreFormedSlots (array (items_view values.now)) (Ok sheet.styles))
         (λ fault. fault ≡ ShapeError.Shape
         → (slots : List (Option Style)) → AreFormedSlots slots → array (items_view values.now) ≢ slots_json slots) }
 {
@@ -315,7 +316,7 @@ fn sheet_from(alloc: Global, head: [u16; 7], values: &[Value]) -> Result<StyleSh
 /// A sheet with this header and the slots of a value.
 fn slots_in(alloc: Global, head: [u16; 7], value: &Value) -> Result<StyleSheet, ShapeError>
     ensures { MatchResult result
-        (λ sheet. (sheet.head ≡ head) × Reads slots_json AreFormedSlots (view value.now) (Ok sheet.styles))
+        (λ sheet. (sheet.head ≡ head) × ReadsValue slots_json AreFormedSlots (view value.now) (Ok sheet.styles))
         (λ fault. fault ≡ ShapeError.Shape
         → (slots : List (Option Style)) → AreFormedSlots slots → view value.now ≢ slots_json slots) }
 {

@@ -10,7 +10,7 @@ use Rattle.json.specs.Lex.{tokens}
 use Rattle.json.specs.Json as json
 use Rattle.serde_json.specs.Data.{Data, number, array, object, item, Members, no_members, member, put}
 use Rattle.serde_json.specs.Read.{number_of, of_json, of_items, of_members, max_depth}
-use Rattle.json_values.specs.Plain.{IsBelow, Ascend, HasKeysInOrder, ItemsHaveKeysInOrder, MembersHaveKeysInOrder}
+use Rattle.json_values.specs.Plain.{IsBelow, KeysAscend, HasKeysInOrder, ItemsHaveKeysInOrder, MembersHaveKeysInOrder}
 use Rattle.json_values.specs.Plain.{ReadKeysAscend}
 
 -- ---- of what was found
@@ -38,7 +38,7 @@ any (Some a) = tt
 -- the members are in order, and all that is in them
 record AreInOrder (ms : Members) : Type 0 where
   inside : MembersHaveKeysInOrder ms
-  ascend : Ascend ms
+  ascend : KeysAscend ms
 
 below : (one other : List ℕ) → slice_cmp nat_cmp one other ≡ Greater → slice_cmp nat_cmp other one ≡ Less
 below one other greater = nat_list_cmp_total.antisymm other one ∙ ap ordering_reverse greater
@@ -60,10 +60,11 @@ IsBelow-put low key d (member name e ms) less h =
       | Greater ↦ (h.0, IsBelow-put low key d ms less h.1)
     ]
 
-Ascend-put : (key : List ℕ) (d : Data) (ms : Members) → Ascend ms → Ascend (put key d ms)
+Ascend-put : (key : List ℕ) (d : Data) (ms : Members) → KeysAscend ms → KeysAscend (put key d ms)
 Ascend-put key d no_members h = (tt, tt)
 Ascend-put key d (member name e ms) h =
-    elim (slice_cmp nat_cmp key name) as (λ o. slice_cmp nat_cmp key name ≡ o → Ascend (match_ordering o (member key d
+    elim (slice_cmp nat_cmp key name) as (λ o. slice_cmp nat_cmp key name ≡ o → KeysAscend (match_ordering o (member key
+    d
     (member name e ms)) (member name d ms) (member name e (put key d ms)))) [
       | Less ↦ λ less. ((less, IsBelow-less key name ms less h.0), h)
       | Equal ↦ λ same. h

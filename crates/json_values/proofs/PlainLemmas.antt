@@ -20,7 +20,7 @@ use Rattle.serde_json.specs.Read.{number_of, of_json, of_items, of_members, max_
 use Rattle.serde_json.specs.Written.{number_text, outline, items_outline, members_outline, compact_text}
 use Rattle.serde_json.proofs.Numbers.{number_of-decimal}
 use Rattle.serde_json.proofs.Texts.{print-outline}
-use Rattle.json_values.specs.Plain.{IsBelow, Ascend, IsPlainNumber, IsPlain, ArePlainItems, ArePlainMembers}
+use Rattle.json_values.specs.Plain.{IsBelow, KeysAscend, IsPlainNumber, IsPlain, ArePlainItems, ArePlainMembers}
 use Rattle.json_values.specs.Plain.{PlainValuesAreRead}
 
 -- ---- members that go in behind the others
@@ -99,7 +99,7 @@ mutual
       ap (option_and_then (λ e. option_map (item e) (of_items (items_outline ds)))) (value_read d plain.0)
       ∙ ap (option_map (item d)) (items_read ds plain.1)
 
-  members_read : (before ms : Members) → ArePlainMembers ms → Ascend ms → Follow before ms →
+  members_read : (before ms : Members) → ArePlainMembers ms → KeysAscend ms → Follow before ms →
       of_members (members_outline ms) before ≡ Some (joined before ms)
   members_read before no_members plain ascend follow = ap Some (sym (joined-no_members before))
   members_read before (member key d ms) plain ascend follow =

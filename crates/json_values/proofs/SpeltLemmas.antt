@@ -22,7 +22,7 @@ use Rattle.prop_map.proofs.Public.{same_bytes}
 use Rattle.edit_script.specs.Json.{◌>>=◌}
 use Rattle.edit_script.specs.Hex.{code_of_digits}
 use Rattle.edit_script.specs.Values.{bytes_of, properties_put, properties_of}
-use Rattle.json_values.specs.Plain.{IsBelow, Ascend, HasKeysInOrder, ArePlainMembers, MembersHaveTexts}
+use Rattle.json_values.specs.Plain.{IsBelow, KeysAscend, HasKeysInOrder, ArePlainMembers, MembersHaveTexts}
 use Rattle.text_codes.specs.Digits.{word_text}
 use Rattle.json_values.specs.Digits.{bytes_json}
 use Rattle.json_values.specs.Settings.{properties_members, properties_json, IsSpeltEntry, AreSpelt, PropertiesAreOne}
@@ -151,7 +151,7 @@ record AreEntries (ms : Members) (set made : Properties) : Type 0 where
   spelt : All IsSpeltEntry behind
   are : entries made ≡ entries set ++ behind
 
-members_are : (ms : Members) (set made : Properties) → Ascend ms → Follow (properties_members (entries set)) ms →
+members_are : (ms : Members) (set made : Properties) → KeysAscend ms → Follow (properties_members (entries set)) ms →
     properties_put ms set ≡ Some made → AreEntries ms set made
 members_are no_members set made ascend follow e = record {
   behind = [];
@@ -199,7 +199,7 @@ read_one : (value : Data) (set : Properties) → HasKeysInOrder value → proper
 read_one value set order e =
     let k = step_found (as_object value) (λ ms. properties_put ms empty) set e in
     let is = object_is value k.0 k.1 in
-    let ascend : Ascend k.0 = (subst HasKeysInOrder is order).1 in
+    let ascend : KeysAscend k.0 = (subst HasKeysInOrder is order).1 in
     let follow = subst (λ es. Follow (properties_members es) k.0) (sym entries-empty) (Follow-no_members k.0) in
     let found = members_are k.0 empty set ascend follow k.2 in
     let all : found.behind ≡ entries set = sym (found.are ∙ ap (λ front. front ++ found.behind) entries-empty) in (
@@ -221,7 +221,7 @@ below_members code (e ∷ es) below = (
   below_members code es (both_second _ _ below),
 )
 
-ascend_members : (es : Entries) → T (is_sorted nat_cmp es) → Ascend (properties_members es)
+ascend_members : (es : Entries) → T (is_sorted nat_cmp es) → KeysAscend (properties_members es)
 ascend_members [] sorted = tt
 ascend_members (e ∷ es) sorted =
     (below_members e.0 es (both_first _ _ sorted), ascend_members es (both_second _ _ sorted))

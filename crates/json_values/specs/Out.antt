@@ -24,6 +24,6 @@ pub record Adds (old new : Output) (piece : List ℕ) : Type 0 where
   pub kept : new.len ≤ old.most → new.text ≡ old.text ++ piece
 
 -- what is kept is a part of the text, and has at most so many bytes
-pub record IsShort (output : Output) : Type 0 where
+pub record IsShortOutput (output : Output) : Type 0 where
   pub part : length output.text ≤ output.len
   pub few : length output.text ≤ output.most

@@ -16,9 +16,9 @@ IsBelow key no_members = ⊤
 IsBelow key (member name value more) = (slice_cmp nat_cmp key name ≡ Less) × IsBelow key more
 
 -- the keys of the members ascend
-abbrev pub Ascend : Members → Type 0
-Ascend no_members = ⊤
-Ascend (member key value more) = IsBelow key more × Ascend more
+abbrev pub KeysAscend : Members → Type 0
+KeysAscend no_members = ⊤
+KeysAscend (member key value more) = IsBelow key more × KeysAscend more
 
 -- the number is whole and fits 64 bits
 abbrev pub IsPlainNumber : Num → Type 0
@@ -34,7 +34,7 @@ abbrev mutual
   IsPlain (number n) = IsPlainNumber n
   IsPlain (string s) = ⊤
   IsPlain (array ds) = ArePlainItems ds
-  IsPlain (object ms) = ArePlainMembers ms × Ascend ms
+  IsPlain (object ms) = ArePlainMembers ms × KeysAscend ms
 
   pub ArePlainItems : Items → Type 0
   ArePlainItems no_items = ⊤
@@ -79,7 +79,7 @@ abbrev mutual
   HasKeysInOrder (number n) = ⊤
   HasKeysInOrder (string s) = ⊤
   HasKeysInOrder (array ds) = ItemsHaveKeysInOrder ds
-  HasKeysInOrder (object ms) = MembersHaveKeysInOrder ms × Ascend ms
+  HasKeysInOrder (object ms) = MembersHaveKeysInOrder ms × KeysAscend ms
 
   pub ItemsHaveKeysInOrder : Items → Type 0
   ItemsHaveKeysInOrder no_items = ⊤

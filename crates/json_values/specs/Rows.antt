@@ -45,9 +45,9 @@ may key reads members = do
   Some (found, (taken_if key members).1)
 
 -- no member is left
-abbrev pub ended : Members → Option ⊤
-ended no_members = Some tt
-ended (member name value more) = None
+abbrev pub no_member_left : Members → Option ⊤
+no_member_left no_members = Some tt
+no_member_left (member name value more) = None
 
 -- what a step over the members that are left answers; want of memory is free
 abbrev pub Steps : {A : Type 0} → (Members → Option (A × Members)) → Members → Result A ShapeError → Members → Type 0

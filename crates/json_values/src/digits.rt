@@ -4,7 +4,7 @@ ghost use Rattle.json.specs.Print.{escape, escape_byte};
 ghost use Rattle.text_codes.specs.Shown.{hex_digit};
 ghost use Rattle.serde_json.specs.Written.{compact_text};
 ghost use Rattle.serde_json.specs.View.{view};
-ghost use Rattle.edit_script.specs.Json.{Gives};
+ghost use Rattle.edit_script.specs.Json.{GivesReading};
 ghost use Rattle.text_codes.specs.Digits.{byte_text, word_text};
 ghost use Rattle.json_values.specs.Digits.{bytes_json, units_json, units_of_bytes, hex_units_of};
 ghost use Rattle.json_values.specs.Out.{Adds};
@@ -19,7 +19,7 @@ use text_codes::hex_digit;
 
 /// The units that a text of digits represents, four digits each.
 pub fn hex_units_in(alloc: Global, value: &Value) -> Result<Units, ShapeError>
-    ensures { Gives result (hex_units_of (view value.now)) }
+    ensures { GivesReading result (hex_units_of (view value.now)) }
 {
     let bytes = bytes_in(alloc, value)?;
     units_from_bytes(alloc, bytes.as_slice())
@@ -27,7 +27,7 @@ pub fn hex_units_in(alloc: Global, value: &Value) -> Result<Units, ShapeError>
 
 /// The units of bytes, the higher byte of each first.
 fn units_from_bytes(alloc: Global, bytes: &[u8]) -> Result<Units, ShapeError>
-    ensures { Gives result (units_of_bytes bytes.now) }
+    ensures { GivesReading result (units_of_bytes bytes.now) }
 {
     let mut units = Units::new(alloc);
     let mut at = 0;

@@ -15,7 +15,7 @@ pub struct JsonOut {
 }
 
 impl Model for JsonOut {
-    ghost use Rattle.json_values.specs.Out.{Output, output_code, IsShort};
+    ghost use Rattle.json_values.specs.Out.{Output, output_code, IsShortOutput};
 
     ghost Value = { Output };
 
@@ -23,7 +23,7 @@ impl Model for JsonOut {
 
     ghost view = { λ o. record { text = o.text; len = o.len; most = o.most } };
 
-    ghost invariant = { λ o. IsShort (record { text = o.text; len = o.len; most = o.most }) };
+    ghost invariant = { λ o. IsShortOutput (record { text = o.text; len = o.len; most = o.most }) };
 }
 
 impl JsonOut {

@@ -2,10 +2,10 @@
 ghost use Rattle.std.specs.Prelude.{◌≡◌, Some, None, MatchResult, option_map};
 ghost use Rattle.serde_json.specs.Find.{as_object};
 ghost use Rattle.serde_json.specs.View.{view, members_view};
-ghost use Rattle.edit_script.specs.Json.{Gives};
+ghost use Rattle.edit_script.specs.Json.{GivesReading};
 ghost use Rattle.edit_script.specs.Values.{bytes_of, byte_number, short_number, properties_of};
 ghost use Rattle.json_values.specs.Digits.{hex_units_of};
-ghost use Rattle.json_values.specs.Rows.{taken, taken_if, need, may, ended, Steps};
+ghost use Rattle.json_values.specs.Rows.{taken, taken_if, need, may, no_member_left, Steps};
 
 use crate::hex_units_in;
 use doc_bits::{Bytes, Units};
@@ -71,7 +71,7 @@ impl<'a> Row<'a> {
 
     /// No member is left, or the object has a wrong shape.
     pub fn end(&mut self) -> Result<(), ShapeError>
-        ensures { Gives result (ended (members_view self.old.left)) }
+        ensures { GivesReading result (no_member_left (members_view self.old.left)) }
     {
         match self.left.next() {
             None => Ok(()),

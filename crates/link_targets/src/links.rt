@@ -1,6 +1,7 @@
 // Where the links of a document lead, and what its bookmarks are called.
 ghost use Rattle.std.specs.Prelude.{◌≡◌, None, Some, MatchOption};
-ghost use Rattle.link_targets.specs.Links.{between, bookmark_name, instruction_of, is_plain, units_of, url_in};
+ghost use Rattle.link_targets.specs.Links.{between, bookmark_name, instruction_of, begins_no_field, note_text_units};
+ghost use Rattle.link_targets.specs.Links.{url_in};
 
 use doc_columns::ColumnDocument;
 use field_links::{LinkText, link_of};
@@ -16,7 +17,7 @@ pub fn instruction_of(document: &ColumnDocument, link: Link) -> &[u16]
 
 /// The units of the note with this number, from 1, or of the main text.
 fn units_of(document: &ColumnDocument, note: usize) -> &[u16]
-    ensures { result.now ≡ units_of document.now note }
+    ensures { result.now ≡ note_text_units document.now note }
 {
     if note == 0 {
         return document.main.units();
@@ -52,7 +53,7 @@ pub fn url_in(instruction: &[u16]) -> Option<LinkText<'_>>
 
 /// Whether no field begins in an instruction.
 fn is_plain(instruction: &[u16]) -> bool
-    ensures { result ≡ is_plain instruction.now }
+    ensures { result ≡ begins_no_field instruction.now }
 {
     for unit in instruction {
         if *unit == FIELD_BEGIN {

@@ -7,11 +7,11 @@ use Rattle.std.proofs.lemmas.List.{get_or-replicate, length-replicate, length-ma
 use Rattle.std.proofs.lemmas.Option.{same_Some, none-some, slice_get_within, get_or_from_slice_get}
 use Rattle.doc_bits.proofs.Public.{slice_get_push, slice_get_before}
 use Rattle.style_sheet.specs.Sheet.{Sheet}
-use Rattle.style_sheet.specs.Chain.{kind_at}
-use Rattle.plain_doc.specs.declared.item.Item.{Item}
-use Rattle.plain_doc.specs.declared.item.Mark.{Mark}
-use Rattle.plain_doc.specs.declared.document.Document.{Document}
-use Rattle.plain_doc.specs.Paragraphs.{IsParagraphEnd}
+use Rattle.style_sheet.specs.Chain.{style_kind_at}
+use Rattle.doc_model.specs.declared.item.Item.{Item}
+use Rattle.doc_model.specs.declared.item.Mark.{Mark}
+use Rattle.doc_model.specs.declared.document.Document.{Document}
+use Rattle.doc_model.specs.Paragraphs.{IsParagraphEnd}
 use Rattle.plain_doc.specs.Sound.{IsSound}
 use Rattle.plain_doc.proofs.Public.{main_right, sound_is_valid}
 use Rattle.list_numbers.specs.declared.mark_values.MarkValues.{MarkValues}
@@ -32,7 +32,7 @@ none_known sheet count istd values there =
 
 -- the style of a mark in the main text is one of paragraphs
 pub style_of_mark : (document : Document) (at : ℕ) (mark : Mark) → IsSound document → IsMarkAt document.main at mark →
-    kind_at document.sheet mark.istd ≡ 1
+    style_kind_at document.sheet mark.istd ≡ 1
 style_of_mark document at mark sound m =
     (main_right document (sound_is_valid document sound)).styles at m.item m.here mark m.has
 

@@ -8,7 +8,7 @@ use Rattle.doc_bits.proofs.Public.{from_map}
 use Rattle.list_numbers.specs.declared.list_format.ListFormat.{ListFormat}
 use Rattle.list_numbers.specs.declared.list_place.ListPlace.{ListPlace}
 use Rattle.list_numbers.specs.declared.mark_values.MarkValues.{MarkValues}
-use Rattle.list_numbers.specs.Places.{named_level, level_in, place_at, place_in, place_in_entry}
+use Rattle.list_numbers.specs.Places.{named_level, level_in, list_place_at, list_place_in, place_in_entry}
 use Rattle.list_numbers.specs.Places.{first_list, used_list, list_place}
 use Rattle.list_numbers.specs.Numbers.{AreFit}
 
@@ -29,7 +29,7 @@ level_low true ilvl level e = let zero_is = same_Some 0 level e in omega arith
 level_low false ilvl level e = named_low ilvl level e
 
 placed_fits : (list count : ℕ) (found : Option ℕ) (place : ListPlace) → list < count →
-    ((level : ℕ) → found ≡ Some level → level < 9) → place_at list found ≡ Some place →
+    ((level : ℕ) → found ≡ Some level → level < 9) → list_place_at list found ≡ Some place →
     (place.list < count) × (place.level < 9)
 placed_fits list count None place low level e = absurd (none-some place e)
 placed_fits list count (Some found) place low level e =
@@ -46,7 +46,7 @@ entry_fits lists list (Some format) ilvl place there e =
     (λ level is. level_low format.simple ilvl level is) e
 
 place_fits : (lists : List ListFormat) (list ilvl : Option ℕ) (place : ListPlace) →
-    place_in lists list ilvl ≡ Some place → (place.list < length lists) × (place.level < 9)
+    list_place_in lists list ilvl ≡ Some place → (place.list < length lists) × (place.level < 9)
 place_fits lists None ilvl place e = absurd (none-some place e)
 place_fits lists (Some list) ilvl place e = entry_fits lists list (slice_get lists list) ilvl place refl e
 

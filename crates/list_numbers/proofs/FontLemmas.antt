@@ -5,7 +5,7 @@ use Rattle.std.specs.Prelude.{if◌then◌else◌, nat_lt}
 use Rattle.std.proofs.lemmas.Bool.{lt-ltb}
 use Rattle.symbol_fonts.specs.declared.characters.SymbolFont.{SymbolFont}
 use Rattle.symbol_fonts.specs.Characters.{shown_unit}
-use Rattle.list_numbers.specs.LevelFonts.{ends_at, font_by, font_from, prl_end}
+use Rattle.list_numbers.specs.LevelFonts.{prls_end_at, font_by, font_from, prl_end}
 use Rattle.doc_bits.proofs.Public.{or_true, ltb_false}
 
 pub nothing_left : (list : List ℕ) (count at : ℕ) (font : Option ℕ) → count ≡ 0 → font ≡ font_from count list at font
@@ -13,7 +13,7 @@ unfolding font_from
 nothing_left list count at font none = sym (ap (λ n. font_from n list at font) none)
 
 one_more : (list : List ℕ) (count at : ℕ) (font : Option ℕ) → font_from (suc count) list at font
-    ≡ (if ends_at list at then font else font_from count list (prl_end list at) (font_by list at font))
+    ≡ (if prls_end_at list at then font else font_from count list (prl_end list at) (font_by list at font))
 unfolding font_from
 one_more list count at font = refl
 
@@ -21,7 +21,7 @@ suc_of : (count : ℕ) → 0 < count → count ≡ suc (count - 1)
 suc_of count some = omega (arith, some)
 
 -- the list ends at the place
-ended : (list : List ℕ) (count at : ℕ) (font : Option ℕ) → 0 < count → ends_at list at ≡ true →
+ended : (list : List ℕ) (count at : ℕ) (font : Option ℕ) → 0 < count → prls_end_at list at ≡ true →
     font ≡ font_from count list at font
 ended list count at font some ends =
     sym (ap (λ n. font_from n list at font) (suc_of count some) ∙ (one_more list (count - 1) at font
@@ -47,7 +47,7 @@ pub next_font : (list : List ℕ) (count at end : ℕ) (font : Option ℕ) → 0
     end ≡ prl_end list at → end ≤ length list →
     font_from count list at font ≡ font_from (count - 1) list end (font_by list at font)
 next_font list count at end font some code is whole =
-    let ends : ends_at list at ≡ false =
+    let ends : prls_end_at list at ≡ false =
     λ i. ltb_false (length list) (at + 2) code i || ltb_false (length list) (prl_end list at) (omega (arith, is, whole))
     i
     in

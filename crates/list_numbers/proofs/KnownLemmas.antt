@@ -5,7 +5,7 @@ use Rattle.std.proofs.Common.{ap, ◌∙◌, subst, arith, length-set, get_or-se
 use Rattle.std.proofs.lemmas.Bool.{cases_lt}
 use Rattle.std.proofs.lemmas.Option.{same_Some, slice_get_within, slice_get-get_or, get_or_from_slice_get}
 use Rattle.style_sheet.specs.Sheet.{Sheet}
-use Rattle.plain_doc.specs.declared.item.Mark.{Mark}
+use Rattle.doc_model.specs.declared.item.Mark.{Mark}
 use Rattle.list_numbers.specs.declared.mark_values.MarkValues.{MarkValues}
 use Rattle.list_numbers.specs.MarkValues.{AreStyleValues, AreMarkValues, AreKnownValues, own_values, over}
 use Rattle.list_numbers.proofs.MarkValueLemmas.{values_more}

@@ -10,6 +10,7 @@ mod ChainValueLemmas
 mod AlikeLemmas
 mod NumberedLemmas
 mod OneLemmas
+mod ExistLemmas
 mod RomanLemmas
 mod ParagraphLemmas
 mod DocumentValueLemmas

@@ -9,10 +9,10 @@ use Rattle.doc_bits.specs.Number.{u16_at, u32_at, number_at}
 use Rattle.doc_parts.specs.Levels.{levels_before, levels_of_list, level_start, level_end}
 use Rattle.doc_parts.proofs.Public.{level_start-zero, level_start-more, levels_before-zero, levels_before-more}
 use Rattle.doc_parts.proofs.Public.{tabulate-next, length-tabulate}
-use Rattle.plain_doc.specs.Carried.{AreListsWithLevels}
+use Rattle.doc_model.specs.Carried.{AreListsWithLevels}
 use Rattle.list_numbers.specs.declared.level.Level.{Level}
 use Rattle.list_numbers.specs.declared.list_format.ListFormat.{ListFormat}
-use Rattle.list_numbers.specs.Lists.{HaveWholeLevels, level_at, levels_from, list_at}
+use Rattle.list_numbers.specs.Lists.{HaveWholeLevels, level_at, levels_from, list_format_at}
 use Rattle.list_numbers.proofs.TabulatedLemmas.{tabulate_zero}
 use Rattle.doc_parts.specs.Tabulated.{tabulate}
 
@@ -82,12 +82,12 @@ level_read bytes from at j levels h = record {
 
 -- so many lists were read, and their levels up to a place
 pub record HasReadLists (lst levels : List ℕ) (made : List ListFormat) (place count : ℕ) : Type 0 where
-  pub lists : made ≡ tabulate (list_at lst levels) count
+  pub lists : made ≡ tabulate (list_format_at lst levels) count
   pub at : place ≡ level_start levels 0 (levels_before lst count)
 
 pub no_lists_read : (lst levels : List ℕ) → HasReadLists lst levels [] 0 0
 no_lists_read lst levels = record {
-  lists = sym (tabulate_zero (list_at lst levels));
+  lists = sym (tabulate_zero (list_format_at lst levels));
   at = rw (levels_before-zero lst) (sym (level_start-zero levels 0));
 }
 
@@ -104,7 +104,7 @@ pub list_read : (lst levels : List ℕ) (lists : List ListFormat) (at end k numb
 list_read lst levels lists at end k number count simple made h n s c m e =
     let all : count ≡ levels_of_list lst k = c ∙ ap (λ (b : Bool). if b then 1 else 9) s in
     record {
-      lists = rw (h.lists, n, s, m, all, h.at) (sym (tabulate-next (list_at lst levels) k));
+      lists = rw (h.lists, n, s, m, all, h.at) (sym (tabulate-next (list_format_at lst levels) k));
       at = e ∙ (ap (level_start levels at) all ∙ (ap (λ a. level_start levels a (levels_of_list lst k)) h.at
           ∙ (level_start-add levels 0 (levels_before lst k) (levels_of_list lst k) ∙ ap (level_start levels 0)
           (sym (levels_before-more lst k)))));
@@ -122,5 +122,5 @@ list_is_there lst levels k are low = elim (cases_lt 0 (length lst)) [
 pub few_lists : (lst levels : List ℕ) (made : List ListFormat) (place count most : ℕ) →
     HasReadLists lst levels made place count → count ≤ most → most < 65536 → length made < 65536
 few_lists lst levels made place count most h within few =
-    let size : length made ≡ count = ap length h.lists ∙ length-tabulate (list_at lst levels) count in
+    let size : length made ≡ count = ap length h.lists ∙ length-tabulate (list_format_at lst levels) count in
     omega arith

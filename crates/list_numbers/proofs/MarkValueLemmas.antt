@@ -13,7 +13,7 @@ use Rattle.style_sheet.specs.declared.styles.Style.{Style}
 use Rattle.style_sheet.specs.Sheet.{Sheet, style_at}
 use Rattle.effective_props.specs.Layers.{paragraph_properties}
 use Rattle.list_numbers.specs.declared.mark_values.MarkValues.{MarkValues}
-use Rattle.list_numbers.specs.MarkValues.{values_in, own_values, over, no_values, word_in, byte_in}
+use Rattle.list_numbers.specs.MarkValues.{mark_values_in, own_values, over, no_values, word_in, byte_in}
 
 -- a plain code goes by the last layer
 word_over : (above below : Option (List ℕ)) → word_in (layer_over 0x460B below above) ≡ option_or (word_in above)
@@ -42,8 +42,9 @@ direction_over None below = refl
 direction_over (Some value) below = refl
 
 -- one more layer
-pub values_more : (layers : List Properties) (layer : Properties) → values_in (layers ++ layer ∷ []) ≡ over (own_values
-    layer) (values_in layers)
+pub values_more : (layers : List Properties) (layer : Properties) → mark_values_in (layers ++ layer ∷ []) ≡ over
+    (own_values
+    layer) (mark_values_in layers)
 values_more layers layer =
     let a = ap word_in (effective_more layers layer 0x460B) ∙ word_over (get layer 0x460B) (effective_value layers
     0x460B) in
@@ -57,7 +58,7 @@ values_more layers layer =
     0x2441) in
     rw (a, b, c, d, e) refl
 
-pub values_of_none : values_in [] ≡ no_values
+pub values_of_none : mark_values_in [] ≡ no_values
 values_of_none = refl
 
 -- an empty map says nothing

@@ -6,11 +6,11 @@ use Rattle.std.proofs.lemmas.Option.{same_Some, slice_get-get_or}
 use Rattle.style_sheet.proofs.Public.{base_chains_agree}
 use Rattle.style_sheet.specs.Sheet.{Sheet}
 use Rattle.effective_props.specs.Layers.{paragraph_properties, properties_of_styles}
-use Rattle.plain_doc.specs.declared.item.Item.{Item}
-use Rattle.plain_doc.specs.declared.item.Mark.{Mark}
-use Rattle.plain_doc.specs.declared.document.Document.{Document}
+use Rattle.doc_model.specs.declared.item.Item.{Item}
+use Rattle.doc_model.specs.declared.item.Mark.{Mark}
+use Rattle.doc_model.specs.declared.document.Document.{Document}
 use Rattle.list_numbers.specs.declared.mark_values.MarkValues.{MarkValues}
-use Rattle.list_numbers.specs.MarkValues.{AreMarkValues, values_in}
+use Rattle.list_numbers.specs.MarkValues.{AreMarkValues, mark_values_in}
 use Rattle.list_numbers.specs.Places.{AreParagraphValues}
 use Rattle.list_numbers.specs.Numbers.{AreDocumentValues, numbers_of}
 use Rattle.list_numbers.specs.Outline.{outline_of}
@@ -27,7 +27,7 @@ mark_values_one sheet mark one other h k =
     let style : h.are.of_style ≡ k.are.of_style = a.are ∙ (ap (properties_of_styles paragraph_properties sheet)
     (base_chains_agree sheet mark.istd a.chain b.chain a.bases b.bases) ∙ sym b.are) in
     let layers : h.layers ≡ k.layers = h.are.are ∙ (ap (λ l. l ++ mark.pap ∷ []) style ∙ sym k.are.are) in
-    h.said ∙ (ap values_in layers ∙ sym k.said)
+    h.said ∙ (ap mark_values_in layers ∙ sym k.said)
 
 paragraph_values_one : (document : Document) (paragraph : List Item) (one other : MarkValues) →
     AreParagraphValues document paragraph one → AreParagraphValues document paragraph other → one ≡ other

@@ -5,8 +5,8 @@ use Rattle.std.proofs.Common.{subst, append_assoc}
 use Rattle.std.specs.Prelude.{slice_get}
 use Rattle.std.specs.List.{flat_map, enumerate_from}
 use Rattle.std.proofs.lemmas.List.{drop_all, append-nil}
-use Rattle.plain_doc.specs.declared.item.Item.{Item}
-use Rattle.plain_doc.specs.Paragraphs.{IsParagraphEnd}
+use Rattle.doc_model.specs.declared.item.Item.{Item}
+use Rattle.doc_model.specs.Paragraphs.{IsParagraphEnd}
 use Rattle.list_numbers.specs.declared.list_format.ListFormat.{ListFormat}
 use Rattle.list_numbers.specs.declared.list_place.ListPlace.{ListPlace}
 use Rattle.list_numbers.specs.declared.mark_values.MarkValues.{MarkValues}
@@ -14,7 +14,7 @@ use Rattle.list_numbers.specs.Places.{paragraphs}
 use Rattle.list_numbers.specs.Counters.{HaveCounted}
 use Rattle.list_numbers.specs.Numbers.{numbers_at, number_at_place}
 use Rattle.list_numbers.specs.Outline.{outline_level, outline_line, level_at_entry, number_at_entry}
-use Rattle.list_numbers.specs.Outline.{line_of, outline_of}
+use Rattle.list_numbers.specs.Outline.{paragraph_line, outline_of}
 use Rattle.list_numbers.proofs.TabulatedLemmas.{slice_get-tabulate}
 use Rattle.list_numbers.proofs.NumberedLemmas.{place_taken, own_number, number_is_own}
 use Rattle.list_numbers.proofs.ParagraphLemmas.{BeginsParagraph, first_begins, next_begins, one_and_others}
@@ -35,7 +35,7 @@ pub record HasLines (doc : Numbered) (text counts : List ℕ) (at number : ℕ) 
   pub begins : BeginsParagraph doc.items at number
   pub counted : HaveCounted (take number doc.places) (length doc.lists) counts
   pub lines :
-      text ++ flat_map (line_of doc.values (numbers_in doc))
+      text ++ flat_map (paragraph_line doc.values (numbers_in doc))
       (enumerate_from number (drop number (paragraphs doc.items)))
       ≡ outline_of (paragraphs doc.items) doc.values (numbers_in doc)
 
@@ -56,7 +56,7 @@ one_line doc text new counts after at end number own place units h ends value th
     let numbers : List (Option (List ℕ)) = numbers_in doc in
     let texts : List (List Item) = paragraphs doc.items in
     let part : List Item = paragraph_from doc.items at end in
-    let f : ℕ × List Item → List ℕ = line_of doc.values numbers in
+    let f : ℕ × List Item → List ℕ = paragraph_line doc.values numbers in
     let here : slice_get numbers number ≡ Some units =
     slice_get-tabulate (own_number doc.lists doc.places) (length doc.places) number low
     ∙ ap Some (sym (number_is_own doc.lists doc.places number place units there low is)) in
@@ -82,6 +82,6 @@ pub all_lines : (doc : Numbered) (text counts : List ℕ) (at number : ℕ) → 
     length (paragraphs doc.items) ≤ number →
     text ≡ outline_of (paragraphs doc.items) doc.values (numbers_in doc)
 all_lines doc text counts at number h past =
-    let f : ℕ × List Item → List ℕ = line_of doc.values (numbers_in doc) in
+    let f : ℕ × List Item → List ℕ = paragraph_line doc.values (numbers_in doc) in
     let none : drop number (paragraphs doc.items) ≡ [] = drop_all number (paragraphs doc.items) past in
     sym (append-nil text) ∙ (ap (λ parts. text ++ flat_map f (enumerate_from number parts)) (sym none) ∙ h.lines)

@@ -8,22 +8,23 @@ use Rattle.std.proofs.lemmas.Bool.{cases_lt}
 use Rattle.std.proofs.lemmas.List.{drop-drop, drop_all, length-take-le, take-take, take-map, drop-map}
 use Rattle.std.proofs.lemmas.Option.{slice_get_within, slice_get-get_or, get_or_from_slice_get}
 use Rattle.doc_bits.proofs.Public.{got_drop}
-use Rattle.plain_doc.specs.declared.item.Item.{Item}
-use Rattle.plain_doc.specs.declared.item.Mark.{Mark}
-use Rattle.plain_doc.specs.declared.document.Document.{Document}
-use Rattle.plain_doc.specs.Paragraphs.{IsParagraphEnd, HasNoParagraphEnd}
-use Rattle.plain_doc.specs.Settings.{is_inside}
+use Rattle.doc_model.specs.declared.item.Item.{Item}
+use Rattle.doc_model.specs.declared.item.Mark.{Mark}
+use Rattle.doc_model.specs.declared.document.Document.{Document}
+use Rattle.doc_model.specs.Paragraphs.{IsParagraphEnd, HasNoParagraphEnd}
+use Rattle.doc_model.specs.Settings.{is_inside}
 use Rattle.plain_doc.specs.Sound.{IsSound}
-use Rattle.plain_doc.specs.Stretches.{stretches, joins_next, joins_at, BeginsStretch}
-use Rattle.plain_doc.proofs.Public.{some_end, sound_is_valid, one_more, stretches-first, stretches-nil}
+use Rattle.doc_model.specs.Stretches.{stretches, joins_next, joins_at, BeginsStretch}
+use Rattle.plain_doc.proofs.Public.{some_end, sound_is_valid}
+use Rattle.doc_model.proofs.Public.{one_more, stretches-first, stretches-nil}
 use Rattle.doc_columns.proofs.Public.{EndsAt}
-use Rattle.list_numbers.specs.Places.{paragraphs, EndsBefore}
+use Rattle.list_numbers.specs.Places.{paragraphs, ParagraphEndsBefore}
 use Rattle.list_numbers.specs.Outline.{bare_units}
 
 -- a paragraph that ends at the last place before one ends before it
 pub ends_before : (items : List Item) (at end : ℕ) (found : Option (Bor Mark)) →
     MatchOption found (HasNoParagraphEnd items at) (λ mark. EndsAt items at (end - 1) mark.now)
-    → MatchOption found (HasNoParagraphEnd items at) (λ mark. EndsBefore items at end mark.now)
+    → MatchOption found (HasNoParagraphEnd items at) (λ mark. ParagraphEndsBefore items at end mark.now)
 ends_before items at end None none = none
 ends_before items at end (Some mark) there =
     record { is_end = there.is_end; marked = record { item = there.item; here = there.here; has = there.has } }
@@ -31,21 +32,21 @@ ends_before items at end (Some mark) there =
 -- a paragraph of the main text of a sound document ends with a mark
 pub mark_there : (document : Document) (items : List Item) (at end : ℕ) (found : Option (Bor Mark)) → IsSound document →
     items ≡ document.main → at < length document.main →
-    MatchOption found (HasNoParagraphEnd items at) (λ mark. EndsBefore items at end mark.now) → IsSome found
+    MatchOption found (HasNoParagraphEnd items at) (λ mark. ParagraphEndsBefore items at end mark.now) → IsSome found
 mark_there document items at end None sound same low m =
     absurd (some_end document at (sound_is_valid document sound) low (subst (λ is. HasNoParagraphEnd is at) same m))
 mark_there document items at end (Some mark) sound same low m = refl
 
 pub mark_taken : (items : List Item) (at end : ℕ) (found : Option (Bor Mark)) (mark : Bor Mark) → found ≡ Some mark →
-    MatchOption found (HasNoParagraphEnd items at) (λ mark. EndsBefore items at end mark.now) →
-    EndsBefore items at end mark.now
+    MatchOption found (HasNoParagraphEnd items at) (λ mark. ParagraphEndsBefore items at end mark.now) →
+    ParagraphEndsBefore items at end mark.now
 mark_taken items at end found mark is m =
-    subst (λ o. MatchOption o (HasNoParagraphEnd items at) (λ mark. EndsBefore items at end mark.now)) is m
+    subst (λ o. MatchOption o (HasNoParagraphEnd items at) (λ mark. ParagraphEndsBefore items at end mark.now)) is m
 
 -- so its paragraph ends there
 pub end_there : (document : Document) (items : List Item) (at end : ℕ) (found : Option (Bor Mark)) → IsSound document →
     items ≡ document.main → at < length document.main →
-    MatchOption found (HasNoParagraphEnd items at) (λ mark. EndsBefore items at end mark.now) →
+    MatchOption found (HasNoParagraphEnd items at) (λ mark. ParagraphEndsBefore items at end mark.now) →
     IsParagraphEnd document.main at (end - 1)
 end_there document items at end None sound same low m =
     absurd (some_end document at (sound_is_valid document sound) low (subst (λ is. HasNoParagraphEnd is at) same m))

@@ -13,13 +13,13 @@ is_at list level None = false
 is_at list level (Some place) = (place.list == list) && (place.level == level)
 
 -- the paragraph is of the list, at a lower level
-abbrev pub is_below : ℕ → ℕ → Option ListPlace → Bool
-is_below list level None = false
-is_below list level (Some place) = (place.list == list) && nat_lt place.level level
+abbrev pub is_lower_level : ℕ → ℕ → Option ListPlace → Bool
+is_lower_level list level None = false
+is_lower_level list level (Some place) = (place.list == list) && nat_lt place.level level
 
 -- the places since the last paragraph of the list at a lower level, the last one first
 abbrev pub since : List (Option ListPlace) → ℕ → ℕ → List (Option ListPlace)
-since places list level = take_while (λ place. not (is_below list level place)) (reverse places)
+since places list level = take_while (λ place. not (is_lower_level list level place)) (reverse places)
 
 -- how many paragraphs of the list are there at the level
 unfoldable pub count_at : List (Option ListPlace) → ℕ → ℕ → ℕ

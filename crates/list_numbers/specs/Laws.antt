@@ -1,7 +1,8 @@
 -- What the definitions imply.
 use Rattle.std.specs.Prelude.{◌≡◌, ℕ, ◌+◌, ◌-◌, ◌≤◌, ◌==◌, ◌||◌, nat_lt, if◌then◌else◌, List, [], ◌∷◌, Option}
 use Rattle.list_numbers.specs.declared.number_kind.LetterCase.{LetterCase}
-use Rattle.plain_doc.specs.declared.document.Document.{Document}
+use Rattle.doc_model.specs.declared.document.Document.{Document}
+use Rattle.plain_doc.specs.Sound.{IsSound}
 use Rattle.list_numbers.specs.NumberText.{roman}
 use Rattle.list_numbers.specs.Numbers.{AreNumbers}
 use Rattle.list_numbers.specs.Outline.{AreOutlineLines}
@@ -49,3 +50,15 @@ abbrev pub ParagraphValuesAreOne : Type 0
 ParagraphValuesAreOne =
     (document : Document) (one other : List ParagraphValues) → AreParagraphValuesOf document one →
     AreParagraphValuesOf document other → one ≡ other
+
+-- the main paragraphs of a sound document have numbers, lines and values
+abbrev pub NumbersExist : Type 0
+NumbersExist =
+    (document : Document) → IsSound document → (numbers : List (Option (List ℕ))) × AreNumbers document numbers
+
+abbrev pub OutlineLinesExist : Type 0
+OutlineLinesExist = (document : Document) → IsSound document → (lines : List ℕ) × AreOutlineLines document lines
+
+abbrev pub ParagraphValuesExist : Type 0
+ParagraphValuesExist =
+    (document : Document) → IsSound document → (values : List ParagraphValues) × AreParagraphValuesOf document values

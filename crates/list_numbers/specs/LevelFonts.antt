@@ -17,8 +17,8 @@ abbrev pub prl_end : List ℕ → ℕ → ℕ
 prl_end list at = at + 2 + operand_len (size_of (u16_at list at)) list (at + 2)
 
 -- no whole Prl is at the place
-abbrev pub ends_at : List ℕ → ℕ → Bool
-ends_at list at = nat_lt (length list) (at + 2) || nat_lt (length list) (prl_end list at)
+abbrev pub prls_end_at : List ℕ → ℕ → Bool
+prls_end_at list at = nat_lt (length list) (at + 2) || nat_lt (length list) (prl_end list at)
 
 -- [MS-DOC] sprmCRgFtc2: the font, by its number in SttbfFfn
 abbrev pub font_by : List ℕ → ℕ → Option ℕ → Option ℕ
@@ -28,7 +28,7 @@ font_by list at font = if u16_at list at == 0x4A51 then Some (u16_at list (at + 
 unfoldable pub font_from : ℕ → List ℕ → ℕ → Option ℕ → Option ℕ
 font_from zero list at font = font
 font_from (suc count) list at font =
-    if ends_at list at then font else font_from count list (prl_end list at) (font_by list at font)
+    if prls_end_at list at then font else font_from count list (prl_end list at) (font_by list at font)
 
 abbrev pub font_in : List ℕ → Option ℕ
 font_in list = font_from (length list) list 0 None

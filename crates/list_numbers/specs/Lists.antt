@@ -8,7 +8,7 @@ use Rattle.doc_parts.specs.Levels.{levels_before, levels_of_list, level_start}
 use Rattle.list_numbers.specs.declared.level.Level.{Level}
 use Rattle.list_numbers.specs.declared.list_format.ListFormat.{ListFormat}
 use Rattle.list_numbers.specs.LevelFonts.{font_in}
-use Rattle.list_numbers.specs.NumberKind.{kind_of}
+use Rattle.list_numbers.specs.NumberKind.{kind_of_nfc}
 use Rattle.doc_parts.specs.Tabulated.{tabulate}
 
 -- [MS-DOC] LVL: the text is behind an LVLF of 28 bytes and two lists of properties, whose lengths are at 25 and 24
@@ -27,7 +27,7 @@ counted_units bytes at = tabulate (λ i. u16_at bytes (at + 2 + 2 * i)) (u16_at 
 abbrev pub level_at : List ℕ → ℕ → Level
 level_at bytes at = record {
   start = cast_signed w32 (u32_at bytes at);
-  kind = kind_of (slice_index bytes (at + 4));
+  kind = kind_of_nfc (slice_index bytes (at + 4));
   text = counted_units bytes (level_text_place bytes at);
   font = font_in (level_characters bytes at);
 }
@@ -42,16 +42,16 @@ HaveWholeLevels bytes at count = (j : ℕ) → j < count → level_start bytes a
 
 -- [MS-DOC] LSTF: lsid at 0, and fSimpleList in bit 0 of byte 26; the levels of a list are behind those of the lists
 -- before it
-abbrev pub list_at : List ℕ → List ℕ → ℕ → ListFormat
-list_at lst levels k = record {
+abbrev pub list_format_at : List ℕ → List ℕ → ℕ → ListFormat
+list_format_at lst levels k = record {
   number = u32_at lst (2 + 28 * k);
   simple = slice_index lst (2 + 28 * k + 26) % 2 == 1;
   levels = levels_from levels (level_start levels 0 (levels_before lst k)) (levels_of_list lst k);
 }
 
 -- the lists of PlfLst, whose levels these are
-unfoldable pub lists_of : List ℕ → List ℕ → List ListFormat
-lists_of lst levels = tabulate (list_at lst levels) (u16_at lst 0)
+unfoldable pub list_formats_of : List ℕ → List ℕ → List ListFormat
+list_formats_of lst levels = tabulate (list_format_at lst levels) (u16_at lst 0)
 
 -- [MS-DOC] PlfLfo: a 32-bit count and LFOs of 16 bytes. Profile: those that do not fit are not there
 abbrev pub use_count : List ℕ → ℕ

@@ -9,7 +9,7 @@ use Rattle.prop_map.specs.Settings.{Properties}
 use Rattle.style_sheet.specs.Sheet.{Sheet}
 use Rattle.effective_props.specs.Values.{effective_value}
 use Rattle.effective_props.specs.Layers.{paragraph_properties, AreChainLayers, AreParagraphLayers}
-use Rattle.plain_doc.specs.declared.item.Mark.{Mark}
+use Rattle.doc_model.specs.declared.item.Mark.{Mark}
 use Rattle.list_numbers.specs.declared.mark_values.MarkValues.{MarkValues}
 
 -- the 16-bit number of a value, and its first byte
@@ -20,8 +20,8 @@ abbrev pub byte_in : Option (List ℕ) → Option ℕ
 byte_in value = option_map (λ bytes. slice_index bytes 0) value
 
 -- [MS-DOC] sprmPIlfo, sprmPIlvl, sprmPOutLvl, sprmPFPageBreakBefore and sprmPFBiDi, as layers have them together
-abbrev pub values_in : List Properties → MarkValues
-values_in layers = record {
+abbrev pub mark_values_in : List Properties → MarkValues
+mark_values_in layers = record {
   ilfo = word_in (effective_value layers 0x460B);
   ilvl = byte_in (effective_value layers 0x260A);
   outline = byte_in (effective_value layers 0x2640);
@@ -33,13 +33,13 @@ values_in layers = record {
 pub record AreStyleValues (sheet : Sheet) (istd : ℕ) (values : MarkValues) : Type 0 where
   pub layers : List Properties
   pub are : AreChainLayers paragraph_properties sheet istd layers
-  pub said : values ≡ values_in layers
+  pub said : values ≡ mark_values_in layers
 
 -- the values in effect of a mark are those of its layers
 pub record AreMarkValues (sheet : Sheet) (mark : Mark) (values : MarkValues) : Type 0 where
   pub layers : List Properties
   pub are : AreParagraphLayers sheet mark.istd mark.pap layers
-  pub said : values ≡ values_in layers
+  pub said : values ≡ mark_values_in layers
 
 -- nothing is said
 abbrev pub no_values : MarkValues

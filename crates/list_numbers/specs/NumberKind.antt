@@ -6,8 +6,8 @@ use Rattle.list_numbers.specs.declared.number_kind.NumberKind.TheVariants.{Decim
 
 -- 1 and 2 upper and lower Roman, 3 and 4 upper and lower letters, 23 a bullet, 255 nothing
 -- Profile: all others are decimal
-abbrev pub kind_of : ℕ → NumberKind
-kind_of nfc =
+abbrev pub kind_of_nfc : ℕ → NumberKind
+kind_of_nfc nfc =
     if nfc == 1 then Roman Upper else
     if nfc == 2 then Roman Lower else
     if nfc == 3 then Letters Upper else

@@ -6,7 +6,7 @@ use Rattle.list_numbers.specs.declared.number_kind.LetterCase.{LetterCase}
 use Rattle.list_numbers.specs.declared.number_kind.LetterCase.TheVariants.{Upper, Lower}
 use Rattle.list_numbers.specs.declared.number_kind.NumberKind.{NumberKind}
 use Rattle.list_numbers.specs.declared.number_kind.NumberKind.TheVariants.{Decimal, Roman, Letters, Bullet, Nothing}
-use Rattle.list_numbers.specs.NumberKind.{kind_of}
+use Rattle.list_numbers.specs.NumberKind.{kind_of_nfc}
 
 -- a capital letter, or the small one
 abbrev pub in_case : LetterCase → ℕ → ℕ
@@ -51,13 +51,13 @@ letters_or_decimal case value (Some number) = letters case number
 letters_or_decimal case value None = signed_decimal value
 
 -- Roman numbers reach to 3,999, letters to 780; all else is decimal, with a minus where it is negative
-abbrev pub text_in : NumberKind → ℤ → List ℕ
-text_in (Roman case) value = roman_or_decimal case value (within 3999 value)
-text_in (Letters case) value = letters_or_decimal case value (within 780 value)
-text_in Decimal value = signed_decimal value
-text_in Bullet value = signed_decimal value
-text_in Nothing value = signed_decimal value
+abbrev pub numeral_in : NumberKind → ℤ → List ℕ
+numeral_in (Roman case) value = roman_or_decimal case value (within 3999 value)
+numeral_in (Letters case) value = letters_or_decimal case value (within 780 value)
+numeral_in Decimal value = signed_decimal value
+numeral_in Bullet value = signed_decimal value
+numeral_in Nothing value = signed_decimal value
 
 -- the text of a number, by the number of its kind
 abbrev pub number_text : ℕ → ℤ → List ℕ
-number_text kind value = text_in (kind_of kind) value
+number_text kind value = numeral_in (kind_of_nfc kind) value

@@ -2,25 +2,25 @@
 use Rattle.std.specs.Prelude.{◌≡◌, ℕ, ◌+◌, ◌<◌, nat_lt, nat_le, if◌then◌else◌, List, [], ◌∷◌, length, take, map}
 use Rattle.std.specs.Prelude.{slice_get, Option, Some, None}
 use Rattle.std.specs.List.{flat_map}
-use Rattle.plain_doc.specs.declared.item.Item.{Item}
-use Rattle.plain_doc.specs.declared.document.Document.{Document}
+use Rattle.doc_model.specs.declared.item.Item.{Item}
+use Rattle.doc_model.specs.declared.document.Document.{Document}
 use Rattle.list_numbers.specs.declared.number_kind.NumberKind.{NumberKind}
 use Rattle.list_numbers.specs.declared.number_kind.NumberKind.TheVariants.{Decimal, Roman, Letters, Bullet, Nothing}
 use Rattle.list_numbers.specs.declared.level.Level.{Level}
 use Rattle.list_numbers.specs.declared.list_format.ListFormat.{ListFormat}
 use Rattle.list_numbers.specs.declared.list_place.ListPlace.{ListPlace}
 use Rattle.list_numbers.specs.declared.mark_values.MarkValues.{MarkValues}
-use Rattle.list_numbers.specs.NumberText.{text_in}
-use Rattle.list_numbers.specs.Lists.{lists_of}
-use Rattle.list_numbers.specs.Places.{paragraphs, place_of, AreParagraphValues}
+use Rattle.list_numbers.specs.NumberText.{numeral_in}
+use Rattle.list_numbers.specs.Lists.{list_formats_of}
+use Rattle.list_numbers.specs.Places.{paragraphs, place_of_values, AreParagraphValues}
 use Rattle.list_numbers.specs.Counts.{count_at, list_value}
 use Rattle.doc_parts.specs.Tabulated.{tabulate}
 
 -- the number of a level within that of a higher one: a bullet, and a level without a number, show nothing there
 abbrev pub text_within : NumberKind → Level → ℕ → List ℕ
-text_within Decimal level count = text_in level.kind (list_value level count)
-text_within (Roman case) level count = text_in level.kind (list_value level count)
-text_within (Letters case) level count = text_in level.kind (list_value level count)
+text_within Decimal level count = numeral_in level.kind (list_value level count)
+text_within (Roman case) level count = numeral_in level.kind (list_value level count)
+text_within (Letters case) level count = numeral_in level.kind (list_value level count)
 text_within Bullet level count = []
 text_within Nothing level count = []
 
@@ -83,7 +83,7 @@ pub record AreDocumentValues (document : Document) (values : List MarkValues) : 
 -- the numbers of the main paragraphs whose marks have these values
 abbrev pub numbers_of : Document → List MarkValues → List (Option (List ℕ))
 numbers_of document values =
-    numbers_at (lists_of document.carried.lst document.carried.levels) (map (place_of document) values)
+    numbers_at (list_formats_of document.carried.lst document.carried.levels) (map (place_of_values document) values)
 
 -- the numbers of the main paragraphs
 pub record AreNumbers (document : Document) (numbers : List (Option (List ℕ))) : Type 0 where

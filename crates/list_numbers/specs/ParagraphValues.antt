@@ -2,7 +2,7 @@
 -- written from right to left, and the label of its list.
 use Rattle.std.specs.Prelude.{◌≡◌, ℕ, ◌+◌, ◌==◌, Bool, true, false, not, List, [], ◌∷◌, length, map, take, get_or}
 use Rattle.std.specs.Prelude.{slice_get, Option, Some, None}
-use Rattle.plain_doc.specs.declared.document.Document.{Document}
+use Rattle.doc_model.specs.declared.document.Document.{Document}
 use Rattle.list_numbers.specs.declared.number_kind.NumberKind.{NumberKind}
 use Rattle.list_numbers.specs.declared.number_kind.NumberKind.TheVariants.{Decimal, Roman, Letters, Bullet, Nothing}
 use Rattle.list_numbers.specs.declared.level.Level.{Level}
@@ -14,9 +14,9 @@ use Rattle.list_numbers.specs.declared.paragraph_values.ParagraphValues.{Paragra
 use Rattle.symbol_fonts.specs.declared.fonts.SymbolFonts.{SymbolFonts}
 use Rattle.symbol_fonts.specs.Characters.{shown_unit}
 use Rattle.symbol_fonts.specs.Fonts.{symbol_font, symbol_fonts}
-use Rattle.list_numbers.specs.Lists.{lists_of}
+use Rattle.list_numbers.specs.Lists.{list_formats_of}
 use Rattle.list_numbers.specs.MarkValues.{no_values}
-use Rattle.list_numbers.specs.Places.{place_of}
+use Rattle.list_numbers.specs.Places.{place_of_values}
 use Rattle.list_numbers.specs.Counts.{count_at}
 use Rattle.list_numbers.specs.Numbers.{units_in, at_entry, AreDocumentValues}
 use Rattle.list_numbers.specs.Outline.{outline_level}
@@ -27,9 +27,9 @@ abbrev pub most_label_units : ℕ
 most_label_units = 64
 
 -- [MS-DOC] Bool8: set by all but 0
-abbrev pub is_set : Option ℕ → Bool
-is_set None = false
-is_set (Some byte) = not (byte == 0)
+abbrev pub is_bool8_set : Option ℕ → Bool
+is_bool8_set None = false
+is_bool8_set (Some byte) = not (byte == 0)
 
 abbrev pub is_bullet_kind : NumberKind → Bool
 is_bullet_kind Decimal = false
@@ -43,9 +43,9 @@ is_bullet_level None = false
 is_bullet_level (Some level) = is_bullet_kind level.kind
 
 -- the level of a list
-abbrev pub level_of : Option ListFormat → ℕ → Option Level
-level_of None level = None
-level_of (Some list) level = slice_get list.levels level
+abbrev pub list_level : Option ListFormat → ℕ → Option Level
+list_level None level = None
+list_level (Some list) level = slice_get list.levels level
 
 -- a label has some units
 abbrev pub label_with : ℕ → Bool → List ℕ → Option ListLabel
@@ -63,8 +63,8 @@ shown_units fonts level units = map (shown_unit (symbol_font fonts (font_of_leve
 -- the label at a level of a list, by how far each level has counted: the first units of the number, as they are shown
 abbrev pub label_in : SymbolFonts → Option ListFormat → ℕ → (ℕ → ℕ) → Option ListLabel
 label_in fonts list level counts =
-    label_with level (is_bullet_level (level_of list level))
-    (shown_units fonts (level_of list level) (take most_label_units (units_in list level counts)))
+    label_with level (is_bullet_level (list_level list level))
+    (shown_units fonts (list_level list level) (take most_label_units (units_in list level counts)))
 
 abbrev pub label_at_place : SymbolFonts → List ListFormat → List (Option ListPlace) → Option ListPlace → Option ListLabel
 label_at_place fonts lists places None = None
@@ -75,8 +75,8 @@ label_at_place fonts lists places (Some place) =
 abbrev pub values_with : MarkValues → Option ListLabel → ParagraphValues
 values_with values label = record {
   outline = outline_level values.outline;
-  breaks_page = is_set values.breaks_page;
-  right_to_left = is_set values.right_to_left;
+  breaks_page = is_bool8_set values.breaks_page;
+  right_to_left = is_bool8_set values.right_to_left;
   label = label;
 }
 
@@ -89,8 +89,8 @@ all_values fonts lists places values =
 -- the values of the main paragraphs whose marks have these values
 abbrev pub paragraph_values_of : Document → List MarkValues → List ParagraphValues
 paragraph_values_of document values =
-    all_values (symbol_fonts document.carried.fonts) (lists_of document.carried.lst document.carried.levels)
-    (map (place_of document) values) values
+    all_values (symbol_fonts document.carried.fonts) (list_formats_of document.carried.lst document.carried.levels)
+    (map (place_of_values document) values) values
 
 -- the values of the main paragraphs, in their order
 pub record AreParagraphValuesOf (document : Document) (paragraphs : List ParagraphValues) : Type 0 where

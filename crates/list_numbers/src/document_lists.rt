@@ -1,6 +1,6 @@
 // The lists of a document, decoded.
 ghost use Rattle.std.specs.Prelude.{◌≡◌, ◌^◌, ◌<◌, IfOk, length, map};
-ghost use Rattle.list_numbers.specs.Lists.{lists_of, list_uses};
+ghost use Rattle.list_numbers.specs.Lists.{list_formats_of, list_uses};
 ghost use Rattle.list_numbers.specs.Places.{list_place, AreFirstLists};
 
 use crate::first_lists::{first_lists, place_of};
@@ -27,7 +27,7 @@ pub(crate) struct DocumentLists {
 impl DocumentLists {
     /// The lists that a document carries.
     pub(crate) fn of(alloc: Global, carried: &Carried) -> Result<DocumentLists, Memory>
-        ensures lists { IfOk result (λ found. found.lists ≡ lists_of carried.now.lst carried.now.levels) }
+        ensures lists { IfOk result (λ found. found.lists ≡ list_formats_of carried.now.lst carried.now.levels) }
         ensures uses { IfOk result (λ found. found.uses.items ≡ list_uses carried.now.lfo) }
     {
         let lists = lists_of(alloc, carried.lst.as_slice(), carried.levels.as_slice())?;

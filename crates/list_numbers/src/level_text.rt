@@ -1,7 +1,7 @@
 // The number of a level, by how far it and those below it have counted.
 ghost use Rattle.std.specs.Prelude.{◌≡◌, ◌++◌, ◌<◌, length, slice_index, OnOk, IfOk};
 ghost use Rattle.std.specs.List.{flat_map};
-ghost use Rattle.list_numbers.specs.NumberText.{text_in};
+ghost use Rattle.list_numbers.specs.NumberText.{numeral_in};
 ghost use Rattle.list_numbers.specs.Counts.{list_value};
 ghost use Rattle.list_numbers.specs.Numbers.{text_within, placed_unit, number_units};
 
@@ -120,7 +120,7 @@ fn push_within(alloc: Global, units: &mut Units, level: &Level, count: u32) -> R
 
 /// Appends the text of a value.
 fn push_value(alloc: Global, units: &mut Units, kind: NumberKind, value: i64) -> Result<(), Memory>
-    ensures { OnOk result (units.new ≡ units.old ++ text_in kind value) }
+    ensures { OnOk result (units.new ≡ units.old ++ numeral_in kind value) }
 {
     let mut text = String::new(alloc);
     push_number(alloc, &mut text, kind, value)?;

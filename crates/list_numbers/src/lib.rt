@@ -32,7 +32,8 @@ mod style_values;
 
 pub use document_numbers::{numbers, numbers_of_columns};
 pub use laws::{
-    numbers_are_one, outline_lines_are_one, paragraph_values_are_one, roman_numerals_are_read_back,
+    numbers_are_one, numbers_exist, outline_lines_are_one, outline_lines_exist,
+    paragraph_values_are_one, paragraph_values_exist, roman_numerals_are_read_back,
 };
 pub use numbers_list::Numbers;
 pub use numeral::number_text;

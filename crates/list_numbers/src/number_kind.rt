@@ -1,6 +1,6 @@
 // [MS-DOC] nfc: how a number is written.
 ghost use Rattle.std.specs.Prelude.{◌≡◌};
-ghost use Rattle.list_numbers.specs.NumberKind.{kind_of};
+ghost use Rattle.list_numbers.specs.NumberKind.{kind_of_nfc};
 
 /// The case of letters.
 #[derive(Clone, Copy)]
@@ -24,7 +24,7 @@ pub(crate) enum NumberKind {
 impl NumberKind {
     /// The kind with a number of [MS-DOC] MSONFC. All that are not named here are decimal.
     pub(crate) fn of(nfc: u8) -> NumberKind
-        ensures { result ≡ kind_of nfc }
+        ensures { result ≡ kind_of_nfc nfc }
     {
         match nfc {
             1 => NumberKind::Roman(LetterCase::Upper),

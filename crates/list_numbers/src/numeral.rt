@@ -1,8 +1,8 @@
 // A number as a text.
 ghost use Rattle.std.specs.Prelude.{◌≡◌, ◌++◌, OnOk, IfOk};
 ghost use Rattle.std.specs.String.{string_bytes};
-ghost use Rattle.list_numbers.specs.NumberKind.{kind_of};
-ghost use Rattle.list_numbers.specs.NumberText.{number_text, text_in, within};
+ghost use Rattle.list_numbers.specs.NumberKind.{kind_of_nfc};
+ghost use Rattle.list_numbers.specs.NumberText.{number_text, numeral_in, within};
 
 use crate::number_kind::{LetterCase, NumberKind};
 use crate::roman::{push_letters, push_roman};
@@ -32,7 +32,7 @@ pub(crate) fn push_number(
     kind: NumberKind,
     value: i64,
 ) -> Result<(), Memory>
-    ensures { OnOk result (string_bytes text.new ≡ string_bytes text.old ++ text_in kind value) }
+    ensures { OnOk result (string_bytes text.new ≡ string_bytes text.old ++ numeral_in kind value) }
 {
     match kind {
         NumberKind::Roman(case) => push_roman_or_decimal(alloc, text, case, value),
@@ -51,7 +51,7 @@ fn push_roman_or_decimal(
     value: i64,
 ) -> Result<(), Memory>
     ensures { OnOk result
-        (string_bytes text.new ≡ string_bytes text.old ++ text_in (NumberKind.Roman case) value) }
+        (string_bytes text.new ≡ string_bytes text.old ++ numeral_in (NumberKind.Roman case) value) }
 {
     match within(value, MAX_ROMAN) {
         Some(number) => push_roman(text, case, number),
@@ -67,7 +67,7 @@ fn push_letters_or_decimal(
     value: i64,
 ) -> Result<(), Memory>
     ensures { OnOk result
-        (string_bytes text.new ≡ string_bytes text.old ++ text_in (NumberKind.Letters case) value) }
+        (string_bytes text.new ≡ string_bytes text.old ++ numeral_in (NumberKind.Letters case) value) }
 {
     match within(value, MAX_LETTERS) {
         Some(number) => push_letters(text, case, number),
@@ -78,7 +78,7 @@ fn push_letters_or_decimal(
 /// Appends a number in decimal digits, with a minus where it is negative.
 fn push_decimal(alloc: Global, text: &mut String, value: i64) -> Result<(), Memory>
     ensures { OnOk result
-        (string_bytes text.new ≡ string_bytes text.old ++ text_in NumberKind.Decimal value) }
+        (string_bytes text.new ≡ string_bytes text.old ++ numeral_in NumberKind.Decimal value) }
 {
     let digits = format!(in alloc; "{value}")?;
     text.push_str(digits.as_str())?;

@@ -1,7 +1,7 @@
 // A line of an outline.
 ghost use Rattle.std.specs.Prelude.{◌≡◌, ◌++◌, ◌||◌, false, is_some, codes, OnOk};
 ghost use Rattle.std.specs.Fmt.{decimal};
-ghost use Rattle.text_codes.specs.Shown.{shown};
+ghost use Rattle.text_codes.specs.Shown.{shown_text};
 ghost use Rattle.list_numbers.specs.Outline.{outline_level, units_line, level_word, number_word};
 
 use doc_bits::{Memory, Text, Units};
@@ -95,7 +95,7 @@ fn push_number(alloc: Global, text: &mut Text, number: &Option<Units>) -> Result
 
 /// Appends units as they are shown.
 fn push_units(alloc: Global, text: &mut Text, units: &[u16]) -> Result<(), Memory>
-    ensures { OnOk result (text.new ≡ text.old ++ shown false units.now) }
+    ensures { OnOk result (text.new ≡ text.old ++ shown_text false units.now) }
 {
     let word = show_units(alloc, units)?;
     text.push_all(word.as_str())

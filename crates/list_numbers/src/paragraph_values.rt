@@ -1,7 +1,7 @@
 // What a page needs to know of each main paragraph of a document.
 ghost use Rattle.std.specs.Prelude.{◌≡◌, ◌++◌, ◌∷◌, [], length, slice_get, option_map, IfOk, OnOk};
 ghost use Rattle.plain_doc.specs.Sound.{IsSound};
-ghost use Rattle.list_numbers.specs.ParagraphValues.{AreParagraphValuesOf, is_set, values_with};
+ghost use Rattle.list_numbers.specs.ParagraphValues.{AreParagraphValuesOf, is_bool8_set, values_with};
 
 use crate::document_lists::DocumentLists;
 use crate::labels::values_at;
@@ -54,7 +54,7 @@ impl ParagraphValues {
 
 /// Whether a [MS-DOC] Bool8 is there and set.
 fn is_set(byte: Option<u8>) -> bool
-    ensures { result ≡ is_set byte }
+    ensures { result ≡ is_bool8_set byte }
 {
     match byte {
         None => false,

@@ -1,13 +1,13 @@
 // The main paragraphs of a document, and the values of their marks.
 ghost use Rattle.std.specs.Prelude.{◌≡◌, ◌^◌, ◌<◌, ◌≤◌, List, IfOk, MatchOption, map, replicate, None};
 ghost use Rattle.run_lists.specs.Spread.{expanded, total_len};
-ghost use Rattle.run_lists.specs.Places.{IsAt};
-ghost use Rattle.plain_doc.specs.declared.item.Item.{Item};
-ghost use Rattle.plain_doc.specs.Paragraphs.{HasNoParagraphEnd};
+ghost use Rattle.run_lists.specs.Places.{IsAtRunBegin};
+ghost use Rattle.doc_model.specs.declared.item.Item.{Item};
+ghost use Rattle.doc_model.specs.Paragraphs.{HasNoParagraphEnd};
 ghost use Rattle.plain_doc.specs.Sound.{IsSound};
 ghost use Rattle.doc_columns.specs.Attached.{attached_of};
 ghost use Rattle.list_numbers.specs.Numbers.{AreDocumentValues};
-ghost use Rattle.list_numbers.specs.Places.{EndsBefore};
+ghost use Rattle.list_numbers.specs.Places.{ParagraphEndsBefore};
 
 use crate::mark_values::MarkValues;
 use crate::style_values::values_of_mark;
@@ -62,15 +62,15 @@ pub(crate) fn mark_of<'a>(
 ) -> (Option<&'a Mark>, usize)
     requires long { total_len attachments.now ≡ len }
     requires few { len < 2 ^ 32 }
-    requires cursor { IsAt attachments.now marks.old }
+    requires cursor { IsAtRunBegin attachments.now marks.old }
     requires ahead { marks.old.begin ≤ at }
     requires within { at < len }
-    ensures cursor { IsAt attachments.now marks.new }
+    ensures cursor { IsAtRunBegin attachments.now marks.new }
     ensures ahead { marks.new.begin ≤ result.1 }
     ensures some { at < result.1 }
     ensures within { result.1 ≤ len }
     ensures found { (text : List Item) → expanded attachments.now ≡ map attached_of text → MatchOption result.0
-        (HasNoParagraphEnd text at) (λ mark. EndsBefore text at result.1 mark.now) }
+        (HasNoParagraphEnd text at) (λ mark. ParagraphEndsBefore text at result.1 mark.now) }
 {
     let end = paragraph_end(attachments, marks, at, len);
     let last = seek(attachments, marks, end - 1);

@@ -3,8 +3,9 @@ ghost use Rattle.std.specs.Prelude.{◌≡◌, ◌<◌, ◌≤◌, ℕ, ◌+◌,
 ghost use Rattle.std.specs.Prelude.{length, slice_index, IfOk, OnOk};
 ghost use Rattle.doc_bits.specs.Number.{u16_at, u32_at};
 ghost use Rattle.doc_parts.specs.Levels.{level_end, level_start, levels_of_list};
-ghost use Rattle.plain_doc.specs.Carried.{AreListsWithLevels};
-ghost use Rattle.list_numbers.specs.Lists.{lists_of, list_at, level_at, levels_from, counted_units, use_count};
+ghost use Rattle.doc_model.specs.Carried.{AreListsWithLevels};
+ghost use Rattle.list_numbers.specs.Lists.{list_formats_of, list_format_at, level_at, levels_from, counted_units};
+ghost use Rattle.list_numbers.specs.Lists.{use_count};
 ghost use Rattle.list_numbers.specs.Lists.{list_uses, level_characters, level_text_place, HaveWholeLevels};
 ghost use Rattle.doc_parts.specs.Tabulated.{tabulate};
 
@@ -27,10 +28,10 @@ const LEVELS: usize = 9;
 const LFO_LEN: usize = 16;
 
 /// The lists, each with its levels.
-#[tactic(auto, unfolding(crate::specs::Lists::lists_of))]
+#[tactic(auto, unfolding(crate::specs::Lists::list_formats_of))]
 pub(crate) fn lists_of(alloc: Global, lst: &[u8], levels: &[u8]) -> Result<ListFormats, Memory>
     requires { AreListsWithLevels lst.now levels.now }
-    ensures lists { IfOk result (λ lists. lists ≡ lists_of lst.now levels.now) }
+    ensures lists { IfOk result (λ lists. lists ≡ list_formats_of lst.now levels.now) }
     ensures few { IfOk result (λ lists. length lists < 2 ^ 16) }
 {
     let mut lists = ListFormats::new(alloc);

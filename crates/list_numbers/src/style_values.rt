@@ -1,10 +1,10 @@
 // The values of styles, each reckoned when it is first met.
 ghost use Rattle.std.specs.Prelude.{◌≡◌, ◌<◌, ◌-◌, OnOk, IfOk, length, slice_index};
-ghost use Rattle.style_sheet.specs.Chain.{kind_at, HasSoundBases, IsBaseChain};
+ghost use Rattle.style_sheet.specs.Chain.{style_kind_at, HasSoundBases, IsBaseChain};
 ghost use Rattle.style_sheet.specs.Sheet.{style_at};
 ghost use Rattle.effective_props.specs.Layers.{paragraph_properties, properties_of_styles};
 ghost use Rattle.list_numbers.specs.MarkValues.{AreStyleValues, AreMarkValues, AreKnownValues};
-ghost use Rattle.list_numbers.specs.MarkValues.{own_values, over, values_in};
+ghost use Rattle.list_numbers.specs.MarkValues.{own_values, over, mark_values_in};
 
 use crate::mark_values::{MarkValues, values_of_slot};
 use doc_bits::Memory;
@@ -20,7 +20,7 @@ pub(crate) fn values_of_mark(
     mark: &Mark,
 ) -> Result<MarkValues, Memory>
     requires bases { HasSoundBases sheet.now }
-    requires style { kind_at sheet.now mark.now.istd ≡ 1 }
+    requires style { style_kind_at sheet.now mark.now.istd ≡ 1 }
     requires known { AreKnownValues sheet.now known.old.items }
     ensures values { IfOk result (AreMarkValues sheet.now mark.now) }
     ensures known { OnOk result (AreKnownValues sheet.now known.new.items) }
@@ -38,7 +38,7 @@ fn values_of_style(
     istd: u16,
 ) -> Result<MarkValues, Memory>
     requires bases { HasSoundBases sheet.now }
-    requires style { 0 < kind_at sheet.now istd }
+    requires style { 0 < style_kind_at sheet.now istd }
     requires known { AreKnownValues sheet.now known.old.items }
     ensures values { IfOk result (AreStyleValues sheet.now istd) }
     ensures known { OnOk result (AreKnownValues sheet.now known.new.items) }
@@ -63,7 +63,7 @@ fn values_of_chain(
 ) -> MarkValues
     requires chain { IsBaseChain sheet.now (slice_index chain.now (length chain.now - 1)) chain.now }
     requires known { AreKnownValues sheet.now known.old.items }
-    ensures values { result ≡ values_in (properties_of_styles paragraph_properties sheet.now chain.now) }
+    ensures values { result ≡ mark_values_in (properties_of_styles paragraph_properties sheet.now chain.now) }
     ensures known { AreKnownValues sheet.now known.new.items }
 {
     let mut values = MarkValues::none();

@@ -9,21 +9,21 @@ use Rattle.std.proofs.lemmas.List.{append-nil, drop_more, drop_all, take_all, le
 use Rattle.std.proofs.lemmas.List.Elements.{filter-append}
 use Rattle.cfb_streams.specs.Contents.{Stream}
 use Rattle.loss_report.specs.Features.{Feature, StreamOf, StorageOf, stream_features, storage_features, part_feature}
-use Rattle.loss_report.specs.Losses.{is_kept, left_out}
+use Rattle.loss_report.specs.Losses.{is_kept_feature, left_out}
 use Rattle.loss_report.specs.Lines.{feature_line, loss_lines}
 
 pub loss_lines-append : (wd : List ℕ) (one more : List Feature) → loss_lines wd (one ++ more) ≡ loss_lines wd one ++
     loss_lines wd more
 loss_lines-append wd one more =
-    ap (map feature_line) (filter-append (λ feature. not (is_kept wd feature)) one more)
+    ap (map feature_line) (filter-append (λ feature. not (is_kept_feature wd feature)) one more)
     ∙ map-append feature_line (left_out wd one) (left_out wd more)
 
 -- the line of a feature that is left out, and none of one that is kept
-pub lost_one : (wd : List ℕ) (feature : Feature) → is_kept wd feature ≡ false → loss_lines wd (feature ∷ []) ≡
+pub lost_one : (wd : List ℕ) (feature : Feature) → is_kept_feature wd feature ≡ false → loss_lines wd (feature ∷ []) ≡
     feature_line feature ∷ []
 lost_one wd feature lost = rw lost refl
 
-pub kept_one : (wd : List ℕ) (feature : Feature) → is_kept wd feature ≡ true → loss_lines wd (feature ∷ []) ≡ []
+pub kept_one : (wd : List ℕ) (feature : Feature) → is_kept_feature wd feature ≡ true → loss_lines wd (feature ∷ []) ≡ []
 kept_one wd feature kept = rw kept refl
 
 -- the lines of the features here are put behind those before them

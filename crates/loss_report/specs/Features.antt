@@ -6,7 +6,7 @@ use Rattle.cfb_streams.specs.Contents.{Stream, OuterContents}
 use Rattle.fib_form.specs.Fib.{fib_pair}
 use Rattle.fib_versions.specs.declared.further.Further.{Further}
 use Rattle.fib_versions.specs.declared.further.Further.TheVariants.{Comments, Endnotes, TextBoxes, HeaderTextBoxes}
-use Rattle.fib_versions.specs.Versions.{pair_count, further_count, further_start, next_page}
+use Rattle.fib_versions.specs.Versions.{fib_pair_count, further_count, further_start, pn_next}
 
 -- the streams and storages of the root, the bytes of WordDocument, and the units of the text by CP
 pub record Inventory : Type 0 where
@@ -36,17 +36,17 @@ abbrev pub part_feature : List ℕ → ℕ → List Feature
 part_feature wd n = if (fib_pair wd n).1 == 0 then [] else PartOf n (fib_pair wd n).1 ∷ []
 
 abbrev pub part_features : List ℕ → List Feature
-part_features wd = flat_map (part_feature wd) (range_with_len 0 (pair_count wd))
+part_features wd = flat_map (part_feature wd) (range_with_len 0 (fib_pair_count wd))
 
 -- the units of a story
-abbrev pub story_units : List ℕ → List ℕ → Further → List ℕ
-story_units wd units story =
+abbrev pub further_units : List ℕ → List ℕ → Further → List ℕ
+further_units wd units story =
     slice_range units (further_start wd story) (further_start wd story + further_count wd story)
 
 -- a story, where it has units
 abbrev pub story_feature : List ℕ → List ℕ → Further → List Feature
 story_feature wd units story =
-    if further_count wd story == 0 then [] else StoryOf story (story_units wd units story) ∷ []
+    if further_count wd story == 0 then [] else StoryOf story (further_units wd units story) ∷ []
 
 abbrev pub story_features : List ℕ → List ℕ → List Feature
 story_features wd units =
@@ -55,11 +55,11 @@ story_features wd units =
     ++ (story_feature wd units TextBoxes ++ story_feature wd units HeaderTextBoxes))
 
 abbrev pub auto_text_feature : List ℕ → List Feature
-auto_text_feature wd = if next_page wd == 0 then [] else AutoText (next_page wd) ∷ []
+auto_text_feature wd = if pn_next wd == 0 then [] else AutoText (pn_next wd) ∷ []
 
 -- all that the file has
-abbrev pub features : Inventory → List Feature
-features inventory =
+abbrev pub file_features : Inventory → List Feature
+file_features inventory =
     stream_features inventory.outer.container.streams
     ++ (storage_features inventory.outer.storages
     ++ (part_features inventory.wd

@@ -1,7 +1,7 @@
 -- The lines that say what is left out, one a feature.
 use Rattle.std.specs.Prelude.{ℕ, false, List, [], ◌∷◌, ◌++◌, length, map, codes}
 use Rattle.std.specs.Fmt.{decimal}
-use Rattle.text_codes.specs.Shown.{shown}
+use Rattle.text_codes.specs.Shown.{shown_text}
 use Rattle.fib_versions.specs.declared.further.Further.{Further}
 use Rattle.fib_versions.specs.declared.further.Further.TheVariants.{Comments, Endnotes, TextBoxes, HeaderTextBoxes}
 use Rattle.fib_versions.specs.PartNames.{name_of_part}
@@ -17,13 +17,13 @@ story_word HeaderTextBoxes = codes "header-textboxes"
 
 -- a part by its number, its name and its length in bytes; a story by its length in units and its whole text
 abbrev pub feature_text : Feature → List ℕ
-feature_text (StreamOf name) = codes "stream " ++ shown false name
-feature_text (StorageOf name) = codes "storage " ++ shown false name
+feature_text (StreamOf name) = codes "stream " ++ shown_text false name
+feature_text (StorageOf name) = codes "storage " ++ shown_text false name
 feature_text (PartOf pair len) =
     codes "part " ++ (decimal pair ++ (32 ∷ [] ++ (name_of_part pair ++ (32 ∷ [] ++ decimal len))))
 feature_text (StoryOf story units) =
     codes "story "
-    ++ (story_word story ++ (32 ∷ [] ++ (decimal (length units) ++ (codes " | " ++ shown false units))))
+    ++ (story_word story ++ (32 ∷ [] ++ (decimal (length units) ++ (codes " | " ++ shown_text false units))))
 feature_text (AutoText page) = codes "autotext page " ++ decimal page
 
 abbrev pub feature_line : Feature → List ℕ

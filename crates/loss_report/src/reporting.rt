@@ -1,6 +1,6 @@
 // What is left out, feature by feature.
 ghost use Rattle.std.specs.Prelude.{◌≡◌, ◌≤◌, ◌<◌, [], ◌∷◌, ◌++◌, map, slice_range, IfOk, OnOk};
-ghost use Rattle.fib_versions.specs.Versions.{pair_count};
+ghost use Rattle.fib_versions.specs.Versions.{fib_pair_count};
 ghost use Rattle.loss_report.specs.Features.{StreamOf, stream_features, storage_features, part_feature};
 ghost use Rattle.loss_report.specs.Features.{part_features, story_feature, story_features, auto_text_feature};
 ghost use Rattle.loss_report.specs.Losses.{losses};
@@ -95,7 +95,7 @@ fn add_parts(alloc: Global, lines: &mut LossLines, fib: &AnyFib<'_>) -> Result<(
 
 /// Names a part, where it has bytes and is not read or carried.
 fn add_part(alloc: Global, lines: &mut LossLines, fib: &AnyFib<'_>, n: u16) -> Result<(), Memory>
-    requires { n < pair_count fib.now }
+    requires { n < fib_pair_count fib.now }
     ensures { OnOk result (lines.new ≡ lines.old ++ loss_lines fib.now (part_feature fib.now n)) }
 {
     let (_, len) = fib.pair(n);

@@ -5,7 +5,7 @@ use Rattle.std.specs.Prelude.{if◌then◌else◌}
 use Rattle.std.specs.List.{All}
 use Rattle.std.proofs.lemmas.List.Elements.{All-append, All-cons, All-head, All-nil, All-tail}
 use Rattle.field_links.specs.Laws.{IsLocalUrl, IsSchemeUrl}
-use Rattle.plain_doc.specs.declared.document.Document.{Document}
+use Rattle.doc_model.specs.declared.document.Document.{Document}
 use Rattle.view_paths.specs.Events.{Close, Event, Leaf, Open, Turn, events_up_to, turns}
 use Rattle.view_paths.specs.Events.{Tag as PathTag}
 use Rattle.view_paths.specs.Paths.{last_path}
@@ -29,10 +29,12 @@ use Rattle.markdown_text.specs.Reading.{all_as_read, as_read}
 use Rattle.markdown_page.specs.declared.context.Context.{Context}
 use Rattle.markdown_page.specs.declared.context.Seam.{Seam}
 use Rattle.markdown_page.specs.declared.pieces.Pieces.{Pieces}
-use Rattle.markdown_page.specs.Destinations.{address_at, address_in, end_tokens, front_tokens, is_local, link_tokens}
+use Rattle.markdown_page.specs.Destinations.{address_at, address_in, link_end_tokens, link_front_tokens, is_local}
+use Rattle.markdown_page.specs.Destinations.{link_tokens}
 use Rattle.markdown_page.specs.Laws.{IsAllowed, LinksAreAllowed}
 use Rattle.markdown_page.specs.Pages.{Events, State, behind_event, closing_tokens, event_tokens, glyph_tokens}
-use Rattle.markdown_page.specs.Pages.{half_tokens, page_tokens, start, state_of, text_tokens, tokens_of, turn_pieces}
+use Rattle.markdown_page.specs.Pages.{half_tokens, page_tokens, start_state, state_behind, text_tokens, tokens_from}
+use Rattle.markdown_page.specs.Pages.{turn_pieces}
 use Rattle.markdown_page.specs.Pages.{without_half}
 use Rattle.markdown_page.specs.Pieces.{other_pieces, pieces_tokens}
 use Rattle.markdown_page.specs.Shape.{Places, all_shaped}
@@ -129,12 +131,12 @@ scheme_at document Caps url is = absurd (cc (is))
 scheme_at document Raised url is = absurd (cc (is))
 scheme_at document Lowered url is = absurd (cc (is))
 
-allowed-front : (address : Option (List ℕ)) → AreAllowed (front_tokens address)
+allowed-front : (address : Option (List ℕ)) → AreAllowed (link_front_tokens address)
 allowed-front None = none_allowed
 allowed-front (Some url) = allowed-cons (Markup 91) [] tt none_allowed
 
 allowed-end : (address : Option (List ℕ)) → ((url : List ℕ) → address ≡ Some url → IsSchemeUrl url) →
-    AreAllowed (end_tokens address)
+    AreAllowed (link_end_tokens address)
 allowed-end None each = none_allowed
 allowed-end (Some url) each =
     allowed-cons (Markup 93) (Destination url ∷ []) tt (allowed-cons (Destination url) [] (each url refl) none_allowed)
@@ -158,27 +160,28 @@ allowed-event state (Turn tag) =
     (allowed-behind state.context pieces) (allowed-link state.document tag)
 allowed-event state (Leaf path glyph) = allowed-glyph state (unit_in glyph) glyph
 
-allowed-events : (state : State) (events : Events) → AreAllowed (tokens_of state events)
-unfolding tokens_of
+allowed-events : (state : State) (events : Events) → AreAllowed (tokens_from state events)
+unfolding tokens_from
 allowed-events state [] = none_allowed
 allowed-events state (event ∷ events) =
-    allowed-append (event_tokens state event) (tokens_of (behind_event state event) events) (allowed-event state event)
+    allowed-append (event_tokens state event) (tokens_from (behind_event state event) events) (allowed-event state
+    event)
     (allowed-events (behind_event state event) events)
 
 allowed-closing : (state : State) (path : List Element) → AreAllowed (closing_tokens state path)
 allowed-closing state path =
     let events : Events = turns same path [] in
-    let last = (state_of state events).context in
-    allowed-append (tokens_of state events) (half_tokens last) (allowed-events state events)
+    let last = (state_behind state events).context in
+    allowed-append (tokens_from state events) (half_tokens last) (allowed-events state events)
     (allowed-text last.seam (half_text last.half))
 
 allowed-page : (document : Document) (places : Places) → AreAllowed (page_tokens document places)
 allowed-page document places =
     let shaped = all_shaped places in
     let events : Events = events_up_to same [] shaped in
-    let last = state_of (start document) events in
-    allowed-append (tokens_of (start document) events) (closing_tokens last (last_path [] shaped))
-    (allowed-events (start document) events) (allowed-closing last (last_path [] shaped))
+    let last = state_behind (start_state document) events in
+    allowed-append (tokens_from (start_state document) events) (closing_tokens last (last_path [] shaped))
+    (allowed-events (start_state document) events) (allowed-closing last (last_path [] shaped))
 
 -- ---- what is read
 

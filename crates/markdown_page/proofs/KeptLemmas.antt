@@ -5,7 +5,7 @@ use Rattle.std.proofs.Common.{length-append, if◌then◌else◌}
 use Rattle.std.specs.List.{All}
 use Rattle.std.proofs.lemmas.List.Elements.{All-head, All-tail, filter-append}
 use Rattle.doc_bits.proofs.Public.{from_behind}
-use Rattle.view_paths.specs.Paths.{Place}
+use Rattle.view_paths.specs.Paths.{PathPlace}
 use Rattle.view_paths.proofs.Public.{glyph_cost, total, within}
 use Rattle.view_places.specs.declared.element.Element.{Element}
 use Rattle.view_places.specs.declared.element.Element.TheVariants.{Notes, Note, Table, TableHead, TableBody, Row, Cell}
@@ -19,14 +19,15 @@ use Rattle.view_places.specs.declared.glyph.Glyph.TheVariants.{Object}
 use Rattle.view_places.proofs.Public.{IsOuter}
 use Rattle.markdown_page.specs.declared.shape.Kind.{Kind}
 use Rattle.markdown_page.specs.declared.shape.Kind.TheVariants.{Block, Unmarked}
-use Rattle.markdown_page.specs.Shape.{inner_kind, is_from_note, is_space, keeps, kind_in, kind_of, shaped, shaped_glyph}
-use Rattle.markdown_page.specs.Shape.{shaped_path, shown_glyph}
+use Rattle.markdown_page.specs.Shape.{inner_kind, is_from_note, is_space, keeps, kind_or_block, element_kind, shaped}
+use Rattle.markdown_page.specs.Shape.{shaped_glyph}
+use Rattle.markdown_page.specs.Shape.{shaped_path, unnumbered_glyph}
 
 -- what is around a paragraph is kept, but for what has no markup
 abbrev pub kept : List Element → List Element
-kept path = filter (λ element. keeps Block false (kind_of element)) path
+kept path = filter (λ element. keeps Block false (element_kind element)) path
 
-outer_kind : (e : Element) → IsOuter e → (kind_of e ≡ Block) ⊎ (kind_of e ≡ Unmarked)
+outer_kind : (e : Element) → IsOuter e → (element_kind e ≡ Block) ⊎ (element_kind e ≡ Unmarked)
 outer_kind Notes outer = inl refl
 outer_kind (Note number) outer = inl refl
 outer_kind (Table first) outer = inl refl
@@ -67,10 +68,10 @@ from_no_note kind (inl is) = ap is_from_note is
 from_no_note kind (inr is) = ap is_from_note is
 
 kept_block : (inner : Kind) (space : Bool) (block : List Element) → All IsOuter block → filter (λ element. keeps inner space
-    (kind_of element)) block ≡ kept block
+    (element_kind element)) block ≡ kept block
 kept_block inner space [] outer = refl
 kept_block inner space (e ∷ block) outer =
-    λ i. cond (kept_alike inner space (kind_of e) (outer_kind e (All-head IsOuter e block outer)) i)
+    λ i. cond (kept_alike inner space (element_kind e) (outer_kind e (All-head IsOuter e block outer)) i)
     (e ∷ kept_block inner space block (All-tail IsOuter e block outer) i)
     (kept_block inner space block (All-tail IsOuter e block outer) i)
 
@@ -80,12 +81,12 @@ inner_rest : (block : List Element) (e : Element) (rest : List Element) → inne
 inner_rest block e rest =
     let path = e ∷ rest in
     let last : length (block ++ path) - 1 ≡ length block + (length path - 1) = omega (arith, length-append block path) in
-    ap (λ (n : ℕ). kind_in (slice_get (block ++ path) n)) last
-    ∙ ap (λ (found : Option Element). kind_in found) (from_behind block path (length path - 1))
+    ap (λ (n : ℕ). kind_or_block (slice_get (block ++ path) n)) last
+    ∙ ap (λ (found : Option Element). kind_or_block found) (from_behind block path (length path - 1))
 
 last_outer : (block : List Element) → All IsOuter block → is_from_note (inner_kind block) ≡ false
 last_outer [] outer = refl
-last_outer (e ∷ []) outer = from_no_note (kind_of e) (outer_kind e (All-head IsOuter e [] outer))
+last_outer (e ∷ []) outer = from_no_note (element_kind e) (outer_kind e (All-head IsOuter e [] outer))
 last_outer (e ∷ next ∷ block) outer =
     ap is_from_note (inner_rest (e ∷ []) next block) ∙ last_outer (next ∷ block) (All-tail IsOuter e (next ∷ block) outer)
 
@@ -94,13 +95,14 @@ path_inside : (block path : List Element) (glyph : Option Glyph) → All IsOuter
 path_inside block [] glyph outer =
     let inner = inner_kind (block ++ []) in
     let space = is_space glyph in
-    filter-append (λ element. keeps inner space (kind_of element)) block []
+    filter-append (λ element. keeps inner space (element_kind element)) block []
     ∙ ap (λ (xs : List Element). xs ++ []) (kept_block inner space block outer)
 path_inside block (e ∷ rest) glyph outer =
     let path = e ∷ rest in
     let space = is_space glyph in
-    ap (λ (inner : Kind). filter (λ element. keeps inner space (kind_of element)) (block ++ path)) (inner_rest block e rest)
-    ∙ (filter-append (λ element. keeps (inner_kind path) space (kind_of element)) block path
+    ap (λ (inner : Kind). filter (λ element. keeps inner space (element_kind element)) (block ++ path)) (inner_rest
+    block e rest)
+    ∙ (filter-append (λ element. keeps (inner_kind path) space (element_kind element)) block path
     ∙ ap (λ (xs : List Element). xs ++ shaped_path glyph path) (kept_block (inner_kind path) space block outer))
 
 glyph_inside : (block path : List Element) (glyph : Option Glyph) → All IsOuter block → shaped_glyph (inner_kind (block ++
@@ -108,10 +110,11 @@ glyph_inside : (block path : List Element) (glyph : Option Glyph) → All IsOute
 glyph_inside block [] glyph outer =
     let none : Option Glyph = None in
     ap (λ (inner : List Element). shaped_glyph (inner_kind inner) glyph) (append-nil block)
-    ∙ ap (λ (b : Bool). if b then none else shown_glyph glyph) (last_outer block outer)
+    ∙ ap (λ (b : Bool). if b then none else unnumbered_glyph glyph) (last_outer block outer)
 glyph_inside block (e ∷ rest) glyph outer = ap (λ (inner : Kind). shaped_glyph inner glyph) (inner_rest block e rest)
 
-pub shaped_inside : (block : List Element) → All IsOuter block → (place : Place Element Glyph) → shaped (within block place) ≡
+pub shaped_inside : (block : List Element) → All IsOuter block → (place : PathPlace Element Glyph) → shaped (within
+    block place) ≡
     within (kept block) (shaped place)
 shaped_inside block outer place =
     λ i. record {
@@ -132,7 +135,8 @@ filter_less cost test (e ∷ path) =
       | false ↦ omega (arith, filter_less cost test path)
     ]
 
-shown_less : (show : Glyph → ℕ) (glyph : Option Glyph) → glyph_cost show (shown_glyph glyph) ≤ glyph_cost show glyph
+shown_less : (show : Glyph → ℕ) (glyph : Option Glyph) → glyph_cost show (unnumbered_glyph glyph) ≤ glyph_cost show
+    glyph
 shown_less show None = omega arith
 shown_less show (Some (Unit unit)) = omega arith
 shown_less show (Some Tab) = omega arith
@@ -142,10 +146,11 @@ shown_less show (Some (NoteMark number)) = omega arith
 shown_less show (Some (Picture place)) = omega arith
 shown_less show (Some Object) = omega arith
 
-pub shaped_shown : (show : Glyph → ℕ) (place : Place Element Glyph) → glyph_cost show (shaped place).glyph ≤ glyph_cost show
+pub shaped_shown : (show : Glyph → ℕ) (place : PathPlace Element Glyph) → glyph_cost show (shaped place).glyph ≤
+    glyph_cost show
     place.glyph
 shaped_shown show place =
     let none : Option Glyph = None in
-    elim (is_from_note (inner_kind place.path)) as (λ (b : Bool). glyph_cost show (if b then none else shown_glyph
+    elim (is_from_note (inner_kind place.path)) as (λ (b : Bool). glyph_cost show (if b then none else unnumbered_glyph
     place.glyph) ≤ glyph_cost show place.glyph)
     [ true ↦ omega arith | false ↦ shown_less show place.glyph ]

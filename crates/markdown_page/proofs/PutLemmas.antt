@@ -7,21 +7,22 @@ use Rattle.page_out.specs.Printed.{Prints}
 use Rattle.markdown_text.specs.declared.line.LineState.{LineState}
 use Rattle.markdown_text.specs.Tokens.{Token, Character, after_tokens, printed_from}
 use Rattle.markdown_text.proofs.Public.{after_tokens-append}
-use Rattle.view_paths.specs.Paths.{Place, last_path}
+use Rattle.view_paths.specs.Paths.{PathPlace, last_path}
 use Rattle.view_paths.specs.Events.{Event, Turn, Leaf, Open, Close, closes, opens, turns, leaf, events_up_to}
-use Rattle.view_paths.specs.Turns.{IsShared, IsFront}
+use Rattle.view_paths.specs.Turns.{IsSharedFront, IsFront}
 use Rattle.view_paths.proofs.Public.{events_up_to-append, last_path-append, transition-shared, closes-next, closes-none}
 use Rattle.view_paths.proofs.Public.{take-closed, opens-next, opens-none}
 use Rattle.view_places.specs.declared.element.Element.{Element}
 use Rattle.view_places.specs.declared.glyph.Glyph.{Glyph}
 use Rattle.view_places.specs.Same.{same}
 use Rattle.glyph_units.specs.Glyphs.{unit_in}
-use Rattle.plain_doc.specs.declared.document.Document.{Document}
+use Rattle.doc_model.specs.declared.document.Document.{Document}
 use Rattle.markdown_page.specs.declared.pen.Pen.{Pen}
 use Rattle.markdown_page.specs.declared.context.Context.{Context}
 use Rattle.markdown_page.specs.declared.printer.MarkdownPage.{MarkdownPage}
 use Rattle.markdown_page.specs.Pages.{Events, State, behind_event, event_context, event_tokens, glyph_shown}
-use Rattle.markdown_page.specs.Pages.{glyph_tokens, half_tokens, state_of, tokens_behind, tokens_of, turn_tokens, turned}
+use Rattle.markdown_page.specs.Pages.{glyph_tokens, half_tokens, state_behind, tokens_behind, tokens_from, turn_tokens}
+use Rattle.markdown_page.specs.Pages.{turned_context}
 use Rattle.markdown_page.specs.Pages.{character_tokens, text_seam, text_tokens, without_half}
 use Rattle.markdown_page.specs.declared.context.Seam.{Seam}
 use Rattle.markdown_page.specs.declared.marks.TagName.TheVariants as tag
@@ -29,7 +30,7 @@ use Rattle.markdown_page.specs.declared.pieces.Piece.{Piece}
 use Rattle.markdown_page.specs.declared.pieces.Piece.TheVariants.{Insert}
 use Rattle.markdown_page.specs.declared.pieces.Pieces.{Pieces}
 use Rattle.markdown_page.specs.Contexts.{is_parted}
-use Rattle.markdown_page.specs.Pieces.{given, piece_tokens, pieces_tokens}
+use Rattle.markdown_page.specs.Pieces.{piece_if, piece_tokens, pieces_tokens}
 use Rattle.markdown_page.specs.Printed.{PutsEvents, PutsPlaces, PutsTokens, state_in}
 use Rattle.markdown_page.specs.Shape.{Places, all_shaped, inner_kind, shaped, shaped_glyph, shaped_path}
 use Rattle.markdown_page.proofs.TokenLemmas.{tokens_as, tokens_none, tokens_then}
@@ -37,40 +38,45 @@ use Rattle.text_codes.specs.Halves.{replacement, half_text}
 
 -- ---- events one after another
 
-pub tokens_of-append : (state : State) (xs ys : Events) → tokens_of state (xs ++ ys) ≡ tokens_of state xs ++ tokens_of
-    (state_of state xs) ys
-unfolding tokens_of state_of
+pub tokens_of-append : (state : State) (xs ys : Events) → tokens_from state (xs ++ ys) ≡ tokens_from state xs ++
+    tokens_from
+    (state_behind state xs) ys
+unfolding tokens_from state_behind
 tokens_of-append state [] ys = refl
 tokens_of-append state (event ∷ xs) ys =
     ap (λ (more : List Token). event_tokens state event ++ more) (tokens_of-append (behind_event state event) xs ys)
-    ∙ sym (append_assoc (event_tokens state event) (tokens_of (behind_event state event) xs)
-    (tokens_of (state_of (behind_event state event) xs) ys))
+    ∙ sym (append_assoc (event_tokens state event) (tokens_from (behind_event state event) xs)
+    (tokens_from (state_behind (behind_event state event) xs) ys))
 
-pub state_of-append : (state : State) (xs ys : Events) → state_of state (xs ++ ys) ≡ state_of (state_of state xs) ys
-unfolding state_of
+pub state_of-append : (state : State) (xs ys : Events) → state_behind state (xs ++ ys) ≡ state_behind (state_behind
+    state xs) ys
+unfolding state_behind
 state_of-append state [] ys = refl
 state_of-append state (event ∷ xs) ys = state_of-append (behind_event state event) xs ys
 
 -- the line is behind the tokens
-line-state_of : (state : State) (xs : Events) → (state_of state xs).line ≡ after_tokens state.line (tokens_of state xs)
-unfolding tokens_of state_of
+line-state_of : (state : State) (xs : Events) → (state_behind state xs).line ≡ after_tokens state.line (tokens_from
+    state xs)
+unfolding tokens_from state_behind
 line-state_of state [] = refl
 line-state_of state (event ∷ xs) =
     line-state_of (behind_event state event) xs
-    ∙ sym (after_tokens-append state.line (event_tokens state event) (tokens_of (behind_event state event) xs))
+    ∙ sym (after_tokens-append state.line (event_tokens state event) (tokens_from (behind_event state event) xs))
 
-tokens_of-one : (state : State) (event : Event Element Glyph) → event_tokens state event ≡ tokens_of state (event ∷ [])
-unfolding tokens_of
+tokens_of-one : (state : State) (event : Event Element Glyph) → event_tokens state event ≡ tokens_from state (event ∷
+    [])
+unfolding tokens_from
 tokens_of-one state event = sym (append-nil (event_tokens state event))
 
-state_of-one : (state : State) (event : Event Element Glyph) → behind_event state event ≡ state_of state (event ∷ [])
-unfolding state_of
+state_of-one : (state : State) (event : Event Element Glyph) → behind_event state event ≡ state_behind state (event ∷
+    [])
+unfolding state_behind
 state_of-one state event = refl
 
 -- the tokens of events
 pub as_tokens : {K : Type 0} (sink : Ghosts K) (a b : K) (page left : MarkdownPage) (events : Events)
     (to : List Element) → PutsEvents sink a page b left events to →
-    PutsTokens sink a page.pen b left.pen (tokens_of (state_in page) events)
+    PutsTokens sink a page.pen b left.pen (tokens_from (state_in page) events)
 as_tokens sink a b page left events to puts = record {
   prints = puts.prints;
   line = ap (λ (s : State). s.line) puts.state ∙ line-state_of (state_in page) events;
@@ -78,7 +84,7 @@ as_tokens sink a b page left events to puts = record {
 
 pub none_put : {K : Type 0} (sink : Ghosts K) (at : K) (page left : MarkdownPage) → left.pen ≡ page.pen →
     left.context ≡ page.context → left.document.now ≡ page.document.now → PutsEvents sink at page at left [] left.path
-unfolding tokens_of state_of
+unfolding tokens_from state_behind
 none_put sink at page left pen context document = record {
   prints =
       subst (λ (p : Pen). Prints sink at page.pen.page at p.page (printed_from page.pen.line [])) (sym pen)
@@ -91,17 +97,18 @@ pub events_then : {K : Type 0} (sink : Ghosts K) (a b c : K) (p q r : MarkdownPa
     (first second : List Element) → PutsEvents sink a p b q xs first → PutsEvents sink b q c r ys second →
     PutsEvents sink a p c r (xs ++ ys) second
 events_then sink a b c p q r xs ys first second one other =
-    let next : PutsTokens sink b q.pen c r.pen (tokens_of (state_of (state_in p) xs) ys) =
-    subst (λ (s : State). PutsTokens sink b q.pen c r.pen (tokens_of s ys)) one.state
+    let next : PutsTokens sink b q.pen c r.pen (tokens_from (state_behind (state_in p) xs) ys) =
+    subst (λ (s : State). PutsTokens sink b q.pen c r.pen (tokens_from s ys)) one.state
     (as_tokens sink b c q r ys second other) in
     record {
       prints =
           subst (λ (tokens : List Token). Prints sink a p.pen.page c r.pen.page (printed_from p.pen.line tokens))
           (sym (tokens_of-append (state_in p) xs ys))
-          (tokens_then sink a b c p.pen q.pen r.pen (tokens_of (state_in p) xs) (tokens_of (state_of (state_in p) xs) ys)
+          (tokens_then sink a b c p.pen q.pen r.pen (tokens_from (state_in p) xs) (tokens_from (state_behind (state_in
+          p) xs) ys)
           (as_tokens sink a b p q xs first one) next).prints;
       state =
-          other.state ∙ ap (λ (s : State). state_of s ys) one.state ∙ sym (state_of-append (state_in p) xs ys);
+          other.state ∙ ap (λ (s : State). state_behind s ys) one.state ∙ sym (state_of-append (state_in p) xs ys);
       path = other.path;
     }
 
@@ -142,7 +149,7 @@ close_done sink at page left count pen context path document short =
 pub close_step : {K : Type 0} (sink : Ghosts K) (a b c : K) (page next left : MarkdownPage) (new : List Element)
     (e : Element) (count : ℕ) → page.path ≡ new ++ e ∷ [] → count ≤ length new →
     PutsTokens sink a page.pen b next.pen (turn_tokens (state_in page) (Close [] e)) → next.path ≡ new → next.document.now ≡ page.document.now →
-    next.context ≡ turned (Close [] e) (without_half page.context) →
+    next.context ≡ turned_context (Close [] e) (without_half page.context) →
     PutsEvents sink b next c left (map Turn (closes (take count next.path) (drop count next.path)))
     (take count next.path) →
     PutsEvents sink a page c left (map Turn (closes (take count page.path) (drop count page.path)))
@@ -174,7 +181,7 @@ open_done sink at page left to pen context path document is =
 pub open_step : {K : Type 0} (sink : Ghosts K) (a b c : K) (page next left : MarkdownPage) (new to : List Element)
     (e : Element) → new ≡ page.path ++ e ∷ [] → IsFront new to →
     PutsTokens sink a page.pen b next.pen (turn_tokens (state_in page) (Open [] e)) → next.path ≡ new → next.document.now ≡ page.document.now →
-    next.context ≡ turned (Open [] e) (without_half page.context) →
+    next.context ≡ turned_context (Open [] e) (without_half page.context) →
     PutsEvents sink b next c left (map Turn (opens next.path (drop (length next.path) to))) to →
     PutsEvents sink a page c left (map Turn (opens page.path (drop (length page.path) to))) to
 open_step sink a b c page next left new to e is front puts path document context rest =
@@ -191,7 +198,7 @@ open_step sink a b c page next left new to e is front puts path document context
 -- ---- from a path to another one
 
 pub way_put : {K : Type 0} (sink : Ghosts K) (a b c : K) (page next left : MarkdownPage) (to : List Element)
-    (count : ℕ) → IsShared same page.path to count →
+    (count : ℕ) → IsSharedFront same page.path to count →
     PutsEvents sink a page b next (map Turn (closes (take count page.path) (drop count page.path)))
     (take count page.path) →
     PutsEvents sink b next c left (map Turn (opens next.path (drop (length next.path) to))) to →
@@ -266,7 +273,7 @@ places_then sink a b c p q r xs ys one other =
     front) back) =
     subst (λ (path : List Element). PutsEvents sink b q c r (events_up_to same path back) (last_path path back)) one.path
     other in
-    let whole : front ++ back ≡ all_shaped (xs ++ ys) = sym (map-append {B = Place Element Glyph} shaped xs ys) in
+    let whole : front ++ back ≡ all_shaped (xs ++ ys) = sym (map-append {B = PathPlace Element Glyph} shaped xs ys) in
     puts_as sink a c p r (events_up_to same p.path front ++ events_up_to same (last_path p.path front) back)
     (events_up_to same p.path (all_shaped (xs ++ ys))) (last_path (last_path p.path front) back)
     (last_path p.path (all_shaped (xs ++ ys)))
@@ -303,10 +310,10 @@ turn_put sink a b c page p left front document chosen one same other =
 
 -- a character behind what parts it from an emphasis
 pub said_put : {K : Type 0} (sink : Ghosts K) (a b c : K) (p q r : Pen) (seam : Seam) (code : ℕ) (piece : Piece) →
-    piece ≡ given (is_parted seam code) (Insert tag.Comment) → PutsTokens sink a p b q (piece_tokens piece) →
+    piece ≡ piece_if (is_parted seam code) (Insert tag.Comment) → PutsTokens sink a p b q (piece_tokens piece) →
     PutsTokens sink b q c r (Character code ∷ []) → PutsTokens sink a p c r (text_tokens seam (code ∷ []))
 said_put sink a b c p q r seam code piece is one other =
-    let front = piece_tokens (given (is_parted seam code) (Insert tag.Comment)) in
+    let front = piece_tokens (piece_if (is_parted seam code) (Insert tag.Comment)) in
     tokens_as sink a c p r (front ++ Character code ∷ []) (text_tokens seam (code ∷ []))
     (sym (append-nil (character_tokens seam code)))
     (tokens_then sink a b c p q r front (Character code ∷ [])

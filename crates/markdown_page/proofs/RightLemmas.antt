@@ -12,7 +12,7 @@ use Rattle.markdown_text.specs.Lines.{is_among}
 use Rattle.markdown_text.specs.Tokens.{Token, Character, Markup, Tag, Destination, after_token, after_tokens, are_valid}
 use Rattle.markdown_text.specs.Tokens.{is_valid}
 use Rattle.markdown_text.proofs.Public.{are_valid-append, read_back}
-use Rattle.plain_doc.specs.declared.document.Document.{Document}
+use Rattle.doc_model.specs.declared.document.Document.{Document}
 use Rattle.view_paths.specs.Events.{Event, Turn, Leaf, Open, Close, events_up_to, turns}
 use Rattle.view_paths.specs.Events.{Tag as PathTag}
 use Rattle.view_paths.specs.Paths.{last_path}
@@ -33,12 +33,14 @@ use Rattle.markdown_page.specs.declared.pieces.Piece.TheVariants.{Picture, Objec
 use Rattle.markdown_page.specs.declared.pieces.Piece.TheVariants.{Tab as ATab}
 use Rattle.markdown_page.specs.declared.pieces.Pieces.{Pieces}
 use Rattle.markdown_page.specs.Contexts.{character_seam, is_parted}
-use Rattle.markdown_page.specs.Destinations.{address_at, end_tokens, front_tokens, link_tokens}
+use Rattle.markdown_page.specs.Destinations.{address_at, link_end_tokens, link_front_tokens, link_tokens}
 use Rattle.markdown_page.specs.Marks.{mark_text, tag_text}
 use Rattle.markdown_page.specs.Pages.{Events, State, behind_event, character_tokens, event_tokens, glyph_tokens}
-use Rattle.markdown_page.specs.Pages.{closing_tokens, half_tokens, page_tokens, start, state_of, text_tokens, tokens_of}
+use Rattle.markdown_page.specs.Pages.{closing_tokens, half_tokens, page_tokens, start_state, state_behind, text_tokens}
+use Rattle.markdown_page.specs.Pages.{tokens_from}
 use Rattle.markdown_page.specs.Pages.{turn_pieces, without_half}
-use Rattle.markdown_page.specs.Pieces.{characters, given, markup, marks_text, other_pieces, piece_tokens, pieces_tokens, rule_text}
+use Rattle.markdown_page.specs.Pieces.{characters, piece_if, markup, marks_text, other_pieces, piece_tokens}
+use Rattle.markdown_page.specs.Pieces.{pieces_tokens, delimiter_row_text}
 use Rattle.markdown_page.specs.Shape.{Places, all_shaped}
 use Rattle.markdown_page.specs.Laws.{PagesAreReadBack}
 use Rattle.doc_bits.proofs.Public.{and_true, and_first, and_second}
@@ -148,7 +150,7 @@ safe_marks m (suc n) =
     ∙ and_true (list_all is_safe_code (marks_text m n)) (list_all is_safe_code (mark_text m)) (safe_marks m n)
     (safe_mark m)
 
-safe_rule : (n : ℕ) → list_all is_safe_code (rule_text n) ≡ true
+safe_rule : (n : ℕ) → list_all is_safe_code (delimiter_row_text n) ≡ true
 safe_rule n =
     list_all-append is_safe_code (marks_text mark.RuleColumn n) (mark_text mark.LineEnd)
     ∙ and_true (list_all is_safe_code (marks_text mark.RuleColumn n)) true (safe_marks mark.RuleColumn n) refl
@@ -162,7 +164,7 @@ safe-piece Space = refl
 safe-piece ATab = refl
 safe-piece (Number number) = safe-markup (decimal number) (safe_decimal number)
 safe-piece (Levels levels) = safe-markup (marks_text mark.Level levels) (safe_marks mark.Level levels)
-safe-piece (Rule columns) = safe-markup (rule_text columns) (safe_rule columns)
+safe-piece (Rule columns) = safe-markup (delimiter_row_text columns) (safe_rule columns)
 safe-piece Picture = refl
 safe-piece Object = refl
 
@@ -191,8 +193,8 @@ pub safe-text : (seam : Seam) (text : List ℕ) → AreSafe (text_tokens seam te
 safe-text seam [] = refl
 safe-text seam (code ∷ text) =
     safe-append (character_tokens seam code) (text_tokens (character_seam code) text)
-    (safe-append (piece_tokens (given (is_parted seam code) (Insert tag.Comment))) (Character code ∷ [])
-    (safe-piece (given (is_parted seam code) (Insert tag.Comment))) refl)
+    (safe-append (piece_tokens (piece_if (is_parted seam code) (Insert tag.Comment))) (Character code ∷ [])
+    (safe-piece (piece_if (is_parted seam code) (Insert tag.Comment))) refl)
     (safe-text (character_seam code) text)
 
 right-text : (seam : Seam) (text : List ℕ) → AreValid (text_tokens seam text)
@@ -203,7 +205,7 @@ right-behind context pieces =
     right-append (half_tokens context) (pieces_tokens pieces) (right-text context.seam (half_text context.half))
     (right-safe (pieces_tokens pieces) (safe-pieces pieces))
 
-right-front : (address : Option (List ℕ)) → AreValid (front_tokens address)
+right-front : (address : Option (List ℕ)) → AreValid (link_front_tokens address)
 right-front None = λ line. refl
 right-front (Some url) = λ line. refl
 
@@ -215,7 +217,7 @@ right_end Within url = refl
 right_end Bracket url = refl
 right_end Colon url = refl
 
-right-end : (address : Option (List ℕ)) → AreValid (end_tokens address)
+right-end : (address : Option (List ℕ)) → AreValid (link_end_tokens address)
 right-end None = λ line. refl
 right-end (Some url) = λ line. right_end line url
 
@@ -235,18 +237,18 @@ right-event state (Turn tag) =
     (right-behind state.context pieces) (right-link state.document tag)
 right-event state (Leaf path glyph) = right-glyph state (unit_in glyph) glyph
 
-right-events : (state : State) (events : Events) → AreValid (tokens_of state events)
-unfolding tokens_of
+right-events : (state : State) (events : Events) → AreValid (tokens_from state events)
+unfolding tokens_from
 right-events state [] = λ line. refl
 right-events state (event ∷ events) =
-    right-append (event_tokens state event) (tokens_of (behind_event state event) events) (right-event state event)
+    right-append (event_tokens state event) (tokens_from (behind_event state event) events) (right-event state event)
     (right-events (behind_event state event) events)
 
 right-closing : (state : State) (path : List Element) → AreValid (closing_tokens state path)
 right-closing state path =
     let events : Events = turns same path [] in
-    let last = (state_of state events).context in
-    right-append (tokens_of state events) (half_tokens last) (right-events state events)
+    let last = (state_behind state events).context in
+    right-append (tokens_from state events) (half_tokens last) (right-events state events)
     (right-text last.seam (half_text last.half))
 
 -- a page is read back
@@ -255,6 +257,8 @@ page_read document places =
     let shaped = all_shaped places in
     let events : Events = events_up_to same [] shaped in
     read_back (page_tokens document places)
-    (right-append (tokens_of (start document) events) (closing_tokens (state_of (start document) events) (last_path []
-    shaped)) (right-events (start document) events) (right-closing (state_of (start document) events) (last_path [] shaped))
+    (right-append (tokens_from (start_state document) events) (closing_tokens (state_behind (start_state document)
+    events) (last_path []
+    shaped)) (right-events (start_state document) events) (right-closing (state_behind (start_state document) events)
+    (last_path [] shaped))
     Start)

@@ -12,13 +12,14 @@ use Rattle.std.proofs.Math.Seq.{take-add}
 use Rattle.doc_outer.specs.declared.sink.Sink.{Ghosts}
 use Rattle.page_out.specs.declared.page.Page.{Page}
 use Rattle.page_out.specs.Printed.{Prints}
-use Rattle.plain_doc.specs.declared.document.Document.{Document}
+use Rattle.doc_model.specs.declared.document.Document.{Document}
 use Rattle.markdown_text.specs.declared.line.LineState.{LineState}
 use Rattle.markdown_text.specs.declared.line.LineState.TheVariants.{Start, Digits, Within, Bracket, Colon}
 use Rattle.markdown_text.specs.Lines.{after_character, after_text, is_among, is_break, is_special}
-use Rattle.markdown_text.specs.Tokens.{Character, Token, after_tokens, break_reference, escaped, escaped_by, printed_from, reference}
+use Rattle.markdown_text.specs.Tokens.{Character, Token, after_tokens, break_reference, escaped_in_line, escaped_by}
+use Rattle.markdown_text.specs.Tokens.{printed_from, reference}
 use Rattle.view_paths.specs.Events.{Event, Leaf, events_up_to}
-use Rattle.view_paths.specs.Paths.{Place, last_path}
+use Rattle.view_paths.specs.Paths.{PathPlace, last_path}
 use Rattle.view_places.specs.declared.element.Element.{Element}
 use Rattle.view_places.specs.declared.element.Element.TheVariants.{Notes}
 use Rattle.view_places.specs.declared.glyph.Glyph.{Glyph}
@@ -34,13 +35,16 @@ use Rattle.markdown_page.specs.declared.printer.MarkdownPage.{MarkdownPage}
 use Rattle.markdown_page.specs.declared.shape.Kind.{Kind}
 use Rattle.markdown_page.specs.declared.shape.Kind.TheVariants.{Block, ToNote, FromNote, Emphasis, Tagged, Unmarked}
 use Rattle.markdown_page.specs.Contexts.{character_seam, is_word}
-use Rattle.markdown_page.specs.Pages.{Events, State, behind_event, event_tokens, state_of, text_seam, text_tokens, tokens_of}
+use Rattle.markdown_page.specs.Pages.{Events, State, behind_event, event_tokens, state_behind, text_seam, text_tokens}
+use Rattle.markdown_page.specs.Pages.{tokens_from}
 use Rattle.markdown_page.specs.Pieces.{characters}
 use Rattle.markdown_page.specs.Printed.{PutsEvents, PutsPlaces, PutsTokens, state_in}
-use Rattle.markdown_page.specs.Runs.{IsPlain, goes_on, has_emphasis, is_closed, is_emphasis, is_emphasis_in, is_none, is_open}
-use Rattle.markdown_page.specs.Runs.{is_plain, is_within}
-use Rattle.markdown_page.specs.Shape.{Places, all_shaped, inner_kind, is_from_note, is_white, keeps, kind_of, shaped_path}
-use Rattle.markdown_page.specs.Shape.{shown_glyph}
+use Rattle.markdown_page.specs.Runs.{IsPlainCharacter, goes_on, has_emphasis, is_closed_seam, is_emphasis}
+use Rattle.markdown_page.specs.Runs.{is_emphasis_in, is_none, is_open_line}
+use Rattle.markdown_page.specs.Runs.{is_plain, is_within_line}
+use Rattle.markdown_page.specs.Shape.{Places, all_shaped, inner_kind, is_from_note, is_white, keeps, element_kind}
+use Rattle.markdown_page.specs.Shape.{shaped_path}
+use Rattle.markdown_page.specs.Shape.{unnumbered_glyph}
 use Rattle.markdown_page.proofs.PutLemmas.{places_then, puts_as}
 use Rattle.markdown_page.proofs.TokenLemmas.{tokens_put}
 use Rattle.doc_bits.proofs.Public.{and_first, and_second, not_true}
@@ -69,17 +73,18 @@ front_range units at end ahead =
 pub places_more : (path : List Element) (units : List ℕ) (at end : ℕ) → at ≤ end → unit_places path (take at units) ++
     unit_places path (slice_range units at end) ≡ unit_places path (take end units)
 places_more path units at end ahead =
-    sym (map-append {B = Place Element Glyph} (unit_place path) (take at units) (slice_range units at end))
+    sym (map-append {B = PathPlace Element Glyph} (unit_place path) (take at units) (slice_range units at end))
     ∙ ap (unit_places path) (front_range units at end ahead)
 
 pub range_plain : (in_emphasis space : Bool) (units : List ℕ) (from until : ℕ) → until ≤ length units → ((k : ℕ) → from < k
-    → k < until → goes_on in_emphasis space (slice_index units k) ≡ true) → All IsPlain (slice_range units (from + 1) until)
+    → k < until → goes_on in_emphasis space (slice_index units k) ≡ true) → All IsPlainCharacter (slice_range units
+    (from + 1) until)
 range_plain in_emphasis space units from until within are =
     let rest = drop (from + 1) units in
-    All-from_get_or IsPlain (take (until - (from + 1)) rest) 0 (λ i below.
+    All-from_get_or IsPlainCharacter (take (until - (from + 1)) rest) 0 (λ i below.
     let inside : i < until - (from + 1) = omega (arith, below, length-take (until - (from + 1)) rest) in
     let unit = slice_index units (from + 1 + i) in
-    subst IsPlain (sym (get_or-take (until - (from + 1)) rest i 0 inside ∙ get_or-drop (from + 1) units i 0))
+    subst IsPlainCharacter (sym (get_or-take (until - (from + 1)) rest i 0 inside ∙ get_or-drop (from + 1) units i 0))
     (and_first (is_plain unit) (not in_emphasis || (if space then is_white unit else not (is_white unit))) (are (from + 1 + i)
     (omega arith) (omega (arith, inside)))))
 
@@ -88,7 +93,7 @@ range_plain in_emphasis space units from until within are =
 pub emphasis_next : (path : List Element) (i : ℕ) (element : Option Element) → i < length path → has_emphasis (take i path)
     ≡ false → element ≡ slice_get path i → is_emphasis_in element ≡ false → has_emphasis (take (i + 1) path) ≡ false
 emphasis_next path i element within none here other =
-    let f : Element → Bool = λ e. is_emphasis (kind_of e) in
+    let f : Element → Bool = λ e. is_emphasis (element_kind e) in
     let next = get_or path i Notes in
     let last : f next ≡ false = ap is_emphasis_in (sym (here ∙ slice_get-get_or path i Notes within)) ∙ other in
     ap has_emphasis (take_more path i Notes within) ∙ list_any-append f (take i path) (next ∷ [])
@@ -104,11 +109,12 @@ keeps_same inner Tagged one other e = refl
 keeps_same inner Unmarked one other e = refl
 
 filter_same : (inner : Kind) (one other : Bool) (path : List Element) → has_emphasis path ≡ false → filter (λ e. keeps inner
-    one (kind_of e)) path ≡ filter (λ e. keeps inner other (kind_of e)) path
+    one (element_kind e)) path ≡ filter (λ e. keeps inner other (element_kind e)) path
 filter_same inner one other [] none = refl
 filter_same inner one other (e ∷ path) none =
-    let rest = filter_same inner one other path (or_second (is_emphasis (kind_of e)) (has_emphasis path) none) in
-    let here = keeps_same inner (kind_of e) one other (or_first (is_emphasis (kind_of e)) (has_emphasis path) none) in
+    let rest = filter_same inner one other path (or_second (is_emphasis (element_kind e)) (has_emphasis path) none) in
+    let here = keeps_same inner (element_kind e) one other (or_first (is_emphasis (element_kind e)) (has_emphasis path)
+    none) in
     λ i. if here i then e ∷ rest i else rest i
 
 alike_by : (space white : Bool) → (if space then white else not white) ≡ true → space ≡ white
@@ -122,12 +128,12 @@ shaped_same to true one unit none goes =
     let space = is_white one in
     let white = is_white unit in
     let alike = alike_by space white (and_second (is_plain unit) (if space then white else not white) goes) in
-    ap (λ (b : Bool). filter (λ e. keeps (inner_kind to) b (kind_of e)) to) (sym alike)
+    ap (λ (b : Bool). filter (λ e. keeps (inner_kind to) b (element_kind e)) to) (sym alike)
 shaped_same to false one unit none goes = filter_same (inner_kind to) (is_white unit) (is_white one) to (none refl)
 
 -- ---- characters that are written as they are
 
-within_is : (line : LineState) → is_within line ≡ true → line ≡ Within
+within_is : (line : LineState) → is_within_line line ≡ true → line ≡ Within
 within_is Start e = absurd (cc (e))
 within_is Digits e = absurd (cc (e))
 within_is Within e = refl
@@ -153,27 +159,29 @@ no_reference code plain =
     (λ i. if break i then Some (break_reference code) else (if is_among (9 ∷ 32 ∷ []) code then none else none))
     ∙ either_same (is_among (9 ∷ 32 ∷ []) code) none
 
-escaped_plain : (code : ℕ) → is_plain code ≡ true → escaped Within code ≡ code ∷ []
+escaped_plain : (code : ℕ) → is_plain code ≡ true → escaped_in_line Within code ≡ code ∷ []
 escaped_plain code plain = λ i. escaped_by (no_reference code plain i) (not_special code plain i) code
 
 after_plain : (code : ℕ) → is_plain code ≡ true → after_character Within code ≡ Within
 after_plain code plain = λ i. if no_colon code plain i then Colon else Within
 
-plain_printed : (text : List ℕ) → All IsPlain text → printed_from Within (characters text) ≡ text
+plain_printed : (text : List ℕ) → All IsPlainCharacter text → printed_from Within (characters text) ≡ text
 plain_printed [] all = refl
 plain_printed (code ∷ text) all =
-    let plain = All-head IsPlain code text all in
+    let plain = All-head IsPlainCharacter code text all in
     (λ i. escaped_plain code plain i ++ printed_from (after_plain code plain i) (characters text))
-    ∙ ap (λ (more : List ℕ). code ∷ more) (plain_printed text (All-tail IsPlain code text all))
+    ∙ ap (λ (more : List ℕ). code ∷ more) (plain_printed text (All-tail IsPlainCharacter code text all))
 
-plain_after : (text : List ℕ) → All IsPlain text → after_tokens Within (characters text) ≡ Within
+plain_after : (text : List ℕ) → All IsPlainCharacter text → after_tokens Within (characters text) ≡ Within
 plain_after [] all = refl
 plain_after (code ∷ text) all =
-    ap (λ (line : LineState). after_tokens line (characters text)) (after_plain code (All-head IsPlain code text all))
-    ∙ plain_after text (All-tail IsPlain code text all)
+    ap (λ (line : LineState). after_tokens line (characters text)) (after_plain code (All-head IsPlainCharacter code
+    text all))
+    ∙ plain_after text (All-tail IsPlainCharacter code text all)
 
-pub plain_put : {K : Type 0} (sink : Ghosts K) (a b : K) (pen : Pen) (page : Page) (units : List ℕ) → is_within pen.line ≡
-    true → All IsPlain units → Prints sink a pen.page b page units → PutsTokens sink a pen b (record {
+pub plain_put : {K : Type 0} (sink : Ghosts K) (a b : K) (pen : Pen) (page : Page) (units : List ℕ) → is_within_line
+    pen.line ≡
+    true → All IsPlainCharacter units → Prints sink a pen.page b page units → PutsTokens sink a pen b (record {
       page = page;
       line =
           pen.line;
@@ -222,16 +230,18 @@ behind_leaf document context word path unit scalar plain =
     })
 
 run_tokens : (document : Document) (context : Context) (word : Bool) (path : List Element) (units : List ℕ) → All IsScalar
-    units → All IsPlain units → tokens_of (within_line document context word) (leaves path units) ≡ characters units
-unfolding tokens_of
+    units → All IsPlainCharacter units → tokens_from (within_line document context word) (leaves path units) ≡
+    characters units
+unfolding tokens_from
 run_tokens document context word path [] all plain = refl
 run_tokens document context word path (unit ∷ units) all plain =
     let scalar = All-head IsScalar unit units all in
-    let here = All-head IsPlain unit units plain in
-    (λ i. leaf_tokens document context word path unit scalar i ++ tokens_of (behind_leaf document context word path unit
+    let here = All-head IsPlainCharacter unit units plain in
+    (λ i. leaf_tokens document context word path unit scalar i ++ tokens_from (behind_leaf document context word path
+    unit
     scalar here i) (leaves path units))
     ∙ ap (λ (more : List Token). Character unit ∷ more) (run_tokens document context (is_word unit) path units (All-tail
-    IsScalar unit units all) (All-tail IsPlain unit units plain))
+    IsScalar unit units all) (All-tail IsPlainCharacter unit units plain))
 
 -- the last unit is one of a word
 abbrev last_word : Bool → List ℕ → Bool
@@ -239,14 +249,17 @@ last_word word [] = word
 last_word word (unit ∷ units) = last_word (is_word unit) units
 
 run_state : (document : Document) (context : Context) (word : Bool) (path : List Element) (units : List ℕ) → All IsScalar
-    units → All IsPlain units → state_of (within_line document context word) (leaves path units) ≡ within_line document
+    units → All IsPlainCharacter units → state_behind (within_line document context word) (leaves path units) ≡
+    within_line document
     context (last_word word units)
-unfolding state_of
+unfolding state_behind
 run_state document context word path [] all plain = refl
 run_state document context word path (unit ∷ units) all plain =
-    ap (λ (state : State). state_of state (leaves path units)) (behind_leaf document context word path unit (All-head
-    IsScalar unit units all) (All-head IsPlain unit units plain))
-    ∙ run_state document context (is_word unit) path units (All-tail IsScalar unit units all) (All-tail IsPlain unit units
+    ap (λ (state : State). state_behind state (leaves path units)) (behind_leaf document context word path unit
+    (All-head
+    IsScalar unit units all) (All-head IsPlainCharacter unit units plain))
+    ∙ run_state document context (is_word unit) path units (All-tail IsScalar unit units all) (All-tail IsPlainCharacter
+    unit units
     plain)
 
 last_of : (word : Bool) (unit : ℕ) (units : List ℕ) → last_word word (unit ∷ units) ≡ is_word (slice_index (unit ∷ units)
@@ -263,9 +276,9 @@ last_is word (unit ∷ units) some =
 
 -- ---- a page that is open for them
 
-pub open_within : (line : LineState) (context : Context) → is_open line context ≡ true → is_within line ≡ true
+pub open_within : (line : LineState) (context : Context) → is_open_line line context ≡ true → is_within_line line ≡ true
 open_within line context clear =
-    and_first (is_within line) (is_none context.half && not (is_closed context.seam)) clear
+    and_first (is_within_line line) (is_none context.half && not (is_closed_seam context.seam)) clear
 
 none_is : (half : Option ℕ) → is_none half ≡ true → half ≡ None
 none_is None e = refl
@@ -276,25 +289,26 @@ seam_word Other = false
 seam_word Word = true
 seam_word Closed = false
 
-seam_is : (seam : Seam) → is_closed seam ≡ false → seam ≡ (if seam_word seam then Word else Other)
+seam_is : (seam : Seam) → is_closed_seam seam ≡ false → seam ≡ (if seam_word seam then Word else Other)
 seam_is Other e = refl
 seam_is Word e = refl
 seam_is Closed e = absurd (cc (e))
 
-open_half : (line : LineState) (context : Context) → is_open line context ≡ true → context.half ≡ None
+open_half : (line : LineState) (context : Context) → is_open_line line context ≡ true → context.half ≡ None
 open_half line context clear =
-    let more = and_second (is_within line) (is_none context.half && not (is_closed context.seam)) clear in
-    none_is context.half (and_first (is_none context.half) (not (is_closed context.seam)) more)
+    let more = and_second (is_within_line line) (is_none context.half && not (is_closed_seam context.seam)) clear in
+    none_is context.half (and_first (is_none context.half) (not (is_closed_seam context.seam)) more)
 
-open_seam : (line : LineState) (context : Context) → is_open line context ≡ true → context.seam ≡ (if seam_word context.seam
+open_seam : (line : LineState) (context : Context) → is_open_line line context ≡ true → context.seam ≡ (if seam_word
+    context.seam
     then Word else Other)
 open_seam line context clear =
-    let more = and_second (is_within line) (is_none context.half && not (is_closed context.seam)) clear in
-    seam_is context.seam (not_true (is_closed context.seam) (and_second (is_none context.half) (not (is_closed
+    let more = and_second (is_within_line line) (is_none context.half && not (is_closed_seam context.seam)) clear in
+    seam_is context.seam (not_true (is_closed_seam context.seam) (and_second (is_none context.half) (not (is_closed_seam
     context.seam))
     more))
 
-state_open : (page : MarkdownPage) → is_open page.pen.line page.context ≡ true → state_in page ≡ within_line
+state_open : (page : MarkdownPage) → is_open_line page.pen.line page.context ≡ true → state_in page ≡ within_line
     page.document.now page.context (seam_word page.context.seam)
 state_open page clear =
     let line = page.pen.line in
@@ -305,8 +319,10 @@ state_open page clear =
       context = record context { half = open_half line context clear i; seam = open_seam line context clear i };
     }
 
-pub run_put : {K : Type 0} (sink : Ghosts K) (a b : K) (page left : MarkdownPage) (units : List ℕ) → is_open page.pen.line
-    page.context ≡ true → All IsScalar units → All IsPlain units → 0 < length units → PutsTokens sink a page.pen b left.pen
+pub run_put : {K : Type 0} (sink : Ghosts K) (a b : K) (page left : MarkdownPage) (units : List ℕ) → is_open_line
+    page.pen.line
+    page.context ≡ true → All IsScalar units → All IsPlainCharacter units → 0 < length units → PutsTokens sink a
+    page.pen b left.pen
     (characters units) → left.path ≡ page.path → left.document.now ≡ page.document.now → left.context ≡ record page.context {
       seam = character_seam (slice_index units (length units - 1));
     } → PutsEvents sink a page b left (leaves page.path units) page.path
@@ -315,8 +331,9 @@ run_put sink a b page left units clear all plain some puts path document context
     let line = page.pen.line in
     let word = seam_word page.context.seam in
     let state = state_open page clear in
-    let tokens : characters units ≡ tokens_of (state_in page) events =
-    sym (ap (λ (s : State). tokens_of s events) state ∙ run_tokens page.document.now page.context word page.path units all
+    let tokens : characters units ≡ tokens_from (state_in page) events =
+    sym (ap (λ (s : State). tokens_from s events) state ∙ run_tokens page.document.now page.context word page.path units
+    all
     plain) in
     let within = within_is line (open_within line page.context clear) in
     let end : left.pen.line ≡ Within =
@@ -334,7 +351,8 @@ run_put sink a b page left units clear all plain some puts path document context
             line = Within;
             context = record page.context { half = half i; seam = if sym last i then Word else Other };
           })
-          ∙ sym (ap (λ (s : State). state_of s events) state ∙ run_state page.document.now page.context word page.path units
+          ∙ sym (ap (λ (s : State). state_behind s events) state ∙ run_state page.document.now page.context word
+          page.path units
           all plain);
       path = path;
     }
@@ -348,7 +366,7 @@ unit_shaped to path (unit ∷ units) shown same =
     let none : Option Glyph = None in
     (λ i. record {
       path = same 0 (omega arith) i;
-      glyph = if shown i then none else shown_glyph (Some (Unit unit));
+      glyph = if shown i then none else unnumbered_glyph (Some (Unit unit));
     } ∷ all_shaped (unit_places to units))
     ∙ ap (λ (more : Places). unit_place path unit ∷ more) (unit_shaped to path units shown (λ k below. same (suc k) (omega
     (arith, below))))

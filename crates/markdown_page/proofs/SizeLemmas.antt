@@ -6,7 +6,7 @@ use Rattle.std.specs.Char.{encode_utf8}
 use Rattle.std.specs.Fmt.{decimal}
 use Rattle.std.proofs.lemmas.Bool.{leb-true, ltb-true}
 use Rattle.std.proofs.lemmas.List.{append-nil}
-use Rattle.plain_doc.specs.declared.document.Document.{Document}
+use Rattle.doc_model.specs.declared.document.Document.{Document}
 use Rattle.view_paths.specs.Events.{Event, Turn, Leaf, Open, Close, events_from, events_up_to, turns}
 use Rattle.view_paths.specs.Events.{Tag as PathTag}
 use Rattle.view_paths.specs.Paths.{last_path}
@@ -34,7 +34,8 @@ use Rattle.markdown_text.specs.declared.line.LineState.{LineState}
 use Rattle.markdown_text.specs.declared.line.LineState.TheVariants.{Start, Digits, Within, Bracket, Colon}
 use Rattle.markdown_text.specs.Lines.{is_among, is_special}
 use Rattle.markdown_text.specs.Tokens.{Token, Character, Markup, Tag, Destination, after_token, after_tokens, break_reference}
-use Rattle.markdown_text.specs.Tokens.{destination_text, escaped, escaped_by, printed_from, printed_token, reference}
+use Rattle.markdown_text.specs.Tokens.{destination_text, escaped_in_line, escaped_by, printed_from, printed_token}
+use Rattle.markdown_text.specs.Tokens.{reference}
 use Rattle.markdown_text.specs.Tokens.{start_reference}
 use Rattle.markdown_page.specs.declared.marks.Mark.{Mark}
 use Rattle.markdown_page.specs.declared.marks.Mark.TheVariants as mark
@@ -52,13 +53,17 @@ use Rattle.markdown_page.specs.declared.pieces.Pieces.{Pieces}
 use Rattle.markdown_page.specs.Marks.{heading_mark, mark_text, tag_text}
 use Rattle.markdown_page.specs.Contexts.{character_seam, closed, column_limit, cut, is_parted, more_cells, more_levels}
 use Rattle.markdown_page.specs.Contexts.{opened, paragraph_closed_in}
-use Rattle.markdown_page.specs.Destinations.{address_at, address_of, end_tokens, front_tokens, link_tokens}
-use Rattle.markdown_page.specs.Pieces.{block_end, break, cell_front, one, three, characters, closing, comment, emphasis, given, indent, is_start}
-use Rattle.markdown_page.specs.Pieces.{item_front, marks_text, markup, none, numbered, opening, other_pieces, paragraph_end}
-use Rattle.markdown_page.specs.Pieces.{paragraph_front, piece_tokens, pieces_tokens, row_end, rule_text}
+use Rattle.markdown_page.specs.Destinations.{address_at, address_of, link_end_tokens, link_front_tokens, link_tokens}
+use Rattle.markdown_page.specs.Pieces.{block_end, break, cell_front, one, three, characters, closing, comment, emphasis}
+use Rattle.markdown_page.specs.Pieces.{piece_if, indent, is_start}
+use Rattle.markdown_page.specs.Pieces.{item_front, marks_text, markup, none, number_pieces, opening, other_pieces}
+use Rattle.markdown_page.specs.Pieces.{paragraph_end}
+use Rattle.markdown_page.specs.Pieces.{paragraph_front, piece_tokens, pieces_tokens, row_end, delimiter_row_text}
 use Rattle.markdown_page.specs.Pages.{Events, State, behind_event, character_tokens, closing_tokens, event_context, event_tokens}
-use Rattle.markdown_page.specs.Pages.{fresh, glyph_shown, glyph_tokens, half_tokens, page_text, page_tokens, start, state_of}
-use Rattle.markdown_page.specs.Pages.{text_tokens, tokens_behind, tokens_of, turn_pieces, turn_tokens, turned, unit_tokens}
+use Rattle.markdown_page.specs.Pages.{fresh, glyph_shown, glyph_tokens, half_tokens, page_text, page_tokens}
+use Rattle.markdown_page.specs.Pages.{start_state, state_behind}
+use Rattle.markdown_page.specs.Pages.{text_tokens, tokens_behind, tokens_from, turn_pieces, turn_tokens, turned_context}
+use Rattle.markdown_page.specs.Pages.{unit_tokens}
 use Rattle.markdown_page.specs.Pages.{without_half}
 use Rattle.markdown_page.specs.Lengths.{destination_bytes, url_bytes}
 use Rattle.markdown_page.specs.Shape.{Places, all_shaped}
@@ -196,7 +201,8 @@ either_piece bound false one other a b = b
 nothing_size : piece_size Nothing ≡ 0
 nothing_size = refl
 
-given_size : (bound : ℕ) (test : Bool) (piece : Piece) → piece_size piece ≤ bound → piece_size (given test piece) ≤ bound
+given_size : (bound : ℕ) (test : Bool) (piece : Piece) → piece_size piece ≤ bound → piece_size (piece_if test piece) ≤
+    bound
 given_size bound test piece few = either_piece bound test piece Nothing few (omega arith)
 
 -- a mark of at most so many bytes
@@ -209,7 +215,8 @@ insert_size piece bound is = leb-true (piece_size piece) bound is
 indent_size : (context : Context) → piece_size (indent context) ≤ 4
 unfolding encode_utf8
 indent_size context =
-    given_size 4 context.in_note (given (not context.begun) (Write mark.Indent)) (given_size 4 (not context.begun) (Write
+    given_size 4 context.in_note (piece_if (not context.begun) (Write mark.Indent)) (given_size 4 (not context.begun)
+    (Write
     mark.Indent) (write_size mark.Indent 4 refl))
 
 -- the counts of a context are bounded
@@ -254,7 +261,8 @@ close_most (Row first) = 1539
 close_most (Reference number) = size (decimal number) + 3
 close_most element = 9
 
-numbered_size : (number bound : ℕ) (last : Mark) → nat_le (size (mark_text last)) bound ≡ true → pieces_size (numbered
+numbered_size : (number bound : ℕ) (last : Mark) → nat_le (size (mark_text last)) bound ≡ true → pieces_size
+    (number_pieces
     number last) ≤ size (decimal number) + (2 + bound)
 unfolding encode_utf8
 numbered_size number bound last is =
@@ -351,12 +359,13 @@ row_size context low =
       front,
       back,
       low.cells,
-      markup_size (rule_text context.cells),
+      markup_size (delimiter_row_text context.cells),
       columns_size context.cells,
       size-append (mark_text mark.RuleFront) (columns ++ mark_text mark.LineEnd),
       size-append columns (mark_text mark.LineEnd),
     ) in
-    either_pieces 1539 (context.columns == 0) (three (Write mark.RowEnd) (given context.in_note (Write mark.Indent)) rule)
+    either_pieces 1539 (context.columns == 0) (three (Write mark.RowEnd) (piece_if context.in_note (Write mark.Indent))
+    rule)
     (one (Write mark.RowEnd))
     (omega (
       arith,
@@ -369,7 +378,8 @@ row_size context low =
 block_size : (begun : Bool) → pieces_size (block_end begun) ≤ 9
 unfolding encode_utf8
 block_size begun =
-    one_size (given begun (Write mark.BlockEnd)) 9 (given_size 9 begun (Write mark.BlockEnd) (write_size mark.BlockEnd 9
+    one_size (piece_if begun (Write mark.BlockEnd)) 9 (given_size 9 begun (Write mark.BlockEnd) (write_size
+    mark.BlockEnd 9
     refl))
 
 end_size : (cell : CellLine) (line : LineState) (context : Context) → pieces_size (paragraph_end cell line context) ≤ 9
@@ -527,7 +537,7 @@ closed_follows context (NestedCell number) = kept context (closed context (Neste
 character_size : (seam : Seam) (code : ℕ) → tokens_size (character_tokens seam code) ≤ 13
 unfolding encode_utf8
 character_size seam code =
-    let front = piece_tokens (given (is_parted seam code) (Insert tag.Comment)) in
+    let front = piece_tokens (piece_if (is_parted seam code) (Insert tag.Comment)) in
     let one : tokens_size (Character code ∷ []) ≡ 5 = refl in
     omega (
       arith,
@@ -596,14 +606,14 @@ behind_size state pieces bound few =
       total-append token_size half (pieces_tokens here),
     )
 
-link_front : (url : Option (List ℕ)) → tokens_size (front_tokens url) ≤ 1
+link_front : (url : Option (List ℕ)) → tokens_size (link_front_tokens url) ≤ 1
 unfolding encode_utf8
 link_front None = omega arith
 link_front (Some url) =
     let one : tokens_size (Markup 91 ∷ []) ≡ 1 = refl in
     omega (arith, one)
 
-link_end : (url : Option (List ℕ)) → tokens_size (end_tokens url) ≤ 3 + url_bytes url
+link_end : (url : Option (List ℕ)) → tokens_size (link_end_tokens url) ≤ 3 + url_bytes url
 unfolding encode_utf8
 link_end None = omega arith
 link_end (Some url) =
@@ -709,14 +719,16 @@ event_low context low (Turn (Close path e)) =
     (closed_follows (without_half context) e).low (without_low context low)
 event_low context low (Leaf path glyph) = shown_low context low (unit_in glyph)
 
-events_size : (state : State) → IsLow state.context → (events : Events) → tokens_size (tokens_of state events) + 13 * waiting
-    (state_of state events).context.half ≤ 13 * waiting state.context.half + total (cost_of state.document) events
-unfolding tokens_of state_of
+events_size : (state : State) → IsLow state.context → (events : Events) → tokens_size (tokens_from state events) + 13 *
+    waiting
+    (state_behind state events).context.half ≤ 13 * waiting state.context.half + total (cost_of state.document) events
+unfolding tokens_from state_behind
 events_size state low [] = omega arith
 events_size state low (event ∷ events) =
     let one = event_tokens state event in
-    let rest = tokens_of (behind_event state event) events in
-    let long : tokens_size (one ++ rest) + 13 * waiting (state_of (behind_event state event) events).context.half ≤ 13 *
+    let rest = tokens_from (behind_event state event) events in
+    let long : tokens_size (one ++ rest) + 13 * waiting (state_behind (behind_event state event) events).context.half ≤
+    13 *
     waiting state.context.half + (cost_of state.document event + total (cost_of state.document) events) =
     omega (
       arith,
@@ -735,12 +747,12 @@ page_size document places =
     let shaped = all_shaped places in
     let events : Events = events_up_to same [] shaped in
     let last : Events = turns same (last_path [] shaped) [] in
-    let state = start document in
+    let state = start_state document in
     let low : IsLow state.context = record { levels = omega arith; cells = omega arith } in
-    let tokens = tokens_of state events in
-    let between = state_of state events in
-    let closing = tokens_of between last in
-    let half = half_tokens (state_of between last).context in
+    let tokens = tokens_from state events in
+    let between = state_behind state events in
+    let closing = tokens_from between last in
+    let half = half_tokens (state_behind between last).context in
     let whole : shaped ++ [] ≡ shaped = append-nil shaped in
     let all : events_from same [] shaped ≡ events ++ last =
     ap (λ (xs : Places). events_from same [] xs) (sym whole) ∙ events_from-append same [] shaped [] in
@@ -753,7 +765,7 @@ page_size document places =
       printed_size Start (page_tokens document places),
       total-append token_size tokens (closing ++ half),
       total-append token_size closing half,
-      half_size (state_of between last).context,
+      half_size (state_behind between last).context,
       events_size state low (events ++ last),
       ap tokens_size (tokens_of-append state events last),
       total-append token_size tokens closing,

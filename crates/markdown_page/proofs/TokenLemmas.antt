@@ -12,7 +12,8 @@ use Rattle.page_out.proofs.Public.{put_none, put_then, three_put}
 use Rattle.markdown_text.specs.declared.line.LineState.{LineState}
 use Rattle.markdown_text.specs.Lines.{after_character, after_markups, after_tag}
 use Rattle.markdown_text.specs.declared.line.LineState.TheVariants.{Within}
-use Rattle.markdown_text.specs.Tokens.{Token, Character, Markup, Tag, Destination, after_tokens, destination_text, escaped}
+use Rattle.markdown_text.specs.Tokens.{Token, Character, Markup, Tag, Destination, after_tokens, destination_text}
+use Rattle.markdown_text.specs.Tokens.{escaped_in_line}
 use Rattle.markdown_text.specs.Tokens.{escaped_by, printed_from}
 use Rattle.markdown_text.proofs.Public.{after_tokens-append, after_tokens-markup, printed_from-append}
 use Rattle.markdown_text.proofs.Public.{printed_from-markup}
@@ -62,11 +63,11 @@ tokens_put sink a b pen page line text tokens is put behind = record {
 }
 
 pub character_put : {K : Type 0} (sink : Ghosts K) (a b : K) (pen : Pen) (page : Page) (line : LineState) (code : ℕ) →
-    Prints sink a pen.page b page (escaped pen.line code) → line ≡ after_character pen.line code →
+    Prints sink a pen.page b page (escaped_in_line pen.line code) → line ≡ after_character pen.line code →
     PutsTokens sink a pen b (record { page = page; line = line }) (Character code ∷ [])
 character_put sink a b pen page line code put is =
-    tokens_put sink a b pen page line (escaped pen.line code) (Character code ∷ [])
-    (sym (append-nil (escaped pen.line code))) put is
+    tokens_put sink a b pen page line (escaped_in_line pen.line code) (Character code ∷ [])
+    (sym (append-nil (escaped_in_line pen.line code))) put is
 
 -- a character behind a reverse solidus or without it
 written_pieces : (special : Bool) (code : ℕ) → (if special then 92 ∷ [] else []) ++ code ∷ [] ≡ escaped_by None special

@@ -1,6 +1,6 @@
 -- Where links lead in Markdown: to an address. A bookmark of the page itself has no anchor there.
 use Rattle.std.specs.Prelude.{ℕ, ◌==◌, Bool, false, List, [], ◌∷◌, Option, None, Some, if◌then◌else◌}
-use Rattle.plain_doc.specs.declared.document.Document.{Document}
+use Rattle.doc_model.specs.declared.document.Document.{Document}
 use Rattle.view_paths.specs.Events.{Open, Close}
 use Rattle.view_paths.specs.Events.{Tag as PathTag}
 use Rattle.view_places.specs.declared.element.Element.{Element}
@@ -22,13 +22,13 @@ abbrev pub address_of : Document → Link → Option (List ℕ)
 address_of document link = address_in (url_in (instruction_of document link))
 
 -- what is before the text of a link, and behind it
-abbrev pub front_tokens : Option (List ℕ) → List Token
-front_tokens None = []
-front_tokens (Some url) = Markup 91 ∷ []
+abbrev pub link_front_tokens : Option (List ℕ) → List Token
+link_front_tokens None = []
+link_front_tokens (Some url) = Markup 91 ∷ []
 
-abbrev pub end_tokens : Option (List ℕ) → List Token
-end_tokens None = []
-end_tokens (Some url) = Markup 93 ∷ Destination url ∷ []
+abbrev pub link_end_tokens : Option (List ℕ) → List Token
+link_end_tokens None = []
+link_end_tokens (Some url) = Markup 93 ∷ Destination url ∷ []
 
 -- of an element
 abbrev pub address_at : Document → Element → Option (List ℕ)
@@ -37,5 +37,5 @@ address_at document element = None
 
 -- an element is opened or closed
 abbrev pub link_tokens : Document → PathTag Element → List Token
-link_tokens document (Open path element) = front_tokens (address_at document element)
-link_tokens document (Close path element) = end_tokens (address_at document element)
+link_tokens document (Open path element) = link_front_tokens (address_at document element)
+link_tokens document (Close path element) = link_end_tokens (address_at document element)

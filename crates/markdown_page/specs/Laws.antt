@@ -1,7 +1,7 @@
 -- What the definitions imply.
 use Rattle.std.specs.Prelude.{◌≡◌, ℕ, List, ⊤}
 use Rattle.std.specs.List.{All}
-use Rattle.plain_doc.specs.declared.document.Document.{Document}
+use Rattle.doc_model.specs.declared.document.Document.{Document}
 use Rattle.field_links.specs.Laws.{IsSchemeUrl}
 use Rattle.markdown_text.specs.declared.line.LineState.TheVariants.{Start}
 use Rattle.markdown_text.specs.Tokens.{Token, Character, Markup, Tag, Destination}

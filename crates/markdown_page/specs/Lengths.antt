@@ -1,6 +1,6 @@
 -- How many bytes of a page its document says: those of the destinations of links.
 use Rattle.std.specs.Prelude.{ℕ, List, length, Option, None, Some, encode_utf8_all}
-use Rattle.plain_doc.specs.declared.document.Document.{Document}
+use Rattle.doc_model.specs.declared.document.Document.{Document}
 use Rattle.view_places.specs.declared.element.Element.{Element}
 use Rattle.markdown_text.specs.Tokens.{destination_text}
 use Rattle.markdown_page.specs.Destinations.{address_at}

@@ -18,10 +18,10 @@ use Rattle.markdown_page.specs.declared.context.Context.{Context}
 use Rattle.markdown_page.specs.declared.marks.TagName.TheVariants as tag
 use Rattle.markdown_page.specs.declared.pieces.Pieces.{Pieces}
 use Rattle.markdown_page.specs.declared.pieces.Piece.TheVariants.{Insert}
-use Rattle.plain_doc.specs.declared.document.Document.{Document}
+use Rattle.doc_model.specs.declared.document.Document.{Document}
 use Rattle.markdown_page.specs.Destinations.{link_tokens}
 use Rattle.markdown_page.specs.Contexts.{character_seam, closed, cut, is_parted, opened}
-use Rattle.markdown_page.specs.Pieces.{closing, given, opening, other_pieces, piece_tokens, pieces_tokens}
+use Rattle.markdown_page.specs.Pieces.{closing, piece_if, opening, other_pieces, piece_tokens, pieces_tokens}
 use Rattle.markdown_page.specs.Shape.{Places, all_shaped}
 use Rattle.text_codes.specs.Halves.{half_text}
 
@@ -32,7 +32,7 @@ Events = List (Event Element Glyph)
 
 -- a character; where it goes on with a word behind an emphasis, a comment is between
 abbrev pub character_tokens : Seam → ℕ → List Token
-character_tokens seam code = piece_tokens (given (is_parted seam code) (Insert tag.Comment)) ++ Character code ∷ []
+character_tokens seam code = piece_tokens (piece_if (is_parted seam code) (Insert tag.Comment)) ++ Character code ∷ []
 
 abbrev pub text_tokens : Seam → List ℕ → List Token
 text_tokens seam [] = []
@@ -62,8 +62,8 @@ fresh = record {
   columns = 0;
 }
 
-abbrev pub start : Document → State
-start document = record { document = document; line = Start; context = fresh }
+abbrev pub start_state : Document → State
+start_state document = record { document = document; line = Start; context = fresh }
 
 -- behind tokens
 abbrev pub behind_tokens : State → List Token → Context → State
@@ -103,9 +103,9 @@ turn_pieces (Close path element) line context = closing line context element
 abbrev pub turn_tokens : State → PathTag Element → List Token
 turn_tokens state tag = tokens_behind state (turn_pieces tag) ++ link_tokens state.document tag
 
-abbrev pub turned : PathTag Element → Context → Context
-turned (Open path element) context = opened context element
-turned (Close path element) context = closed context element
+abbrev pub turned_context : PathTag Element → Context → Context
+turned_context (Open path element) context = opened context element
+turned_context (Close path element) context = closed context element
 
 abbrev pub glyph_tokens : State → Option ℕ → Glyph → List Token
 glyph_tokens state (Some unit) glyph = unit_tokens state.context unit
@@ -120,35 +120,35 @@ event_tokens state (Turn tag) = turn_tokens state tag
 event_tokens state (Leaf path glyph) = glyph_tokens state (unit_in glyph) glyph
 
 abbrev pub event_context : Context → Event Element Glyph → Context
-event_context context (Turn tag) = turned tag (without_half context)
+event_context context (Turn tag) = turned_context tag (without_half context)
 event_context context (Leaf path glyph) = glyph_shown context (unit_in glyph)
 
 abbrev pub behind_event : State → Event Element Glyph → State
 behind_event state event = behind_tokens state (event_tokens state event) (event_context state.context event)
 
 -- events behind others: so the halves of a character are one where nothing is between them
-unfoldable pub tokens_of : State → Events → List Token
-tokens_of state [] = []
-tokens_of state (event ∷ events) = event_tokens state event ++ tokens_of (behind_event state event) events
+unfoldable pub tokens_from : State → Events → List Token
+tokens_from state [] = []
+tokens_from state (event ∷ events) = event_tokens state event ++ tokens_from (behind_event state event) events
 
 -- what is behind them
-unfoldable pub state_of : State → Events → State
-state_of state [] = state
-state_of state (event ∷ events) = state_of (behind_event state event) events
+unfoldable pub state_behind : State → Events → State
+state_behind state [] = state
+state_behind state (event ∷ events) = state_behind (behind_event state event) events
 
 -- ---- pages
 
 -- what is left where a path is open: all is closed
 abbrev pub closing_tokens : State → List Element → List Token
 closing_tokens state path =
-    tokens_of state (turns same path []) ++ half_tokens (state_of state (turns same path [])).context
+    tokens_from state (turns same path []) ++ half_tokens (state_behind state (turns same path [])).context
 
 -- a page of a document, by the places of its text
 abbrev pub page_tokens : Document → Places → List Token
 page_tokens document places =
     let events : Events = events_up_to same [] (all_shaped places) in
-    tokens_of (start document) events
-    ++ closing_tokens (state_of (start document) events) (last_path [] (all_shaped places))
+    tokens_from (start_state document) events
+    ++ closing_tokens (state_behind (start_state document) events) (last_path [] (all_shaped places))
 
 -- the characters of a page
 abbrev pub page_text : Document → Places → List ℕ

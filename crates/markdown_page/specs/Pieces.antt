@@ -47,8 +47,8 @@ marks_text mark zero = []
 marks_text mark (suc count) = marks_text mark count ++ mark_text mark
 
 -- the line below heads of so many columns
-abbrev pub rule_text : ℕ → List ℕ
-rule_text columns = mark_text mark.RuleFront ++ (marks_text mark.RuleColumn columns ++ mark_text mark.LineEnd)
+abbrev pub delimiter_row_text : ℕ → List ℕ
+delimiter_row_text columns = mark_text mark.RuleFront ++ (marks_text mark.RuleColumn columns ++ mark_text mark.LineEnd)
 
 abbrev pub piece_tokens : Piece → List Token
 piece_tokens Nothing = []
@@ -58,7 +58,7 @@ piece_tokens Space = Character 32 ∷ []
 piece_tokens ATab = Character 9 ∷ []
 piece_tokens (Number number) = markup (decimal number)
 piece_tokens (Levels levels) = markup (marks_text mark.Level levels)
-piece_tokens (Rule columns) = markup (rule_text columns)
+piece_tokens (Rule columns) = markup (delimiter_row_text columns)
 piece_tokens Picture = characters (codes "[picture]")
 piece_tokens Object = characters (codes "[object]")
 
@@ -78,18 +78,18 @@ abbrev pub two : Piece → Piece → Pieces
 two first second = three first second Nothing
 
 -- a piece where it is to be there
-abbrev pub given : Bool → Piece → Piece
-given there piece = if there then piece else Nothing
+abbrev pub piece_if : Bool → Piece → Piece
+piece_if there piece = if there then piece else Nothing
 
 -- ---- what is opened
 
 -- a line of a note that has no marker is indented
 abbrev pub indent : Context → Piece
-indent context = given context.in_note (given (not context.begun) (Write mark.Indent))
+indent context = piece_if context.in_note (piece_if (not context.begun) (Write mark.Indent))
 
 -- an item is behind the markers of those that it is in, where its line has none of theirs
 abbrev pub item_front : Context → Pieces
-item_front context = three (indent context) (given (not context.begun) (Levels context.levels)) (Write mark.Item)
+item_front context = three (indent context) (piece_if (not context.begun) (Levels context.levels)) (Write mark.Item)
 
 -- an emphasis that begins within a word, or right behind another one
 abbrev pub comment : Seam → Piece
@@ -100,8 +100,8 @@ comment Closed = Insert tag.Comment
 abbrev pub emphasis : Context → Mark → Pieces
 emphasis context mark = two (comment context.seam) (Write mark)
 
-abbrev pub numbered : ℕ → Mark → Pieces
-numbered number end = three (Write mark.NoteFront) (Number number) (Write end)
+abbrev pub number_pieces : ℕ → Mark → Pieces
+number_pieces number end = three (Write mark.NoteFront) (Number number) (Write end)
 
 -- cells beyond the columns of a table are in the last one, each on its own line
 abbrev pub cell_front : Context → Piece
@@ -111,13 +111,13 @@ cell_front context =
 
 abbrev pub paragraph_front : CellLine → Context → ℕ → Pieces
 paragraph_front Outside context level =
-    two (indent context) (given (not (level == 0)) (Write (heading_mark level)))
+    two (indent context) (piece_if (not (level == 0)) (Write (heading_mark level)))
 paragraph_front First context level = none
 paragraph_front Next context level = one (Insert tag.LineBreak)
 
 abbrev pub opening : Context → Element → Pieces
 opening context Notes = none
-opening context (Note number) = numbered number mark.NoteEnd
+opening context (Note number) = number_pieces number mark.NoteEnd
 opening context (Table first) = none
 opening context TableHead = none
 opening context TableBody = none
@@ -156,18 +156,18 @@ is_start Colon = false
 -- below the first row the columns of a table
 abbrev pub row_end : Context → Pieces
 row_end context =
-    if context.columns == 0 then three (Write mark.RowEnd) (given context.in_note (Write mark.Indent)) (Rule
+    if context.columns == 0 then three (Write mark.RowEnd) (piece_if context.in_note (Write mark.Indent)) (Rule
     context.cells) else one (Write mark.RowEnd)
 
 -- a line that has begun ends with an empty one behind it; in a note each has, since it is indented
 abbrev pub block_end : Bool → Pieces
-block_end begun = one (given begun (Write mark.BlockEnd))
+block_end begun = one (piece_if begun (Write mark.BlockEnd))
 
 -- a marker without a text has a space behind it, so that it is one
 abbrev pub paragraph_end : CellLine → LineState → Context → Pieces
 paragraph_end Outside line context =
-    two (given (context.begun && is_start line) Space)
-    (given ((context.begun || context.in_note) || not (is_start line)) (Write mark.BlockEnd))
+    two (piece_if (context.begun && is_start line) Space)
+    (piece_if ((context.begun || context.in_note) || not (is_start line)) (Write mark.BlockEnd))
 paragraph_end First line context = none
 paragraph_end Next line context = none
 
@@ -187,7 +187,7 @@ closing line context (AList list) = none
 closing line context (Item number) = block_end context.begun
 closing line context (Paragraph paragraph) = paragraph_end context.cell line context
 closing line context Label = none
-closing line context (Reference number) = numbered number mark.ReferenceEnd
+closing line context (Reference number) = number_pieces number mark.ReferenceEnd
 closing line context (BackLink number) = none
 closing line context (Link link) = none
 closing line context (Anchor number) = none
@@ -204,7 +204,7 @@ closing line context Lowered = one (Insert tag.LoweredEnd)
 
 -- a line of tags alone would be a block of HTML
 abbrev pub break : LineState → Pieces
-break line = two (given (is_start line) Space) (Insert tag.LineBreak)
+break line = two (piece_if (is_start line) Space) (Insert tag.LineBreak)
 
 abbrev pub other_pieces : LineState → Glyph → Pieces
 other_pieces line (Unit unit) = none

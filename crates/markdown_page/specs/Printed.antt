@@ -9,7 +9,7 @@ use Rattle.view_places.specs.declared.element.Element.{Element}
 use Rattle.view_places.specs.Same.{same}
 use Rattle.markdown_page.specs.declared.pen.Pen.{Pen}
 use Rattle.markdown_page.specs.declared.printer.MarkdownPage.{MarkdownPage}
-use Rattle.markdown_page.specs.Pages.{Events, State, state_of, tokens_of}
+use Rattle.markdown_page.specs.Pages.{Events, State, state_behind, tokens_from}
 use Rattle.markdown_page.specs.Shape.{Places, all_shaped}
 
 -- tokens were printed
@@ -24,8 +24,9 @@ state_in page = record { document = page.document.now; line = page.pen.line; con
 -- events were printed; then this path is open
 pub record PutsEvents {K : Type 0} (sink : Ghosts K) (before : K) (page : MarkdownPage) (after : K)
     (left : MarkdownPage) (events : Events) (to : List Element) : Type 0 where
-  pub prints : Prints sink before page.pen.page after left.pen.page (printed_from page.pen.line (tokens_of (state_in page) events))
-  pub state : state_in left ≡ state_of (state_in page) events
+  pub prints : Prints sink before page.pen.page after left.pen.page (printed_from page.pen.line (tokens_from (state_in
+      page) events))
+  pub state : state_in left ≡ state_behind (state_in page) events
   pub path : left.path ≡ to
 
 -- places were printed, the last of which stays open

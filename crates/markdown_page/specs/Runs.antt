@@ -10,14 +10,14 @@ use Rattle.markdown_page.specs.declared.context.Seam.TheVariants.{Other, Word, C
 use Rattle.markdown_page.specs.declared.context.Context.{Context}
 use Rattle.markdown_page.specs.declared.shape.Kind.{Kind}
 use Rattle.markdown_page.specs.declared.shape.Kind.TheVariants.{Block, ToNote, FromNote, Emphasis, Tagged, Unmarked}
-use Rattle.markdown_page.specs.Shape.{inner_kind, is_from_note, is_white, kind_of}
+use Rattle.markdown_page.specs.Shape.{inner_kind, is_from_note, is_white, element_kind}
 
 -- a character that is written as it is within a line, and leaves it so
 abbrev pub is_plain : ℕ → Bool
 is_plain code = not (is_special Within code) && not (code == 58)
 
-abbrev pub IsPlain : ℕ → Type 0
-IsPlain code = is_plain code ≡ true
+abbrev pub IsPlainCharacter : ℕ → Type 0
+IsPlainCharacter code = is_plain code ≡ true
 
 abbrev pub is_emphasis : Kind → Bool
 is_emphasis Block = false
@@ -29,33 +29,33 @@ is_emphasis Unmarked = false
 
 abbrev pub is_emphasis_in : Option Element → Bool
 is_emphasis_in None = false
-is_emphasis_in (Some element) = is_emphasis (kind_of element)
+is_emphasis_in (Some element) = is_emphasis (element_kind element)
 
 -- white space is outside of an element
 abbrev pub has_emphasis : List Element → Bool
-has_emphasis path = list_any (λ element. is_emphasis (kind_of element)) path
+has_emphasis path = list_any (λ element. is_emphasis (element_kind element)) path
 
 -- a unit goes on behind one that is white space or none, in emphasis or not
 abbrev pub goes_on : Bool → Bool → ℕ → Bool
 goes_on in_emphasis space unit =
     is_plain unit && (not in_emphasis || (if space then is_white unit else not (is_white unit)))
 
-abbrev pub is_within : LineState → Bool
-is_within Start = false
-is_within Digits = false
-is_within Within = true
-is_within Bracket = false
-is_within Colon = false
+abbrev pub is_within_line : LineState → Bool
+is_within_line Start = false
+is_within_line Digits = false
+is_within_line Within = true
+is_within_line Bracket = false
+is_within_line Colon = false
 
-abbrev pub is_closed : Seam → Bool
-is_closed Other = false
-is_closed Word = false
-is_closed Closed = true
+abbrev pub is_closed_seam : Seam → Bool
+is_closed_seam Other = false
+is_closed_seam Word = false
+is_closed_seam Closed = true
 
 abbrev pub is_none : Option ℕ → Bool
 is_none None = true
 is_none (Some unit) = false
 
 -- within a line, where no half of a character waits, and no emphasis ended
-abbrev pub is_open : LineState → Context → Bool
-is_open line context = is_within line && (is_none context.half && not (is_closed context.seam))
+abbrev pub is_open_line : LineState → Context → Bool
+is_open_line line context = is_within_line line && (is_none context.half && not (is_closed_seam context.seam))

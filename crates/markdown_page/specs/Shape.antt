@@ -3,7 +3,7 @@
 use Rattle.std.specs.Prelude.{ℕ, ◌==◌, ◌-◌, nat_le, Bool, true, false, not, ◌||◌, ◌&&◌, List, [], ◌∷◌, length, filter}
 use Rattle.std.specs.Prelude.{map}
 use Rattle.std.specs.Prelude.{Option, None, Some, slice_get, if◌then◌else◌}
-use Rattle.view_paths.specs.Paths.{Place}
+use Rattle.view_paths.specs.Paths.{PathPlace}
 use Rattle.view_places.specs.declared.element.Element.{Element}
 use Rattle.view_places.specs.declared.element.Element.TheVariants.{Notes, Note, Table, TableHead, TableBody, Row, Cell}
 use Rattle.view_places.specs.declared.element.Element.TheVariants.{HeadCell, List as AList, Item, Paragraph, Label}
@@ -18,44 +18,44 @@ use Rattle.markdown_page.specs.declared.shape.Kind.{Kind}
 use Rattle.markdown_page.specs.declared.shape.Kind.TheVariants.{Block, ToNote, FromNote, Emphasis, Tagged, Unmarked}
 
 abbrev pub Places : Type 0
-Places = List (Place Element Glyph)
+Places = List (PathPlace Element Glyph)
 
-abbrev pub kind_of : Element → Kind
-kind_of Notes = Block
-kind_of (Note number) = Block
-kind_of (Table first) = Block
-kind_of TableHead = Block
-kind_of TableBody = Block
-kind_of (Row first) = Block
-kind_of (Cell number) = Block
-kind_of (HeadCell number) = Block
-kind_of (NestedTable first) = Unmarked
-kind_of (NestedRow first) = Unmarked
-kind_of (NestedCell number) = Unmarked
-kind_of (AList list) = Block
-kind_of (Item number) = Block
-kind_of (Paragraph paragraph) = Block
-kind_of Label = Block
-kind_of (Reference number) = ToNote
-kind_of (BackLink number) = FromNote
-kind_of (Link link) = Block
-kind_of (Anchor number) = Block
-kind_of Bold = Emphasis
-kind_of Italic = Emphasis
-kind_of Underline = Tagged
-kind_of Strike = Emphasis
-kind_of SmallCaps = Unmarked
-kind_of Caps = Unmarked
-kind_of Raised = Tagged
-kind_of Lowered = Tagged
+abbrev pub element_kind : Element → Kind
+element_kind Notes = Block
+element_kind (Note number) = Block
+element_kind (Table first) = Block
+element_kind TableHead = Block
+element_kind TableBody = Block
+element_kind (Row first) = Block
+element_kind (Cell number) = Block
+element_kind (HeadCell number) = Block
+element_kind (NestedTable first) = Unmarked
+element_kind (NestedRow first) = Unmarked
+element_kind (NestedCell number) = Unmarked
+element_kind (AList list) = Block
+element_kind (Item number) = Block
+element_kind (Paragraph paragraph) = Block
+element_kind Label = Block
+element_kind (Reference number) = ToNote
+element_kind (BackLink number) = FromNote
+element_kind (Link link) = Block
+element_kind (Anchor number) = Block
+element_kind Bold = Emphasis
+element_kind Italic = Emphasis
+element_kind Underline = Tagged
+element_kind Strike = Emphasis
+element_kind SmallCaps = Unmarked
+element_kind Caps = Unmarked
+element_kind Raised = Tagged
+element_kind Lowered = Tagged
 
 -- the innermost element
-abbrev pub kind_in : Option Element → Kind
-kind_in None = Block
-kind_in (Some element) = kind_of element
+abbrev pub kind_or_block : Option Element → Kind
+kind_or_block None = Block
+kind_or_block (Some element) = element_kind element
 
 abbrev pub inner_kind : List Element → Kind
-inner_kind path = kind_in (slice_get path (length path - 1))
+inner_kind path = kind_or_block (slice_get path (length path - 1))
 
 -- the white space of Unicode that units are
 abbrev pub is_white : ℕ → Bool
@@ -92,7 +92,7 @@ keeps inner space Tagged = not (is_to_note inner)
 keeps inner space Unmarked = false
 
 abbrev pub shaped_path : Option Glyph → List Element → List Element
-shaped_path glyph path = filter (λ element. keeps (inner_kind path) (is_space glyph) (kind_of element)) path
+shaped_path glyph path = filter (λ element. keeps (inner_kind path) (is_space glyph) (element_kind element)) path
 
 -- the number of a note is in the markup of the note, and of references to it
 abbrev pub without_number : Glyph → Option Glyph
@@ -104,9 +104,9 @@ without_number (NoteMark number) = None
 without_number (Picture place) = Some (Picture place)
 without_number Object = Some Object
 
-abbrev pub shown_glyph : Option Glyph → Option Glyph
-shown_glyph None = None
-shown_glyph (Some glyph) = without_number glyph
+abbrev pub unnumbered_glyph : Option Glyph → Option Glyph
+unnumbered_glyph None = None
+unnumbered_glyph (Some glyph) = without_number glyph
 
 abbrev pub is_from_note : Kind → Bool
 is_from_note Block = false
@@ -117,9 +117,9 @@ is_from_note Tagged = false
 is_from_note Unmarked = false
 
 abbrev pub shaped_glyph : Kind → Option Glyph → Option Glyph
-shaped_glyph inner glyph = if is_from_note inner then None else shown_glyph glyph
+shaped_glyph inner glyph = if is_from_note inner then None else unnumbered_glyph glyph
 
-abbrev pub shaped : Place Element Glyph → Place Element Glyph
+abbrev pub shaped : PathPlace Element Glyph → PathPlace Element Glyph
 shaped place = record {
   path = shaped_path place.glyph place.path;
   glyph = shaped_glyph (inner_kind place.path) place.glyph;

@@ -1,16 +1,18 @@
 // The tokens of a page, as they are printed.
 ghost use Rattle.std.specs.Prelude.{◌≡◌, ◌+◌, ◌<◌, [], ◌∷◌, false, true, None, if◌then◌else◌};
 ghost use Rattle.std.specs.List.{All};
-ghost use Rattle.markdown_page.specs.Runs.{IsPlain, is_within};
+ghost use Rattle.markdown_page.specs.Runs.{IsPlainCharacter, is_within_line};
 ghost use Rattle.std.specs.Char.{IsScalar};
 ghost use Rattle.std.specs.Fmt.{decimal};
 ghost use Rattle.std.specs.Str.{IsAscii};
 ghost use Rattle.markdown_text.specs.declared.line.LineState.TheVariants.{Start};
 ghost use Rattle.markdown_text.specs.Lines.{is_special};
-ghost use Rattle.markdown_text.specs.Tokens.{Character, Destination, Markup, destination_code, destination_text, escaped, escaped_by};
+ghost use Rattle.markdown_text.specs.Tokens.{Character, Destination, Markup, destination_code, destination_text};
+ghost use Rattle.markdown_text.specs.Tokens.{escaped_in_line, escaped_by};
 ghost use Rattle.page_out.specs.Printed.{Prints};
 ghost use Rattle.markdown_page.specs.declared.pieces.Piece.TheVariants.{Insert, Write};
-ghost use Rattle.markdown_page.specs.Pieces.{characters, markup, marks_text, piece_tokens, pieces_tokens, rule_text};
+ghost use Rattle.markdown_page.specs.Pieces.{characters, markup, marks_text, piece_tokens, pieces_tokens};
+ghost use Rattle.markdown_page.specs.Pieces.{delimiter_row_text};
 ghost use Rattle.markdown_page.specs.Printed.{PutsTokens};
 
 use crate::marks::{Mark, TagName, mark_text, tag_text};
@@ -50,8 +52,8 @@ impl Pen {
     /// Puts units that are written as they are within a line, and leave it so.
     pub(crate) fn put_plain<K: Sink>(&mut self, out: &mut K, units: &[u16])
         requires characters { All IsScalar units.now }
-        requires within { is_within self.old.line ≡ true }
-        requires plain { All IsPlain units.now }
+        requires within { is_within_line self.old.line ≡ true }
+        requires plain { All IsPlainCharacter units.now }
         ensures { PutsTokens K.Sink out.old self.old out.new self.new (characters units.now) }
     {
         self.page.push_units(out, units);
@@ -60,7 +62,7 @@ impl Pen {
     /// Puts the characters of a character.
     fn put_escaped<K: Sink>(&mut self, out: &mut K, code: u32)
         requires { IsScalar code }
-        ensures prints { Prints K.Sink out.old self.old.page out.new self.new.page (escaped self.old.line code) }
+        ensures prints { Prints K.Sink out.old self.old.page out.new self.new.page (escaped_in_line self.old.line code) }
         ensures line { self.new.line ≡ self.old.line }
     {
         match self.line.reference(code) {
@@ -131,7 +133,7 @@ impl Pen {
 
     /// Puts the line below the heads of so many columns.
     fn put_rule<K: Sink>(&mut self, out: &mut K, columns: usize)
-        ensures { PutsTokens K.Sink out.old self.old out.new self.new (markup (rule_text columns)) }
+        ensures { PutsTokens K.Sink out.old self.old out.new self.new (markup (delimiter_row_text columns)) }
     {
         self.put_mark(out, Mark::RuleFront);
         self.put_marks(out, Mark::RuleColumn, columns);

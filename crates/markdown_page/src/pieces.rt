@@ -1,8 +1,9 @@
 // What a page writes where elements are opened and closed, and for what is no character.
 ghost use Rattle.std.specs.Prelude.{◌≡◌};
 ghost use Rattle.markdown_page.specs.Contexts.{column_limit};
-ghost use Rattle.markdown_page.specs.Pieces.{block_end, break, cell_front, closing, comment, emphasis, given, indent};
-ghost use Rattle.markdown_page.specs.Pieces.{is_start, item_front, none, numbered, one, opening, other_pieces};
+ghost use Rattle.markdown_page.specs.Pieces.{block_end, break, cell_front, closing, comment, emphasis, piece_if};
+ghost use Rattle.markdown_page.specs.Pieces.{indent};
+ghost use Rattle.markdown_page.specs.Pieces.{is_start, item_front, none, number_pieces, one, opening, other_pieces};
 ghost use Rattle.markdown_page.specs.Pieces.{paragraph_end, paragraph_front, row_end, three, two};
 
 use crate::context::{CellLine, Context, MAX_COLUMNS, Seam};
@@ -64,7 +65,7 @@ impl Pieces {
 
     /// A number behind the front of a note, and an end.
     fn numbered(number: usize, end: Mark) -> Pieces
-        ensures { result ≡ numbered number end }
+        ensures { result ≡ number_pieces number end }
     {
         Pieces {
             first: Piece::Write(Mark::NoteFront),
@@ -76,7 +77,7 @@ impl Pieces {
 
 /// A piece where it is to be there.
 pub(crate) fn if_given(there: bool, piece: Piece) -> Piece
-    ensures { result ≡ given there piece }
+    ensures { result ≡ piece_if there piece }
 {
     if there { piece } else { Piece::Nothing }
 }

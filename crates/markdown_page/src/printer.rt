@@ -2,7 +2,7 @@
 ghost use Rattle.std.specs.Prelude.{◌≡◌, ◌<◌, ◌≤◌, ◌&&◌, [], ◌∷◌, ◌++◌, length, take, drop, map, false, true, Some, None};
 ghost use Rattle.std.specs.Prelude.{not, slice_range, OnOk, OnErr};
 ghost use Rattle.std.specs.Char.{IsScalar};
-ghost use Rattle.doc_outer.specs.Counts.{GoesOn};
+ghost use Rattle.doc_outer.specs.Counts.{CountGoesOn};
 ghost use Rattle.doc_outer.specs.Written.{Appends};
 ghost use Rattle.page_out.specs.Printed.{FailsIn};
 ghost use Rattle.markdown_text.specs.declared.line.LineState.TheVariants.{Start};
@@ -13,10 +13,10 @@ ghost use Rattle.glyph_units.specs.Glyphs.{leaves, unit_in, unit_places};
 ghost use Rattle.glyph_units.specs.Units.{first_text, unit_half, unit_text};
 ghost use Rattle.markdown_page.specs.Pages.{closing_tokens, fresh, glyph_shown, glyph_tokens, half_tokens};
 ghost use Rattle.std.specs.List.{All};
-ghost use Rattle.markdown_page.specs.Runs.{IsPlain, has_emphasis, is_open};
+ghost use Rattle.markdown_page.specs.Runs.{IsPlainCharacter, has_emphasis, is_open_line};
 ghost use Rattle.markdown_page.specs.Shape.{inner_kind, is_from_note};
-ghost use Rattle.markdown_page.specs.Destinations.{address_at, end_tokens, front_tokens};
-ghost use Rattle.markdown_page.specs.Pages.{text_seam, text_tokens, turn_tokens, turned};
+ghost use Rattle.markdown_page.specs.Destinations.{address_at, link_end_tokens, link_front_tokens};
+ghost use Rattle.markdown_page.specs.Pages.{text_seam, text_tokens, turn_tokens, turned_context};
 ghost use Rattle.markdown_page.specs.Pages.{unit_shown, unit_tokens, without_half};
 ghost use Rattle.markdown_page.specs.Printed.{PutsEvents, PutsPlaces, PutsTokens, state_in};
 ghost use Rattle.text_codes.specs.Halves.{first_half};
@@ -114,7 +114,7 @@ impl<'a> MarkdownPage<'a> {
 
     /// Whether units are written as they are behind one on a path.
     fn goes_on(&self, to: &Path<Element>) -> bool
-        ensures { result ≡ (is_open self.now.pen.line self.now.context && not (is_from_note (inner_kind to.now))) }
+        ensures { result ≡ (is_open_line self.now.pen.line self.now.context && not (is_from_note (inner_kind to.now))) }
     {
         is_open(self.pen.line, &self.context) && !is_from_note(inner_kind(to))
     }
@@ -122,8 +122,8 @@ impl<'a> MarkdownPage<'a> {
     /// Puts units that are written as they are on the path that is open.
     fn put_plain<K: Sink>(&mut self, out: &mut K, units: &[u16])
         requires characters { All IsScalar units.now }
-        requires line { is_open self.old.pen.line self.old.context ≡ true }
-        requires plain { All IsPlain units.now }
+        requires line { is_open_line self.old.pen.line self.old.context ≡ true }
+        requires plain { All IsPlainCharacter units.now }
         ensures { PutsEvents K.Sink out.old self.old out.new self.new (leaves self.old.path units.now) self.old.path }
     {
         if units.is_empty() {
@@ -148,7 +148,7 @@ impl<'a> MarkdownPage<'a> {
         ensures ok { OnOk result (Appends (K.written out.old) (K.written out.new) self.entry.pen.page.block) }
         ensures fails { OnErr result (self.entry.pen.page.failed ≡ false → FailsIn K.Sink out.old self.entry.pen.page out.new []) }
         ensures stays { OnErr result (self.entry.pen.page.failed ≡ true → K.written out.new ≡ K.written out.old) }
-        ensures faults { GoesOn (K.faults out.old) (K.faults out.new) }
+        ensures faults { CountGoesOn (K.faults out.old) (K.faults out.new) }
     {
         self.pen.page.finish(out)
     }
@@ -197,7 +197,7 @@ impl<'a> MarkdownPage<'a> {
             (turn_tokens (state_in self.old) (Close [] element)) }
         ensures path { self.new.path ≡ self.old.path }
         ensures document { self.new.document.now ≡ self.old.document.now }
-        ensures context { self.new.context ≡ turned (Close [] element) (without_half self.old.context) }
+        ensures context { self.new.context ≡ turned_context (Close [] element) (without_half self.old.context) }
     {
         self.put_half(out);
         let pieces = closing(self.pen.line, &self.context, element);
@@ -212,7 +212,7 @@ impl<'a> MarkdownPage<'a> {
             (turn_tokens (state_in self.old) (Open [] element)) }
         ensures path { self.new.path ≡ self.old.path }
         ensures document { self.new.document.now ≡ self.old.document.now }
-        ensures context { self.new.context ≡ turned (Open [] element) (without_half self.old.context) }
+        ensures context { self.new.context ≡ turned_context (Open [] element) (without_half self.old.context) }
     {
         self.put_half(out);
         let pieces = opening(&self.context, element);
@@ -224,7 +224,7 @@ impl<'a> MarkdownPage<'a> {
     /// Puts what is before the text of a link that leads somewhere.
     fn put_link_front<K: Sink>(&mut self, out: &mut K, element: Element)
         ensures puts { PutsTokens K.Sink out.old self.old.pen out.new self.new.pen
-            (front_tokens (address_at self.old.document.now element)) }
+            (link_front_tokens (address_at self.old.document.now element)) }
         ensures path { self.new.path ≡ self.old.path }
         ensures document { self.new.document.now ≡ self.old.document.now }
         ensures context { self.new.context ≡ self.old.context }
@@ -238,7 +238,7 @@ impl<'a> MarkdownPage<'a> {
     /// Puts what is behind the text of a link that leads somewhere.
     fn put_link_end<K: Sink>(&mut self, out: &mut K, element: Element)
         ensures puts { PutsTokens K.Sink out.old self.old.pen out.new self.new.pen
-            (end_tokens (address_at self.old.document.now element)) }
+            (link_end_tokens (address_at self.old.document.now element)) }
         ensures path { self.new.path ≡ self.old.path }
         ensures document { self.new.document.now ≡ self.old.document.now }
         ensures context { self.new.context ≡ self.old.context }

@@ -1,6 +1,6 @@
 // Units that are put together.
 ghost use Rattle.std.specs.Prelude.{◌≡◌, ℕ, ◌<◌, ◌≤◌, true, not, length, slice_index, if◌then◌else◌};
-ghost use Rattle.markdown_page.specs.Runs.{goes_on, is_closed, is_open, is_plain, is_within};
+ghost use Rattle.markdown_page.specs.Runs.{goes_on, is_closed_seam, is_open_line, is_plain, is_within_line};
 ghost use Rattle.markdown_page.specs.Shape.{is_white};
 
 use crate::context::{Context, Seam};
@@ -9,14 +9,14 @@ use markdown_text::LineState;
 
 /// Whether a line and what is before a place let units be written as they are.
 pub(crate) fn is_open(line: LineState, context: &Context) -> bool
-    ensures { result ≡ is_open line context.now }
+    ensures { result ≡ is_open_line line context.now }
 {
     is_within(line) && context.half.is_none() && !is_closed(context.seam)
 }
 
 /// Whether a line has text.
 fn is_within(line: LineState) -> bool
-    ensures { result ≡ is_within line }
+    ensures { result ≡ is_within_line line }
 {
     match line {
         LineState::Within => true,
@@ -26,7 +26,7 @@ fn is_within(line: LineState) -> bool
 
 /// Whether an emphasis ended there.
 fn is_closed(seam: Seam) -> bool
-    ensures { result ≡ is_closed seam }
+    ensures { result ≡ is_closed_seam seam }
 {
     match seam {
         Seam::Closed => true,

@@ -1,7 +1,8 @@
 // Places as Markdown has them.
 ghost use Rattle.std.specs.Prelude.{◌≡◌, ◌+◌, ◌≤◌, ◌++◌, [], false, filter, length};
 ghost use Rattle.std.specs.List.{cons_option};
-ghost use Rattle.markdown_page.specs.Shape.{inner_kind, is_from_note, is_space, is_to_note, is_white, keeps, kind_of};
+ghost use Rattle.markdown_page.specs.Shape.{inner_kind, is_from_note, is_space, is_to_note, is_white, keeps};
+ghost use Rattle.markdown_page.specs.Shape.{element_kind};
 ghost use Rattle.markdown_page.specs.Runs.{has_emphasis, is_emphasis, is_emphasis_in};
 ghost use Rattle.markdown_page.specs.Shape.{shaped_glyph, shaped_path, without_number};
 
@@ -26,7 +27,7 @@ pub enum Kind {
 
 /// What an element is to what is in it.
 fn kind_of(element: Element) -> Kind
-    ensures { result ≡ kind_of element }
+    ensures { result ≡ element_kind element }
 {
     match element {
         Element::Reference(_) => Kind::ToNote,
@@ -125,7 +126,7 @@ pub(crate) fn shaped_path(glyph: Option<Glyph>, to: &Path<Element>) -> Path<Elem
 /// Puts an element where it is kept.
 fn push_kept(path: &mut Path<Element>, element: Option<Element>, inner: Kind, space: bool)
     requires { length path.old + 1 ≤ MAX_DEPTH }
-    ensures { path.new ≡ path.old ++ filter (λ e. keeps inner space (kind_of e)) (cons_option element []) }
+    ensures { path.new ≡ path.old ++ filter (λ e. keeps inner space (element_kind e)) (cons_option element []) }
 {
     match element {
         None => {}

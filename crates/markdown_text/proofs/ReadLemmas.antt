@@ -10,7 +10,7 @@ use Rattle.markdown_text.specs.declared.line.LineState.{LineState}
 use Rattle.markdown_text.specs.declared.line.LineState.TheVariants.{Start, Digits, Within, Bracket, Colon}
 use Rattle.markdown_text.specs.Lines.{is_special, after_character, after_markup, after_markups, after_tag}
 use Rattle.markdown_text.specs.Tokens.{Token, Character, Markup, Tag, Destination, after_token, after_tokens, are_valid}
-use Rattle.markdown_text.specs.Tokens.{destination_code, destination_text, escaped, escaped_by, is_bracket}
+use Rattle.markdown_text.specs.Tokens.{destination_code, destination_text, escaped_in_line, escaped_by, is_bracket}
 use Rattle.markdown_text.specs.Tokens.{is_destination_markup, is_valid, printed_from, printed_token, reference}
 use Rattle.markdown_text.specs.Reading.{In_text, In_tag, In_destination, all_as_read, as_read, read_from}
 use Rattle.markdown_text.specs.Laws.{MarkdownIsReadBack, TextsAreReadBack}
@@ -35,7 +35,8 @@ none_of false false false false e = record { one = refl; two = refl; three = ref
 -- a character is read from what is printed for it
 abbrev IsRead : LineState → List ℕ → ℕ → Type 0
 IsRead state rest code =
-    read_from (In_text state) (escaped state code ++ rest) ≡ Character code ∷ read_from (In_text (after_character state
+    read_from (In_text state) (escaped_in_line state code ++ rest) ≡ Character code ∷ read_from (In_text
+    (after_character state
     code)) rest
 
 feed : (state : LineState) (rest : List ℕ) → IsRead state rest 10

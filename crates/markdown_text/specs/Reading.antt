@@ -17,8 +17,8 @@ pub data Reading : Type 0 where
   In_destination_escape : List ℕ → Reading
 
 -- the character of a reference; of one that is not known U+FFFD
-abbrev pub named : List ℕ → ℕ
-named name =
+abbrev pub numeric_code : List ℕ → ℕ
+numeric_code name =
     if bytes_eq name (codes "#32") then 32 else
     if bytes_eq name (codes "#9") then 9 else
     if bytes_eq name (codes "#10") then 10 else
@@ -43,7 +43,8 @@ read_from (In_tag state inner) (code ∷ rest) =
     read_from (In_tag state (inner ++ code ∷ [])) rest
 read_from (In_reference state name) [] = []
 read_from (In_reference state name) (code ∷ rest) =
-    if code == 59 then Character (named name) ∷ read_from (In_text (after_character state (named name))) rest else
+    if code == 59 then Character (numeric_code name) ∷ read_from (In_text (after_character state (numeric_code name)))
+    rest else
     read_from (In_reference state (name ++ code ∷ [])) rest
 read_from (In_destination url) [] = []
 read_from (In_destination url) (code ∷ rest) =

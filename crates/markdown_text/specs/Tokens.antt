@@ -36,8 +36,8 @@ abbrev pub escaped_by : Option (List ℕ) → Bool → ℕ → List ℕ
 escaped_by (Some text) special code = text
 escaped_by None special code = if special then 92 ∷ code ∷ [] else code ∷ []
 
-abbrev pub escaped : LineState → ℕ → List ℕ
-escaped state code = escaped_by (reference state code) (is_special state code) code
+abbrev pub escaped_in_line : LineState → ℕ → List ℕ
+escaped_in_line state code = escaped_by (reference state code) (is_special state code) code
 
 -- a destination ends with a parenthesis
 abbrev pub is_destination_markup : ℕ → Bool
@@ -51,7 +51,7 @@ destination_text url = flat_map destination_code url
 
 -- the characters of a token
 abbrev pub printed_token : LineState → Token → List ℕ
-printed_token state (Character code) = escaped state code
+printed_token state (Character code) = escaped_in_line state code
 printed_token state (Markup code) = code ∷ []
 printed_token state (Tag inner) = 60 ∷ (inner ++ 62 ∷ [])
 printed_token state (Destination url) = 40 ∷ (destination_text url ++ 41 ∷ [])

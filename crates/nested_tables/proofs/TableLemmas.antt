@@ -9,8 +9,9 @@ use Rattle.std.proofs.Math.Seq.{drop-cons}
 use Rattle.nested_tables.specs.declared.depths.Depth.{Depth}
 use Rattle.nested_tables.specs.declared.walk.NestedPlace.{NestedPlace}
 use Rattle.nested_tables.specs.declared.walk.Walk.{Walk}
-use Rattle.nested_tables.specs.Tables.{cells_of, ends_cell, ends_row, first_of, is_whole, is_within, keeps_row}
-use Rattle.nested_tables.specs.Tables.{own_place, place_by, place_in, places_from, walk_after, walk_of, whole_in}
+use Rattle.nested_tables.specs.Tables.{nested_row_cells, ends_cell, ends_row, first_of, is_whole_table, reaches_depth}
+use Rattle.nested_tables.specs.Tables.{keeps_row}
+use Rattle.nested_tables.specs.Tables.{own_place, place_by, nested_place_in, places_from, walk_after, walk_of, whole_in}
 
 -- what is from a place on
 rest_is : (paragraphs : List Depth) (k : ℕ) (one : Depth) → slice_get paragraphs k ≡ Some one → drop k paragraphs ≡ one ∷
@@ -25,24 +26,25 @@ rest_is paragraphs k one there =
 
 -- a paragraph that is so deep, one that is not, and none
 pub whole_step : (depth : ℕ) (ended : Bool) (paragraphs : List Depth) (k : ℕ) (one : Depth) →
-    slice_get paragraphs k ≡ Some one → is_within depth one ≡ true →
-    is_whole depth ended (drop k paragraphs) ≡ is_whole depth (ends_row depth one) (drop (k + 1) paragraphs)
-unfolding is_whole
+    slice_get paragraphs k ≡ Some one → reaches_depth depth one ≡ true →
+    is_whole_table depth ended (drop k paragraphs) ≡ is_whole_table depth (ends_row depth one) (drop (k + 1) paragraphs)
+unfolding is_whole_table
 whole_step depth ended paragraphs k one there within =
-    ap (is_whole depth ended) (rest_is paragraphs k one there)
-    ∙ ap (λ (b : Bool). if b then is_whole depth (ends_row depth one) (drop (k + 1) paragraphs) else ended) within
+    ap (is_whole_table depth ended) (rest_is paragraphs k one there)
+    ∙ ap (λ (b : Bool). if b then is_whole_table depth (ends_row depth one) (drop (k + 1) paragraphs) else ended) within
 
 pub whole_stop : (depth : ℕ) (ended : Bool) (paragraphs : List Depth) (k : ℕ) (one : Depth) →
-    slice_get paragraphs k ≡ Some one → is_within depth one ≡ false → is_whole depth ended (drop k paragraphs) ≡ ended
-unfolding is_whole
+    slice_get paragraphs k ≡ Some one → reaches_depth depth one ≡ false → is_whole_table depth ended (drop k paragraphs)
+    ≡ ended
+unfolding is_whole_table
 whole_stop depth ended paragraphs k one there within =
-    ap (is_whole depth ended) (rest_is paragraphs k one there)
-    ∙ ap (λ (b : Bool). if b then is_whole depth (ends_row depth one) (drop (k + 1) paragraphs) else ended) within
+    ap (is_whole_table depth ended) (rest_is paragraphs k one there)
+    ∙ ap (λ (b : Bool). if b then is_whole_table depth (ends_row depth one) (drop (k + 1) paragraphs) else ended) within
 
 pub whole_end : (depth : ℕ) (ended : Bool) (paragraphs : List Depth) (k : ℕ) → length paragraphs ≤ k →
-    is_whole depth ended (drop k paragraphs) ≡ ended
-unfolding is_whole
-whole_end depth ended paragraphs k past = ap (is_whole depth ended) (drop_of_length-le paragraphs past)
+    is_whole_table depth ended (drop k paragraphs) ≡ ended
+unfolding is_whole_table
+whole_end depth ended paragraphs k past = ap (is_whole_table depth ended) (drop_of_length-le paragraphs past)
 
 -- ---- walks
 
@@ -52,10 +54,11 @@ walk_of-cons depth paragraph before =
     let number : length (paragraph ∷ before) ≡ length before + 1 = omega arith in
     λ i. record {
       number = number i;
-      table = if is_within depth paragraph then first_of (is_within depth) before else length before + 1;
+      table = if reaches_depth depth paragraph then first_of (reaches_depth depth) before else length before + 1;
       row = if keeps_row depth paragraph then first_of (keeps_row depth) before else length before + 1;
       cell =
-          if keeps_row depth paragraph then cells_of depth before + (if ends_cell depth paragraph then 1 else 0) else 0;
+          if keeps_row depth paragraph then nested_row_cells depth before + (if ends_cell depth paragraph then 1 else 0)
+          else 0;
     }
 
 one_few : (b : Bool) → (if b then 1 else 0) ≤ 1
@@ -101,7 +104,7 @@ unfolding places_from
 places_on depth all places next walk after k one whole place there at whole_is place_is next_is after_is =
     let rest = drop (k + 1) all in
     let more = places_from depth (one ∷ at.before) rest in
-    let is : place ≡ place_in depth at.before one rest =
+    let is : place ≡ nested_place_in depth at.before one rest =
     place_is ∙ (λ i. place_by (whole_is i) (own_place depth (at.walk_is i) one)) in
     record {
       before = one ∷ at.before;

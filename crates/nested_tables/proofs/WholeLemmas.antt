@@ -9,7 +9,8 @@ use Rattle.std.proofs.lemmas.Option.{same_Some}
 use Rattle.nested_tables.specs.declared.depths.Depth.{Depth}
 use Rattle.nested_tables.specs.declared.walk.NestedPlace.{NestedPlace}
 use Rattle.nested_tables.specs.Laws.{IsRowEnded, TablesAreWhole}
-use Rattle.nested_tables.specs.Tables.{ends_row, first_of, is_whole, is_within, keeps_row, own_place, place_by, walk_of}
+use Rattle.nested_tables.specs.Tables.{ends_row, first_of, is_whole_table, reaches_depth, keeps_row, own_place}
+use Rattle.nested_tables.specs.Tables.{place_by, walk_of}
 use Rattle.nested_tables.specs.Tables.{whole_in}
 
 -- those that go on up to here
@@ -25,16 +26,17 @@ run_of goes_on (paragraph ∷ before) =
     [ true ↦ omega (arith, rest) | false ↦ omega arith ])
 
 -- a row ends with the last paragraph of a whole table
-whole_ends : (depth : ℕ) (first : Depth) (more : List Depth) → is_whole depth (ends_row depth first) more ≡ true →
-    IsRowEnded depth first (take_while (is_within depth) more)
-unfolding is_whole
+whole_ends : (depth : ℕ) (first : Depth) (more : List Depth) → is_whole_table depth (ends_row depth first) more ≡ true →
+    IsRowEnded depth first (take_while (reaches_depth depth) more)
+unfolding is_whole_table
 whole_ends depth first [] is = record { last = first; there = refl; ends = is }
 whole_ends depth first (next ∷ more) is =
-    let run : Bool → List Depth = λ b. if b then next ∷ take_while (is_within depth) more else [] in
-    let whole : Bool → Bool = λ b. if b then is_whole depth (ends_row depth next) more else ends_row depth first in
-    let front : take_while (is_within depth) (next ∷ more) ≡ run (is_within depth next) =
-    take_while-cons (is_within depth) next more in
-    elim (cases_Bool (is_within depth next)) [
+    let run : Bool → List Depth = λ b. if b then next ∷ take_while (reaches_depth depth) more else [] in
+    let whole : Bool → Bool = λ b. if b then is_whole_table depth (ends_row depth next) more else ends_row depth first
+    in
+    let front : take_while (reaches_depth depth) (next ∷ more) ≡ run (reaches_depth depth next) =
+    take_while-cons (reaches_depth depth) next more in
+    elim (cases_Bool (reaches_depth depth next)) [
       | inl within ↦
           let rest = whole_ends depth next more (sym (ap whole within) ∙ is) in
           subst (λ (xs : List Depth). IsRowEnded depth first xs) (sym (front ∙ ap run within))
@@ -65,15 +67,15 @@ place_is (Some false) own place is = absurd (cc (is))
 pub all_whole : TablesAreWhole
 all_whole depth before paragraph more place is =
     let own = own_place depth (walk_of depth before) paragraph in
-    let within = is_within depth paragraph in
-    let ended = is_whole depth (ends_row depth paragraph) more in
+    let within = reaches_depth depth paragraph in
+    let ended = is_whole_table depth (ends_row depth paragraph) more in
     let whole : whole_in depth paragraph more ≡ Some true = place_whole (whole_in depth paragraph more) own place is in
     let same : own ≡ place = place_is (whole_in depth paragraph more) own place is in
     record {
       deep = whole_deep within ended whole;
       table =
-          subst (λ (p : NestedPlace). p.table + length (take_while (is_within depth) before) ≡ length before) same
-          (run_of (is_within depth) before);
+          subst (λ (p : NestedPlace). p.table + length (take_while (reaches_depth depth) before) ≡ length before) same
+          (run_of (reaches_depth depth) before);
       row =
           subst (λ (p : NestedPlace). p.row + length (take_while (keeps_row depth) before) ≡ length before) same
           (run_of (keeps_row depth) before);

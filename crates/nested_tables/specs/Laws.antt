@@ -3,7 +3,7 @@ use Rattle.std.specs.Prelude.{◌≡◌, ℕ, ◌+◌, true, List, ◌∷◌, le
 use Rattle.std.specs.List.{take_while}
 use Rattle.nested_tables.specs.declared.depths.Depth.{Depth}
 use Rattle.nested_tables.specs.declared.walk.NestedPlace.{NestedPlace}
-use Rattle.nested_tables.specs.Tables.{ends_row, is_within, keeps_row, place_in}
+use Rattle.nested_tables.specs.Tables.{ends_row, reaches_depth, keeps_row, nested_place_in}
 
 -- a row ends with the last of some paragraphs
 pub record IsRowEnded (depth : ℕ) (first : Depth) (more : List Depth) : Type 0 where
@@ -16,13 +16,13 @@ pub record IsRowEnded (depth : ℕ) (first : Depth) (more : List Depth) : Type 0
 -- and a row ends with the last of those right behind it that are so deep
 pub record IsInTable (depth : ℕ) (before : List Depth) (paragraph : Depth) (more : List Depth)
     (place : NestedPlace) : Type 0 where
-  pub deep : is_within depth paragraph ≡ true
-  pub table : place.table + length (take_while (is_within depth) before) ≡ length before
+  pub deep : reaches_depth depth paragraph ≡ true
+  pub table : place.table + length (take_while (reaches_depth depth) before) ≡ length before
   pub row : place.row + length (take_while (keeps_row depth) before) ≡ length before
-  pub ends : IsRowEnded depth paragraph (take_while (is_within depth) more)
+  pub ends : IsRowEnded depth paragraph (take_while (reaches_depth depth) more)
 
 -- no table of a depth is there but a whole one
 abbrev pub TablesAreWhole : Type 0
 TablesAreWhole =
     (depth : ℕ) (before : List Depth) (paragraph : Depth) (more : List Depth) (place : NestedPlace) →
-    place_in depth before paragraph more ≡ Some place → IsInTable depth before paragraph more place
+    nested_place_in depth before paragraph more ≡ Some place → IsInTable depth before paragraph more place

@@ -1,6 +1,6 @@
 // How deep paragraphs are in tables.
 ghost use Rattle.std.specs.Prelude.{◌≡◌, ◌++◌, [], ◌∷◌, OnOk};
-ghost use Rattle.nested_tables.specs.Tables.{ends_cell, ends_row, is_within, keeps_row};
+ghost use Rattle.nested_tables.specs.Tables.{ends_cell, ends_row, reaches_depth, keeps_row};
 
 use doc_bits::Memory;
 use std::alloc::Global;
@@ -20,7 +20,7 @@ pub struct Depth {
 impl Depth {
     /// Whether it is at least so deep.
     pub(crate) fn is_within(self, depth: u32) -> bool
-        ensures { result ≡ is_within depth self }
+        ensures { result ≡ reaches_depth depth self }
     {
         depth <= self.depth
     }

@@ -1,7 +1,8 @@
 // Where the paragraphs of a text are in tables inside of cells.
 ghost use Rattle.std.specs.Prelude.{◌≡◌, ◌++◌, [], ◌∷◌, IfOk, OnOk};
 ghost use Rattle.std.specs.List.{list_any};
-ghost use Rattle.nested_tables.specs.Tables.{is_within, no_tables, place_at, places_at, places_from, places_of};
+ghost use Rattle.nested_tables.specs.Tables.{reaches_depth, no_nested_tables, nested_place_at, places_at, places_from};
+ghost use Rattle.nested_tables.specs.Tables.{nested_places_of};
 ghost use Rattle.nested_tables.specs.Tables.{tables_of};
 
 use crate::depths::{Depth, Depths};
@@ -51,7 +52,7 @@ impl Places {
 
     /// That of the paragraph with this number.
     fn get(&self, number: usize) -> Option<NestedPlace>
-        ensures { result ≡ place_at self.now number }
+        ensures { result ≡ nested_place_at self.now number }
     {
         match self.items.get(number) {
             None => None,
@@ -70,7 +71,7 @@ pub struct NestedTables {
 impl NestedTables {
     /// Of no paragraph.
     pub fn new(alloc: Global) -> NestedTables
-        ensures { result ≡ no_tables }
+        ensures { result ≡ no_nested_tables }
     {
         NestedTables {
             second: Places::new(alloc),
@@ -101,7 +102,7 @@ impl NestedTables {
 
 /// Where paragraphs are in the tables of a depth.
 fn places_of(alloc: Global, paragraphs: &[Depth], depth: u32) -> Result<Places, Memory>
-    ensures { IfOk result (λ places. places ≡ places_of depth paragraphs.now) }
+    ensures { IfOk result (λ places. places ≡ nested_places_of depth paragraphs.now) }
 {
     if !is_some_within(paragraphs, depth) {
         return Ok(Places::new(alloc));
@@ -111,7 +112,7 @@ fn places_of(alloc: Global, paragraphs: &[Depth], depth: u32) -> Result<Places, 
 
 /// Whether a paragraph is at least so deep.
 fn is_some_within(paragraphs: &[Depth], depth: u32) -> bool
-    ensures { result ≡ list_any (is_within depth) paragraphs.now }
+    ensures { result ≡ list_any (reaches_depth depth) paragraphs.now }
 {
     for one in paragraphs {
         if one.is_within(depth) {

@@ -3,7 +3,8 @@ ghost use Rattle.std.specs.Prelude.{◌≡◌, ◌+◌, ◌^◌, ◌<◌, ◌≤
 ghost use Rattle.std.specs.Prelude.{Bool, Some};
 ghost use Rattle.std.specs.Prelude.{true};
 ghost use Rattle.nested_tables.specs.declared.depths.Depth.{Depth};
-ghost use Rattle.nested_tables.specs.Tables.{cell_in, ends_cell, ends_row, is_whole, is_within, own_place, place_by};
+ghost use Rattle.nested_tables.specs.Tables.{cell_in, ends_cell, ends_row, is_whole_table, reaches_depth, own_place};
+ghost use Rattle.nested_tables.specs.Tables.{place_by};
 ghost use Rattle.nested_tables.specs.Tables.{walk_after, whole_in};
 
 use crate::depths::Depth;
@@ -132,8 +133,8 @@ pub(crate) fn whole_at(
     known: Option<bool>,
 ) -> Option<bool>
     requires there { number < length paragraphs.now }
-    requires known { (whole : Bool) → is_within depth one ≡ true → known ≡ Some whole
-        → whole ≡ is_whole depth (ends_row depth one) (drop (number + 1) paragraphs.now) }
+    requires known { (whole : Bool) → reaches_depth depth one ≡ true → known ≡ Some whole
+        → whole ≡ is_whole_table depth (ends_row depth one) (drop (number + 1) paragraphs.now) }
     ensures { result ≡ whole_in depth one (drop (number + 1) paragraphs.now) }
 {
     if one.is_within(depth) {
@@ -153,8 +154,8 @@ fn whole_behind(
 ) -> bool
     requires there { number < length paragraphs.now }
     requires known { (whole : Bool) → known ≡ Some whole
-        → whole ≡ is_whole depth (ends_row depth one) (drop (number + 1) paragraphs.now) }
-    ensures { result ≡ is_whole depth (ends_row depth one) (drop (number + 1) paragraphs.now) }
+        → whole ≡ is_whole_table depth (ends_row depth one) (drop (number + 1) paragraphs.now) }
+    ensures { result ≡ is_whole_table depth (ends_row depth one) (drop (number + 1) paragraphs.now) }
 {
     match known {
         Some(whole) => whole,
@@ -165,7 +166,7 @@ fn whole_behind(
 /// Whether the last one of the paragraphs from one on that are so deep ends a row, behind one that does or does not.
 fn is_whole(paragraphs: &[Depth], depth: u32, from: usize, ended: bool) -> bool
     requires { from ≤ length paragraphs.now }
-    ensures { result ≡ is_whole depth ended (drop from paragraphs.now) }
+    ensures { result ≡ is_whole_table depth ended (drop from paragraphs.now) }
 {
     let mut last = ended;
     for number in from..paragraphs.len() {

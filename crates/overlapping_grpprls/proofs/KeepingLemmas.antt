@@ -19,11 +19,11 @@ use Rattle.sprm_table.specs.Codes.{is_held, class_of, is_property, is_clear, IsR
 use Rattle.sprm_table.specs.Sprm.{Prl, IsPrl, spelling, SpellsSprmList, IsAcceptedList}
 use Rattle.prop_map.specs.Settings.{Properties}
 use Rattle.prop_map.specs.Formed.{IsPropertyMap}
-use Rattle.prop_map.specs.Acting.{is_kept, sets_code, left_by, value_after, ArePropertiesAfter}
+use Rattle.prop_map.specs.Acting.{is_kept_by_plain, sets_code, left_by, value_after, ArePropertiesAfter}
 use Rattle.prop_map.proofs.Public.{value_after-append}
 use Rattle.overlapping_grpprls.specs.declared.ranges.ListRange.{ListRange}
 use Rattle.overlapping_grpprls.specs.declared.walk.WalkEntry.{WalkEntry}
-use Rattle.overlapping_grpprls.specs.Walks.{prl_of, list_at, IsEntry, ComesBy}
+use Rattle.overlapping_grpprls.specs.Walks.{prl_of, list_bytes_at, IsWalkEntry, ComesBy}
 use Rattle.overlapping_grpprls.specs.Keeping.{kept_from, IsKeptEntry, IsKeptFrom, IsKeeping, IsForgotten, IsMadeBy}
 use Rattle.overlapping_grpprls.specs.Keeping.{HasCode}
 use Rattle.overlapping_grpprls.specs.Keeping.{AreKeptOf}
@@ -43,7 +43,7 @@ one_case true same sets true kept prl before none is = absurd (cc (none))
 one_entry : (groups code : ℕ) (prl : Prl) (before : Option (List ℕ)) → is_clear (class_of prl.0) ≡ false →
     value_after (prl ∷ []) groups code before ≡ cond (sets_code groups code prl) (Some prl.1) before
 one_entry groups code prl before clear = one_case (is_held groups prl.0) (code == prl.0) (is_property (class_of prl.0))
-    (is_clear (class_of prl.0)) (is_kept code) prl before clear refl
+    (is_clear (class_of prl.0)) (is_kept_by_plain code) prl before clear refl
 
 -- ---- of the kept entries, those from a place on
 
@@ -172,7 +172,7 @@ without P (x ∷ front) gone back all = All-cons P x (front ++ back) (All-head P
     (without P front gone back (All-tail P x (front ++ (gone ++ back)) all))
 
 kept_more : (stream : List ℕ) (groups at from : ℕ) (entry : WalkEntry) (kept rest : List WalkEntry) →
-    is_clear (class_of entry.code.0) ≡ false → IsEntry stream groups at entry → IsForgotten kept entry.code.0 rest →
+    is_clear (class_of entry.code.0) ≡ false → IsWalkEntry stream groups at entry → IsForgotten kept entry.code.0 rest →
     IsKeptFrom stream groups kept at from → IsKeptFrom stream groups (rest ++ entry ∷ []) entry.to from
 kept_more stream groups at from entry kept rest clear is forgotten k =
     let prl : Prl = prl_of stream entry in
@@ -191,7 +191,7 @@ kept_more stream groups at from entry kept rest clear is forgotten k =
     }
 
 kept_each : (stream : List ℕ) (groups at : ℕ) (entry : WalkEntry) (kept rest : List WalkEntry) (places : List ℕ) →
-    is_clear (class_of entry.code.0) ≡ false → IsEntry stream groups at entry → IsForgotten kept entry.code.0 rest →
+    is_clear (class_of entry.code.0) ≡ false → IsWalkEntry stream groups at entry → IsForgotten kept entry.code.0 rest →
     All (IsKeptFrom stream groups kept at) places →
     All (IsKeptFrom stream groups (rest ++ entry ∷ []) entry.to) places
 kept_each stream groups at entry kept rest places clear is forgotten all =
@@ -200,7 +200,7 @@ kept_each stream groups at entry kept rest places clear is forgotten all =
 
 -- an entry more
 pub keeping_more : (stream : List ℕ) (groups at : ℕ) (entry : WalkEntry) (places : List ℕ)
-    (kept rest : List WalkEntry) → is_clear (class_of entry.code.0) ≡ false → IsEntry stream groups at entry →
+    (kept rest : List WalkEntry) → is_clear (class_of entry.code.0) ≡ false → IsWalkEntry stream groups at entry →
     IsForgotten kept entry.code.0 rest → IsKeeping stream groups at places kept →
     IsKeeping stream groups entry.to (places ++ entry.to ∷ []) (rest ++ entry ∷ [])
 keeping_more stream groups at entry places kept rest clear is forgotten keeping =
@@ -214,7 +214,7 @@ keeping_more stream groups at entry places kept rest clear is forgotten keeping 
     let entries = All-push (IsKeptEntry stream groups entry.to) rest entry
     (All-weaker (IsKeptEntry stream groups at) (IsKeptEntry stream groups entry.to)
     (λ (e : WalkEntry) k. let before = k.before in record { is = k.is; before = omega arith }) rest old)
-    (record { is = subst (λ n. IsEntry stream groups n entry) (sym place) is; before = omega arith }) in
+    (record { is = subst (λ n. IsWalkEntry stream groups n entry) (sym place) is; before = omega arith }) in
     let none = none_from stream entry.to (rest ++ entry ∷ []) (All-weaker (IsKeptEntry stream groups entry.to)
     (λ (e : WalkEntry). e.at < entry.to) (λ (e : WalkEntry) k. k.before) (rest ++ entry ∷ []) entries) in
     record {
@@ -270,7 +270,7 @@ kept_accepted stream groups at from kept all =
 pub walked_map : (stream : List ℕ) (groups : ℕ) (range : ListRange) (at : ℕ) (places : List ℕ)
     (kept : List WalkEntry) (made : Properties) → IsKeeping stream groups at places kept →
     ComesBy stream range at places → ArePropertiesAfter (kept_from stream range.from kept) groups empty made →
-    IsPropertyMap groups made → IsMadeBy (list_at stream range) groups made
+    IsPropertyMap groups made → IsMadeBy (list_bytes_at stream range) groups made
 walked_map stream groups range at places kept made keeping comes acted formed =
     let has = comes.there in
     let k = All_at (IsKeptFrom stream groups kept at) places has.number range.from keeping.each has.here in

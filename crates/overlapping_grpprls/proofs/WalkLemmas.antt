@@ -13,7 +13,7 @@ use Rattle.sprm_table.specs.Sprm.{Prl, IsPrl, spelling, EndsSprmList, SpellsUpTo
 use Rattle.sprm_table.specs.Sprm.{IsAcceptedList}
 use Rattle.overlapping_grpprls.specs.declared.ranges.ListRange.{ListRange}
 use Rattle.overlapping_grpprls.specs.declared.walk.WalkEntry.{WalkEntry}
-use Rattle.overlapping_grpprls.specs.Walks.{prl_of, IsEntry, Leads, LeadsFrom, IsWalk, ComesBy, list_at}
+use Rattle.overlapping_grpprls.specs.Walks.{prl_of, IsWalkEntry, Leads, LeadsFrom, IsPrlWalk, ComesBy, list_bytes_at}
 
 -- no entries lead from a place to itself
 pub leads_none : (stream : List ℕ) (groups at : ℕ) → Leads stream groups at at []
@@ -33,7 +33,7 @@ moved stream from at order =
 
 -- an entry more
 pub leads_more : (stream : List ℕ) (groups from at : ℕ) (entry : WalkEntry) (list : List Prl) →
-    Leads stream groups from at list → IsEntry stream groups at entry →
+    Leads stream groups from at list → IsWalkEntry stream groups at entry →
     Leads stream groups from entry.to (list ++ prl_of stream entry ∷ [])
 leads_more stream groups from at entry list leads is =
     let next = entry.to in
@@ -67,7 +67,7 @@ leads_more stream groups from at entry list leads is =
 
 -- every place that was reached leads on, and the new one is reached
 reached_more : (stream : List ℕ) (groups at : ℕ) (entry : WalkEntry) (places : List ℕ) →
-    IsEntry stream groups at entry → All (LeadsFrom stream groups at) places →
+    IsWalkEntry stream groups at entry → All (LeadsFrom stream groups at) places →
     All (LeadsFrom stream groups entry.to) places
 reached_more stream groups at entry [] is all = All-nil (LeadsFrom stream groups entry.to)
 reached_more stream groups at entry (place ∷ places) is all =
@@ -80,8 +80,8 @@ reached_more stream groups at entry (place ∷ places) is all =
     (reached_more stream groups at entry places is (All-tail (LeadsFrom stream groups at) place places all))
 
 pub walk_more : (stream : List ℕ) (groups at : ℕ) (entry : WalkEntry) (places : List ℕ) →
-    IsEntry stream groups at entry → IsWalk stream groups at places →
-    IsWalk stream groups entry.to (places ++ entry.to ∷ [])
+    IsWalkEntry stream groups at entry → IsPrlWalk stream groups at places →
+    IsPrlWalk stream groups entry.to (places ++ entry.to ∷ [])
 walk_more stream groups at entry places is walk = record {
   within = is.here.within;
   reached = All-push (LeadsFrom stream groups entry.to) places entry.to (reached_more stream groups at entry places is
@@ -89,7 +89,7 @@ walk_more stream groups at entry places is walk = record {
 }
 
 -- a walk that begins
-pub walk_new : (stream : List ℕ) (groups start : ℕ) → start ≤ length stream → IsWalk stream groups start (start ∷ [])
+pub walk_new : (stream : List ℕ) (groups start : ℕ) → start ≤ length stream → IsPrlWalk stream groups start (start ∷ [])
 walk_new stream groups start within = record {
   within = within;
   reached = All-push (LeadsFrom stream groups start) [] start (All-nil (LeadsFrom stream groups start))
@@ -133,7 +133,8 @@ list_spelt stream groups from at to list leads within ends =
 
 -- the same of a place of the walk
 pub right_at : (stream : List ℕ) (groups : ℕ) (range : ListRange) (at : ℕ) (places : List ℕ) →
-    IsWalk stream groups at places → ComesBy stream range at places → IsAcceptedList (list_at stream range) groups
+    IsPrlWalk stream groups at places → ComesBy stream range at places → IsAcceptedList (list_bytes_at stream range)
+    groups
 right_at stream groups range at places walk comes =
     let has = comes.there in
     let reached = All_at (LeadsFrom stream groups at) places has.number range.from walk.reached has.here in

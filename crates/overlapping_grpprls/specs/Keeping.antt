@@ -9,7 +9,7 @@ use Rattle.prop_map.specs.Acting.{value_after, ArePropertiesAfter}
 use Rattle.overlapping_grpprls.specs.declared.ranges.ListRange.{ListRange}
 use Rattle.overlapping_grpprls.specs.declared.walk.WalkEntry.{WalkEntry}
 use Rattle.overlapping_grpprls.specs.declared.maps.WalkedMap.{WalkedMap}
-use Rattle.overlapping_grpprls.specs.Walks.{list_at, prl_of, IsEntry, Leads}
+use Rattle.overlapping_grpprls.specs.Walks.{list_bytes_at, prl_of, IsWalkEntry, Leads}
 
 -- what a list makes of no properties
 pub record IsMadeBy (list : List ℕ) (groups : ℕ) (made : Properties) : Type 0 where
@@ -20,7 +20,7 @@ pub record IsMadeBy (list : List ℕ) (groups : ℕ) (made : Properties) : Type 
 
 -- the map of a list
 abbrev pub IsWalkedMap : List ℕ → ℕ → WalkedMap → Type 0
-IsWalkedMap stream groups walked = IsMadeBy (list_at stream walked.range) groups walked.map
+IsWalkedMap stream groups walked = IsMadeBy (list_bytes_at stream walked.range) groups walked.map
 
 -- of the entries that were kept, those from a place on
 abbrev pub kept_from : List ℕ → ℕ → List WalkEntry → List Prl
@@ -28,7 +28,7 @@ kept_from stream from kept = map (prl_of stream) (filter (λ entry. leb from ent
 
 -- an entry that was kept is before the place
 pub record IsKeptEntry (stream : List ℕ) (groups at : ℕ) (entry : WalkEntry) : Type 0 where
-  pub is : IsEntry stream groups entry.at entry
+  pub is : IsWalkEntry stream groups entry.at entry
   pub before : entry.at < at
 
 -- the kept entries from a place on act as all the entries from there to the other
@@ -64,4 +64,4 @@ pub record AreKeptOf (stream : List ℕ) (groups : ℕ) (range : ListRange) (kep
   pub entries : All (IsKeptEntry stream groups at) kept
   pub made_by :
       (made : Properties) → ArePropertiesAfter (kept_from stream range.from kept) groups empty made →
-      IsPropertyMap groups made → IsMadeBy (list_at stream range) groups made
+      IsPropertyMap groups made → IsMadeBy (list_bytes_at stream range) groups made

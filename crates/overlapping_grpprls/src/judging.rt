@@ -1,7 +1,7 @@
 // Lists that lie over one another, checked at once.
 ghost use Rattle.std.specs.Prelude.{IfOk, OnOk};
 ghost use Rattle.std.specs.List.{All};
-ghost use Rattle.overlapping_grpprls.specs.Walks.{IsValidList, IsWalk};
+ghost use Rattle.overlapping_grpprls.specs.Walks.{IsAcceptedRange, IsPrlWalk};
 
 use crate::ListRange;
 use crate::ranges::{
@@ -22,7 +22,7 @@ pub fn right_lists(
     ranges: &[ListRange],
     groups: u8,
 ) -> Result<Vec<ListRange>, Memory>
-    ensures { IfOk result (λ right. All (IsValidList stream.now groups) right.items) }
+    ensures { IfOk result (λ right. All (IsAcceptedRange stream.now groups) right.items) }
 {
     let lists = Lists {
         stream,
@@ -49,8 +49,8 @@ fn check_group(
     done: &mut [bool],
     right: &mut Vec<ListRange>,
 ) -> Result<(), Memory>
-    requires { All (IsValidList lists.now.stream.now lists.now.groups) right.old.items }
-    ensures { OnOk result (All (IsValidList lists.now.stream.now lists.now.groups) right.new.items) }
+    requires { All (IsAcceptedRange lists.now.stream.now lists.now.groups) right.old.items }
+    ensures { OnOk result (All (IsAcceptedRange lists.now.stream.now lists.now.groups) right.new.items) }
 {
     if group.len() < 2 {
         return Ok(());
@@ -77,8 +77,8 @@ fn check_walk(
     done: &mut [bool],
     right: &mut Vec<ListRange>,
 ) -> Result<(), Memory>
-    requires { All (IsValidList lists.now.stream.now lists.now.groups) right.old.items }
-    ensures { OnOk result (All (IsValidList lists.now.stream.now lists.now.groups) right.new.items) }
+    requires { All (IsAcceptedRange lists.now.stream.now lists.now.groups) right.old.items }
+    ensures { OnOk result (All (IsAcceptedRange lists.now.stream.now lists.now.groups) right.new.items) }
 {
     if lists.stream.len() < start {
         return Ok(());
@@ -102,9 +102,9 @@ fn check(
     places: &[usize],
     right: &mut Vec<ListRange>,
 ) -> Result<bool, Memory>
-    requires walk { IsWalk lists.now.stream.now lists.now.groups at places.now }
-    requires right { All (IsValidList lists.now.stream.now lists.now.groups) right.old.items }
-    ensures { OnOk result (All (IsValidList lists.now.stream.now lists.now.groups) right.new.items) }
+    requires walk { IsPrlWalk lists.now.stream.now lists.now.groups at places.now }
+    requires right { All (IsAcceptedRange lists.now.stream.now lists.now.groups) right.old.items }
+    ensures { OnOk result (All (IsAcceptedRange lists.now.stream.now lists.now.groups) right.new.items) }
 {
     let range = ListRange {
         from: end.from,

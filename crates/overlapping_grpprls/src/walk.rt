@@ -1,7 +1,7 @@
 // A walk from entry to entry of a stream, and the lists that it comes by.
 ghost use Rattle.std.specs.Prelude.{◌≤◌, length, IsTrue, IfSome, IfOk};
 ghost use Rattle.sprm_table.specs.Sprm.{EndsSprmList};
-ghost use Rattle.overlapping_grpprls.specs.Walks.{IsEntry, IsWalk, HasPlace, ComesBy};
+ghost use Rattle.overlapping_grpprls.specs.Walks.{IsWalkEntry, IsPrlWalk, IsAmongPlaces, ComesBy};
 
 use crate::ListRange;
 use crate::ranges::Lists;
@@ -20,7 +20,7 @@ pub(crate) struct WalkEntry {
 /// The entry at a place. Nothing where it is refused, or where none is there.
 pub(crate) fn entry_at(lists: &Lists<'_>, at: usize) -> Option<WalkEntry>
     requires { at ≤ length lists.now.stream.now }
-    ensures { IfSome result (IsEntry lists.now.stream.now lists.now.groups at) }
+    ensures { IfSome result (IsWalkEntry lists.now.stream.now lists.now.groups at) }
 {
     let mut prls = SprmIter::new(&lists.stream[at..]);
     let (code, from, to) = prls.next()?;
@@ -42,8 +42,8 @@ pub(crate) fn advance(
     to: usize,
     places: &mut Vec<usize>,
 ) -> Result<usize, Memory>
-    requires { IsWalk lists.now.stream.now lists.now.groups at places.old.items }
-    ensures { IfOk result (λ at. IsWalk lists.now.stream.now lists.now.groups at places.new.items) }
+    requires { IsPrlWalk lists.now.stream.now lists.now.groups at places.old.items }
+    ensures { IfOk result (λ at. IsPrlWalk lists.now.stream.now lists.now.groups at places.new.items) }
 {
     let mut here = at;
     while let Some(entry) = entry_at(lists, here) {
@@ -81,7 +81,7 @@ fn ends_list(rest: &[u8]) -> bool
 
 /// Whether the place is one of these, which ascend.
 fn has_place(places: &[usize], place: usize) -> bool
-    ensures { IsTrue result → HasPlace places.now place }
+    ensures { IsTrue result → IsAmongPlaces places.now place }
 {
     let mut low = 0;
     let mut high = places.len();

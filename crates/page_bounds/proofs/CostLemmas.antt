@@ -12,7 +12,7 @@ use Rattle.std.proofs.lemmas.List.{map-append}
 use Rattle.std.proofs.lemmas.List.Elements.{All-head, All-tail}
 use Rattle.list_numbers.specs.declared.paragraph_values.ListLabel.{ListLabel}
 use Rattle.list_numbers.specs.declared.paragraph_values.ParagraphValues.{ParagraphValues}
-use Rattle.view_paths.specs.Paths.{Place, behind, last_path}
+use Rattle.view_paths.specs.Paths.{PathPlace, behind_shared, last_path}
 use Rattle.view_paths.specs.Openings.{opened_from}
 use Rattle.view_paths.proofs.Public.{behind_less, glyph_cost, opened-append, opened_less, opened_on, opened_within}
 use Rattle.view_paths.proofs.Public.{shown_cost, shown_within, total, total-append, total-both, total-less, within}
@@ -25,18 +25,19 @@ use Rattle.view_places.specs.Same.{same}
 use Rattle.view_places.specs.SameLaws.{same_exact}
 use Rattle.view_places.proofs.Public.{AreFew, IsOuter, IsSmall, few_cost, heavy, outer_small}
 use Rattle.doc_view.specs.declared.reading.Seen.{Seen}
-use Rattle.doc_view.specs.declared.references.Reference.{Reference}
 use Rattle.doc_view.specs.Glyphs.{control_glyph, is_windows, unit_glyph, windows_unit}
 use Rattle.doc_view.specs.Labels.{label_glyph, label_glyphs}
 use Rattle.doc_view.specs.Seen.{Paragraph, is_here, some_shown}
 use Rattle.doc_view.proofs.Public.{IsSmall as IsSmallGlyph, IsShort, IsShortIn, IsShortLabel, IsSmallIn, IsSmallNumber}
 use Rattle.doc_view.proofs.Public.{IsSmallSeen}
 use Rattle.doc_places.specs.declared.lists.ListItem.{ListItem}
-use Rattle.doc_places.specs.Looks.{item_in, label_units, shown_units, units_of_label}
-use Rattle.doc_places.specs.Places.{Hypertext, Places, anchor_places, bare, count_of, inline_elements, item_places}
-use Rattle.doc_places.specs.Places.{items_places, label_of, label_places, link_elements, paragraph_places, place_of}
-use Rattle.doc_places.specs.Places.{shown}
+use Rattle.doc_places.specs.Looks.{item_in, label_units, shown_label_units, units_of_label}
+use Rattle.doc_places.specs.Places.{Hypertext, Places, anchor_places, bare_place, count_of, inline_elements}
+use Rattle.doc_places.specs.Places.{item_places}
+use Rattle.doc_places.specs.Places.{items_places, label_of, label_places, link_elements, paragraph_places, glyph_place}
+use Rattle.doc_places.specs.Places.{shown_place}
 use Rattle.doc_places.proofs.Public.{few_bare, few_inline}
+use Rattle.doc_html.proofs.Public.{count_few}
 
 -- ---- lists
 
@@ -64,7 +65,7 @@ each {A = A} count (x ∷ xs) =
 -- of an
 -- element with small numbers, of one that is heavy beyond that, of a glyph, and of one of a label
 pub record Costs : Type 0 where
-  pub shape : Place Element Glyph → Place Element Glyph
+  pub shape : PathPlace Element Glyph → PathPlace Element Glyph
   pub outer : List Element → List Element
   pub cost : Element → ℕ
   pub show : Glyph → ℕ
@@ -83,13 +84,13 @@ pub record AreSmall (c : Costs) : Type 0 where
 -- a block is shaped by itself, and nothing costs more
 pub record IsShape (c : Costs) : Type 0 where
   pub inside :
-      (block : List Element) → All IsOuter block → (place : Place Element Glyph) →
+      (block : List Element) → All IsOuter block → (place : PathPlace Element Glyph) →
       c.shape (within block place) ≡ within (c.outer block) (c.shape place)
   pub less_outer : (block : List Element) → total c.cost (c.outer block) ≤ total c.cost block
-  pub less_path : (place : Place Element Glyph) → total c.cost (c.shape place).path ≤ total c.cost place.path
-  pub less_shown : (place : Place Element Glyph) → glyph_cost c.show (c.shape place).glyph ≤ glyph_cost c.show
+  pub less_path : (place : PathPlace Element Glyph) → total c.cost (c.shape place).path ≤ total c.cost place.path
+  pub less_shown : (place : PathPlace Element Glyph) → glyph_cost c.show (c.shape place).glyph ≤ glyph_cost c.show
       place.glyph
-  pub label : (glyph : Glyph) → (c.shape (shown (Label ∷ []) glyph)).path ≡ Label ∷ []
+  pub label : (glyph : Glyph) → (c.shape (shown_place (Label ∷ []) glyph)).path ≡ Label ∷ []
 
 -- what places cost behind a path
 abbrev pub cost_from : Costs → List Element → Places → ℕ
@@ -112,11 +113,11 @@ cost-append c before xs ys =
       ap (λ (places : Places). total c.cost (opened_from same before places) + shown_cost c.show places) both,
       ap (total c.cost) (opened-append same before first second),
       total-append c.cost (opened_from same before first) (opened_from same (last_path before first) second),
-      total-append (λ (place : Place Element Glyph). glyph_cost c.show place.glyph) first second,
+      total-append (λ (place : PathPlace Element Glyph). glyph_cost c.show place.glyph) first second,
     )
 
 -- the paths of places, and what is shown there
-abbrev place_cost : Costs → Place Element Glyph → ℕ
+abbrev place_cost : Costs → PathPlace Element Glyph → ℕ
 place_cost c place = total c.cost place.path + glyph_cost c.show place.glyph
 
 shaped_less : (c : Costs) → IsShape c → (places : Places) → total (place_cost c) (map c.shape places) ≤ total
@@ -136,18 +137,19 @@ cost_each c shape before places =
     omega (
       arith,
       opened_less same c.cost before all,
-      total-both (λ (place : Place Element Glyph). total c.cost place.path) (λ place. glyph_cost c.show place.glyph)
+      total-both (λ (place : PathPlace Element Glyph). total c.cost place.path) (λ place. glyph_cost c.show place.glyph)
           all,
       shaped_less c shape places,
     )
 
 -- one place
-pub one_cost : (c : Costs) → IsShape c → (before path : List Element) (glyph : Glyph) → cost_from c before (shown path
+pub one_cost : (c : Costs) → IsShape c → (before path : List Element) (glyph : Glyph) → cost_from c before (shown_place
+    path
     glyph ∷
     []) ≤ total c.cost path + c.show glyph
 one_cost c shape before path glyph =
-    let long : total (place_cost c) (shown path glyph ∷ []) ≤ total c.cost path + c.show glyph = omega arith in
-    omega (arith, long, cost_each c shape before (shown path glyph ∷ []))
+    let long : total (place_cost c) (shown_place path glyph ∷ []) ≤ total c.cost path + c.show glyph = omega arith in
+    omega (arith, long, cost_each c shape before (shown_place path glyph ∷ []))
 
 -- ---- items
 
@@ -164,7 +166,7 @@ one_item : (c : Costs) → AreSmall c → (link : Option Link) (count : ℕ) (se
 one_item c small link count seen few low =
     where_shown seen.is_shown seen.glyph few.glyph
   where
-    some : (there : Option Glyph) → IsSmallIn there → total (place_cost c) (place_of [] link count seen there ∷ []) ≤
+    some : (there : Option Glyph) → IsSmallIn there → total (place_cost c) (glyph_place [] link count seen there ∷ []) ≤
         item_cost c
     some None few =
         let path = link_elements link in
@@ -182,14 +184,10 @@ one_item c small link count seen few low =
         long
 
     where_shown : (is_shown : Bool) (there : Option Glyph) → IsSmallIn there → total (place_cost c) (if is_shown then
-        place_of
+        glyph_place
         [] link count seen there ∷ [] else []) ≤ item_cost c
     where_shown true there few = some there few
     where_shown false there few = omega arith
-
-count_less : (reference : Option Reference) → count_of reference ≤ 1
-count_less None = omega arith
-count_less (Some reference) = omega arith
 
 items_cost : (c : Costs) → AreSmall c → (links : ℕ → Option Link) (count place : ℕ) (seen : List Seen) → All
     IsSmallSeen seen
@@ -200,16 +198,16 @@ unfolding items_places
 items_cost c small links count place [] few low = omega arith
 items_cost c small links count place (seen ∷ more) few low =
     let here = item_places [] (links place) count seen in
-    let behind = count + count_of seen.reference in
-    let rest = items_places links [] behind (place + 1) more in
+    let behind_shared = count + count_of seen.reference in
+    let rest = items_places links [] behind_shared (place + 1) more in
     let long : total (place_cost c) (here ++ rest) ≤ item_cost c + total (λ (one : Seen). item_cost c) more =
     omega (
       arith,
       one_item c small (links place) count seen (All-head IsSmallSeen seen more few) (omega (arith, low)),
-      items_cost c small links behind (place + 1) more (All-tail IsSmallSeen seen more few) (omega (
+      items_cost c small links behind_shared (place + 1) more (All-tail IsSmallSeen seen more few) (omega (
         arith,
         low,
-        count_less
+        count_few
             seen.reference,
       )),
       total-append (place_cost c) here rest,
@@ -267,8 +265,8 @@ glyphs_cost c small (code ∷ units) =
     long
 
 -- glyphs of a label, one by one
-abbrev label_place : Costs → Glyph → Place Element Glyph
-label_place c glyph = c.shape (shown (Label ∷ []) glyph)
+abbrev label_place : Costs → Glyph → PathPlace Element Glyph
+label_place c glyph = c.shape (shown_place (Label ∷ []) glyph)
 
 shown_label : (c : Costs) → IsShape c → (glyphs : List Glyph) → shown_cost c.show (map (label_place c) glyphs) ≤ total
     c.show
@@ -278,7 +276,7 @@ shown_label c shape (glyph ∷ glyphs) =
     let long : glyph_cost c.show (label_place c glyph).glyph + shown_cost c.show (map (label_place c) glyphs) ≤ c.show
     glyph +
     total c.show glyphs =
-    omega (arith, shape.less_shown (shown (Label ∷ []) glyph), shown_label c shape glyphs) in
+    omega (arith, shape.less_shown (shown_place (Label ∷ []) glyph), shown_label c shape glyphs) in
     long
 
 opened_label : (c : Costs) → IsShape c → (before : List Element) (glyphs : List Glyph) → total c.cost (opened_from same
@@ -286,7 +284,7 @@ opened_label : (c : Costs) → IsShape c → (before : List Element) (glyphs : L
 opened_label c shape before [] = omega arith
 opened_label c shape before (glyph ∷ glyphs) =
     let path = Label ∷ [] in
-    let new : List Element → ℕ = λ there. total c.cost (behind same there before ++ opened_from same there (map
+    let new : List Element → ℕ = λ there. total c.cost (behind_shared same there before ++ opened_from same there (map
     (label_place
     c) glyphs)) in
     let there : new (label_place c glyph).path ≡ new path = ap new (shape.label glyph) in
@@ -301,12 +299,13 @@ opened_label c shape before (glyph ∷ glyphs) =
       one,
       end,
       behind_less same c.cost path before,
-      total-append c.cost (behind same path before) (opened_from same path (map (label_place c) glyphs)),
+      total-append c.cost (behind_shared same path before) (opened_from same path (map (label_place c) glyphs)),
       ap (total c.cost) none,
     ) in
     long
 
-mapped : (c : Costs) (glyphs : List Glyph) → map c.shape (map (shown (Label ∷ [])) glyphs) ≡ map (label_place c) glyphs
+mapped : (c : Costs) (glyphs : List Glyph) → map c.shape (map (shown_place (Label ∷ [])) glyphs) ≡ map (label_place c)
+    glyphs
 mapped c [] = refl
 mapped c (glyph ∷ glyphs) = ap (λ (more : Places). label_place c glyph ∷ more) (mapped c glyphs)
 
@@ -322,7 +321,7 @@ label_places_cost c small shape before (code ∷ units) few =
     let all = code ∷ units in
     let glyphs = label_glyphs all in
     let last : total c.show (Unit 0x20 ∷ []) ≡ c.show (Unit 0x20) + 0 = refl in
-    let long : cost_from c before (map (shown (Label ∷ [])) glyphs) ≤ c.element + c.unit * 65 =
+    let long : cost_from c before (map (shown_place (Label ∷ [])) glyphs) ≤ c.element + c.unit * 65 =
     omega (
       arith,
       last,
@@ -350,14 +349,15 @@ anchors_within : (block : List Element) (numbers : List ℕ) → anchor_places b
     (anchor_places [] numbers)
 anchors_within block [] = refl
 anchors_within block (number ∷ numbers) =
-    ap (λ (more : Places). bare (block ++ Anchor number ∷ []) ∷ more) (anchors_within block numbers)
+    ap (λ (more : Places). bare_place (block ++ Anchor number ∷ []) ∷ more) (anchors_within block numbers)
 
-label_within : (block : List Element) (glyphs : List Glyph) → map (shown (block ++ Label ∷ [])) glyphs ≡ map (within
+label_within : (block : List Element) (glyphs : List Glyph) → map (shown_place (block ++ Label ∷ [])) glyphs ≡ map
+    (within
     block)
-    (map (shown (Label ∷ [])) glyphs)
+    (map (shown_place (Label ∷ [])) glyphs)
 label_within block [] = refl
 label_within block (glyph ∷ glyphs) =
-    ap (λ (more : Places). shown (block ++ Label ∷ []) glyph ∷ more) (label_within block glyphs)
+    ap (λ (more : Places). shown_place (block ++ Label ∷ []) glyph ∷ more) (label_within block glyphs)
 
 where_within : (block : List Element) (here : Bool) (units : List ℕ) → (if here then label_places block units else []) ≡
     map (within block) (if here then label_places [] units else [])
@@ -366,7 +366,7 @@ where_within block true [] = refl
 where_within block true (unit ∷ units) = label_within block (label_glyphs (unit ∷ units))
 
 place_within : (block : List Element) (link : Option Link) (count : ℕ) (seen : Seen) (glyph : Option Glyph) →
-    place_of block link count seen glyph ≡ within block (place_of [] link count seen glyph)
+    glyph_place block link count seen glyph ≡ within block (glyph_place [] link count seen glyph)
 place_within block link count seen None = refl
 place_within block link count seen (Some glyph) = refl
 
@@ -374,10 +374,10 @@ item_within : (block : List Element) (link : Option Link) (count : ℕ) (seen : 
     seen ≡
     map (within block) (item_places [] link count seen)
 item_within block link count seen =
-    elim seen.is_shown as (λ (b : Bool). (if b then place_of block link count seen seen.glyph ∷ [] else []) ≡ map
+    elim seen.is_shown as (λ (b : Bool). (if b then glyph_place block link count seen seen.glyph ∷ [] else []) ≡ map
     (within
-    block) (if b then place_of [] link count seen seen.glyph ∷ [] else [])) [
-      | true ↦ ap (λ (place : Place Element Glyph). place ∷ []) (place_within block link count seen seen.glyph)
+    block) (if b then glyph_place [] link count seen seen.glyph ∷ [] else [])) [
+      | true ↦ ap (λ (place : PathPlace Element Glyph). place ∷ []) (place_within block link count seen seen.glyph)
       | false ↦ refl
     ]
 
@@ -509,7 +509,7 @@ label_short : (item : Option ListItem) (values : Option ParagraphValues) → IsS
 label_short item None short = omega arith
 label_short item (Some values) short = by values.label short.label
   where
-    by : (label : Option ListLabel) → IsShortLabel label → length (shown_units item label) ≤ 64
+    by : (label : Option ListLabel) → IsShortLabel label → length (shown_label_units item label) ≤ 64
     by None short = omega arith
     by (Some label) short =
         elim (is_some item && label.is_bullet) as (λ (b : Bool). length (if b then [] else label.units) ≤ 64)

@@ -6,15 +6,15 @@ use Rattle.std.specs.Prelude.{slice_get, encode_utf8_all, codes, nat_lt, option_
 use Rattle.std.proofs.lemmas.Nat.{mul-le}
 use Rattle.std.specs.List.{filter_map, flat_map, sum_by}
 use Rattle.std.proofs.lemmas.List.Sums.{sum_by-cons}
-use Rattle.plain_doc.specs.declared.document.Document.{Document}
+use Rattle.doc_model.specs.declared.document.Document.{Document}
 use Rattle.plain_doc.specs.RulesOfSheet.{item_count}
-use Rattle.doc_parts.specs.declared.bookmark_order.Bookmark.{Bookmark}
+use Rattle.document_bookmarks.specs.declared.bookmark_order.Bookmark.{Bookmark}
 use Rattle.text_codes.specs.Digits.{byte_text, word_text}
 use Rattle.text_codes.specs.Shown.{is_pair, pair_code}
 use Rattle.field_links.specs.Characters.{character_alone, characters}
 use Rattle.field_links.specs.Urls.{anchor_character, anchor_name, anchor_text, hex_text, is_anchor_character}
 use Rattle.link_targets.specs.Links.{bookmark_name}
-use Rattle.view_paths.specs.Paths.{Place}
+use Rattle.view_paths.specs.Paths.{PathPlace}
 use Rattle.view_paths.specs.Openings.{opened_from}
 use Rattle.view_paths.proofs.Public.{shown_cost, total, total-both, total-less}
 use Rattle.view_places.specs.declared.element.Element.{Element}
@@ -37,8 +37,9 @@ use Rattle.doc_view.specs.declared.reading.Seen.{Seen}
 use Rattle.doc_view.specs.declared.view.Options.{Options}
 use Rattle.doc_view.specs.Page.{header_manner}
 use Rattle.doc_view.specs.Seen.{Formats, Paragraph, paragraphs_of}
-use Rattle.doc_places.specs.Places.{Places, label_of, numbers, places_of}
-use Rattle.doc_html.specs.Head.{head_of, is_title, longest_title, seen_unit, title_in, title_of, title_units, untitled}
+use Rattle.doc_places.specs.Places.{Places, label_of, consecutive, document_places}
+use Rattle.doc_html.specs.Head.{page_head, is_title_text, longest_title, seen_unit, title_in, document_title}
+use Rattle.doc_html.specs.Head.{title_units, untitled}
 use Rattle.html_page.specs.Lengths.{AreShortImages, address_bytes}
 use Rattle.page_bounds.specs.Addresses.{name_units}
 use Rattle.page_bounds.specs.Laws.{HtmlPagesAreShort}
@@ -154,7 +155,7 @@ is_shape source most = record {
   label = λ glyph. refl;
 }
 
-unshaped : (places : Places) → map (λ (place : Place Element Glyph). place) places ≡ places
+unshaped : (places : Places) → map (λ (place : PathPlace Element Glyph). place) places ≡ places
 unshaped [] = refl
 unshaped (place ∷ places) = ap (λ (more : Places). place ∷ more) (unshaped places)
 
@@ -170,11 +171,11 @@ named_cost document number = omega (arith, anchor_tags document number)
 abbrev bookmark_cost : Option Bookmark → ℕ
 bookmark_cost found = 20 + anchor_size (option_map (λ bookmark. bookmark.name) found)
 
-bookmarks_cost : (document : Document) → total (λ number. own_size document (Anchor number)) (numbers 0 (length
+bookmarks_cost : (document : Document) → total (λ number. own_size document (Anchor number)) (consecutive 0 (length
     document.bookmarks)) ≤ 38 * length document.bookmarks + 36 * name_units document
 bookmarks_cost document =
     let list = document.bookmarks in
-    let places = numbers 0 (length list) in
+    let places = consecutive 0 (length list) in
     let named = λ (bookmark : Bookmark). 36 * length bookmark.name in
     omega (
       arith,
@@ -208,14 +209,16 @@ title_few [] =
     let few : length (codes "Untitled") ≡ 8 = refl in
     omega (arith, few)
 title_few (paragraph ∷ more) =
-    elim (is_title (title_units paragraph.items)) as (λ (b : Bool). length (if b then title_units paragraph.items else
+    elim (is_title_text (title_units paragraph.items)) as (λ (b : Bool). length (if b then title_units paragraph.items
+    else
     title_in more) ≤ 80)
     [ true ↦ omega (arith, length-take 80 (filter_map seen_unit paragraph.items)) | false ↦ title_few more ]
 
-title_size : (formats : Formats) (options : Options) (document : Document) → tokens_size (characters_of (head_of formats
+title_size : (formats : Formats) (options : Options) (document : Document) → tokens_size (characters_of (page_head
+    formats
     options document).title) ≤ 480
 title_size formats options document =
-    let units = title_of formats options document in
+    let units = document_title formats options document in
     omega (
       arith,
       units_size None units,
@@ -230,8 +233,8 @@ parted document e = omega arith
 pub html_short : HtmlPagesAreShort
 html_short options source most bytes sound short page =
     let document = source.document in
-    let places = places_of page.formats page.values options document in
-    let head = head_of page.formats options document in
+    let places = document_places page.formats page.values options document in
+    let head = page_head page.formats options document in
     let own = own_size document in
     let opened = opened_from same [] places in
     let text : length bytes ≡ length (encode_utf8_all (page_text source head places)) =

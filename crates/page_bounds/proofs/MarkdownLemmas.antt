@@ -4,9 +4,9 @@ use Rattle.std.proofs.Common.{refl, ap, arith}
 use Rattle.std.specs.Prelude.{encode_utf8_all}
 use Rattle.std.specs.List.{sum_by}
 use Rattle.std.proofs.lemmas.Nat.{mul-le}
-use Rattle.plain_doc.specs.declared.document.Document.{Document}
+use Rattle.doc_model.specs.declared.document.Document.{Document}
 use Rattle.plain_doc.specs.RulesOfSheet.{item_count}
-use Rattle.view_paths.specs.Paths.{Place}
+use Rattle.view_paths.specs.Paths.{PathPlace}
 use Rattle.view_paths.specs.Openings.{opened_from}
 use Rattle.view_paths.proofs.Public.{shown_cost, total, total-both, total-less}
 use Rattle.view_places.specs.declared.element.Element.{Element}
@@ -18,11 +18,11 @@ use Rattle.view_places.specs.Same.{same}
 use Rattle.view_places.proofs.Public.{IsSmall, heavy}
 use Rattle.doc_view.proofs.Public.{IsSmallNumber, IsSmall as IsSmallGlyph}
 use Rattle.markdown_page.specs.declared.shape.Kind.TheVariants.{Block}
-use Rattle.markdown_page.specs.Shape.{all_shaped, inner_kind, is_space, keeps, kind_of, shaped}
+use Rattle.markdown_page.specs.Shape.{all_shaped, inner_kind, is_space, keeps, element_kind, shaped}
 use Rattle.markdown_page.specs.Pages.{page_text}
 use Rattle.markdown_page.proofs.Public.{marks_size, page_size, show_most, small_marks, filter_less, kept, shaped_inside}
 use Rattle.markdown_page.proofs.Public.{shaped_shown}
-use Rattle.doc_places.specs.Places.{label_of, numbers, places_of}
+use Rattle.doc_places.specs.Places.{label_of, consecutive, document_places}
 use Rattle.markdown_page.specs.Lengths.{destination_bytes}
 use Rattle.page_bounds.specs.Laws.{MarkdownPagesAreShort}
 use Rattle.page_bounds.proofs.CostLemmas.{AreSmall, Costs, IsShape, cost_from, each}
@@ -65,9 +65,9 @@ are_small document = record {
 is_shape : (document : Document) → IsShape (costs document)
 is_shape document = record {
   inside = shaped_inside;
-  less_outer = λ block. filter_less (own_size document) (λ e. keeps Block false (kind_of e)) block;
+  less_outer = λ block. filter_less (own_size document) (λ e. keeps Block false (element_kind e)) block;
   less_path = λ place.
-      filter_less (own_size document) (λ e. keeps (inner_kind place.path) (is_space place.glyph) (kind_of e))
+      filter_less (own_size document) (λ e. keeps (inner_kind place.path) (is_space place.glyph) (element_kind e))
       place.path;
   less_shown = shaped_shown show_most;
   label = λ glyph. refl;
@@ -77,15 +77,16 @@ label_few : IsLabelCost show_most 45
 label_few None small = omega arith
 label_few (Some number) small = omega arith
 
-anchors_few : (document : Document) (count : ℕ) → total (λ number. own_size document (Anchor number)) (numbers 0
+anchors_few : (document : Document) (count : ℕ) → total (λ number. own_size document (Anchor number)) (consecutive 0
     count) ≤ 29
     * count
 anchors_few document count =
     omega (
       arith,
-      total-less (λ (number : ℕ). own_size document (Anchor number)) (λ number. 29) (λ number. omega arith) (numbers 0
+      total-less (λ (number : ℕ). own_size document (Anchor number)) (λ number. 29) (λ number. omega arith) (consecutive
+          0
           count),
-      each 29 (numbers 0 count),
+      each 29 (consecutive 0 count),
       length-numbers 0 count,
     )
 
@@ -95,7 +96,7 @@ parted document e = omega arith
 
 pub markdown_short : MarkdownPagesAreShort
 markdown_short options document bytes sound page =
-    let places = places_of page.formats page.values options document in
+    let places = document_places page.formats page.values options document in
     let own = own_size document in
     let opened = opened_from same [] (all_shaped places) in
     let count = item_count document in

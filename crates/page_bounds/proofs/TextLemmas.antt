@@ -8,15 +8,15 @@ use Rattle.std.specs.List.{All, sum_by}
 use Rattle.std.proofs.lemmas.List.Elements.{All-head, All-nil, All-tail}
 use Rattle.std.proofs.lemmas.List.Sums.{sum_by-cons}
 use Rattle.std.proofs.lemmas.Nat.{mul-le}
-use Rattle.plain_doc.specs.declared.document.Document.{Document}
-use Rattle.plain_doc.specs.declared.item.Item.{Item}
+use Rattle.doc_model.specs.declared.document.Document.{Document}
+use Rattle.doc_model.specs.declared.item.Item.{Item}
 use Rattle.plain_doc.specs.RulesOfSheet.{item_count as all_items}
 use Rattle.plain_doc.specs.Sound.{IsSound}
 use Rattle.plain_doc.proofs.Public.{sound_is_valid}
 use Rattle.list_numbers.specs.declared.paragraph_values.ParagraphValues.{ParagraphValues}
 use Rattle.list_numbers.specs.ParagraphValues.{AreParagraphValuesOf}
-use Rattle.doc_parts.specs.declared.bookmark_order.Bookmark.{Bookmark}
-use Rattle.view_paths.specs.Paths.{Place, behind, last_path}
+use Rattle.document_bookmarks.specs.declared.bookmark_order.Bookmark.{Bookmark}
+use Rattle.view_paths.specs.Paths.{PathPlace, behind_shared, last_path}
 use Rattle.view_paths.specs.Openings.{opened_from}
 use Rattle.view_paths.proofs.Public.{behind_less, glyph_cost, total, total-append, total-less}
 use Rattle.view_places.specs.declared.element.Element.{Element}
@@ -35,10 +35,12 @@ use Rattle.doc_view.specs.Seen.{Formats, Paragraph, paragraphs_of, references_in
 use Rattle.doc_view.proofs.Public.{IsSmallNumber, IsSmallReference, references_few, IsSmall as IsSmallGlyph, IsShort}
 use Rattle.doc_view.proofs.Public.{items_of, of_text, references_short, values_short, with_values_long}
 use Rattle.doc_view.proofs.Public.{with_values_short}
-use Rattle.doc_places.specs.Places.{Hypertext, Places, anchors_of, block_at, cells_of, hypertext_of, item_count}
-use Rattle.doc_places.specs.Places.{label_of, lead, no_cells, places_of}
-use Rattle.doc_places.specs.Places.{note_path, note_places, notes_places, numbers, paragraph_places, paragraphs_places}
-use Rattle.doc_places.specs.Places.{shown, text_places}
+use Rattle.doc_places.specs.Places.{Hypertext, Places, anchors_of, paragraph_block, table_cells_of, hypertext_of}
+use Rattle.doc_places.specs.Places.{paragraphs_len}
+use Rattle.doc_places.specs.Places.{label_of, lead, no_cells, document_places}
+use Rattle.doc_places.specs.Places.{note_path, note_places, notes_places, consecutive, paragraph_places}
+use Rattle.doc_places.specs.Places.{paragraphs_places}
+use Rattle.doc_places.specs.Places.{shown_place, text_places}
 use Rattle.doc_places.proofs.Public.{lead_few, lead_more, lead_none, few_block, few_note_path, small_cells}
 use Rattle.cell_spans.proofs.Public.{small_span_at}
 use Rattle.page_bounds.proofs.CostLemmas.{AreSmall, Costs, IsShape, cost-append, cost_from, each, one_cost}
@@ -51,16 +53,17 @@ use Rattle.page_bounds.proofs.CostLemmas.{path_behind, spread, spread-suc, text_
 abbrev pub anchors_total : (Element → ℕ) → List Bookmark → ℕ → ℕ → ℕ
 anchors_total cost bookmarks begin end = total (λ number. cost (Anchor number)) (anchors_of bookmarks begin end)
 
-numbers-add : (first one other : ℕ) → numbers first (one + other) ≡ numbers first one ++ numbers (first + one) other
+numbers-add : (first one other : ℕ) → consecutive first (one + other) ≡ consecutive first one ++ consecutive (first +
+    one) other
 numbers-add first zero other =
     let none : 0 + other ≡ other = omega arith in
     let same : first ≡ first + 0 = omega arith in
-    ap (λ (n : ℕ). numbers first n) none ∙ ap (λ (n : ℕ). numbers n other) same
+    ap (λ (n : ℕ). consecutive first n) none ∙ ap (λ (n : ℕ). consecutive n other) same
 numbers-add first (suc one) other =
     let more : suc one + other ≡ suc (one + other) = omega arith in
     let next : (first + 1) + one ≡ first + suc one = omega arith in
-    ap (λ (n : ℕ). numbers first n) more ∙ (ap (λ (rest : List ℕ). first ∷ rest) (numbers-add (first + 1) one other)
-    ∙ ap (λ (n : ℕ). (first ∷ numbers (first + 1) one) ++ numbers n other) next)
+    ap (λ (n : ℕ). consecutive first n) more ∙ (ap (λ (rest : List ℕ). first ∷ rest) (numbers-add (first + 1) one other)
+    ∙ ap (λ (n : ℕ). (first ∷ consecutive (first + 1) one) ++ consecutive n other) next)
 
 anchors_joined : (cost : Element → ℕ) (bookmarks : List Bookmark) (begin middle end : ℕ) → begin ≤ middle → middle ≤
     end →
@@ -74,13 +77,15 @@ anchors_joined cost bookmarks begin middle end low high =
     let other = lead_more bookmarks middle end high in
     let all : third - first ≡ (second - first) + (third - second) = omega (arith, one, other) in
     let on : first + (second - first) ≡ second = omega (arith, one) in
-    let split : numbers first (third - first) ≡ numbers first (second - first) ++ numbers second (third - second) =
-    ap (λ (n : ℕ). numbers first n) all ∙ (numbers-add first (second - first) (third - second)
-    ∙ ap (λ (n : ℕ). numbers first (second - first) ++ numbers n (third - second)) on) in
+    let split : consecutive first (third - first) ≡ consecutive first (second - first) ++ consecutive second (third -
+    second) =
+    ap (λ (n : ℕ). consecutive first n) all ∙ (numbers-add first (second - first) (third - second)
+    ∙ ap (λ (n : ℕ). consecutive first (second - first) ++ consecutive n (third - second)) on) in
     omega (
       arith,
       ap (total (λ (number : ℕ). cost (Anchor number))) split,
-      total-append (λ (number : ℕ). cost (Anchor number)) (numbers first (second - first)) (numbers second (third -
+      total-append (λ (number : ℕ). cost (Anchor number)) (consecutive first (second - first)) (consecutive second
+          (third -
           second)),
     )
 
@@ -88,54 +93,57 @@ no_anchors : (bookmarks : List Bookmark) (begin count : ℕ) → count ≡ 0 →
 no_anchors bookmarks begin count is =
     let same : begin + count ≡ begin = omega (arith, is) in
     let none : lead bookmarks begin - lead bookmarks begin ≡ 0 = omega arith in
-    ap (λ (end : ℕ). anchors_of bookmarks begin end) same ∙ ap (λ (n : ℕ). numbers (lead bookmarks begin) n) none
+    ap (λ (end : ℕ). anchors_of bookmarks begin end) same ∙ ap (λ (n : ℕ). consecutive (lead bookmarks begin) n) none
 
 -- of all bookmarks
 all_anchors : (cost : Element → ℕ) (bookmarks : List Bookmark) (end : ℕ) → anchors_total cost bookmarks 0 end ≤ total (λ
-    number. cost (Anchor number)) (numbers 0 (length bookmarks))
+    number. cost (Anchor number)) (consecutive 0 (length bookmarks))
 all_anchors cost bookmarks end =
     let here = lead bookmarks end in
     let first : lead bookmarks 0 ≡ 0 = lead_none bookmarks in
     let rest = length bookmarks - here in
     let all : length bookmarks ≡ here + rest = omega (arith, lead_few bookmarks end) in
     let same : here - 0 ≡ here = omega arith in
-    let start : anchors_of bookmarks 0 end ≡ numbers 0 here =
-    ap (λ (n : ℕ). numbers n (here - n)) first ∙ ap (λ (n : ℕ). numbers 0 n) same in
-    let split : numbers 0 (length bookmarks) ≡ numbers 0 here ++ numbers (0 + here) rest =
-    ap (λ (n : ℕ). numbers 0 n) all ∙ numbers-add 0 here rest in
+    let start : anchors_of bookmarks 0 end ≡ consecutive 0 here =
+    ap (λ (n : ℕ). consecutive n (here - n)) first ∙ ap (λ (n : ℕ). consecutive 0 n) same in
+    let split : consecutive 0 (length bookmarks) ≡ consecutive 0 here ++ consecutive (0 + here) rest =
+    ap (λ (n : ℕ). consecutive 0 n) all ∙ numbers-add 0 here rest in
     omega (
       arith,
       ap (total (λ (number : ℕ). cost (Anchor number))) start,
       ap (total (λ (number : ℕ). cost (Anchor number))) split,
-      total-append (λ (number : ℕ). cost (Anchor number)) (numbers 0 here) (numbers (0 + here) rest),
+      total-append (λ (number : ℕ). cost (Anchor number)) (consecutive 0 here) (consecutive (0 + here) rest),
     )
 
 -- numbers of entries of a list
-shifted : (f : ℕ → ℕ) (first count : ℕ) → total f (numbers (first + 1) count) ≡ total (λ n. f (suc n)) (numbers first
+shifted : (f : ℕ → ℕ) (first count : ℕ) → total f (consecutive (first + 1) count) ≡ total (λ n. f (suc n)) (consecutive
+    first
     count)
 shifted f first zero = refl
 shifted f first (suc count) =
     let one : first + 1 ≡ suc first = omega arith in
-    let long : f (first + 1) + total f (numbers ((first + 1) + 1) count) ≡ f (suc first) + total (λ (n : ℕ). f (suc n))
-    (numbers (first + 1) count) =
+    let long : f (first + 1) + total f (consecutive ((first + 1) + 1) count) ≡ f (suc first) + total (λ (n : ℕ). f (suc
+    n))
+    (consecutive (first + 1) count) =
     omega (arith, ap f one, shifted f (first + 1) count) in
     long
 
 pub numbered_total : {A : Type 0} (f : Option A → ℕ) (xs : List A) → total (λ number. f (slice_get xs number))
-    (numbers 0
+    (consecutive 0
     (length xs)) ≡ total (λ x. f (Some x)) xs
 numbered_total f [] = refl
 numbered_total f (x ∷ xs) =
-    let rest : total (λ number. f (slice_get (x ∷ xs) number)) (numbers (0 + 1) (length xs)) ≡ total (λ number. f
+    let rest : total (λ number. f (slice_get (x ∷ xs) number)) (consecutive (0 + 1) (length xs)) ≡ total (λ number. f
     (slice_get
-    xs number)) (numbers 0 (length xs)) =
+    xs number)) (consecutive 0 (length xs)) =
     shifted (λ number. f (slice_get (x ∷ xs) number)) 0 (length xs) in
-    let long : f (Some x) + total (λ number. f (slice_get (x ∷ xs) number)) (numbers (0 + 1) (length xs)) ≡ f (Some x) +
+    let long : f (Some x) + total (λ number. f (slice_get (x ∷ xs) number)) (consecutive (0 + 1) (length xs)) ≡ f (Some
+    x) +
     total (λ x. f (Some x)) xs =
     omega (arith, rest, numbered_total f xs) in
     long
 
-pub length-numbers : (first count : ℕ) → length (numbers first count) ≡ count
+pub length-numbers : (first count : ℕ) → length (consecutive first count) ≡ count
 length-numbers first zero = refl
 length-numbers first (suc count) = ap suc (length-numbers (first + 1) count)
 
@@ -154,21 +162,22 @@ paragraphs_cost : (c : Costs) → AreSmall c → IsShape c → (hypertext : Hype
     Element)
     (before : List Paragraph) (count : ℕ) (paragraphs : List Paragraph) → All IsShort paragraphs → count + items_of
     paragraphs < 999999 → cost_from c path (paragraphs_places hypertext outer before count paragraphs) ≤ text_cost c *
-    items_of paragraphs + anchors_total c.cost bookmarks (item_count before) (item_count before +
+    items_of paragraphs + anchors_total c.cost bookmarks (paragraphs_len before) (paragraphs_len before +
     items_of paragraphs)
 unfolding paragraphs_places
 paragraphs_cost c small shape hypertext bookmarks anchors cells outer few path before count [] short low = omega arith
 paragraphs_cost c small shape hypertext bookmarks anchors cells outer few path before count (paragraph ∷ more) short
     low =
-    let block = outer ++ block_at hypertext.cells before paragraph more in
-    let blocks = few_joined IsOuter 2 13 0 6 outer (block_at hypertext.cells before paragraph more) few (few_block
+    let block = outer ++ paragraph_block hypertext.cells before paragraph more in
+    let blocks = few_joined IsOuter 2 13 0 6 outer (paragraph_block hypertext.cells before paragraph more) few
+    (few_block
     hypertext.cells
     cells before paragraph more) in
-    let at = item_count before in
+    let at = paragraphs_len before in
     let items = paragraph.items in
     let here = paragraph_places hypertext block count at paragraph in
-    let behind = count + length (references_in items) in
-    let rest = paragraphs_places hypertext outer (paragraph ∷ before) behind more in
+    let behind_shared = count + length (references_in items) in
+    let rest = paragraphs_places hypertext outer (paragraph ∷ before) behind_shared more in
     let bound = text_cost c in
     let own : hypertext.anchors at (at + length items) ≡ anchors_of bookmarks at (at + length items) =
     ap (λ (a : ℕ → ℕ → List ℕ). a at (at + length items)) anchors in
@@ -184,7 +193,7 @@ paragraphs_cost c small shape hypertext bookmarks anchors cells outer few path b
       ap (total (λ (number : ℕ). c.cost (Anchor number))) own,
       cost-append c path here rest,
       paragraphs_cost c small shape hypertext bookmarks anchors cells outer few (path_behind c path here)
-          (paragraph ∷ before) behind more (All-tail IsShort paragraph more short) (omega (
+          (paragraph ∷ before) behind_shared more (All-tail IsShort paragraph more short) (omega (
             arith,
             low,
             references_few
@@ -219,14 +228,14 @@ one_note : (c : Costs) (label : ℕ) → AreSmall c → IsShape c → IsLabelCos
 one_note c label small shape labels formats manner path number reference note mark low few =
     where_shown reference.is_shown
   where
-    where_shown : (is_shown : Bool) → cost_from c path (if is_shown then shown (note_path number ++ BackLink
+    where_shown : (is_shown : Bool) → cost_from c path (if is_shown then shown_place (note_path number ++ BackLink
         number ∷ []) (label_of reference.number) ∷ text_places (hypertext_of [] number note no_cells) (note_path number)
         (paragraphs_of formats manner note) else []) ≤ note_cost c label + text_cost c * length note
     where_shown false = omega arith
     where_shown true =
         let outer = note_path number in
         let here = outer ++ BackLink number ∷ [] in
-        let first = shown here (label_of reference.number) ∷ [] in
+        let first = shown_place here (label_of reference.number) ∷ [] in
         let paragraphs = paragraphs_of formats manner note in
         let hypertext = hypertext_of [] number note no_cells in
         let rest = text_places hypertext outer paragraphs in
@@ -300,9 +309,9 @@ few_references (paragraph ∷ more) =
 
 pub document_cost : (c : Costs) (label : ℕ) → AreSmall c → IsShape c → IsLabelCost c.show label → (formats : Formats)
     (values : List ParagraphValues) (options : Options) (document :
-    Document) → IsSound document → AreParagraphValuesOf document values → cost_from c [] (places_of formats values
+    Document) → IsSound document → AreParagraphValuesOf document values → cost_from c [] (document_places formats values
     options document) ≤ (text_cost c + note_cost c label) * all_items document + total (λ
-    number. c.cost (Anchor number)) (numbers 0 (length document.bookmarks))
+    number. c.cost (Anchor number)) (consecutive 0 (length document.bookmarks))
 document_cost c label small shape labels formats values options document sound are_values =
     let right = sound_is_valid document sound in
     let main = paragraphs_of formats (main_manner options document) document.main in
@@ -311,7 +320,7 @@ document_cost c label small shape labels formats values options document sound a
     let text = of_text formats (main_manner options document) document.main (omega (arith, few)) in
     let short = with_values_short values main (values_short document values are_values) text.0 in
     let same_count : items_of paragraphs ≡ length document.main = with_values_long values main ∙ text.1 in
-    let cells = cells_of document.bookmarks values document.main in
+    let cells = table_cells_of document.bookmarks values document.main in
     let hypertext = hypertext_of document.bookmarks 0 document.main cells in
     let first = text_places hypertext [] paragraphs in
     let references = references_of paragraphs in
@@ -324,7 +333,7 @@ document_cost c label small shape labels formats values options document sound a
     let paid : own * length references ≤ own * all_items document =
     mul-le own (length references) own (all_items document) (omega arith) (omega (arith, referred)) in
     let long : cost_from c [] (first ++ second) ≤ (bound + own) * all_items document + total (λ (number : ℕ). c.cost
-    (Anchor number)) (numbers 0 (length document.bookmarks)) =
+    (Anchor number)) (consecutive 0 (length document.bookmarks)) =
     omega (
       arith,
       add-mul bound own (all_items document),

@@ -1,7 +1,7 @@
 -- What the addresses of the links of a page come to, and the names of the bookmarks.
 use Rattle.std.specs.Prelude.{ℕ, [], length}
 use Rattle.std.specs.List.{sum_by}
-use Rattle.plain_doc.specs.declared.document.Document.{Document}
+use Rattle.doc_model.specs.declared.document.Document.{Document}
 use Rattle.view_paths.specs.Openings.{opened_from}
 use Rattle.view_places.specs.Same.{same}
 use Rattle.html_page.specs.Lengths.{address_bytes}

@@ -5,10 +5,10 @@ use Rattle.plain_doc.specs.Sound.{IsSound}
 use Rattle.doc_view.specs.declared.view.Options.{Options}
 use Rattle.html_page.specs.Lengths.{AreShortImages}
 use Rattle.html_page.specs.Sources.{PageSource}
-use Rattle.doc_places.specs.Places.{places_of}
+use Rattle.doc_places.specs.Places.{document_places}
 use Rattle.doc_html.specs.Page.{IsHtmlPage}
 use Rattle.doc_markdown.specs.Page.{IsMarkdownPage}
-use Rattle.plain_doc.specs.declared.document.Document.{Document}
+use Rattle.doc_model.specs.declared.document.Document.{Document}
 use Rattle.page_bounds.specs.Addresses.{name_units, opened_addresses, opened_destinations}
 
 -- a page has so many bytes at most for each item, for each bookmark and for each unit of a bookmark's name, and the
@@ -19,7 +19,7 @@ HtmlPagesAreShort =
     IsSound source.document → AreShortImages source.images most → (page : IsHtmlPage options source bytes) →
     length bytes ≤ (2200 + most) * item_count source.document + (38 * length source.document.bookmarks
     + (36 * name_units source.document
-    + (opened_addresses source.document (places_of page.formats page.values options source.document) + 900)))
+    + (opened_addresses source.document (document_places page.formats page.values options source.document) + 900)))
 
 -- and one in Markdown
 abbrev pub MarkdownPagesAreShort : Type 0
@@ -27,4 +27,4 @@ MarkdownPagesAreShort =
     (options : Options) (document : Document) (bytes : List ℕ) →
     IsSound document → (page : IsMarkdownPage options document bytes) →
     length bytes ≤ 4900 * item_count document + (29 * length document.bookmarks
-    + opened_destinations document (places_of page.formats page.values options document))
+    + opened_destinations document (document_places page.formats page.values options document))

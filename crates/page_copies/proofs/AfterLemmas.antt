@@ -6,7 +6,7 @@ use Rattle.fkp_pages.specs.declared.kind.RunAnswer.{RunAnswer}
 use Rattle.fkp_pages.specs.Fkp.{HasRunAnswer}
 use Rattle.fkp_pages.specs.Bin.{page_at}
 use Rattle.fkp_pages.specs.Properties.{IsListAnswered, HasListAt}
-use Rattle.page_copies.specs.Pages.{BinTables, bin_of, SkipsPages}
+use Rattle.page_copies.specs.Pages.{BinTables, bin_table_of, SkipsPages}
 use Rattle.page_copies.specs.Laws.{IsListCopy}
 use Rattle.page_copies.proofs.AnswerLemmas.{copy_answers}
 use Rattle.page_copies.proofs.NameLemmas.{page_named}
@@ -40,7 +40,7 @@ page_after kind old new fc answer list size (inr same) answers is =
     same_after kind old new fc answer list same answers is
 
 pub list_after : (kind : PageKind) (bins : BinTables) (old new : List ℕ) (fc : ℕ) (list : List ℕ) →
-    SkipsPages bins old new → (has : HasListAt kind (bin_of kind bins) old fc list) → 2 ≤ has.number →
+    SkipsPages bins old new → (has : HasListAt kind (bin_table_of kind bins) old fc list) → 2 ≤ has.number →
     HasListAfter kind (page_at new has.number) fc has.answer list
 list_after kind bins old new fc list skips has low =
     let number = has.number in
@@ -48,5 +48,5 @@ list_after kind bins old new fc list skips has low =
     let size : length (page_at old number) ≡ 512 =
     length-range old (512 * number) (512 * number + 512) within ∙ (omega arith) in
     let kept = kept_page kind bins number (page_at old number) (page_at new number)
-    (page_named (bin_of kind bins) fc number has.named) (skips.pages number low within) in
+    (page_named (bin_table_of kind bins) fc number has.named) (skips.pages number low within) in
     page_after kind (page_at old number) (page_at new number) fc has.answer list size kept has.answers has.answered

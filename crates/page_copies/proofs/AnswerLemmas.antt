@@ -10,7 +10,7 @@ use Rattle.fkp_pages.specs.declared.kind.PageKind.{PageKind}
 use Rattle.fkp_pages.specs.declared.kind.PageKind.TheVariants.{Chpx, Papx}
 use Rattle.fkp_pages.specs.declared.kind.RunAnswer.{RunAnswer}
 use Rattle.fkp_pages.specs.declared.kind.RunAnswer.TheVariants.{Found, Empty, NoRun, BadCount, Leaves}
-use Rattle.fkp_pages.specs.Fkp.{entry_size, page_count, page_fc, entry_place, entry_byte, HasRunCount}
+use Rattle.fkp_pages.specs.Fkp.{run_entry_size, page_run_count, page_fc, run_entry_place, entry_byte, HasRunCount}
 use Rattle.fkp_pages.specs.Fkp.{HoldsFc, IsFirstRun, IsListOf}
 use Rattle.fkp_pages.specs.Fkp.{HasRunAnswer}
 use Rattle.fkp_pages.specs.Properties.{bare_list, IsListAnswered}
@@ -21,30 +21,31 @@ use Rattle.page_copies.proofs.PlaceLemmas.{entry_low}
 
 -- a byte of the front
 byte_same : (kind : PageKind) (old new : List ℕ) (i : ℕ) → IsCopyOf kind old new →
-    i < entry_place kind old (page_count old) → slice_index new i ≡ slice_index old i
+    i < run_entry_place kind old (page_run_count old) → slice_index new i ≡ slice_index old i
 byte_same kind old new i c low =
-    let n = entry_place kind old (page_count old) in
+    let n = run_entry_place kind old (page_run_count old) in
     sym (get_or-take n new i 0 low) ∙ (ap (λ l. slice_index l i) c.front ∙ get_or-take n old i 0 low)
 
 -- the fcs end where the entries begin
-fcs_end : (kind : PageKind) (page : List ℕ) → 4 * (page_count page + 1) ≤ entry_place kind page (page_count page)
+pub fcs_end : (kind : PageKind) (page : List ℕ) → 4 * (page_run_count page + 1) ≤ run_entry_place kind page
+    (page_run_count page)
 fcs_end Chpx page = omega arith
 fcs_end Papx page = omega arith
 
-fc_same : (kind : PageKind) (old new : List ℕ) (j : ℕ) → IsCopyOf kind old new → j ≤ page_count old →
+pub fc_same : (kind : PageKind) (old new : List ℕ) (j : ℕ) → IsCopyOf kind old new → j ≤ page_run_count old →
     page_fc new j ≡ page_fc old j
 fc_same kind old new j c low =
     let end = fcs_end kind old in
     number_at-same new old (4 * j) (4 * j) 4 (λ i below. byte_same kind old new (4 * j + i) c (omega arith))
 
-entry_same : (kind : PageKind) (old new : List ℕ) (run : ℕ) → IsCopyOf kind old new → run < page_count old →
+pub entry_same : (kind : PageKind) (old new : List ℕ) (run : ℕ) → IsCopyOf kind old new → run < page_run_count old →
     entry_byte kind new run ≡ entry_byte kind old run
 entry_same kind old new run c low =
-    ap (λ n. slice_index new (4 * (n + 1) + entry_size kind * run)) c.count
-    ∙ byte_same kind old new (entry_place kind old run) c (entry_low kind old run low)
+    ap (λ n. slice_index new (4 * (n + 1) + run_entry_size kind * run)) c.count
+    ∙ byte_same kind old new (run_entry_place kind old run) c (entry_low kind old run low)
 
 -- a run of the copy holds the places that the run of the page holds
-holds_same : (kind : PageKind) (old new : List ℕ) (run fc : ℕ) → IsCopyOf kind old new → run < page_count old →
+holds_same : (kind : PageKind) (old new : List ℕ) (run fc : ℕ) → IsCopyOf kind old new → run < page_run_count old →
     HoldsFc old run fc → HoldsFc new run fc
 holds_same kind old new run fc c low h =
     let a = fc_same kind old new run c (omega arith) in
@@ -53,7 +54,7 @@ holds_same kind old new run fc c low h =
     let to = h.to in
     record { from = omega arith; to = omega arith }
 
-held_same : (kind : PageKind) (old new : List ℕ) (run fc : ℕ) → IsCopyOf kind old new → run < page_count old →
+held_same : (kind : PageKind) (old new : List ℕ) (run fc : ℕ) → IsCopyOf kind old new → run < page_run_count old →
     HoldsFc new run fc → HoldsFc old run fc
 held_same kind old new run fc c low h =
     let a = fc_same kind old new run c (omega arith) in
@@ -127,7 +128,7 @@ copy_answers kind old new fc (Leaves entry) list size c h is = absurd is
 
 -- ---- what the page answers, from what its copy answers
 
-counted_back : (kind : PageKind) (old new : List ℕ) → IsCopyOf kind old new → HasRunCount kind new →
+pub counted_back : (kind : PageKind) (old new : List ℕ) → IsCopyOf kind old new → HasRunCount kind new →
     HasRunCount kind old
 counted_back kind old new c h =
     let count = c.count in
@@ -140,7 +141,7 @@ first_back : (kind : PageKind) (old new : List ℕ) (fc run : ℕ) → IsCopyOf 
 first_back kind old new fc run c f =
     let below = f.below in
     let count = c.count in
-    let low : run < page_count old = omega arith in
+    let low : run < page_run_count old = omega arith in
     record {
       below = low;
       holds = held_same kind old new run fc c low f.holds;
@@ -153,7 +154,7 @@ IsBefore kind old new run from to =
     IsListOf kind old run from to × SkipsList kind (slice_range old from to) (slice_range new from to)
 
 list_back : (kind : PageKind) (old new : List ℕ) (run from to : ℕ) → HasListsApart kind old → IsCopyOf kind old new →
-    run < page_count old → IsListOf kind new run from to → IsBefore kind old new run from to
+    run < page_run_count old → IsListOf kind new run from to → IsBefore kind old new run from to
 list_back kind old new run from to apart c low is = elim (apart run low) [
   | inl none ↦ absurd (is.some (entry_same kind old new run c low ∙ none))
   | inr has ↦

@@ -13,7 +13,7 @@ use Rattle.prl_skips.specs.Skips.{skipped, SkipsRefused, SkipsOrStays, PutsSkipp
 use Rattle.prl_skips.proofs.Public.{skipped_again, accepted_skips, rest_one, range_same, front_same, drop_range}
 use Rattle.prl_skips.proofs.Public.{put_length, put_before, put_after, put_range}
 use Rattle.fkp_pages.specs.declared.kind.PageKind.{PageKind}
-use Rattle.fkp_pages.specs.Fkp.{page_count, entry_place, entry_byte, least_list}
+use Rattle.fkp_pages.specs.Fkp.{page_run_count, run_entry_place, entry_byte, least_list}
 use Rattle.page_copies.specs.declared.places.ListPlace.{ListPlace}
 use Rattle.page_copies.specs.Places.{IsPlaceOf, HasListsApart}
 use Rattle.page_copies.specs.Copies.{SkipsList, IsCopyOf, SkipsRun}
@@ -61,7 +61,7 @@ IsSkipped kind old now p = SkipsList kind (slice_range old p.from p.to) (slice_r
 -- the lists of the first `count` runs are skipped, the others maybe
 pub record IsCopied (kind : PageKind) (old now : List ℕ) (count : ℕ) : Type 0 where
   pub changes : ChangesLists kind old now
-  pub each : (run : ℕ) (p : ListPlace) → run < page_count old → IsPlaceOf kind old run p →
+  pub each : (run : ℕ) (p : ListPlace) → run < page_run_count old → IsPlaceOf kind old run p →
       (slice_range now p.from p.to ≡ slice_range old p.from p.to) ⊎ IsSkipped kind old now p
   pub done : (run : ℕ) (p : ListPlace) → run < count → IsPlaceOf kind old run p → IsSkipped kind old now p
 
@@ -149,7 +149,7 @@ apart_stays kind now new run other p q len is there apart puts =
 
 -- one list more
 pub copied_more : (kind : PageKind) (old now new : List ℕ) (run : ℕ) → length old ≡ 512 → HasListsApart kind old →
-    run < page_count old → IsCopied kind old now run → SkipsRun kind run now new → IsCopied kind old new (run + 1)
+    run < page_run_count old → IsCopied kind old now run → SkipsRun kind run now new → IsCopied kind old new (run + 1)
 copied_more kind old now new run size apart low copied skips =
     let changes = copied.changes in
     let same_size = changes.size in
@@ -180,7 +180,7 @@ copied_more kind old now new run size apart low copied skips =
             | inr before ↦ list_twice kind (slice_range old p.from p.to) (slice_range now p.from p.to)
                 (slice_range new p.from p.to) before skipped_now
           ] in
-          let other_is : (other : ℕ) (q : ListPlace) → other < page_count old → IsPlaceOf kind old other q →
+          let other_is : (other : ℕ) (q : ListPlace) → other < page_run_count old → IsPlaceOf kind old other q →
           IsSkipped kind old new q ⊎ (slice_range new q.from q.to ≡ slice_range now q.from q.to) =
           λ other q there at_q. elim ((clear_of kind old run p apart low is).apart other there q at_q) [
             | inl same ↦ inl (subst (IsSkipped kind old new) (place_by_at kind old run other p q is at_q same) here)
@@ -205,7 +205,7 @@ copied_more kind old now new run size apart low copied skips =
               ]
             ];
             done = λ other q below at_q.
-                let there : other < page_count old = omega arith in
+                let there : other < page_run_count old = omega arith in
                 elim (cases_lt other run) [
                   | inr hi ↦
                       let same : other ≡ run = omega arith in
@@ -224,14 +224,14 @@ copied_more kind old now new run size apart low copied skips =
 
 -- the page whose lists are all skipped is the copy
 pub copied_all : (kind : PageKind) (old now : List ℕ) (count : ℕ) → length old ≡ 512 → HasListsApart kind old →
-    entry_place kind old (page_count old) ≤ 512 → page_count old ≤ count → IsCopied kind old now count →
+    run_entry_place kind old (page_run_count old) ≤ 512 → page_run_count old ≤ count → IsCopied kind old now count →
     IsCopyOf kind old now
 copied_all kind old now count size apart room all copied =
     let changes = copied.changes in
     let same_size = changes.size in
     record {
       size = same_size;
-      front = front_same now old (entry_place kind old (page_count old)) (omega arith) (omega arith)
+      front = front_same now old (run_entry_place kind old (page_run_count old)) (omega arith) (omega arith)
           (λ i low. front_stays kind old now i changes apart low);
       count = count_stays kind old now changes;
       lists = λ run from to low is.

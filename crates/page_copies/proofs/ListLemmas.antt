@@ -13,7 +13,7 @@ use Rattle.fkp_pages.specs.Fkp.{HasRunAnswer, least_list}
 use Rattle.fkp_pages.specs.Bin.{page_at}
 use Rattle.fkp_pages.specs.Properties.{IsListAnswered, HasListAt}
 use Rattle.page_copies.specs.Names.{names_page}
-use Rattle.page_copies.specs.Pages.{BinTables, bin_of, IsPageCopy, kind_alone, SkipsPage, SkipsPages}
+use Rattle.page_copies.specs.Pages.{BinTables, bin_table_of, IsPageCopy, kind_alone, SkipsPage, SkipsPages}
 use Rattle.page_copies.specs.Laws.{IsListCopy, ActsTheSame, HasListBefore}
 use Rattle.page_copies.proofs.AnswerLemmas.{copy_answered}
 use Rattle.page_copies.proofs.NameLemmas.{page_named}
@@ -57,7 +57,7 @@ kept_paragraphs true false old new e skips = absurd (cc e)
 kept_paragraphs false false old new e skips = absurd (cc e)
 
 pub kept_page : (kind : PageKind) (bins : BinTables) (number : ℕ) (old new : List ℕ) →
-    names_page (bin_of kind bins) number ≡ true →
+    names_page (bin_table_of kind bins) number ≡ true →
     SkipsPage (kind_alone (names_page bins.characters number) (names_page bins.paragraphs number)) old new →
     IsKeptPage kind old new
 kept_page Chpx bins number old new named skips =
@@ -97,14 +97,14 @@ page_before kind old new fc answer made (inl (inl skips)) answers is =
 -- ---- lists by the bin tables
 
 pub list_before : (kind : PageKind) (bins : BinTables) (old new : List ℕ) (fc : ℕ) (made : List ℕ) →
-    SkipsPages bins old new → (has : HasListAt kind (bin_of kind bins) new fc made) → 2 ≤ has.number →
-    HasListBefore kind (bin_of kind bins) old fc made
+    SkipsPages bins old new → (has : HasListAt kind (bin_table_of kind bins) new fc made) → 2 ≤ has.number →
+    HasListBefore kind (bin_table_of kind bins) old fc made
 list_before kind bins old new fc made skips has low =
     let number = has.number in
     let len = skips.len in
     let there = has.within in
     let within : 512 * number + 512 ≤ length old = omega (arith, there, len) in
-    let named = page_named (bin_of kind bins) fc number has.named in
+    let named = page_named (bin_table_of kind bins) fc number has.named in
     let kept = kept_page kind bins number (page_at old number) (page_at new number) named
     (skips.pages number low within) in
     let back = page_before kind (page_at old number) (page_at new number) fc has.answer made kept has.answers

@@ -7,7 +7,7 @@ use Rattle.std.proofs.lemmas.Bool.{cases_eq, cases_lt, eq-eqb, ne_eqb}
 use Rattle.std.proofs.lemmas.List.Folds.{list_any-append}
 use Rattle.std.proofs.lemmas.List.FromFn.{map-range_with_len_more}
 use Rattle.fkp_pages.specs.Bin.{bin_count, page_number, IsBinPage}
-use Rattle.page_copies.specs.Names.{names_page, mark_of}
+use Rattle.page_copies.specs.Names.{names_page, named_flag}
 
 abbrev pub named_by_ranges : List ℕ → ℕ → ℕ → Bool
 named_by_ranges bin count number = list_any (λ page. page == number) (map (page_number bin) (range_with_len 0 count))
@@ -43,15 +43,15 @@ range_other bin k number apart =
 pub mark_more : (bin old new : List ℕ) (k page number : ℕ) → page ≡ page_number bin k →
     (page < length old → slice_index new page ≡ 1) →
     ((other : ℕ) → other ≢ page → slice_index new other ≡ slice_index old other) → number < length old →
-    slice_index old number ≡ mark_of (named_by_ranges bin k number) →
-    slice_index new number ≡ mark_of (named_by_ranges bin (k + 1) number)
+    slice_index old number ≡ named_flag (named_by_ranges bin k number) →
+    slice_index new number ≡ named_flag (named_by_ranges bin (k + 1) number)
 mark_more bin old new k page number is here others within before = elim (cases_eq number page) [
   | inl same ↦
       ap (slice_index new) same
-      ∙ (here (omega (arith, same, within)) ∙ sym (ap mark_of (range_here bin k number (sym is ∙ sym same))))
+      ∙ (here (omega (arith, same, within)) ∙ sym (ap named_flag (range_here bin k number (sym is ∙ sym same))))
   | inr apart ↦
       others number apart
-      ∙ (before ∙ sym (ap mark_of (range_other bin k number (λ same. apart (sym same ∙ sym is)))))
+      ∙ (before ∙ sym (ap named_flag (range_other bin k number (λ same. apart (sym same ∙ sym is)))))
 ]
 
 -- a page that a range names is named

@@ -10,23 +10,23 @@ use Rattle.prl_skips.proofs.Public.{range_same, put_length, put_before, put_afte
 use Rattle.fkp_pages.specs.declared.kind.PageKind.{PageKind}
 use Rattle.fkp_pages.specs.declared.kind.PageKind.TheVariants.{Chpx, Papx}
 use Rattle.fkp_pages.specs.Bin.{page_at}
-use Rattle.page_copies.specs.Names.{mark_of}
+use Rattle.page_copies.specs.Names.{named_flag}
 use Rattle.page_copies.specs.Pages.{BinTables, IsPageCopy, kind_alone, page_kind, SkipsPage, PutsPage, SkipsPages}
 
 -- ---- the kind of a page by its marks
 
-pub alike : (c p : Bool) → mark_of c ≡ mark_of p → kind_alone c p ≡ None
+pub alike : (c p : Bool) → named_flag c ≡ named_flag p → kind_alone c p ≡ None
 alike true true e = refl
 alike true false e = absurd (omega (arith, e))
 alike false true e = absurd (omega (arith, e))
 alike false false e = refl
 
-pub first_alone : (c p : Bool) → mark_of c ≢ mark_of p → mark_of c ≡ 1 → kind_alone c p ≡ Some Chpx
+pub first_alone : (c p : Bool) → named_flag c ≢ named_flag p → named_flag c ≡ 1 → kind_alone c p ≡ Some Chpx
 first_alone true true differ e = absurd (differ refl)
 first_alone true false differ e = refl
 first_alone false p differ e = absurd (omega (arith, e))
 
-pub second_alone : (c p : Bool) → mark_of c ≢ mark_of p → mark_of c ≢ 1 → kind_alone c p ≡ Some Papx
+pub second_alone : (c p : Bool) → named_flag c ≢ named_flag p → named_flag c ≢ 1 → kind_alone c p ≡ Some Papx
 second_alone true p differ other = absurd (other refl)
 second_alone false true differ other = refl
 second_alone false false differ other = absurd (differ refl)

@@ -4,7 +4,8 @@ use Rattle.std.proofs.Common.{slice_index, refl, sym, ap, ◌∙◌, subst, arit
 use Rattle.std.specs.Prelude.{if◌then◌else◌}
 use Rattle.fkp_pages.specs.declared.kind.PageKind.{PageKind}
 use Rattle.fkp_pages.specs.declared.kind.PageKind.TheVariants.{Chpx, Papx}
-use Rattle.fkp_pages.specs.Fkp.{entry_size, page_count, entry_place, entry_byte, list_from, list_to, least_list}
+use Rattle.fkp_pages.specs.Fkp.{run_entry_size, page_run_count, run_entry_place, entry_byte, list_from, list_to}
+use Rattle.fkp_pages.specs.Fkp.{least_list}
 use Rattle.fkp_pages.specs.Fkp.{HasRunCount}
 use Rattle.page_copies.specs.declared.places.ListPlace.{ListPlace}
 use Rattle.page_copies.specs.Places.{IsPlaceOf, StandsClear, HasListsApart, IsInNoList}
@@ -66,7 +67,7 @@ place_one kind page run p q a b = place_by_at kind page run run p q a b (a.at �
 
 -- each list of the page is clear
 pub clear_of : (kind : PageKind) (page : List ℕ) (run : ℕ) (p : ListPlace) → HasListsApart kind page →
-    run < page_count page → IsPlaceOf kind page run p → StandsClear kind page p
+    run < page_run_count page → IsPlaceOf kind page run p → StandsClear kind page p
 clear_of kind page run p apart low is = elim (apart run low) [
   | inl none ↦ absurd (is.list.some none)
   | inr has ↦ subst (StandsClear kind page) (place_one kind page run has.place p has.is is) has.clear
@@ -96,7 +97,7 @@ pub record ChangesLists (kind : PageKind) (old now : List ℕ) : Type 0 where
 
 -- fcs and entries, the count, and the heads of lists are outside
 front_outside : (kind : PageKind) (old : List ℕ) (i : ℕ) → HasListsApart kind old →
-    i < entry_place kind old (page_count old) → IsInNoList kind old i
+    i < run_entry_place kind old (page_run_count old) → IsInNoList kind old i
 front_outside kind old i apart low run p there is =
     let behind = (clear_of kind old run p apart there is).behind in
     let head = (in_order kind old run p is).head in
@@ -106,7 +107,7 @@ count_outside : (kind : PageKind) (old : List ℕ) → IsInNoList kind old 511
 count_outside kind old run p there is = let within = (in_order kind old run p is).within in inr (omega arith)
 
 head_outside : (kind : PageKind) (old : List ℕ) (run : ℕ) (p : ListPlace) (i : ℕ) → HasListsApart kind old →
-    run < page_count old → IsPlaceOf kind old run p → p.at ≤ i → i < p.from → IsInNoList kind old i
+    run < page_run_count old → IsPlaceOf kind old run p → p.at ≤ i → i < p.from → IsInNoList kind old i
 head_outside kind old run p i apart low is from to other q there at =
     let mine = in_order kind old run p is in
     let its = in_order kind old other q at in
@@ -118,31 +119,32 @@ head_outside kind old run p i apart low is from to other q there at =
       | inr either ↦ elim either [ inl before ↦ inl (omega arith) | inr after ↦ inr (omega arith) ]
     ]
 
-pub count_stays : (kind : PageKind) (old now : List ℕ) → ChangesLists kind old now → page_count now ≡ page_count old
+pub count_stays : (kind : PageKind) (old now : List ℕ) → ChangesLists kind old now → page_run_count now ≡ page_run_count
+    old
 count_stays kind old now c = c.outside 511 (count_outside kind old)
 
 -- the entries are one after the other
-pub entry_low : (kind : PageKind) (page : List ℕ) (run : ℕ) → run < page_count page →
-    entry_place kind page run < entry_place kind page (page_count page)
+pub entry_low : (kind : PageKind) (page : List ℕ) (run : ℕ) → run < page_run_count page →
+    run_entry_place kind page run < run_entry_place kind page (page_run_count page)
 entry_low Chpx page run low = omega arith
 entry_low Papx page run low = omega arith
 
 -- the entries end before the count
 pub entries_inside : (kind : PageKind) (page : List ℕ) → HasRunCount kind page →
-    entry_place kind page (page_count page) ≤ 512
+    run_entry_place kind page (page_run_count page) ≤ 512
 entries_inside Chpx page h = let most = h.most in omega arith
 entries_inside Papx page h = let most = h.most in omega arith
 
 pub entry_stays : (kind : PageKind) (old now : List ℕ) (run : ℕ) → ChangesLists kind old now → HasListsApart kind old →
-    run < page_count old → entry_byte kind now run ≡ entry_byte kind old run
+    run < page_run_count old → entry_byte kind now run ≡ entry_byte kind old run
 entry_stays kind old now run c apart low =
-    ap (λ n. slice_index now (4 * (n + 1) + entry_size kind * run)) (count_stays kind old now c)
-    ∙ c.outside (entry_place kind old run)
-    (front_outside kind old (entry_place kind old run) apart (entry_low kind old run low))
+    ap (λ n. slice_index now (4 * (n + 1) + run_entry_size kind * run)) (count_stays kind old now c)
+    ∙ c.outside (run_entry_place kind old run)
+    (front_outside kind old (run_entry_place kind old run) apart (entry_low kind old run low))
 
 -- a list is where it stood
 pub place_stays : (kind : PageKind) (old now : List ℕ) (run : ℕ) (p : ListPlace) → ChangesLists kind old now →
-    HasListsApart kind old → run < page_count old → IsPlaceOf kind old run p → IsPlaceOf kind now run p
+    HasListsApart kind old → run < page_run_count old → IsPlaceOf kind old run p → IsPlaceOf kind now run p
 place_stays kind old now run p c apart low is =
     let entry = entry_stays kind old now run c apart low in
     let starts = is.list.starts in
@@ -165,7 +167,7 @@ place_stays kind old now run p c apart low is =
 
 -- and stood where it is
 pub place_stood : (kind : PageKind) (old now : List ℕ) (run : ℕ) (p : ListPlace) → ChangesLists kind old now →
-    HasListsApart kind old → run < page_count old → IsPlaceOf kind now run p → IsPlaceOf kind old run p
+    HasListsApart kind old → run < page_run_count old → IsPlaceOf kind now run p → IsPlaceOf kind old run p
 place_stood kind old now run p c apart low is = elim (apart run low) [
   | inl none ↦ absurd (is.list.some (entry_stays kind old now run c apart low ∙ none))
   | inr has ↦ subst (IsPlaceOf kind old run)
@@ -173,5 +175,5 @@ place_stood kind old now run p c apart low is = elim (apart run low) [
 ]
 
 pub front_stays : (kind : PageKind) (old now : List ℕ) (i : ℕ) → ChangesLists kind old now → HasListsApart kind old →
-    i < entry_place kind old (page_count old) → slice_index now i ≡ slice_index old i
+    i < run_entry_place kind old (page_run_count old) → slice_index now i ≡ slice_index old i
 front_stays kind old now i c apart low = c.outside i (front_outside kind old i apart low)

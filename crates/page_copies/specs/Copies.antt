@@ -3,7 +3,7 @@ use Rattle.std.specs.Prelude.{◌≡◌, ◌⊎◌, ℕ, ◌+◌, ◌-◌, ◌<�
 use Rattle.std.specs.Prelude.{slice_range}
 use Rattle.prl_skips.specs.Skips.{SkipsOrStays, PutsSkipped}
 use Rattle.fkp_pages.specs.declared.kind.PageKind.{PageKind}
-use Rattle.fkp_pages.specs.Fkp.{page_count, entry_place, least_list, IsListOf}
+use Rattle.fkp_pages.specs.Fkp.{page_run_count, run_entry_place, least_list, IsListOf}
 use Rattle.page_copies.specs.declared.places.ListPlace.{ListPlace}
 use Rattle.page_copies.specs.Places.{HasNoList, IsPlaceOf, IsInNoList}
 
@@ -15,9 +15,10 @@ pub record SkipsList (kind : PageKind) (old new : List ℕ) : Type 0 where
 -- the copy of a page: the codes in its lists are skipped, and no other byte changes
 pub record IsCopyOf (kind : PageKind) (old new : List ℕ) : Type 0 where
   pub size : length new ≡ length old
-  pub front : take (entry_place kind old (page_count old)) new ≡ take (entry_place kind old (page_count old)) old
-  pub count : page_count new ≡ page_count old
-  pub lists : (run from to : ℕ) → run < page_count old → IsListOf kind old run from to →
+  pub front : take (run_entry_place kind old (page_run_count old)) new ≡ take (run_entry_place kind old (page_run_count
+      old)) old
+  pub count : page_run_count new ≡ page_run_count old
+  pub lists : (run from to : ℕ) → run < page_run_count old → IsListOf kind old run from to →
       IsListOf kind new run from to × SkipsList kind (slice_range old from to) (slice_range new from to)
   pub outside : (i : ℕ) → IsInNoList kind old i → slice_index new i ≡ slice_index old i
 

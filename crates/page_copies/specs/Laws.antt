@@ -10,7 +10,7 @@ use Rattle.fkp_pages.specs.Fkp.{HasRunAnswer, least_list}
 use Rattle.fkp_pages.specs.Properties.{IsListAnswered, HasListAt}
 use Rattle.page_copies.specs.Places.{HasListsApart}
 use Rattle.page_copies.specs.Copies.{SkipsList, IsCopyOf}
-use Rattle.page_copies.specs.Pages.{BinTables, bin_of, SkipsPages}
+use Rattle.page_copies.specs.Pages.{BinTables, bin_table_of, SkipsPages}
 
 -- the page answers so at the place, and its list is the other one with the codes skipped that are not read
 pub record HasSkippedAnswer (kind : PageKind) (page : List ℕ) (fc : ℕ) (answer : RunAnswer) (list : List ℕ) : Type 0
@@ -64,8 +64,8 @@ pub record HasListBefore (kind : PageKind) (bin wd : List ℕ) (fc : ℕ) (made 
 -- where a stream with skipped pages has a list, the stream has the list that was skipped, or the same one
 abbrev pub SkippedPagesKeepLists : Type 0
 SkippedPagesKeepLists = (kind : PageKind) (bins : BinTables) (old new : List ℕ) (fc : ℕ) (made : List ℕ) →
-    SkipsPages bins old new → (has : HasListAt kind (bin_of kind bins) new fc made) → 2 ≤ has.number →
-    HasListBefore kind (bin_of kind bins) old fc made
+    SkipsPages bins old new → (has : HasListAt kind (bin_table_of kind bins) new fc made) → 2 ≤ has.number →
+    HasListBefore kind (bin_table_of kind bins) old fc made
 
 -- the pages of a stream are skipped in one way
 abbrev pub PagesAreSkippedAlone : Type 0

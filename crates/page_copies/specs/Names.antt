@@ -8,5 +8,5 @@ abbrev pub names_page : List ℕ → ℕ → Bool
 names_page bin number =
     list_any (λ page. page == number) (map (page_number bin) (range_with_len 0 (bin_count bin)))
 
-abbrev pub mark_of : Bool → ℕ
-mark_of named = if named then 1 else 0
+abbrev pub named_flag : Bool → ℕ
+named_flag named = if named then 1 else 0

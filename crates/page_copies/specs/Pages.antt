@@ -23,9 +23,9 @@ pub record BinTables : Type 0 where
   pub characters : List ℕ
   pub paragraphs : List ℕ
 
-abbrev pub bin_of : PageKind → BinTables → List ℕ
-bin_of Chpx bins = bins.characters
-bin_of Papx bins = bins.paragraphs
+abbrev pub bin_table_of : PageKind → BinTables → List ℕ
+bin_table_of Chpx bins = bins.characters
+bin_table_of Papx bins = bins.paragraphs
 
 -- the kind of a page that one of the tables alone names: whether each of them names it
 abbrev pub kind_alone : Bool → Bool → Option PageKind

@@ -1,7 +1,7 @@
 -- Where the lists of a page are.
 use Rattle.std.specs.Prelude.{◌≡◌, ◌⊎◌, ℕ, ◌*◌, ◌<◌, ◌≤◌, List}
 use Rattle.fkp_pages.specs.declared.kind.PageKind.{PageKind}
-use Rattle.fkp_pages.specs.Fkp.{page_count, entry_place, entry_byte, IsListOf}
+use Rattle.fkp_pages.specs.Fkp.{page_run_count, run_entry_place, entry_byte, IsListOf}
 use Rattle.page_copies.specs.declared.places.ListPlace.{ListPlace}
 
 -- the run has no list in the page
@@ -23,8 +23,8 @@ IsApartFrom kind page place run = (other : ListPlace) → IsPlaceOf kind page ru
 
 -- a list is behind the entries, and so to those of all runs
 pub record StandsClear (kind : PageKind) (page : List ℕ) (place : ListPlace) : Type 0 where
-  pub behind : entry_place kind page (page_count page) ≤ place.at
-  pub apart : (run : ℕ) → run < page_count page → IsApartFrom kind page place run
+  pub behind : run_entry_place kind page (page_run_count page) ≤ place.at
+  pub apart : (run : ℕ) → run < page_run_count page → IsApartFrom kind page place run
 
 -- the run has no properties, or its list is in the page as it was
 pub record HasClearList (kind : PageKind) (page : List ℕ) (run : ℕ) : Type 0 where
@@ -32,14 +32,14 @@ pub record HasClearList (kind : PageKind) (page : List ℕ) (run : ℕ) : Type 0
   pub is : IsPlaceOf kind page run place
   pub clear : StandsClear kind page place
 
-abbrev pub IsApart : PageKind → List ℕ → ℕ → Type 0
-IsApart kind page run = (entry_byte kind page run ≡ 0) ⊎ HasClearList kind page run
+abbrev pub IsClearRun : PageKind → List ℕ → ℕ → Type 0
+IsClearRun kind page run = (entry_byte kind page run ≡ 0) ⊎ HasClearList kind page run
 
 -- the lists of all runs do
 abbrev pub HasListsApart : PageKind → List ℕ → Type 0
-HasListsApart kind page = (run : ℕ) → run < page_count page → IsApart kind page run
+HasListsApart kind page = (run : ℕ) → run < page_run_count page → IsClearRun kind page run
 
 -- no list holds the byte
 abbrev pub IsInNoList : PageKind → List ℕ → ℕ → Type 0
-IsInNoList kind page i = (run : ℕ) (p : ListPlace) → run < page_count page → IsPlaceOf kind page run p →
+IsInNoList kind page i = (run : ℕ) (p : ListPlace) → run < page_run_count page → IsPlaceOf kind page run p →
     (i < p.from) ⊎ (p.to ≤ i)

@@ -1,7 +1,7 @@
 // Which pages a bin table names.
 ghost use Rattle.std.specs.Prelude.{◌≡◌, ◌≢◌, ◌<◌, ℕ, IfOk, length, slice_index};
 ghost use Rattle.fkp_pages.specs.Bin.{bin_count, page_number};
-ghost use Rattle.page_copies.specs.Names.{names_page, mark_of};
+ghost use Rattle.page_copies.specs.Names.{names_page, named_flag};
 
 use doc_bits::{Memory, get32};
 use std::alloc::Global;
@@ -44,7 +44,7 @@ fn set_mark(marks: &mut Vec<u8>, number: usize)
 pub fn named_pages(alloc: Global, bin: &[u8], places: usize) -> Result<Vec<u8>, Memory>
     ensures len { IfOk result (λ marks. length marks.items ≡ places) }
     ensures marks { IfOk result (λ marks. (number : ℕ) → number < places
-        → slice_index marks.items number ≡ mark_of (names_page bin.now number)) }
+        → slice_index marks.items number ≡ named_flag (names_page bin.now number)) }
 {
     let mut marks = Vec::with_capacity(alloc, places)?;
     marks.resize(places, 0)?;

@@ -1,21 +1,18 @@
 // The pages that bin tables name, each skipped at its own place.
 ghost use Rattle.std.specs.Prelude.{◌≡◌, ◌+◌, ◌*◌, ◌≤◌, Bool, Option, None, Some, length, OnOk};
-ghost use Rattle.page_copies.specs.Names.{names_page, mark_of};
+ghost use Rattle.page_copies.specs.Names.{names_page, named_flag};
 ghost use Rattle.page_copies.specs.Pages.{BinTables, IsPageCopy, PutsPage, SkipsPages, kind_alone};
 
 use crate::names::named_pages;
 use crate::places::has_lists_apart;
 use crate::skips::skip_page;
 use doc_bits::Memory;
-use fkp_pages::{PAGE_LEN, PageKind, has_run_count};
+use fkp_pages::{FIRST_PAGE, PAGE_LEN, PageKind, has_run_count};
 use std::alloc::Global;
-
-/// The number of the first page behind those that lie over the FIB.
-const FIRST_PAGE: usize = 2;
 
 /// The kind of a page with these marks, which one table alone names.
 fn marked_kind(characters: u8, paragraphs: u8) -> Option<PageKind>
-    ensures { (c : Bool) → (p : Bool) → characters ≡ mark_of c → paragraphs ≡ mark_of p → result ≡ kind_alone c p }
+    ensures { (c : Bool) → (p : Bool) → characters ≡ named_flag c → paragraphs ≡ named_flag p → result ≡ kind_alone c p }
 {
     if characters == paragraphs {
         return None;

@@ -1,7 +1,7 @@
 // Where the lists of a page are, and whether they are apart.
 ghost use Rattle.std.specs.Prelude.{◌≡◌, ◌<◌, ◌↔◌, IsTrue, MatchOption, length};
-ghost use Rattle.fkp_pages.specs.Fkp.{HasRunCount, page_count};
-ghost use Rattle.page_copies.specs.Places.{HasNoList, IsPlaceOf, StandApart, IsApartFrom, StandsClear, IsApart};
+ghost use Rattle.fkp_pages.specs.Fkp.{HasRunCount, page_run_count};
+ghost use Rattle.page_copies.specs.Places.{HasNoList, IsPlaceOf, StandApart, IsApartFrom, StandsClear, IsClearRun};
 ghost use Rattle.page_copies.specs.Places.{HasListsApart};
 
 use fkp_pages::{PAGE_LEN, PageKind, RunAnswer, answer_of, entry_at};
@@ -17,7 +17,7 @@ pub struct ListPlace {
 /// The number of runs of a page.
 pub(crate) fn run_count(page: &[u8]) -> usize
     requires { length page.now ≡ 512 }
-    ensures { result ≡ page_count page.now }
+    ensures { result ≡ page_run_count page.now }
 {
     page[PAGE_LEN - 1] as usize
 }
@@ -26,7 +26,7 @@ pub(crate) fn run_count(page: &[u8]) -> usize
 pub(crate) fn list_place(kind: PageKind, page: &[u8], run: usize) -> Option<ListPlace>
     requires page { length page.now ≡ 512 }
     requires counted { HasRunCount kind page.now }
-    requires run { run < page_count page.now }
+    requires run { run < page_run_count page.now }
     ensures { MatchOption result (HasNoList kind page.now run) (IsPlaceOf kind page.now run) }
 {
     match answer_of(kind, page, run) {
@@ -50,7 +50,7 @@ fn stand_apart(one: ListPlace, other: ListPlace) -> bool
 fn is_apart_from(kind: PageKind, page: &[u8], place: ListPlace, run: usize) -> bool
     requires page { length page.now ≡ 512 }
     requires counted { HasRunCount kind page.now }
-    requires run { run < page_count page.now }
+    requires run { run < page_run_count page.now }
     ensures { IsTrue result ↔ IsApartFrom kind page.now place run }
 {
     match list_place(kind, page, run) {
@@ -81,8 +81,8 @@ fn is_clear(kind: PageKind, page: &[u8], place: ListPlace) -> bool
 fn is_apart(kind: PageKind, page: &[u8], run: usize) -> bool
     requires page { length page.now ≡ 512 }
     requires counted { HasRunCount kind page.now }
-    requires run { run < page_count page.now }
-    ensures { IsTrue result ↔ IsApart kind page.now run }
+    requires run { run < page_run_count page.now }
+    ensures { IsTrue result ↔ IsClearRun kind page.now run }
 {
     if page[entry_at(kind, page, run)] == 0 {
         return true;

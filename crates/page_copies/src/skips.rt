@@ -1,6 +1,6 @@
 // The lists of a page, skipped in place.
 ghost use Rattle.std.specs.Prelude.{◌≡◌, ◌<◌, length};
-ghost use Rattle.fkp_pages.specs.Fkp.{HasRunCount, page_count};
+ghost use Rattle.fkp_pages.specs.Fkp.{HasRunCount, page_run_count};
 ghost use Rattle.page_copies.specs.Places.{HasListsApart};
 ghost use Rattle.page_copies.specs.Copies.{IsCopyOf, SkipsRun};
 
@@ -12,7 +12,7 @@ use prl_skips::skip_list;
 fn skip_run(kind: PageKind, page: &mut [u8], run: usize)
     requires page { length page.old ≡ 512 }
     requires counted { HasRunCount kind page.old }
-    requires run { run < page_count page.old }
+    requires run { run < page_run_count page.old }
     ensures { SkipsRun kind run page.old page.new }
 {
     if let Some(place) = list_place(kind, page, run) {

@@ -5,7 +5,7 @@ use Rattle.std.proofs.Common.{append_assoc, append-nil, arith}
 use Rattle.std.specs.Prelude.{encode_utf8, encode_utf8_all, is_err, OnOk, OnErr, if◌then◌else◌}
 use Rattle.std.specs.Str.{IsAscii}
 use Rattle.std.proofs.lemmas.Str.{encodes-append, encodes-IsAscii}
-use Rattle.doc_outer.specs.Counts.{Rose, GoesOn}
+use Rattle.doc_outer.specs.Counts.{Rose, CountGoesOn}
 use Rattle.doc_outer.specs.Written.{Appends, AppendsPrefix, Sends}
 use Rattle.doc_outer.specs.declared.sink.Sink.{Ghosts}
 use Rattle.doc_outer.proofs.Public.{Rose-after, count_stays, count_on, Sends-waits, Sends-append, Sends-fails}
@@ -35,7 +35,7 @@ nothing_put sink at page = record {
 
 -- one piece was put, and then the sink failed
 pub failed_behind : {K : Type 0} (sink : Ghosts K) (a b c : K) (p q : Page) (xs ys : List ℕ) →
-    PutsBytes sink a p b q xs → GoesOn (sink.faults a) (sink.faults b) → FailsIn sink b q c ys →
+    PutsBytes sink a p b q xs → CountGoesOn (sink.faults a) (sink.faults b) → FailsIn sink b q c ys →
     FailsIn sink a p c (xs ++ ys)
 failed_behind sink a b c p q xs ys one on other = record {
   prefix =
@@ -45,7 +45,7 @@ failed_behind sink a b c p q xs ys one on other = record {
 
 -- the sink failed in one piece, and nothing more was put
 pub failed_before : {K : Type 0} (sink : Ghosts K) (a b c : K) (p : Page) (xs ys : List ℕ) → FailsIn sink a p b xs →
-    sink.written c ≡ sink.written b → GoesOn (sink.faults b) (sink.faults c) → FailsIn sink a p c (xs ++ ys)
+    sink.written c ≡ sink.written b → CountGoesOn (sink.faults b) (sink.faults c) → FailsIn sink a p c (xs ++ ys)
 failed_before sink a b c p xs ys one same on = record {
   prefix =
       subst (λ now. AppendsPrefix (sink.written a) now (p.block ++ (xs ++ ys))) (sym same)
@@ -107,7 +107,7 @@ pub piece_put : {K E : Type 0} (sink : Ghosts K) (a b : K) (page : Page) (left b
     (taken : Result (Unit {0}) E) → page.failed ≡ false →
     OnOk taken (Sends (sink.written a) (sink.written b) page.block bytes left) →
     OnErr taken (AppendsPrefix (sink.written a) (sink.written b) (page.block ++ bytes)) →
-    OnErr taken (Rose (sink.faults a) (sink.faults b)) → GoesOn (sink.faults a) (sink.faults b) →
+    OnErr taken (Rose (sink.faults a) (sink.faults b)) → CountGoesOn (sink.faults a) (sink.faults b) →
     PrintsBytes sink a page b (record { block = left; failed = is_err taken }) bytes
 piece_put sink a b page left bytes (Ok u) right sends prefix rose on = record {
   ok = λ is. record { right = right; sends = sends };
@@ -143,7 +143,7 @@ pub flag_put : {K E : Type 0} (sink : Ghosts K) (a b : K) (page : Page) (left by
     (taken : Result (Unit {0}) E) (flag : Bool) → flag ≡ is_err taken → page.failed ≡ false →
     OnOk taken (Sends (sink.written a) (sink.written b) page.block bytes left) →
     OnErr taken (AppendsPrefix (sink.written a) (sink.written b) (page.block ++ bytes)) →
-    OnErr taken (Rose (sink.faults a) (sink.faults b)) → GoesOn (sink.faults a) (sink.faults b) →
+    OnErr taken (Rose (sink.faults a) (sink.faults b)) → CountGoesOn (sink.faults a) (sink.faults b) →
     PrintsBytes sink a page b (record { block = left; failed = flag }) bytes
 flag_put sink a b page left bytes taken flag is right sends prefix rose on =
     subst (λ (f : Bool). PrintsBytes sink a page b (record { block = left; failed = f }) bytes) (sym is)

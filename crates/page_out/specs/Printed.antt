@@ -1,6 +1,6 @@
 -- What of a page a sink has taken, and what waits.
 use Rattle.std.specs.Prelude.{◌≡◌, ℕ, Bool, true, false, List, ◌++◌, encode_utf8_all}
-use Rattle.doc_outer.specs.Counts.{Rose, GoesOn}
+use Rattle.doc_outer.specs.Counts.{Rose, CountGoesOn}
 use Rattle.doc_outer.specs.Written.{AppendsPrefix, Sends}
 use Rattle.doc_outer.specs.declared.sink.Sink.{Ghosts}
 use Rattle.page_out.specs.declared.page.Page.{Page}
@@ -24,7 +24,7 @@ pub record PrintsBytes {K : Type 0} (sink : Ghosts K) (before : K) (page : Page)
   pub ok : left.failed ≡ false → PutsBytes sink before page after left bytes
   pub fails : page.failed ≡ false → left.failed ≡ true → FailsIn sink before page after bytes
   pub stays : page.failed ≡ true → sink.written after ≡ sink.written before
-  pub faults : GoesOn (sink.faults before) (sink.faults after)
+  pub faults : CountGoesOn (sink.faults before) (sink.faults after)
 
 -- characters were
 abbrev pub Prints : {K : Type 0} → Ghosts K → K → Page → K → Page → List ℕ → Type 0

@@ -4,7 +4,7 @@ ghost use Rattle.std.specs.Char.{IsScalar};
 ghost use Rattle.std.specs.Fmt.{decimal};
 ghost use Rattle.std.specs.List.{All};
 ghost use Rattle.std.specs.Str.{IsAscii};
-ghost use Rattle.doc_outer.specs.Counts.{GoesOn};
+ghost use Rattle.doc_outer.specs.Counts.{CountGoesOn};
 ghost use Rattle.doc_outer.specs.Written.{Appends};
 ghost use Rattle.page_out.specs.Printed.{FailsIn, Prints, PrintsBytes};
 
@@ -39,7 +39,7 @@ impl Page {
         ensures ok { OnOk result (Appends (K.written out.old) (K.written out.new) self.block) }
         ensures fails { OnErr result (self.failed ≡ false → FailsIn K.Sink out.old self out.new []) }
         ensures stays { OnErr result (self.failed ≡ true → K.written out.new ≡ K.written out.old) }
-        ensures faults { GoesOn (K.faults out.old) (K.faults out.new) }
+        ensures faults { CountGoesOn (K.faults out.old) (K.faults out.new) }
     {
         if self.failed {
             return Err(SinkFailed);

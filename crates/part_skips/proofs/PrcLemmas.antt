@@ -36,7 +36,7 @@ spelt_modifier bytes prls modifier spelt does =
     λ others also. subst (λ l. IsModifierOf l modifier) (spelt_unique bytes prls others spelt also) does
 
 -- the modifier of a Prc before its codes are skipped
-prc_before : (prcs made : List (List ℕ)) (number : ℕ) (modifier : Modifier) → AreListsSkipped prcs made →
+pub prc_before : (prcs made : List (List ℕ)) (number : ℕ) (modifier : Modifier) → AreListsSkipped prcs made →
     IsPrmModifier made (Prc number) modifier → IsPrmModifier prcs (Prc number) modifier
 prc_before prcs made number modifier are is =
     let list = is.named.0 in
@@ -109,7 +109,7 @@ made_size prcs made k list sizes are there =
     let len = (are.each k old.0 list old.1 there).len in
     omega arith
 
-made_sizes : (prcs made : List (List ℕ)) → All IsGrpprl prcs → AreListsSkipped prcs made → All IsGrpprl made
+pub made_sizes : (prcs made : List (List ℕ)) → All IsGrpprl prcs → AreListsSkipped prcs made → All IsGrpprl made
 made_sizes prcs made sizes are = All-from_slice_get IsGrpprl made (λ k list there. made_size prcs made k list sizes are
     there)
 

@@ -9,9 +9,10 @@ use Rattle.sprm_table.specs.Sprm.{HasSprmFaultAt}
 use Rattle.prop_map.specs.Formed.{character_groups, paragraph_groups}
 use Rattle.prl_skips.proofs.Public.{right_skips}
 use Rattle.style_sheet.specs.Counted.{even_up, counted_end, counted_bytes, IsCountedPart}
-use Rattle.style_sheet.specs.StyleDefinition.{stk, cupx, name_len, upxes_start, upx_place, upx, paragraph_list, IsStd}
+use Rattle.style_sheet.specs.StyleDefinition.{stk, cupx, style_name_len, upxes_start, upx_place, upx, paragraph_list}
+use Rattle.style_sheet.specs.StyleDefinition.{IsStd}
 use Rattle.style_sheet.specs.Stsh.{cb_stshi, cstd, std_base, slot_place, std_of, HasStshif, IsSlotAt, IsSlot}
-use Rattle.style_sheet.specs.Stsh.{IsParagraphFault, IsCharacterFault, HasListFault, stsh_rules}
+use Rattle.style_sheet.specs.Stsh.{IsParagraphFault, IsCharacterFault, HasUpxFault, stsh_rules}
 use Rattle.part_skips.specs.Sheets.{SkipsStd, SkipsSlots, SkipsSheet}
 use Rattle.part_skips.proofs.StyleLemmas.{upxes_low, SameFront, word_same, first_same, first_end, second_same, stk_same}
 use Rattle.part_skips.proofs.StyleLemmas.{HasBothLists, both_lists, HasOneList, one_list}
@@ -29,7 +30,7 @@ std_like base old new std high same len within last =
     λ at below. word_same old new at (upx_place old base 0 + 2) same below in
     let kind : stk new ≡ stk old = stk_same base old new same in
     let count : cupx new ≡ cupx old = ap (λ n. n % 16) (word 4 (omega (arith, low, high))) in
-    let name : name_len new base ≡ name_len old base = word base (omega (arith, low)) in
+    let name : style_name_len new base ≡ style_name_len old base = word base (omega (arith, low)) in
     let first : u16_at new (upx_place new base 0) ≡ u16_at old (upx_place old base 0) =
     ap (u16_at new) (first_same base old new same) ∙ word (upx_place old base 0) (omega arith) in
     record {
@@ -38,7 +39,7 @@ std_like base old new std high same len within last =
         units = omega (arith, len, std.name.units, name);
         ended =
             ap (λ n. u16_at new (base + 2 + 2 * n)) name
-            ∙ (word (base + 2 + 2 * name_len old base) (omega arith) ∙ std.name.ended);
+            ∙ (word (base + 2 + 2 * style_name_len old base) (omega arith) ∙ std.name.ended);
       };
       kind = record {
         some = omega (arith, kind, std.kind.some);
@@ -104,7 +105,7 @@ std_after base old new std high (inr (inr stays)) = subst (λ (l : List ℕ). Is
 -- ---- its lists
 
 para_right : (base : ℕ) (old new : List ℕ) → stk old ≡ 1 → HasBothLists base old new →
-    Nowhere (HasListFault old base) → Nowhere (HasListFault new base)
+    Nowhere (HasUpxFault old base) → Nowhere (HasUpxFault new base)
 para_right base old new para has none =
     let kind : stk new ≡ stk old = stk_same base old new has.front in
     let pap : Nowhere (HasSprmFaultAt (paragraph_list new base) paragraph_groups) =
@@ -123,8 +124,8 @@ para_right base old new para has none =
       | inr list ↦ absurd (omega (arith, kind, para, list.0))
     ]
 
-char_right : (base : ℕ) (old new : List ℕ) → stk old ≡ 2 → HasOneList base old new → Nowhere (HasListFault old base) →
-    Nowhere (HasListFault new base)
+char_right : (base : ℕ) (old new : List ℕ) → stk old ≡ 2 → HasOneList base old new → Nowhere (HasUpxFault old base) →
+    Nowhere (HasUpxFault new base)
 char_right base old new char has none =
     let kind : stk new ≡ stk old = stk_same base old new has.front in
     let chp : Nowhere (HasSprmFaultAt (upx new base 0) character_groups) =
@@ -136,12 +137,12 @@ char_right base old new char has none =
       | inr list ↦ chp list.1.offset list.1.broken
     ]
 
-std_right : (base : ℕ) (old new : List ℕ) → IsStd old base → SkipsStd base old new → Nowhere (HasListFault old base) →
-    Nowhere (HasListFault new base)
+std_right : (base : ℕ) (old new : List ℕ) → IsStd old base → SkipsStd base old new → Nowhere (HasUpxFault old base) →
+    Nowhere (HasUpxFault new base)
 std_right base old new std (inl para) = para_right base old new para.para (both_lists base old new std para)
 std_right base old new std (inr (inl char)) = char_right base old new char.char (one_list base old new std char)
 std_right base old new std (inr (inr stays)) =
-    subst (λ (l : List ℕ). Nowhere (HasListFault l base)) (sym stays.same)
+    subst (λ (l : List ℕ). Nowhere (HasUpxFault l base)) (sym stays.same)
 
 -- ---- slots
 
@@ -169,22 +170,22 @@ no_std part place none =
     ap (λ n. take n (drop (place + 2) part)) width
 
 slot_right : (old new : List ℕ) (istd : ℕ) → SkipsSlots old new → istd < cstd old →
-    Nowhere (HasListFault (std_of old istd) (std_base old)) → Nowhere (HasListFault (std_of new istd) (std_base new))
+    Nowhere (HasUpxFault (std_of old istd) (std_base old)) → Nowhere (HasUpxFault (std_of new istd) (std_base new))
 slot_right old new istd s low none =
     let p = slot_place old istd in
     let slot = s.slots istd low in
     let count = slot.count in
-    let here : Nowhere (HasListFault (counted_bytes new p) (std_base old)) = elim (cases_lt 0 (u16_at old p)) [
+    let here : Nowhere (HasUpxFault (counted_bytes new p) (std_base old)) = elim (cases_lt 0 (u16_at old p)) [
       | inl some ↦
           std_right (std_base old) (counted_bytes old p) (counted_bytes new p) ((s.are istd low).style some)
           (slot.std some) none
       | inr empty ↦
           let was = no_std old p (omega (arith, empty)) in
           let is = no_std new p (omega (arith, empty, count)) in
-          subst (λ (b : List ℕ). Nowhere (HasListFault b (std_base old))) (was ∙ sym is) none
+          subst (λ (b : List ℕ). Nowhere (HasUpxFault b (std_base old))) (was ∙ sym is) none
     ] in
-    subst (λ b. Nowhere (HasListFault (std_of new istd) b)) (sym (head_word old new 4 s (omega arith)))
-    (subst (λ q. Nowhere (HasListFault (counted_bytes new q) (std_base old)))
+    subst (λ b. Nowhere (HasUpxFault (std_of new istd) b)) (sym (head_word old new 4 s (omega arith)))
+    (subst (λ q. Nowhere (HasUpxFault (counted_bytes new q) (std_base old)))
     (sym (place_same old new istd s (omega (arith, low)))) here)
 
 -- ---- the sheet
@@ -206,7 +207,7 @@ stshif_after old new s =
 slots_hold : (old new : List ℕ) (at : ℕ) → SkipsSlots old new → Hold (stsh_rules old at) → Hold (stsh_rules new at)
 slots_hold old new at s (stshif, (slots, faults)) =
     let count : cstd new ≡ cstd old = head_word old new 2 s (omega arith) in
-    let right : (istd : ℕ) → istd < cstd old → Nowhere (HasListFault (std_of old istd) (std_base old)) =
+    let right : (istd : ℕ) → istd < cstd old → Nowhere (HasUpxFault (std_of old istd) (std_base old)) =
     λ istd low offset fault. faults (at + (slot_place old istd + 2) + offset) (record {
       entry = istd;
       below = low;

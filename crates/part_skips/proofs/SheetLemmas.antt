@@ -12,7 +12,7 @@ use Rattle.style_sheet.specs.declared.styles.Style.{Style}
 use Rattle.style_sheet.specs.Sheet.{Sheet, style_at}
 use Rattle.style_sheet.specs.Counted.{even_up, counted_end, counted_bytes, IsCountedPart}
 use Rattle.style_sheet.specs.StyleDefinition.{IsStd}
-use Rattle.style_sheet.specs.Stsh.{cstd, std_base, slot_place, head_of, HasStshif, IsSlotAt, AreSlots}
+use Rattle.style_sheet.specs.Stsh.{cstd, std_base, slot_place, stshi_words, HasStshif, IsSlotAt, AreSlots}
 use Rattle.style_sheet.specs.Stsh.{SpellsSlotAt, HasStyleSheet}
 use Rattle.part_skips.specs.Sheets.{SkipsStd, PutsSlot, SkipsSlotAt, IsInNoStyle, SkipsSlots, SkipsSheet}
 use Rattle.part_skips.specs.Sheets.{PutsSheet}
@@ -166,7 +166,7 @@ head_word old new at s low =
     let size = s.stshif.size in
     word_there old new at (λ i below. s.front (at + i) (omega arith))
 
-head_same : (old new : List ℕ) → SkipsSlots old new → head_of new ≡ head_of old
+head_same : (old new : List ℕ) → SkipsSlots old new → stshi_words new ≡ stshi_words old
 head_same old new s =
     let six = head_word old new 6 s (omega arith) in
     let eight = head_word old new 8 s (omega arith) in

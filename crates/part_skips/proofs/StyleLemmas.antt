@@ -15,8 +15,8 @@ use Rattle.style_sheet.specs.declared.styles.Style.{Style}
 use Rattle.style_sheet.specs.declared.styles.Kind.{Kind}
 use Rattle.style_sheet.specs.declared.styles.Kind.TheVariants.{Para, Char, Other}
 use Rattle.style_sheet.specs.Counted.{even_up, counted_end, counted_bytes, IsCountedPart}
-use Rattle.style_sheet.specs.StyleDefinition.{stk, cupx, name_len, upxes_start, upx_place, upx, paragraph_list}
-use Rattle.style_sheet.specs.StyleDefinition.{IsStd, IsMapOf, SpellsKind, SpellsStyle, base_of}
+use Rattle.style_sheet.specs.StyleDefinition.{stk, cupx, style_name_len, upxes_start, upx_place, upx, paragraph_list}
+use Rattle.style_sheet.specs.StyleDefinition.{IsStd, IsMapOf, SpellsKind, SpellsStyle, istd_base}
 use Rattle.part_skips.specs.Sheets.{SkipsCounted, SkipsBothLists, SkipsOneList, StaysOther, SkipsStd}
 
 -- ---- maps
@@ -227,7 +227,7 @@ style_like base old new style same kinds is high =
     record {
       sti = is.sti ∙ ap (λ n. n % 4096) (sym first);
       flags = is.flags ∙ ap (λ n. n / 4096) (sym first);
-      base = is.base ∙ ap (λ n. base_of (n / 16)) (sym (word 2 (omega arith)));
+      base = is.base ∙ ap (λ n. istd_base (n / 16)) (sym (word 2 (omega arith)));
       next = is.next ∙ ap (λ n. n / 16) (sym (word 4 (omega arith)));
       grfstd = is.grfstd ∙ sym (word 8 (omega arith));
       name = record {

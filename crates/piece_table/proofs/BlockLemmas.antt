@@ -5,7 +5,7 @@ use Rattle.std.proofs.lemmas.List.{take_all}
 use Rattle.std.proofs.lemmas.List.Sums.{sum_by-cons, sum_by-set}
 use Rattle.std.proofs.lemmas.Option.{slice_get_within, get_or_from_slice_get}
 use Rattle.chunked_list.specs.declared.places.Spot.{Spot as Place}
-use Rattle.chunked_list.specs.Blocks.{units_of, IsSpotOf}
+use Rattle.chunked_list.specs.Blocks.{total_units, IsSpotOf}
 use Rattle.prop_map.specs.declared.modifiers.Modifier.{Modifier}
 use Rattle.piece_table.specs.declared.pieces.Entry.{Entry}
 use Rattle.piece_table.specs.Piece.{IsPiece, ArePieces}
@@ -18,8 +18,8 @@ abbrev units : Entry → ℕ
 units entry = entry.piece.len
 
 -- blocks count units as entries do
-pub units-entries : (entries : List Entry) → units_of units entries ≡ entry_units entries
-unfolding units_of
+pub units-entries : (entries : List Entry) → total_units units entries ≡ entry_units entries
+unfolding total_units
 units-entries entries = refl
 
 -- each entry has a unit at least
@@ -76,7 +76,7 @@ end_seam entries cp end = record {
 
 -- the units where an entry lost its front
 pub units_behind : (entries : List Entry) (cp number inside : ℕ) (entry : Entry) → IsCutPlace entries cp number inside
-    entry → units_of units (slice_set entries number (back_entry entry inside)) + inside ≡ entry_units entries
+    entry → total_units units (slice_set entries number (back_entry entry inside)) + inside ≡ entry_units entries
 units_behind entries cp number inside entry place =
     let low = slice_get_within entries number entry place.there in
     let less = place.less in

@@ -9,8 +9,8 @@ use Rattle.doc_bits.specs.Number.{u32_at}
 use Rattle.std.specs.Prelude.{slice_range}
 use Rattle.doc_bits.specs.Plc.{PlcPart, IsPlcOf}
 use Rattle.piece_table.specs.Clx.{prc_bytes, pcdt_bytes, IsGrpprl, IsPlcPcd, BeginsPrc, BeginsPcdt, ClxParts}
-use Rattle.piece_table.specs.Clx.{SpellsClx, IsWrongAt}
-use Rattle.piece_table.specs.Front.{IsPrcFront, IsPcdtFront, ArePrcs, AreAllPrcs, AreParts}
+use Rattle.piece_table.specs.Clx.{SpellsClx, IsWrongClxAt}
+use Rattle.piece_table.specs.Front.{IsPrcFront, IsPcdtFront, ArePrcs, AreAllPrcs, AreClxParts}
 use Rattle.doc_bits.specs.Number.{AreBytes}
 use Rattle.doc_bits.proofs.Public.{AreBytes-drop}
 use Rattle.piece_table.proofs.ByteLemmas.{front_spelt, spelt_front, spelt_body, sized_unique}
@@ -160,7 +160,7 @@ front_of_pcdt bytes none pcdt =
     })
 
 -- where a Clx is spelled nothing is wrong
-pub spells_no_wrong : (clx : List ℕ) (parts : ClxParts) → SpellsClx clx parts → Nowhere (IsWrongAt clx)
+pub spells_no_wrong : (clx : List ℕ) (parts : ClxParts) → SpellsClx clx parts → Nowhere (IsWrongClxAt clx)
 spells_no_wrong clx parts spells = λ p wrong.
     let pcdt = pcdt_bytes parts.plc.bytes ++ spells.more in
     let same = prcs_unique parts.prcs wrong.prcs pcdt wrong.left spells.sizes wrong.sizes (sym spells.spelt ∙
@@ -169,7 +169,10 @@ spells_no_wrong clx parts spells = λ p wrong.
 
 -- a Pcdt follows the Prcs
 pub parts_found : (clx : List ℕ) (prcs : List (List ℕ)) (at : ℕ) (plc : PlcPart) → AreBytes clx → ArePrcs clx prcs
-    at → IsPcdtFront (drop at clx) plc → Nowhere (IsWrongAt clx) × AreParts clx (record { prcs = prcs; plc = plc })
+    at → IsPcdtFront (drop at clx) plc → Nowhere (IsWrongClxAt clx) × AreClxParts clx (record {
+      prcs = prcs;
+      plc = plc;
+    })
     (at + 5)
 parts_found clx prcs at plc bytes are front =
     let rest = drop at clx in
@@ -193,7 +196,7 @@ parts_found clx prcs at plc bytes are front =
 
 -- neither a Prc nor a Pcdt follows them
 pub parts_wrong : (clx : List ℕ) (prcs : List (List ℕ)) (at : ℕ) → AreAllPrcs clx prcs at → ((plc : PlcPart) →
-    ¬ (IsPcdtFront (drop at clx) plc)) → IsLeast (λ a b. a ≤ b) (IsWrongAt clx) at
+    ¬ (IsPcdtFront (drop at clx) plc)) → IsLeast (λ a b. a ≤ b) (IsWrongClxAt clx) at
 parts_wrong clx prcs at all none_pcdt =
     let are = all.are in
     let no_prc = front_of_prc (drop at clx) all.none in

@@ -1,7 +1,7 @@
 -- The rules on the Clx have one first broken one.
 use Rattle.std.proofs.Common.{◌≡◌, ℕ, ◌+◌, ◌*◌, ◌≤◌, ◌⊎◌, Option, Some, None, List, length, refl, inl, inr, ap, subst}
 use Rattle.std.proofs.Common.{◌++◌, All, flat_map, length-append, arith, lit<, lit≤}
-use Rattle.doc_bits.specs.Rules.{IsSingle, Ascends, IsLeast, IsFirst, Hold, Nowhere, Among, From, rule}
+use Rattle.doc_bits.specs.Rules.{IsSingle, Ascends, IsLeast, IsFirstOffset, Hold, Nowhere, Among, From, rule}
 use Rattle.doc_bits.specs.Number.{number_bytes}
 use Rattle.doc_bits.proofs.Public.{length-number_bytes, least_of_all}
 use Rattle.piece_table.specs.declared.fault.ClxFault.{ClxFault}
@@ -14,12 +14,12 @@ use Rattle.piece_table.specs.Piece.{piece_end}
 use Rattle.piece_table.specs.Clx.{ClxParts, plc_place, prc_bytes, pcdt_bytes, pcd_place, pcd_prm}
 use Rattle.piece_table.specs.Clx.{clx_piece, clx_pieces}
 use Rattle.piece_table.specs.ClxRules.{clx_rules, piece_rules, prc_rules, parts_rules, IsUnread, IsReadPrm}
-use Rattle.piece_table.specs.ClxRules.{AreReadPrms, IsFaultyPrc, IsLongPrc, HasWrongCp, IsNoAscent, IsOutside}
+use Rattle.piece_table.specs.ClxRules.{AreReadPrms, IsFaultyPrc, IsLongPrc, HasWrongCp, IsNoCpAscent, IsOutside}
 use Rattle.piece_table.specs.ClxRules.{StaysInStream, IsClxFault, NamesFirst, FirstClxFaultIsLeast}
 use Rattle.doc_bits.specs.Plc.{PlcPart, plc_cp}
 use Rattle.std.proofs.lemmas.Bool.{cases_lt}
 use Rattle.std.specs.Option.{IsSome}
-use Rattle.piece_table.specs.Front.{AscendsTo, EndsWithin, AreParts}
+use Rattle.piece_table.specs.Front.{AscendsTo, EndsWithin, AreClxParts}
 use Rattle.piece_table.proofs.PieceLemmas.{All-clx_pieces}
 use Rattle.piece_table.proofs.ClxLemmas.{parts_unique}
 
@@ -78,7 +78,7 @@ abbrev pub Starts : PlcPart → Type 0
 Starts plc = (plc.count ≤ 16384) × (plc_cp plc.bytes 0 ≡ 0)
 
 pub first_no_ascent : (plc : PlcPart) (base text_len p : ℕ) → Starts plc → IsLeast (λ a b. a ≤ b) (Among plc.count
-    (IsNoAscent plc base)) p → IsLeast (λ a b. a ≤ b) (HasWrongCp plc base text_len) p
+    (IsNoCpAscent plc base)) p → IsLeast (λ a b. a ≤ b) (HasWrongCp plc base text_len) p
 first_no_ascent plc base text_len p starts first =
     let below = first.broken.below in
     let here = first.broken.broken.0 in
@@ -94,7 +94,7 @@ first_no_ascent plc base text_len p starts first =
       ];
     }
 
-pub first_wrong_end : (plc : PlcPart) (base text_len : ℕ) → Starts plc → Nowhere (Among plc.count (IsNoAscent plc
+pub first_wrong_end : (plc : PlcPart) (base text_len : ℕ) → Starts plc → Nowhere (Among plc.count (IsNoCpAscent plc
     base)) → (plc_cp plc.bytes plc.count ≡ text_len → ⊥) → IsLeast (λ a b. a ≤ b) (HasWrongCp plc base text_len)
     (base + 4 * plc.count)
 first_wrong_end plc base text_len starts none other = record {
@@ -109,7 +109,7 @@ first_wrong_end plc base text_len starts none other = record {
   ];
 }
 
-pub no_wrong_cp : (plc : PlcPart) (base text_len : ℕ) → Starts plc → Nowhere (Among plc.count (IsNoAscent plc base)) →
+pub no_wrong_cp : (plc : PlcPart) (base text_len : ℕ) → Starts plc → Nowhere (Among plc.count (IsNoCpAscent plc base)) →
     plc_cp plc.bytes plc.count ≡ text_len → Nowhere (HasWrongCp plc base text_len)
 no_wrong_cp plc base text_len starts none ends = λ q h. elim h [
   | inl start ↦ elim start.1 [
@@ -231,7 +231,7 @@ hold_pieces parts at place bounds text_len is holds = subst (λ p. Hold (piece_r
 pub fault_pieces : (parts : ClxParts) (at place : ℕ) (bounds : TextBounds) (text_len : ℕ) (fault : ClxFault) →
     place ≡ plc_place parts → NamesFirst (piece_rules parts.plc (at + place) (length parts.prcs) bounds text_len)
     fault → IsClxFault (parts_rules parts at bounds text_len) fault
-fault_pieces parts at place bounds text_len (Rule r p) is first = inl (subst (λ q. IsFirst (piece_rules parts.plc
+fault_pieces parts at place bounds text_len (Rule r p) is first = inl (subst (λ q. IsFirstOffset (piece_rules parts.plc
     (at + q) (length parts.prcs) bounds text_len) r p) is first)
 fault_pieces parts at place bounds text_len Memory is first = absurd first
 
@@ -244,7 +244,7 @@ fault_long parts at bounds text_len (Rule r p) holds none first = inr (holds, in
 fault_long parts at bounds text_len Memory holds none first = tt
 
 -- the Plc is within the Clx
-pub parts_within : (clx : List ℕ) (place : ℕ) (parts : ClxParts) → AreParts clx parts place →
+pub parts_within : (clx : List ℕ) (place : ℕ) (parts : ClxParts) → AreClxParts clx parts place →
     place + length parts.plc.bytes ≤ length clx
 parts_within clx place parts are =
     let spelt = are.spelt in

@@ -12,11 +12,11 @@ use Rattle.doc_bits.proofs.Public.{get-map}
 use Rattle.prop_map.specs.declared.modifiers.Modifier.{Modifier}
 use Rattle.piece_table.specs.declared.pieces.Entry.{Entry}
 use Rattle.piece_table.specs.declared.pieces.Spot.{Spot}
-use Rattle.piece_table.specs.Piece.{unit_bytes, unit_places, total_length, IsPiece, IsTextPiece, ArePieces}
+use Rattle.piece_table.specs.Piece.{unit_bytes, places_of_piece, total_length, IsPiece, IsTextPiece, ArePieces}
 use Rattle.piece_table.specs.Numbering.{text_piece}
 use Rattle.piece_table.specs.Changes.{IsSpot}
 use Rattle.piece_table.specs.Cuts.{entry_units, flat_entries, front_entry, back_entry, IsEntrySpot, IsSeam, KeepsText}
-use Rattle.piece_table.specs.Cuts.{IsCut, IsCutTwice}
+use Rattle.piece_table.specs.Cuts.{AreCutEntries, IsCutTwice}
 use Rattle.piece_table.proofs.PartLemmas.{cut_parts, here_is, part_of_itself, part_on}
 use Rattle.piece_table.proofs.PieceLemmas.{All-seen}
 use Rattle.piece_table.proofs.FlatLemmas.{flat_entries-append, flat_pieces-cons, unit_places-cut, total_length-seen}
@@ -155,8 +155,8 @@ cut_flat entries number inside entry there low modifiers =
     let view = text_piece modifiers in
     let two : flat_entries modifiers (a ∷ (b ∷ rest)) ≡ flat_entries modifiers (entry ∷ rest) =
     flat_pieces-cons (view a) (map view (b ∷ rest))
-    ∙ (ap (λ l. unit_places (view a) ++ l) (flat_pieces-cons (view b) (map view rest))
-    ∙ (sym (append_assoc (unit_places (view a)) (unit_places (view b)) (flat_entries modifiers rest))
+    ∙ (ap (λ l. places_of_piece (view a) ++ l) (flat_pieces-cons (view b) (map view rest))
+    ∙ (sym (append_assoc (places_of_piece (view a)) (places_of_piece (view b)) (flat_entries modifiers rest))
     ∙ (ap (λ l. l ++ flat_entries modifiers rest) (unit_places-cut modifiers entry inside low) ∙ sym (flat_pieces-cons
     (view entry) (map view rest))))) in
     flat_entries-append modifiers front (a ∷ (b ∷ rest))
@@ -237,7 +237,7 @@ cut_front entries cp number inside entry place first begin seam low =
     )
 
 pub cut_inside : (entries : List Entry) (cp number inside : ℕ) (entry : Entry) → IsCutPlace entries cp number inside
-    entry → IsCut entries (cut_entries entries number inside entry) cp (number + 1)
+    entry → AreCutEntries entries (cut_entries entries number inside entry) cp (number + 1)
 cut_inside entries cp number inside entry place =
     let within = slice_get_within entries number entry place.there in
     let front = take number entries in
@@ -289,7 +289,7 @@ keeps_itself entries = record {
 }
 
 pub cut_nowhere : (entries : List Entry) (cp number : ℕ) → All (λ entry. IsPiece entry.piece) entries →
-    IsSeam entries cp number → IsCut entries entries cp number
+    IsSeam entries cp number → AreCutEntries entries entries cp number
 cut_nowhere entries cp number sound seam = record {
   keeps = keeps_itself entries;
   seam = seam;
@@ -310,7 +310,8 @@ keeps_on a b c x y = record {
   parts = λ j low. let part = y.parts j low in part_on a b c j part (x.parts part.place part.there);
 }
 
-pub cut_twice : (a b c : List Entry) (from to first last : ℕ) → from ≤ to → IsCut a b from first → IsCut b c to last →
+pub cut_twice : (a b c : List Entry) (from to first last : ℕ) → from ≤ to → AreCutEntries a b from first → AreCutEntries
+    b c to last →
     IsCutTwice a c from to first last
 cut_twice a b c from to first last low x y =
     let kept = y.front first from x.seam low in

@@ -16,7 +16,7 @@ use Rattle.sprm_table.specs.Codes.{class_of, is_held, is_property, is_clear}
 use Rattle.sprm_table.specs.Operands.{size_of, operand_bytes}
 use Rattle.sprm_table.specs.Sprm.{Prl, spelling}
 use Rattle.prop_map.specs.Settings.{Properties}
-use Rattle.prop_map.specs.Acting.{is_kept, concerns_code, left_by, value_after, ArePropertiesAfter}
+use Rattle.prop_map.specs.Acting.{is_kept_by_plain, concerns_code, left_by, value_after, ArePropertiesAfter}
 use Rattle.prop_map.specs.Formed.{character_groups, paragraph_groups}
 use Rattle.prop_map.specs.Printing.{printed_list}
 use Rattle.prop_map.specs.declared.modifiers.Modifier.{Modifier}
@@ -59,7 +59,7 @@ value_one groups code key value found e =
             | true ↦ λ sets.
                 let there : Some value ≡ Some found = ap (λ b. cond b (Some value) None) (sym sets) ∙ left in
                 let same = concerns_same (is_held groups code) (key == code) (is_property (class_of code))
-                (is_clear (class_of code)) (not (is_kept key)) sets (sets_not_clears (class_of code) sets)
+                (is_clear (class_of code)) (not (is_kept_by_plain key)) sets (sets_not_clears (class_of code) sets)
                 concerns in
                 (eqb-true key code same, cc (there))
           ] refl

@@ -10,7 +10,7 @@ use Rattle.std.proofs.lemmas.List.Sums.{sum_by-cons}
 use Rattle.prop_map.specs.declared.modifiers.Modifier.{Modifier}
 use Rattle.prop_map.specs.Modifiers.{no_modifier}
 use Rattle.piece_table.specs.declared.pieces.Entry.{Entry}
-use Rattle.piece_table.specs.Piece.{TextPiece, UnitPlace, unit_bytes, unit_places, flat_pieces, total_length}
+use Rattle.piece_table.specs.Piece.{TextPiece, UnitPlace, unit_bytes, places_of_piece, flat_pieces, total_length}
 use Rattle.piece_table.specs.Numbering.{text_piece, Extends}
 use Rattle.piece_table.specs.Cuts.{entry_units, flat_entries, front_entry, back_entry, IsSeam}
 use Rattle.piece_table.proofs.NumberingLemmas.{in_front}
@@ -18,9 +18,9 @@ use Rattle.piece_table.proofs.PieceLemmas.{length-unit_places, length-flat_piece
 
 pub flat_pieces-append : (xs ys : List TextPiece) → flat_pieces (xs ++ ys) ≡ flat_pieces xs ++ flat_pieces ys
 unfolding flat_pieces
-flat_pieces-append xs ys = flat_map-append unit_places xs ys
+flat_pieces-append xs ys = flat_map-append places_of_piece xs ys
 
-pub flat_pieces-cons : (piece : TextPiece) (pieces : List TextPiece) → flat_pieces (piece ∷ pieces) ≡ unit_places
+pub flat_pieces-cons : (piece : TextPiece) (pieces : List TextPiece) → flat_pieces (piece ∷ pieces) ≡ places_of_piece
     piece ++ flat_pieces pieces
 unfolding flat_pieces
 flat_pieces-cons piece pieces = refl
@@ -79,8 +79,8 @@ unit_moved at units k false low = omega arith
 
 -- an entry that is cut covers the same units
 pub unit_places-cut : (modifiers : List Modifier) (entry : Entry) (units : ℕ) → units ≤ entry.piece.len →
-    unit_places (text_piece modifiers (front_entry entry units)) ++ unit_places (text_piece modifiers
-    (back_entry entry units)) ≡ unit_places (text_piece modifiers entry)
+    places_of_piece (text_piece modifiers (front_entry entry units)) ++ places_of_piece (text_piece modifiers
+    (back_entry entry units)) ≡ places_of_piece (text_piece modifiers entry)
 unit_places-cut modifiers entry units low =
     let whole = text_piece modifiers entry in
     let front = text_piece modifiers (front_entry entry units) in
@@ -89,13 +89,15 @@ unit_places-cut modifiers entry units low =
     let len_front = length-unit_places front in
     let len_back = length-unit_places back in
     let len_whole = length-unit_places whole in
-    let len = length-append (unit_places front) (unit_places back) in
-    ext_get_or d (unit_places front ++ unit_places back) (unit_places whole) (omega arith) (λ k within. elim (cases_lt
+    let len = length-append (places_of_piece front) (places_of_piece back) in
+    ext_get_or d (places_of_piece front ++ places_of_piece back) (places_of_piece whole) (omega arith) (λ k within. elim
+    (cases_lt
     k units) [
-      | inl less ↦ get_or-append (unit_places front) (unit_places back) d k (omega arith) ∙ (get_or-unit_places front
+      | inl less ↦ get_or-append (places_of_piece front) (places_of_piece back) d k (omega arith) ∙ (get_or-unit_places
+          front
           k d less ∙ sym (get_or-unit_places whole k d (omega arith)))
       | inr more ↦
-          get_or-append_right (unit_places front) (unit_places back) units k d len_front more
+          get_or-append_right (places_of_piece front) (places_of_piece back) units k d len_front more
           ∙ (get_or-unit_places back (k - units) d (omega arith)
           ∙ (ap (λ at. record { at = at; wide = entry.piece.wide; modifier = whole.modifier })
           (sym (unit_moved entry.piece.at units k entry.piece.wide more))

@@ -9,13 +9,13 @@ use Rattle.std.proofs.lemmas.List.Sums.{sum_by-cons, sum_by-append, sum_by_more}
 use Rattle.std.proofs.lemmas.Option.{slice_get_within, get_or_from_slice_get}
 use Rattle.chunked_list.proofs.Public.{take-append}
 use Rattle.piece_table.specs.declared.pieces.Entry.{Entry}
-use Rattle.piece_table.specs.Cuts.{entry_units, front_entry, back_entry, no_entry, entry_at, IsPart}
+use Rattle.piece_table.specs.Cuts.{entry_units, front_entry, back_entry, empty_entry, entry_at, IsEntryPart}
 
 abbrev units : Entry → ℕ
 units entry = entry.piece.len
 
 -- an entry is a part of itself
-pub part_of_itself : (entries : List Entry) (j : ℕ) → j < length entries → IsPart entries entries j
+pub part_of_itself : (entries : List Entry) (j : ℕ) → j < length entries → IsEntryPart entries entries j
 part_of_itself entries j low = record {
   place = j;
   there = low;
@@ -25,7 +25,7 @@ part_of_itself entries j low = record {
 }
 
 -- a part of a part
-pub part_on : (a b c : List Entry) (j : ℕ) → (part : IsPart b c j) → IsPart a b part.place → IsPart a c j
+pub part_on : (a b c : List Entry) (j : ℕ) → (part : IsEntryPart b c j) → IsEntryPart a b part.place → IsEntryPart a c j
 part_on a b c j part whole = record {
   place = whole.place;
   there = whole.there;
@@ -51,7 +51,7 @@ here_is entries number entry there =
       whole = sym (take-append-drop number entries)
           ∙ ap (λ (l : List Entry). take number entries ++ l) (drop_more entries number entry low
           ∙ ap (λ (e : Entry). e ∷ drop (number + 1) entries) (get_or_from_slice_get entries number entry entry there));
-      read = get_or_from_slice_get entries number entry no_entry there;
+      read = get_or_from_slice_get entries number entry empty_entry there;
     }
 
 -- a front of the list before the entry
@@ -111,7 +111,7 @@ behind_same entries number inside m entry here some le =
 pub cut_parts : (entries : List Entry) (number inside : ℕ) (entry : Entry) → IsHere entries number entry →
     inside ≤ entry.piece.len → (j : ℕ) →
     j < length (take number entries ++ (front_entry entry inside ∷ (back_entry entry inside ∷ drop (number + 1)
-    entries))) → IsPart entries (take number entries ++ (front_entry entry inside ∷ (back_entry entry inside ∷ drop
+    entries))) → IsEntryPart entries (take number entries ++ (front_entry entry inside ∷ (back_entry entry inside ∷ drop
     (number + 1) entries))) j
 cut_parts entries number inside entry here some j low =
     let front = take number entries in
@@ -124,7 +124,7 @@ cut_parts entries number inside entry here some j low =
     let long = length-take-le number entries within in
     let same_number : number ≤ number = omega arith in
     let before : take number new ≡ front = front_same entries (a ∷ (b ∷ rest)) number number within same_number in
-    let units_here = sum_by_more units entries number no_entry there in
+    let units_here = sum_by_more units entries number empty_entry there in
     let len : units (entry_at entries number) ≡ entry.piece.len = ap units here.read in
     let long_a : length (front ++ a ∷ []) ≡ number + 1 = omega (arith, length-append front (a ∷ [])) in
     let apart : new ≡ (front ++ a ∷ []) ++ (b ∷ rest) = sym (append_assoc front (a ∷ []) (b ∷ rest)) in
@@ -141,8 +141,8 @@ cut_parts entries number inside entry here some j low =
             place = j;
             there = omega arith;
             modifier = ap (λ (e : Entry). e.modifier)
-                (get_or_append_left front (a ∷ (b ∷ rest)) no_entry j short
-                ∙ get_or-take number entries j no_entry less);
+                (get_or_append_left front (a ∷ (b ∷ rest)) empty_entry j short
+                ∙ get_or-take number entries j empty_entry less);
             begin = omega (arith, ap entry_units (front_same entries (a ∷ (b ∷ rest)) number j within le));
             end = omega (arith, ap entry_units (front_same entries (a ∷ (b ∷ rest)) number (j + 1) within next));
           }
@@ -153,7 +153,7 @@ cut_parts entries number inside entry here some j low =
               place = number;
               there = there;
               modifier = ap (λ (n : ℕ). (entry_at new n).modifier) same
-                  ∙ ap (λ (e : Entry). e.modifier) (get_or_at front a (b ∷ rest) no_entry number long)
+                  ∙ ap (λ (e : Entry). e.modifier) (get_or_at front a (b ∷ rest) empty_entry number long)
                   ∙ sym (ap (λ (e : Entry). e.modifier) here.read);
               begin = omega (arith, ap (λ (n : ℕ). entry_units (take n new)) same, ap entry_units before);
               end = omega (
@@ -175,7 +175,8 @@ cut_parts entries number inside entry here some j low =
                 there = there;
                 modifier = ap (λ (n : ℕ). (entry_at new n).modifier) same
                     ∙ ap (λ (l : List Entry). (entry_at l (number + 1)).modifier) apart
-                    ∙ ap (λ (e : Entry). e.modifier) (get_or_at (front ++ a ∷ []) b rest no_entry (number + 1) long_a)
+                    ∙ ap (λ (e : Entry). e.modifier) (get_or_at (front ++ a ∷ []) b rest empty_entry (number + 1)
+                    long_a)
                     ∙ sym (ap (λ (e : Entry). e.modifier) here.read);
                 begin = omega (arith, ap (λ (n : ℕ). entry_units (take n new)) same, first_units);
                 end = omega (
@@ -203,8 +204,8 @@ cut_parts entries number inside entry here some j low =
                 );
                 modifier = ap (λ (l : List Entry). (entry_at l j).modifier) (sym (append_assoc front two rest))
                     ∙ ap (λ (e : Entry). e.modifier)
-                    (get_or-append_right (front ++ two) rest (number + 2) j no_entry long_two le
-                    ∙ get_or-drop (number + 1) entries (j - (number + 2)) no_entry)
+                    (get_or-append_right (front ++ two) rest (number + 2) j empty_entry long_two le
+                    ∙ get_or-drop (number + 1) entries (j - (number + 2)) empty_entry)
                     ∙ ap (λ (n : ℕ). (entry_at entries n).modifier) last;
                 begin = omega (arith, behind_same entries number inside j entry here some le);
                 end = omega (

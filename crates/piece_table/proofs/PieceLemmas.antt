@@ -21,9 +21,9 @@ use Rattle.piece_table.specs.Clx.{IsPlcPcd, pcd_place, clx_piece, clx_pieces}
 use Rattle.piece_table.specs.Front.{AscendsTo, EndsWithin}
 use Rattle.prop_map.specs.Modifiers.{IsFormedModifier}
 use Rattle.piece_table.specs.Piece.{TextPiece, bare_piece, one_piece, ArePieces, IsPiece, IsTextPiece, UnitPlace}
-use Rattle.piece_table.specs.Piece.{unit_places, flat_pieces, total_length, unit_bytes}
+use Rattle.piece_table.specs.Piece.{places_of_piece, flat_pieces, total_length, unit_bytes}
 
-pub length-unit_places : (piece : TextPiece) → length (unit_places piece) ≡ piece.len
+pub length-unit_places : (piece : TextPiece) → length (places_of_piece piece) ≡ piece.len
 length-unit_places piece = length-map-range_with_len (λ j. record {
   at = piece.at + j * unit_bytes piece.wide;
   wide = piece.wide;
@@ -36,7 +36,7 @@ length-flat_pieces [] = refl
 length-flat_pieces (piece ∷ pieces) =
     omega (
       arith,
-      length-append (unit_places piece) (flat_map unit_places pieces),
+      length-append (places_of_piece piece) (flat_map places_of_piece pieces),
       length-unit_places piece,
       length-flat_pieces pieces,
       sum_by-cons (λ p. p.len) piece pieces,
@@ -126,13 +126,15 @@ pieces_sound plc text_len pieces cps within text are formed =
 
 -- the entries of one piece more
 pub flat_pieces-push : (pieces : List TextPiece) (piece : TextPiece) → flat_pieces (pieces ++ piece ∷ []) ≡
-    flat_pieces pieces ++ unit_places piece
+    flat_pieces pieces ++ places_of_piece piece
 unfolding flat_pieces
-flat_pieces-push pieces piece = flat_map-append unit_places pieces (piece ∷ []) ∙ ap (λ l. flat_map unit_places pieces
-    ++ l) (append-nil (unit_places piece))
+flat_pieces-push pieces piece = flat_map-append places_of_piece pieces (piece ∷ []) ∙ ap (λ l. flat_map places_of_piece
+    pieces
+    ++ l) (append-nil (places_of_piece piece))
 
 -- the place of a piece's unit
-pub get_or-unit_places : (piece : TextPiece) (j : ℕ) (d : UnitPlace) → j < piece.len → get_or (unit_places piece) j d
+pub get_or-unit_places : (piece : TextPiece) (j : ℕ) (d : UnitPlace) → j < piece.len → get_or (places_of_piece piece) j
+    d
     ≡ record { at = piece.at + j * unit_bytes piece.wide; wide = piece.wide; modifier = piece.modifier }
 get_or-unit_places piece j d h = get_or-map-range_with_len (λ j. record {
   at = piece.at + j * unit_bytes piece.wide;

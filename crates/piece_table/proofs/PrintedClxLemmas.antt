@@ -15,7 +15,7 @@ use Rattle.piece_table.specs.declared.pieces.TextBounds.{TextBounds}
 use Rattle.piece_table.specs.Piece.{TextPiece, bare_piece, ArePieces, total_length, flat_pieces}
 use Rattle.piece_table.specs.Clx.{SpellsClx, IsClx, prc_bytes, pcdt_bytes, clx_piece, clx_pieces, plc_place}
 use Rattle.piece_table.specs.PrmLists.{IsPrmModifier}
-use Rattle.piece_table.specs.ClxRules.{clx_rules, FitsPages, StaysInStream, IsReadPrm, IsNoAscent, IsOutside}
+use Rattle.piece_table.specs.ClxRules.{clx_rules, FitsPages, StaysInStream, IsReadPrm, IsNoCpAscent, IsOutside}
 use Rattle.piece_table.specs.ClxRules.{IsUnread, IsLongPrc}
 use Rattle.piece_table.specs.Printing.{IsPrintable, IsPrintedClx, ClxIsReadBack}
 use Rattle.piece_table.proofs.ClxLemmas.{spells_no_wrong}
@@ -91,7 +91,7 @@ printed_holds pieces bytes at bounds printed are printable some stays =
     let each = sized pieces bytes printed in
     let cp : (k : ℕ) → k ≤ length ls → plc_cp parts.plc.bytes k ≡ sum (take k ls) = λ k low. cp_back ls printed.pcds k
     (omega arith) (omega arith) (omega arith) each low in
-    let rises : (k : ℕ) → k < parts.plc.count → Nowhere (IsNoAscent parts.plc base k) = λ k low p fall.
+    let rises : (k : ℕ) → k < parts.plc.count → Nowhere (IsNoCpAscent parts.plc base k) = λ k low p fall.
     let back = at_piece pieces bytes printed k are printable (omega arith) in
     let up = back.ascends in
     let positive = (are.each k none (omega arith)).units.some in
@@ -123,7 +123,7 @@ printed_holds pieces bytes at bounds printed are printable some stays =
           spelt,
           (
             (
-              no_wrong_cp parts.plc base (total_length pieces) starts (none_among (IsNoAscent parts.plc base)
+              no_wrong_cp parts.plc base (total_length pieces) starts (none_among (IsNoCpAscent parts.plc base)
                   parts.plc.count rises) ends,
               (
                 none_among (IsOutside parts.plc base bounds) parts.plc.count within,

@@ -16,7 +16,7 @@ use Rattle.piece_table.specs.declared.pieces.Entry.{Entry}
 use Rattle.piece_table.specs.Piece.{IsPiece, ArePieces}
 use Rattle.piece_table.specs.Numbering.{AreNumbered, Extends, text_piece}
 use Rattle.piece_table.specs.Renumbering.{HaveComposed}
-use Rattle.piece_table.specs.Cuts.{entry_units, no_entry, entry_at, renumbered, IsCutTwice, AreMet}
+use Rattle.piece_table.specs.Cuts.{entry_units, empty_entry, entry_at, renumbered_entry, IsCutTwice, AreMetEntries}
 use Rattle.piece_table.proofs.CutLemmas.{units_rise, entries_sound}
 use Rattle.piece_table.proofs.RenumberLemmas.{IsRenewed, renewed}
 use Rattle.piece_table.proofs.BlockLemmas.{units-entries}
@@ -54,7 +54,8 @@ met_told entries from to begin end order first last =
 
 -- what holds of the modifiers of all entries that a range meets holds of those of its entries after the cuts
 pub range_parts : (Q : ℕ → Type 0) (old cut met : List Entry) (from to first last : ℕ) →
-    All (λ (entry : Entry). IsPiece entry.piece) cut → IsCutTwice old cut from to first last → AreMet old from to met
+    All (λ (entry : Entry). IsPiece entry.piece) cut → IsCutTwice old cut from to first last → AreMetEntries old from to
+    met
     → All (λ (entry : Entry). Q entry.modifier) met → All (λ (entry : Entry). Q entry.modifier) (slice_range cut first
     last)
 range_parts Q old cut met from to first last sound twice are all = λ k d low.
@@ -66,7 +67,7 @@ range_parts Q old cut met from to first last sound twice are all = λ k d low.
     let part = twice.keeps.parts j there in
     let place = part.place in
     let inside = part.there in
-    let some = (All-get_or (λ (e : Entry). IsPiece e.piece) cut j no_entry there sound).some in
+    let some = (All-get_or (λ (e : Entry). IsPiece e.piece) cut j empty_entry there sound).some in
     let begins = twice.begins.units in
     let ends = twice.ends.units in
     let starts = part.begin in
@@ -75,7 +76,7 @@ range_parts Q old cut met from to first last sound twice are all = λ k d low.
     let met_end = are.end in
     let rises = units_rise cut first j (omega arith) in
     let falls = units_rise cut (j + 1) last (omega arith) in
-    let more = sum_by_more units cut j no_entry there in
+    let more = sum_by_more units cut j empty_entry there in
     let from_first : are.first ≤ place = elim (cases_lt place are.first) [
       | inl before ↦ absurd (omega (arith, units_rise old (place + 1) are.first (omega arith)))
       | inr le ↦ le
@@ -91,21 +92,22 @@ range_parts Q old cut met from to first last sound twice are all = λ k d low.
     let there_met : place - are.first < length met =
     omega (arith, size, length-take-le (are.last - are.first) (drop are.first old) old_short) in
     let back : are.first + (place - are.first) ≡ place = omega arith in
-    let is : get_or met (place - are.first) no_entry ≡ entry_at old place =
-    ap (λ (l : List Entry). get_or l (place - are.first) no_entry) are.range
-    ∙ range_at old are.first are.last (place - are.first) no_entry index
-    ∙ ap (λ (n : ℕ). get_or old n no_entry) back in
+    let is : get_or met (place - are.first) empty_entry ≡ entry_at old place =
+    ap (λ (l : List Entry). get_or l (place - are.first) empty_entry) are.range
+    ∙ range_at old are.first are.last (place - are.first) empty_entry index
+    ∙ ap (λ (n : ℕ). get_or old n empty_entry) back in
     let now : get_or (slice_range cut first last) k d ≡ entry_at cut j =
-    range_at cut first last k d less ∙ get_or_default cut j d no_entry there in
+    range_at cut first last k d less ∙ get_or_default cut j d empty_entry there in
     subst Q (ap (λ (e : Entry). e.modifier) is ∙ sym part.modifier ∙ sym (ap (λ (e : Entry). e.modifier) now))
-    (all (place - are.first) no_entry there_met)
+    (all (place - are.first) empty_entry there_met)
 
 -- the list after the modifiers of the entries that a range meets were composed, the entries cut and numbered anew
 pub renewed_met : (old_modifiers new_modifiers : List Modifier) (by : Modifier) (numbers : List ℕ) (old cut met : List
     Entry) (from to first last : ℕ) → AreNumbered old_modifiers old → ArePieces (map (text_piece old_modifiers) old) →
     IsCutTwice old cut from to first last → from < to → Extends old_modifiers new_modifiers → IsFormedModifier by →
-    HaveComposed by new_modifiers numbers → AreMet old from to met → All (λ entry. slice_index numbers entry.modifier ≢
-    0) met → IsRenewed old_modifiers new_modifiers by from to old (splice cut first last (map (renumbered numbers)
+    HaveComposed by new_modifiers numbers → AreMetEntries old from to met → All (λ entry. slice_index numbers
+    entry.modifier ≢
+    0) met → IsRenewed old_modifiers new_modifiers by from to old (splice cut first last (map (renumbered_entry numbers)
     (slice_range cut first last)))
 renewed_met old_modifiers new_modifiers by numbers old cut met from to first last numbered are twice order more formed
     have range all =

@@ -12,12 +12,12 @@ use Rattle.doc_bits.proofs.Public.{All_at, All-from_slice_get, in_front, from_be
 use Rattle.prop_map.specs.declared.modifiers.Modifier.{Modifier}
 use Rattle.prop_map.specs.Modifiers.{no_modifier}
 use Rattle.piece_table.specs.declared.pieces.Entry.{Entry}
-use Rattle.piece_table.specs.Piece.{TextPiece, UnitPlace, IsTextPiece, ArePieces, unit_bytes, unit_places}
+use Rattle.piece_table.specs.Piece.{TextPiece, UnitPlace, IsTextPiece, ArePieces, unit_bytes, places_of_piece}
 use Rattle.piece_table.specs.Piece.{flat_pieces, total_length}
 use Rattle.piece_table.specs.Numbering.{text_piece, AreNumbered}
 use Rattle.piece_table.specs.Renewals.{renewed_piece, renewed_pieces, HasRoomAt, AreNewPlaces, moved_entry}
 use Rattle.piece_table.specs.Renewals.{moved_entries}
-use Rattle.piece_table.specs.Cuts.{renumbered}
+use Rattle.piece_table.specs.Cuts.{renumbered_entry}
 use Rattle.piece_table.specs.Renumbering.{HaveCopied}
 use Rattle.piece_table.proofs.FlatLemmas.{flat_pieces-cons}
 use Rattle.piece_table.proofs.RenumberLemmas.{seen-copied, copied_named, whole_range}
@@ -143,7 +143,7 @@ renewed_sound places pieces room are = record {
 
 -- what holds of the modifier of each unit, and of none, holds of those at new places
 units_have : (P : Modifier → Type 0) (piece : TextPiece) → P piece.modifier →
-    All (λ place. P place.modifier) (unit_places piece)
+    All (λ place. P place.modifier) (places_of_piece piece)
 units_have P piece has = All-map (λ (place : UnitPlace). P place.modifier) (λ j. record {
   at = piece.at + j * unit_bytes piece.wide;
   wide = piece.wide;
@@ -151,7 +151,8 @@ units_have P piece has = All-map (λ (place : UnitPlace). P place.modifier) (λ 
 }) (range_with_len 0 piece.len) (λ k d low. has)
 
 one_has : (P : Modifier → Type 0) (place : Option ℕ) (piece : TextPiece) → P no_modifier →
-    All (λ place. P place.modifier) (unit_places piece) → All (λ place. P place.modifier) (unit_places (renewed_piece
+    All (λ place. P place.modifier) (places_of_piece piece) → All (λ place. P place.modifier) (places_of_piece
+    (renewed_piece
     place piece))
 one_has P None piece none have = have
 one_has P (Some at) piece none have = units_have P (renewed_piece (Some at) piece) none
@@ -171,11 +172,12 @@ modifiers_there P [] pieces none have = have
 modifiers_there P (place ∷ places) [] none have = have
 modifiers_there P (place ∷ places) (piece ∷ pieces) none have =
     let Q : UnitPlace → Type 0 = λ unit. P unit.modifier in
-    let all : All Q (unit_places piece ++ flat_pieces pieces) = subst (All Q) (flat_pieces-cons piece pieces) have in
+    let all : All Q (places_of_piece piece ++ flat_pieces pieces) = subst (All Q) (flat_pieces-cons piece pieces) have
+    in
     subst (All Q) (sym (flat_pieces-cons (renewed_piece place piece) (renewed_pieces places pieces)))
-    (All-append Q (unit_places (renewed_piece place piece)) (flat_pieces (renewed_pieces places pieces))
-    (one_has P place piece none (of_front Q (unit_places piece) (flat_pieces pieces) all))
-    (modifiers_there P places pieces none (of_back Q (unit_places piece) (flat_pieces pieces) all)))
+    (All-append Q (places_of_piece (renewed_piece place piece)) (flat_pieces (renewed_pieces places pieces))
+    (one_has P place piece none (of_front Q (places_of_piece piece) (flat_pieces pieces) all))
+    (modifiers_there P places pieces none (of_back Q (places_of_piece piece) (flat_pieces pieces) all)))
 
 -- ---- the whole list
 
@@ -189,11 +191,11 @@ pub renewed_list : (old new : List Modifier) (numbers : List ℕ) (places : List
     (entries moved made : List Entry) (count : ℕ) → slice_get old 0 ≡ Some no_modifier → HaveCopied old new numbers →
     All (λ entry. entry.modifier ≢ 0 → slice_index numbers entry.modifier ≢ 0) moved →
     moved ≡ moved_entries places entries → count ≡ length moved →
-    made ≡ splice moved 0 count (map (renumbered numbers) (slice_range moved 0 count)) →
+    made ≡ splice moved 0 count (map (renumbered_entry numbers) (slice_range moved 0 count)) →
     IsRenewedList old new places entries made
 renewed_list old new numbers places entries moved made count first have all are count_is made_is =
-    let whole : made ≡ map (renumbered numbers) moved =
-    made_is ∙ whole_range (renumbered numbers) moved count count_is in
+    let whole : made ≡ map (renumbered_entry numbers) moved =
+    made_is ∙ whole_range (renumbered_entry numbers) moved count count_is in
     record {
       numbered = rw whole (copied_named old new numbers moved have);
       seen =

@@ -20,10 +20,10 @@ use Rattle.doc_bits.proofs.Public.{range_mid, slice_get_before}
 use Rattle.prop_map.specs.declared.modifiers.Modifier.{Modifier}
 use Rattle.prop_map.specs.Modifiers.{no_modifier, IsComposed, StaysFormedModifier, IsFormedModifier}
 use Rattle.piece_table.specs.declared.pieces.Entry.{Entry}
-use Rattle.piece_table.specs.Piece.{UnitPlace, unit_bytes, unit_places, flat_pieces, IsTextPiece, ArePieces}
+use Rattle.piece_table.specs.Piece.{UnitPlace, unit_bytes, places_of_piece, flat_pieces, IsTextPiece, ArePieces}
 use Rattle.piece_table.specs.Numbering.{text_piece, Extends, AreNumbered}
-use Rattle.piece_table.specs.Changes.{HasBegin, IsModifiedPlace, AreModified}
-use Rattle.piece_table.specs.Cuts.{entry_units, flat_entries, renumbered, IsSeam, IsCutTwice}
+use Rattle.piece_table.specs.Changes.{HasPieceBegin, IsModifiedPlace, AreModified}
+use Rattle.piece_table.specs.Cuts.{entry_units, flat_entries, renumbered_entry, IsSeam, IsCutTwice}
 use Rattle.piece_table.specs.Renumbering.{IsComposedAt, HaveComposed, HaveCopied}
 use Rattle.piece_table.proofs.NumberingLemmas.{in_front, same_or_apart}
 use Rattle.piece_table.proofs.PieceLemmas.{All-seen}
@@ -135,16 +135,16 @@ AllZip-append R (z ∷ a) c (w ∷ b) d x y = (x.0, AllZip-append R a c b d x.1 
 -- entries whose modifiers were composed
 pub renumbered_places : (by : Modifier) (modifiers : List Modifier) (numbers : List ℕ) (entries : List Entry) →
     HaveComposed by modifiers numbers → All (λ entry. slice_index numbers entry.modifier ≢ 0) entries →
-    AllZip (IsModifiedPlace by) (flat_entries modifiers entries) (flat_entries modifiers (map (renumbered numbers)
+    AllZip (IsModifiedPlace by) (flat_entries modifiers entries) (flat_entries modifiers (map (renumbered_entry numbers)
     entries))
 unfolding flat_pieces
 renumbered_places by modifiers numbers [] have all = tt
 renumbered_places by modifiers numbers (entry ∷ entries) have all =
     let some = All-head (λ (e : Entry). slice_index numbers e.modifier ≢ 0) entry entries all in
     let is = (have.each entry.modifier some).composed in
-    let new = renumbered numbers entry in
-    AllZip-append (IsModifiedPlace by) (unit_places (text_piece modifiers entry)) (flat_entries modifiers entries)
-    (unit_places (text_piece modifiers new)) (flat_entries modifiers (map (renumbered numbers) entries))
+    let new = renumbered_entry numbers entry in
+    AllZip-append (IsModifiedPlace by) (places_of_piece (text_piece modifiers entry)) (flat_entries modifiers entries)
+    (places_of_piece (text_piece modifiers new)) (flat_entries modifiers (map (renumbered_entry numbers) entries))
     (modified_places by (slice_index_or modifiers entry.modifier no_modifier) (slice_index_or modifiers new.modifier
     no_modifier) entry.piece.at entry.piece.wide (range_with_len 0 entry.piece.len) is)
     (renumbered_places by modifiers numbers entries have (All-tail (λ (e : Entry). slice_index numbers e.modifier ≢ 0)
@@ -152,15 +152,16 @@ renumbered_places by modifiers numbers (entry ∷ entries) have all =
 
 -- ---- a range of entries with new numbers
 
-pub units_renumbered : (numbers : List ℕ) (entries : List Entry) → entry_units (map (renumbered numbers) entries) ≡
+pub units_renumbered : (numbers : List ℕ) (entries : List Entry) → entry_units (map (renumbered_entry numbers) entries)
+    ≡
     entry_units entries
 units_renumbered numbers [] = refl
 units_renumbered numbers (entry ∷ entries) =
     omega (
       arith,
       units_renumbered numbers entries,
-      sum_by-cons (λ (e : Entry). e.piece.len) (renumbered numbers
-          entry) (map (renumbered numbers) entries),
+      sum_by-cons (λ (e : Entry). e.piece.len) (renumbered_entry numbers
+          entry) (map (renumbered_entry numbers) entries),
       sum_by-cons (λ (e : Entry). e.piece.len) entry entries,
     )
 
@@ -197,16 +198,17 @@ pub record IsRenewed (old_modifiers new_modifiers : List Modifier) (by : Modifie
   pub total : entry_units new ≡ entry_units old
   pub flat : AreModified by from to (flat_entries old_modifiers old) (flat_entries new_modifiers new)
   pub count : length new ≤ length old + 2
-  pub begins : HasBegin (map (text_piece new_modifiers) new) from
-  pub ends : HasBegin (map (text_piece new_modifiers) new) to
+  pub begins : HasPieceBegin (map (text_piece new_modifiers) new) from
+  pub ends : HasPieceBegin (map (text_piece new_modifiers) new) to
 
 -- a range whose entries have new numbers begins and ends where it did
 range_seams : (numbers : List ℕ) (cut : List Entry) (from to first last : ℕ) → first ≤ last → IsSeam cut from first →
-    IsSeam cut to last → (IsSeam (splice cut first last (map (renumbered numbers) (slice_range cut first last))) from
-    first) × IsSeam (splice cut first last (map (renumbered numbers) (slice_range cut first last))) to last
+    IsSeam cut to last → (IsSeam (splice cut first last (map (renumbered_entry numbers) (slice_range cut first last)))
+    from
+    first) × IsSeam (splice cut first last (map (renumbered_entry numbers) (slice_range cut first last))) to last
 range_seams numbers cut from to first last order begins ends =
     let middle = slice_range cut first last in
-    let made = map (renumbered numbers) middle in
+    let made = map (renumbered_entry numbers) middle in
     let behind = drop last cut in
     let new = splice cut first last made in
     let U : Entry → ℕ = λ entry. entry.piece.len in
@@ -214,7 +216,7 @@ range_seams numbers cut from to first last order begins ends =
     let low : length (take first cut) ≡ first = length-take-le first cut (omega arith) in
     let long : length made ≡ last - first = omega (
       arith,
-      length-map middle (renumbered numbers),
+      length-map middle (renumbered_entry numbers),
       length-between cut first last within,
     ) in
     let whole = length-splice cut made first last order within in
@@ -240,7 +242,7 @@ range_seams numbers cut from to first last order begins ends =
 made_sound : (by : Modifier) (modifiers : List Modifier) (numbers : List ℕ) (entries : List Entry) → IsFormedModifier
     by → HaveComposed by modifiers numbers → All (λ entry. slice_index numbers entry.modifier ≢ 0) entries →
     All (λ entry. IsTextPiece (text_piece modifiers entry)) entries → All (λ entry. IsTextPiece (text_piece modifiers
-    entry)) (map (renumbered numbers) entries)
+    entry)) (map (renumbered_entry numbers) entries)
 made_sound by modifiers numbers [] formed have all sound = All-nil (λ (entry : Entry). IsTextPiece
     (text_piece modifiers entry))
 made_sound by modifiers numbers (entry ∷ entries) formed have all sound =
@@ -248,7 +250,7 @@ made_sound by modifiers numbers (entry ∷ entries) formed have all sound =
     let Q : Entry → Type 0 = λ entry. slice_index numbers entry.modifier ≢ 0 in
     let here = All-head P entry entries sound in
     let is = have.each entry.modifier (All-head Q entry entries all) in
-    All-cons P (renumbered numbers entry) (map (renumbered numbers) entries) (record {
+    All-cons P (renumbered_entry numbers entry) (map (renumbered_entry numbers) entries) (record {
       units = here.units;
       formed = is.formed here.formed formed;
     })
@@ -257,12 +259,12 @@ made_sound by modifiers numbers (entry ∷ entries) formed have all sound =
 
 made_named : (by : Modifier) (modifiers : List Modifier) (numbers : List ℕ) (entries : List Entry) → HaveComposed by
     modifiers numbers → All (λ entry. slice_index numbers entry.modifier ≢ 0) entries → All (λ entry. entry.modifier <
-    length modifiers) (map (renumbered numbers) entries)
+    length modifiers) (map (renumbered_entry numbers) entries)
 made_named by modifiers numbers [] have all = All-nil (λ (entry : Entry). entry.modifier < length modifiers)
 made_named by modifiers numbers (entry ∷ entries) have all =
     let P : Entry → Type 0 = λ entry. entry.modifier < length modifiers in
     let Q : Entry → Type 0 = λ entry. slice_index numbers entry.modifier ≢ 0 in
-    All-cons P (renumbered numbers entry) (map (renumbered numbers) entries) (have.each entry.modifier
+    All-cons P (renumbered_entry numbers entry) (map (renumbered_entry numbers) entries) (have.each entry.modifier
     (All-head Q entry entries all)).within (made_named by modifiers numbers entries have (All-tail Q entry entries
     all))
 
@@ -294,10 +296,10 @@ pub renewed : (old_modifiers new_modifiers : List Modifier) (by : Modifier) (num
     IsCutTwice old cut from to first last → from ≤ to → Extends old_modifiers new_modifiers → IsFormedModifier by →
     HaveComposed by new_modifiers numbers → All (λ entry. slice_index numbers entry.modifier ≢ 0) (slice_range cut
     first last) → IsRenewed old_modifiers new_modifiers by from to old (splice cut first last
-    (map (renumbered numbers) (slice_range cut first last)))
+    (map (renumbered_entry numbers) (slice_range cut first last)))
 renewed old_modifiers new_modifiers by numbers old cut from to first last numbered are twice low more formed have all =
     let middle = slice_range cut first last in
-    let made = map (renumbered numbers) middle in
+    let made = map (renumbered_entry numbers) middle in
     let new = splice cut first last made in
     let view = text_piece new_modifiers in
     let P : Entry → Type 0 = λ entry. IsTextPiece (view entry) in
@@ -360,7 +362,7 @@ renewed old_modifiers new_modifiers by numbers old cut from to first last number
       count = let count = twice.count in omega (
         arith,
         length-splice cut made first last twice.order within,
-        length-map middle (renumbered numbers),
+        length-map middle (renumbered_entry numbers),
         length-between cut first last within,
       );
       begins = seam_begins new_modifiers new from first seams.0;
@@ -372,7 +374,7 @@ renewed old_modifiers new_modifiers by numbers old cut from to first last number
 -- the entries are seen as before
 pub seen-copied : (old new : List Modifier) (numbers : List ℕ) (entries : List Entry) → slice_get old 0 ≡ Some
     no_modifier → HaveCopied old new numbers → All (λ entry. entry.modifier ≢ 0 → slice_index numbers entry.modifier ≢
-    0) entries → map (text_piece new) (map (renumbered numbers) entries) ≡ map (text_piece old) entries
+    0) entries → map (text_piece new) (map (renumbered_entry numbers) entries) ≡ map (text_piece old) entries
 seen-copied old new numbers [] first have all = refl
 seen-copied old new numbers (entry ∷ entries) first have all =
     let Q : Entry → Type 0 = λ entry. entry.modifier ≢ 0 → slice_index numbers entry.modifier ≢ 0 in
@@ -386,17 +388,17 @@ seen-copied old new numbers (entry ∷ entries) first have all =
           old n no_modifier) (sym e)))
       | inr some ↦ (have.each number (All-head Q entry entries all some)).same
     ] in
-    let head : text_piece new (renumbered numbers entry) ≡ text_piece old entry = ap
+    let head : text_piece new (renumbered_entry numbers entry) ≡ text_piece old entry = ap
     (λ m. record { at = entry.piece.at; wide = entry.piece.wide; len = entry.piece.len; modifier = m }) same in
     cc (head, seen-copied old new numbers entries first have (All-tail Q entry entries all))
 
 pub copied_named : (old new : List Modifier) (numbers : List ℕ) (entries : List Entry) → HaveCopied old new numbers →
-    AreNumbered new (map (renumbered numbers) entries)
+    AreNumbered new (map (renumbered_entry numbers) entries)
 copied_named old new numbers entries have =
     let some = slice_get_within new 0 no_modifier have.first in
     record {
       first = have.first;
-      named = All-map (λ (entry : Entry). entry.modifier < length new) (renumbered numbers) entries
+      named = All-map (λ (entry : Entry). entry.modifier < length new) (renumbered_entry numbers) entries
           (λ k d low. within_any (get_or entries k d).modifier);
     }
   where

@@ -14,10 +14,12 @@ use Rattle.prop_map.specs.declared.modifiers.Modifier.{Modifier}
 use Rattle.prop_map.specs.Modifiers.{no_modifier}
 use Rattle.piece_table.specs.declared.pieces.Piece.{Piece}
 use Rattle.piece_table.specs.declared.pieces.Entry.{Entry}
-use Rattle.piece_table.specs.Piece.{TextPiece, unit_places, flat_pieces, total_length, IsPiece, IsTextPiece, ArePieces}
+use Rattle.piece_table.specs.Piece.{TextPiece, places_of_piece, flat_pieces, total_length, IsPiece, IsTextPiece}
+use Rattle.piece_table.specs.Piece.{ArePieces}
 use Rattle.piece_table.specs.Numbering.{text_piece, AreNumbered}
-use Rattle.piece_table.specs.Changes.{fresh_piece, fresh_places, fresh_units, HasBegin}
-use Rattle.piece_table.specs.Cuts.{entry_units, flat_entries, fresh_entries, AreEntries, IsSeam, KeepsText, IsCutTwice}
+use Rattle.piece_table.specs.Changes.{fresh_piece, fresh_places, fresh_units, HasPieceBegin}
+use Rattle.piece_table.specs.Cuts.{entry_units, flat_entries, fresh_entries, ArePieceEntries, IsSeam, KeepsText}
+use Rattle.piece_table.specs.Cuts.{IsCutTwice}
 use Rattle.piece_table.proofs.SprmModifierLemmas.{none_formed}
 use Rattle.piece_table.proofs.PieceLemmas.{All-seen, length-unit_places, length-flat_pieces}
 use Rattle.piece_table.proofs.FlatLemmas.{flat_pieces-cons, flat_pieces-nil, flat_entries-append, take-flat_entries}
@@ -93,8 +95,9 @@ fresh_seen modifiers (Some piece) first =
     let same : text_piece modifiers (record { piece = piece; modifier = 0 }) ≡ fresh_piece piece = ap
     (λ m. record { at = piece.at; wide = piece.wide; len = piece.len; modifier = m }) none in
     flat_pieces-cons (text_piece modifiers (record { piece = piece; modifier = 0 })) []
-    ∙ (ap (λ l. unit_places (text_piece modifiers (record { piece = piece; modifier = 0 })) ++ l) flat_pieces-nil
-    ∙ (append-nil (unit_places (text_piece modifiers (record { piece = piece; modifier = 0 }))) ∙ ap unit_places same))
+    ∙ (ap (λ l. places_of_piece (text_piece modifiers (record { piece = piece; modifier = 0 })) ++ l) flat_pieces-nil
+    ∙ (append-nil (places_of_piece (text_piece modifiers (record { piece = piece; modifier = 0 }))) ∙ ap places_of_piece
+    same))
 
 pub fresh_entry_units : (fresh : Option Piece) → entry_units (fresh_entries fresh) ≡ fresh_units fresh
 fresh_entry_units None = refl
@@ -129,7 +132,7 @@ fresh_named (Some piece) count some = All-cons (λ (entry : Entry). entry.modifi
 -- ---- what a list keeps
 
 -- its entries are pieces, of so many units
-pub are_pieces : (modifiers : List Modifier) (entries : List Entry) → AreEntries modifiers entries →
+pub are_pieces : (modifiers : List Modifier) (entries : List Entry) → ArePieceEntries modifiers entries →
     entry_units entries ≤ 500001 → ArePieces (map (text_piece modifiers) entries)
 are_pieces modifiers entries each total = record {
   each = each;
@@ -142,7 +145,7 @@ are_pieces modifiers entries each total = record {
 
 -- a piece begins at a seam
 pub seam_begins : (modifiers : List Modifier) (entries : List Entry) (cp number : ℕ) → IsSeam entries cp number →
-    HasBegin (map (text_piece modifiers) entries) cp
+    HasPieceBegin (map (text_piece modifiers) entries) cp
 seam_begins modifiers entries cp number seam =
     let within = seam.within in
     let view = text_piece modifiers in

@@ -6,7 +6,7 @@ use Rattle.prop_map.specs.declared.modifiers.Modifier.{Modifier}
 use Rattle.prop_map.specs.Modifiers.{no_modifier, IsComposed}
 use Rattle.piece_table.specs.declared.pieces.Piece.{Piece}
 use Rattle.piece_table.specs.declared.pieces.Spot.{Spot}
-use Rattle.piece_table.specs.Piece.{TextPiece, UnitPlace, unit_places, total_length}
+use Rattle.piece_table.specs.Piece.{TextPiece, UnitPlace, places_of_piece, total_length}
 
 -- the spot has the piece of the CP, and the place of the CP within it
 pub record IsSpot (pieces : List TextPiece) (cp : ℕ) (spot : Spot) : Type 0 where
@@ -16,7 +16,7 @@ pub record IsSpot (pieces : List TextPiece) (cp : ℕ) (spot : Spot) : Type 0 wh
   pub inside : spot.within < piece.len
 
 -- a piece begins at the CP, or the text ends there
-pub record HasBegin (pieces : List TextPiece) (cp : ℕ) : Type 0 where
+pub record HasPieceBegin (pieces : List TextPiece) (cp : ℕ) : Type 0 where
   pub before : ℕ
   pub within : before ≤ length pieces
   pub units : total_length (take before pieces) ≡ cp
@@ -28,7 +28,7 @@ fresh_piece piece = record { at = piece.at; wide = piece.wide; len = piece.len; 
 -- the places of a fresh piece's units, if there is one
 abbrev pub fresh_places : Option Piece → List UnitPlace
 fresh_places None = []
-fresh_places (Some piece) = unit_places (fresh_piece piece)
+fresh_places (Some piece) = places_of_piece (fresh_piece piece)
 
 -- the number of its units
 abbrev pub fresh_units : Option Piece → ℕ

@@ -60,7 +60,7 @@ pub record SpellsClx (clx : List ℕ) (parts : ClxParts) : Type 0 where
   pub spelt : clx ≡ flat_map prc_bytes parts.prcs ++ (pcdt_bytes parts.plc.bytes ++ more)
 
 -- after some Prcs is neither a Prc nor a Pcdt
-pub record IsWrongAt (clx : List ℕ) (offset : ℕ) : Type 0 where
+pub record IsWrongClxAt (clx : List ℕ) (offset : ℕ) : Type 0 where
   pub prcs : List (List ℕ)
   pub left : List ℕ
   pub sizes : All IsGrpprl prcs

@@ -3,7 +3,7 @@
 -- The bounds are those of text in WordDocument: the end of the FIB and the end of the stream.
 use Rattle.std.specs.Prelude.{◌≡◌, ◌≢◌, ◌⊎◌, ℕ, ◌+◌, ◌*◌, ◌<◌, ◌≤◌, List, length, IsSome, Some, slice_get}
 use Rattle.doc_bits.specs.Plc.{PlcPart, plc_cp}
-use Rattle.doc_bits.specs.Rules.{Rules, rule, ◌then◌, given, IsFirst, Among, From, Breaks, IsLeastOfAll}
+use Rattle.doc_bits.specs.Rules.{Rules, rule, ◌then◌, given, IsFirstOffset, Among, From, Breaks, IsLeastOfAll}
 use Rattle.sprm_table.specs.Prms.{code_of_isprm}
 use Rattle.sprm_table.specs.Sprm.{HasSprmFaultAt}
 use Rattle.prop_map.specs.declared.modifiers.Modifier.{Modifier}
@@ -17,22 +17,23 @@ use Rattle.piece_table.specs.declared.pieces.Piece.{Piece}
 use Rattle.piece_table.specs.declared.pieces.TextBounds.{TextBounds}
 use Rattle.piece_table.specs.Piece.{piece_end}
 use Rattle.piece_table.specs.PrmLists.{IsPrmModifier}
-use Rattle.piece_table.specs.Clx.{ClxParts, SpellsClx, prc_place, IsWrongAt, plc_place, pcd_place, pcd_prm, clx_piece}
+use Rattle.piece_table.specs.Clx.{ClxParts, SpellsClx, prc_place, IsWrongClxAt, plc_place, pcd_place, pcd_prm}
+use Rattle.piece_table.specs.Clx.{clx_piece}
 
 -- there are too many pieces, or the first CP is not 0
 abbrev pub IsWrongStart : PlcPart → ℕ → ℕ → Type 0
 IsWrongStart plc base p = (p ≡ base) × ((16384 < plc.count) ⊎ (plc_cp plc.bytes 0 ≢ 0))
 
 -- the CP after piece k is not above the one before it
-abbrev pub IsNoAscent : PlcPart → ℕ → ℕ → ℕ → Type 0
-IsNoAscent plc base k p = (p ≡ base + 4 * (k + 1)) × (plc_cp plc.bytes (k + 1) ≤ plc_cp plc.bytes k)
+abbrev pub IsNoCpAscent : PlcPart → ℕ → ℕ → ℕ → Type 0
+IsNoCpAscent plc base k p = (p ≡ base + 4 * (k + 1)) × (plc_cp plc.bytes (k + 1) ≤ plc_cp plc.bytes k)
 
 -- the last CP is not the text length
 abbrev pub IsWrongEnd : PlcPart → ℕ → ℕ → ℕ → Type 0
 IsWrongEnd plc base text_len p = (p ≡ base + 4 * plc.count) × (plc_cp plc.bytes plc.count ≢ text_len)
 
 abbrev pub HasWrongCp : PlcPart → ℕ → ℕ → ℕ → Type 0
-HasWrongCp plc base text_len p = IsWrongStart plc base p ⊎ (Among plc.count (IsNoAscent plc base) p ⊎ IsWrongEnd plc
+HasWrongCp plc base text_len p = IsWrongStart plc base p ⊎ (Among plc.count (IsNoCpAscent plc base) p ⊎ IsWrongEnd plc
     base text_len p)
 
 -- bytes of a piece are in the FIB or beyond the stream
@@ -110,21 +111,21 @@ text_bounds fib_size wd_len = record { from = fib_size; end = wd_len }
 
 abbrev pub clx_rules : List ℕ → ℕ → TextBounds → ℕ → Rules ℕ
 clx_rules clx at bounds text_len =
-    rule 27 (From at (IsWrongAt clx)) then given (SpellsClx clx) (λ parts. parts_rules parts at bounds text_len)
+    rule 27 (From at (IsWrongClxAt clx)) then given (SpellsClx clx) (λ parts. parts_rules parts at bounds text_len)
 
 -- a refusal names the first broken rule; want of memory is free
 abbrev pub IsClxFault : Rules ℕ → ClxFault → Type 0
-IsClxFault rules (Rule r p) = IsFirst rules r p
+IsClxFault rules (Rule r p) = IsFirstOffset rules r p
 IsClxFault rules Memory = Unit {0}
 
 -- a refusal that is not for want of memory
 abbrev pub NamesFirst : Rules ℕ → ClxFault → Type 0
-NamesFirst rules (Rule r p) = IsFirst rules r p
+NamesFirst rules (Rule r p) = IsFirstOffset rules r p
 NamesFirst rules Memory = ⊥
 
 -- the first broken rule is the least of all broken ones, at its least place
 abbrev pub FirstClxFaultIsLeast : Type 0
 FirstClxFaultIsLeast =
     (clx : List ℕ) (at : ℕ) (bounds : TextBounds) (text_len r p : ℕ) →
-    IsFirst (clx_rules clx at bounds text_len) r p → IsLeastOfAll (λ a b. a ≤ b) (Breaks (clx_rules clx at bounds
+    IsFirstOffset (clx_rules clx at bounds text_len) r p → IsLeastOfAll (λ a b. a ≤ b) (Breaks (clx_rules clx at bounds
     text_len)) r p

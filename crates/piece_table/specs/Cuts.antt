@@ -46,19 +46,19 @@ pub record IsSeam (entries : List Entry) (cp number : ℕ) : Type 0 where
   pub units : entry_units (take number entries) ≡ cp
 
 -- each entry is a piece that a table may have
-abbrev pub AreEntries : List Modifier → List Entry → Type 0
-AreEntries modifiers entries = All IsTextPiece (map (text_piece modifiers) entries)
+abbrev pub ArePieceEntries : List Modifier → List Entry → Type 0
+ArePieceEntries modifiers entries = All IsTextPiece (map (text_piece modifiers) entries)
 
 -- an entry of no units
-abbrev pub no_entry : Entry
-no_entry = record { piece = record { at = 0; wide = false; len = 0 }; modifier = 0 }
+abbrev pub empty_entry : Entry
+empty_entry = record { piece = record { at = 0; wide = false; len = 0 }; modifier = 0 }
 
 -- the entry of a number
 abbrev pub entry_at : List Entry → ℕ → Entry
-entry_at entries k = slice_index_or entries k no_entry
+entry_at entries k = slice_index_or entries k empty_entry
 
 -- entry j is a part of an entry that was there, and names its modifier
-pub record IsPart (old new : List Entry) (j : ℕ) : Type 0 where
+pub record IsEntryPart (old new : List Entry) (j : ℕ) : Type 0 where
   pub place : ℕ
   pub there : place < length old
   pub modifier : (entry_at new j).modifier ≡ (entry_at old place).modifier
@@ -66,7 +66,7 @@ pub record IsPart (old new : List Entry) (j : ℕ) : Type 0 where
   pub end : entry_units (take (j + 1) new) ≤ entry_units (take (place + 1) old)
 
 -- the entries that a range of CPs meets
-pub record AreMet (entries : List Entry) (from to : ℕ) (met : List Entry) : Type 0 where
+pub record AreMetEntries (entries : List Entry) (from to : ℕ) (met : List Entry) : Type 0 where
   pub first : ℕ
   pub last : ℕ
   pub order : first ≤ last
@@ -80,12 +80,12 @@ pub record KeepsText (old new : List Entry) : Type 0 where
   pub flat : (modifiers : List Modifier) → flat_entries modifiers new ≡ flat_entries modifiers old
   pub units : entry_units new ≡ entry_units old
   pub pieces : All (λ entry. IsPiece entry.piece) old → All (λ entry. IsPiece entry.piece) new
-  pub sound : (modifiers : List Modifier) → AreEntries modifiers old → AreEntries modifiers new
+  pub sound : (modifiers : List Modifier) → ArePieceEntries modifiers old → ArePieceEntries modifiers new
   pub named : (count : ℕ) → All (λ entry. entry.modifier < count) old → All (λ entry. entry.modifier < count) new
-  pub parts : (j : ℕ) → j < length new → IsPart old new j
+  pub parts : (j : ℕ) → j < length new → IsEntryPart old new j
 
 -- the entries were cut at a CP, and so many end there
-pub record IsCut (old new : List Entry) (cp number : ℕ) : Type 0 where
+pub record AreCutEntries (old new : List Entry) (cp number : ℕ) : Type 0 where
   pub keeps : KeepsText old new
   pub seam : IsSeam new cp number
   pub count : length new ≤ length old + 1
@@ -107,5 +107,5 @@ fresh_entries None = []
 fresh_entries (Some piece) = record { piece = piece; modifier = 0 } ∷ []
 
 -- the entry with the number that is kept beside its own
-abbrev pub renumbered : List ℕ → Entry → Entry
-renumbered numbers entry = record { piece = entry.piece; modifier = slice_index numbers entry.modifier }
+abbrev pub renumbered_entry : List ℕ → Entry → Entry
+renumbered_entry numbers entry = record { piece = entry.piece; modifier = slice_index numbers entry.modifier }

@@ -35,7 +35,7 @@ pub record AreAllPrcs (clx : List ℕ) (prcs : List (List ℕ)) (end : ℕ) : Ty
   pub none : (size : ℕ) → ¬ (IsPrcFront (drop end clx) size)
 
 -- the parts of a Clx, and where its Plc begins
-pub record AreParts (clx : List ℕ) (parts : ClxParts) (place : ℕ) : Type 0 where
+pub record AreClxParts (clx : List ℕ) (parts : ClxParts) (place : ℕ) : Type 0 where
   pub spelt : SpellsClx clx parts
   pub place_is : place ≡ plc_place parts
 

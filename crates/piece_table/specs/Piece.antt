@@ -42,14 +42,14 @@ abbrev pub unit_bytes : Bool → ℕ
 unit_bytes wide = if wide then 2 else 1
 
 -- the places of a piece's units
-abbrev pub unit_places : TextPiece → List UnitPlace
-unit_places piece =
+abbrev pub places_of_piece : TextPiece → List UnitPlace
+places_of_piece piece =
     map (λ j. record { at = piece.at + j * unit_bytes piece.wide; wide = piece.wide; modifier = piece.modifier })
     (range_with_len 0 piece.len)
 
 -- the places of all units, one a CP
 unfoldable pub flat_pieces : List TextPiece → List UnitPlace
-flat_pieces pieces = flat_map unit_places pieces
+flat_pieces pieces = flat_map places_of_piece pieces
 
 -- the place of the unit of a CP, if there is one
 abbrev pub place_of_cp : List TextPiece → ℕ → Option UnitPlace

@@ -72,7 +72,7 @@ pub record IsPrintedClx (pieces : List TextPiece) (bytes : List ℕ) : Type 0 wh
   pub spelt : bytes ≡ printed_prcs prcs ++ pcdt_bytes (plc_bytes (map (λ piece. piece.len) pieces) pcds)
 
 -- what is printed breaks no rule and is read again as the pieces, where there is one and all are in the stream
-pub record IsReadBack (pieces : List TextPiece) (bytes : List ℕ) (at : ℕ) (bounds : TextBounds) : Type 0 where
+pub record IsClxReadBack (pieces : List TextPiece) (bytes : List ℕ) (at : ℕ) (bounds : TextBounds) : Type 0 where
   pub holds : Hold (clx_rules bytes at bounds (total_length pieces))
   pub is : IsClx bytes pieces
   pub flat : (read : List TextPiece) → IsClx bytes read → flat_pieces read ≡ flat_pieces pieces
@@ -82,4 +82,4 @@ ClxIsReadBack =
     (pieces : List TextPiece) (bytes : List ℕ) (at : ℕ) (bounds : TextBounds) →
     ArePieces pieces → IsPrintable pieces → 1 ≤ length pieces →
     All (λ piece. StaysInStream bounds (bare_piece piece)) pieces →
-    IsPrintedClx pieces bytes → IsReadBack pieces bytes at bounds
+    IsPrintedClx pieces bytes → IsClxReadBack pieces bytes at bounds

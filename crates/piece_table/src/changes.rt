@@ -4,7 +4,7 @@ ghost use Rattle.std.specs.Prelude.{⊤, OnOk, OnErr, Option, MatchOption, optio
 ghost use Rattle.std.specs.List.{splice};
 ghost use Rattle.prop_map.specs.Modifiers.{IsFormedModifier};
 ghost use Rattle.piece_table.specs.Piece.{ArePieces, IsPiece, IsNoLarger, flat_pieces, total_length};
-ghost use Rattle.piece_table.specs.Changes.{IsSpot, HasBegin, fresh_places, fresh_units, AreModified};
+ghost use Rattle.piece_table.specs.Changes.{IsSpot, HasPieceBegin, fresh_places, fresh_units, AreModified};
 
 use crate::cutting::{cut, cut_range, entries_in, put, units_of};
 use crate::renumber::{Copies, Renumbering, compose_all, copy_all};
@@ -49,7 +49,7 @@ impl PieceList {
         requires within { cp ≤ total_length self.old.pieces }
         requires spare { 1 ≤ self.old.spare }
         ensures text { flat_pieces self.new.pieces ≡ flat_pieces self.old.pieces }
-        ensures begins { HasBegin self.new.pieces cp }
+        ensures begins { HasPieceBegin self.new.pieces cp }
         ensures count { length self.new.pieces ≤ length self.old.pieces + 1 }
         ensures spare { self.old.spare ≤ self.new.spare + 1 }
         ensures no_more { self.new.spare ≤ self.old.spare }
@@ -102,8 +102,8 @@ impl PieceList {
             (AreModified by.now from to (flat_pieces self.old.pieces) (flat_pieces self.new.pieces)) }
         ensures count { OnOk result (length self.new.pieces ≤ length self.old.pieces + 2) }
         ensures spare { OnOk result (self.old.spare ≤ self.new.spare + 2) }
-        ensures begins { OnOk result (HasBegin self.new.pieces from) }
-        ensures ends { OnOk result (HasBegin self.new.pieces to) }
+        ensures begins { OnOk result (HasPieceBegin self.new.pieces from) }
+        ensures ends { OnOk result (HasPieceBegin self.new.pieces to) }
         ensures err { OnErr result (self.new ≡ self.old) }
         ensures memory { OnOk result (IsNoLarger self.old self.new) }
     {

@@ -4,7 +4,7 @@ ghost use Rattle.std.specs.Prelude.{◌^◌, length, take, drop, All, IfOk};
 ghost use Rattle.piece_table.specs.Piece.{IsPiece};
 ghost use Rattle.piece_table.specs.Changes.{fresh_units};
 ghost use Rattle.piece_table.specs.Cuts.{entry_units, front_entry, back_entry, fresh_entries};
-ghost use Rattle.piece_table.specs.Cuts.{IsCut, IsCutTwice, AreMet};
+ghost use Rattle.piece_table.specs.Cuts.{AreCutEntries, IsCutTwice, AreMetEntries};
 
 use crate::pieces::{Entry, Piece};
 use chunked_list::BlockList;
@@ -51,7 +51,7 @@ pub(crate) fn cut(entries: &mut BlockList<Entry>, cp: u32, total: u32) -> usize
     requires sound { All (λ entry. IsPiece entry.piece) entries.old.items }
     requires few { length entries.old.items + 1 < 2 ^ 32 }
     requires room { 1 ≤ entries.old.spare }
-    ensures cut { IsCut entries.old.items entries.new.items cp result }
+    ensures cut { AreCutEntries entries.old.items entries.new.items cp result }
     ensures spare { entries.old.spare ≤ entries.new.spare + 1 }
     ensures no_more { entries.new.spare ≤ entries.old.spare }
     ensures blocks { entries.new.blocks ≡ entries.old.blocks }
@@ -131,7 +131,7 @@ pub(crate) fn entries_in(
     requires order { from < to }
     requires within { to ≤ entry_units entries.now.items }
     requires few { length entries.now.items < 2 ^ 32 }
-    ensures { IfOk result (λ met. AreMet entries.now.items from to met.items) }
+    ensures { IfOk result (λ met. AreMetEntries entries.now.items from to met.items) }
 {
     let begin = entries.spot(from);
     let end = entries.spot(to - 1);

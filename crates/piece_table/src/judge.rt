@@ -3,7 +3,7 @@ ghost use Rattle.std.specs.Prelude.{◌≡◌, ◌+◌, ◌^◌, ◌<◌};
 ghost use Rattle.std.specs.Prelude.{length, MatchResult, IsTrue, ◌↔◌};
 ghost use Rattle.doc_bits.specs.Rules.{Hold, LeastOrNone, Among};
 ghost use Rattle.piece_table.specs.Clx.{IsPlcPcd, pcd_place};
-ghost use Rattle.piece_table.specs.ClxRules.{HasWrongCp, IsNoAscent, IsOutside, LeavesStream};
+ghost use Rattle.piece_table.specs.ClxRules.{HasWrongCp, IsNoCpAscent, IsOutside, LeavesStream};
 ghost use Rattle.piece_table.specs.ClxRules.{IsUnread, IsReadPrm, piece_rules, NamesFirst};
 
 use crate::collect::piece_of;
@@ -78,7 +78,7 @@ fn wrong_cp(plc: &Plc<'_>, base: u32, text_len: u32) -> Option<u32>
 fn no_ascent(plc: &Plc<'_>, base: u32) -> Option<u32>
     requires table { IsPlcPcd plc.now }
     requires place { base + length plc.now.bytes < 2 ^ 32 }
-    ensures { LeastOrNone (Among plc.now.count (IsNoAscent plc.now base)) result }
+    ensures { LeastOrNone (Among plc.now.count (IsNoCpAscent plc.now base)) result }
 {
     for k in 0..plc.len() {
         if plc.cp(k + 1) <= plc.cp(k) {

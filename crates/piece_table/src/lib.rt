@@ -23,8 +23,9 @@ pub use fault::ClxFault;
 pub use laws::{
     clx_is_read_back, clx_pieces_are_one, first_clx_fault_is_least, flat_length_is_total,
 };
-pub use parts::{PRC_HEAD, prc_front};
+pub use parts::{MAX_GRPPRL, PRC_HEAD, prc_front};
 pub use pcd::{FcCompressed, Prm};
 pub use pieces::{Piece, PieceList, Spot, TextBounds};
+pub use prcs::MAX_PAP;
 pub use reading::read_clx;
 pub use walk::PieceWalk;

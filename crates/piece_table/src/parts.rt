@@ -4,9 +4,9 @@ ghost use Rattle.std.specs.Prelude.{List, length, slice_get, MatchOption, MatchR
 ghost use Rattle.std.specs.Prelude.{IfOk, OnOk, Some, [], ◌++◌, ◌∷◌};
 ghost use Rattle.doc_bits.specs.Rules.{From, rule, Hold};
 ghost use Rattle.doc_bits.specs.Plc.{PlcPart};
-ghost use Rattle.piece_table.specs.Clx.{IsWrongAt};
+ghost use Rattle.piece_table.specs.Clx.{IsWrongClxAt};
 ghost use Rattle.piece_table.specs.ClxRules.{IsClxFault};
-ghost use Rattle.piece_table.specs.Front.{IsPrcFront, IsPcdtFront, AreAllPrcs, AreParts, clx_parts};
+ghost use Rattle.piece_table.specs.Front.{IsPrcFront, IsPcdtFront, AreAllPrcs, AreClxParts, clx_parts};
 
 use crate::ClxFault;
 use doc_bits::{Memory, Plc, get16, get32, plc_of};
@@ -20,7 +20,7 @@ pub const CLXT_PRC: u8 = 1;
 pub const CLXT_PCDT: u8 = 2;
 
 /// The most bytes of the sprm list of a Prc.
-const MAX_GRPPRL: usize = 0x3FA2;
+pub const MAX_GRPPRL: usize = 0x3FA2;
 
 /// The bytes of a Prc before its sprm list: clxt and cbGrpprl.
 pub const PRC_HEAD: usize = 3;
@@ -88,8 +88,8 @@ pub struct Parts<'a> {
 pub fn parts_of(alloc: Global, clx: &[u8], at: u32) -> Result<Parts<'_>, ClxFault>
     requires place { at + length clx.now < 2 ^ 32 }
     ensures { MatchResult result
-        (λ parts. Hold (rule 27 (From at (IsWrongAt clx.now))) × AreParts clx.now (clx_parts parts) parts.place)
-        (IsClxFault (rule 27 (From at (IsWrongAt clx.now)))) }
+        (λ parts. Hold (rule 27 (From at (IsWrongClxAt clx.now))) × AreClxParts clx.now (clx_parts parts) parts.place)
+        (IsClxFault (rule 27 (From at (IsWrongClxAt clx.now)))) }
 {
     let (prcs, end) = prcs_of(alloc, clx)?;
     match pcdt_front(&clx[end..]) {

@@ -27,7 +27,7 @@ const RULE_LONG: u8 = 32;
 const MAX_CHP: u64 = 255;
 
 /// The most bytes of its properties of marks.
-const MAX_PAP: u64 = 480;
+pub const MAX_PAP: u64 = 480;
 
 /// Marks the Prcs that pieces name.
 pub fn named_prcs(alloc: Global, parts: &Parts<'_>) -> Result<Vec<bool>, Memory>

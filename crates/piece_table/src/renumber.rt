@@ -4,7 +4,7 @@ ghost use Rattle.std.specs.Prelude.{OnOk, slice_index, slice_get, slice_range, S
 ghost use Rattle.std.specs.List.{splice};
 ghost use Rattle.prop_map.specs.Modifiers.{no_modifier};
 ghost use Rattle.piece_table.specs.Numbering.{Extends};
-ghost use Rattle.piece_table.specs.Cuts.{renumbered};
+ghost use Rattle.piece_table.specs.Cuts.{renumbered_entry};
 ghost use Rattle.piece_table.specs.Renumbering.{HaveComposed, HaveCopied};
 
 use crate::pieces::Entry;
@@ -20,7 +20,7 @@ pub(crate) struct Renumbering {
 }
 
 impl Mapping<Entry> for Renumbering {
-    ghost image = { λ numbers entry. renumbered numbers.numbers.items entry };
+    ghost image = { λ numbers entry. renumbered_entry numbers.numbers.items entry };
 
     fn apply(&self, entry: Entry) -> Entry {
         let modifier = match self.numbers.get(entry.modifier) {
@@ -40,7 +40,7 @@ pub(crate) fn renumber(entries: &mut Vec<Entry>, first: usize, last: usize, numb
     requires within { last ≤ vec_len entries.old }
     requires named { All (λ entry. entry.modifier < length numbers.now) entries.old.items }
     ensures items { entries.new.items ≡ splice entries.old.items first last
-        (map (renumbered numbers.now) (slice_range entries.old.items first last)) }
+        (map (renumbered_entry numbers.now) (slice_range entries.old.items first last)) }
     ensures count { vec_len entries.new ≡ vec_len entries.old }
     ensures room { vec_capacity entries.new ≡ vec_capacity entries.old }
 {

@@ -13,11 +13,11 @@ use Rattle.prop_map.specs.Printing.{printed_list}
 use Rattle.prop_map.proofs.Public.{entries-empty}
 use Rattle.style_sheet.specs.declared.styles.Style.{Style}
 use Rattle.style_sheet.specs.Sheet.{style_at}
-use Rattle.style_sheet.specs.Chain.{kind_at, kind_in, base_at, AreOfOneKind, IsBaseChain, HasSoundBases}
+use Rattle.style_sheet.specs.Chain.{style_kind_at, style_kind_in, base_at, AreOfOneKind, IsBaseChain, HasSoundBases}
 use Rattle.style_sheet.specs.Counted.{written_counted}
 use Rattle.style_sheet.specs.Written.{word, written_stk, written_base, written_slot, written_front, written_sheet}
 use Rattle.style_sheet.specs.Written.{IsWritable}
-use Rattle.plain_doc.specs.Blank.{one_property, normal_style, heading_style, default_font_style, blank_sheet}
+use Rattle.doc_model.specs.Blank.{one_property, normal_style, heading_style, default_font_style, blank_sheet}
 use Rattle.plain_doc.specs.RulesOfSheet.{HasShortKind, HasShortStyle}
 
 -- ---- the bytes of their properties
@@ -57,12 +57,12 @@ slot (suc (suc (suc (suc (suc (suc (suc (suc (suc (suc (suc (suc (suc (suc (suc 
 
 -- ---- the bases end
 
-one_kind : (istd i : ℕ) → 0 < kind_at blank_sheet istd → i < 1 →
+one_kind : (istd i : ℕ) → 0 < style_kind_at blank_sheet istd → i < 1 →
     AreOfOneKind blank_sheet istd (slice_index (istd ∷ []) i)
 one_kind istd zero some low = record { properties = some; same = refl }
 one_kind istd (suc i) some low = absurd (omega (arith, low))
 
-root_chain : (istd : ℕ) → base_at blank_sheet istd ≡ None → 0 < kind_at blank_sheet istd →
+root_chain : (istd : ℕ) → base_at blank_sheet istd ≡ None → 0 < style_kind_at blank_sheet istd →
     IsBaseChain blank_sheet istd (istd ∷ [])
 root_chain istd none some = record {
   some = omega arith;
@@ -102,12 +102,12 @@ heading_chain = record {
 abbrev HasChain : ℕ → Type 0
 HasChain istd = (chain : List ℕ) × IsBaseChain blank_sheet istd chain
 
-chain_at : (istd : ℕ) → IsSlot istd → 0 < kind_at blank_sheet istd → HasChain istd
+chain_at : (istd : ℕ) → IsSlot istd → 0 < style_kind_at blank_sheet istd → HasChain istd
 chain_at istd (inl is) some = subst HasChain (sym is) (0 ∷ [], root_chain 0 refl (omega arith))
 chain_at istd (inr (inl is)) some = subst HasChain (sym is) (0 ∷ 1 ∷ [], heading_chain)
 chain_at istd (inr (inr (inl is))) some = subst HasChain (sym is) (10 ∷ [], root_chain 10 refl (omega arith))
 chain_at istd (inr (inr (inr none))) some =
-    let kind : kind_at blank_sheet istd ≡ 0 = ap kind_in none in absurd (omega (arith, some, kind))
+    let kind : style_kind_at blank_sheet istd ≡ 0 = ap style_kind_in none in absurd (omega (arith, some, kind))
 
 pub blank_bases : HasSoundBases blank_sheet
 blank_bases = record { normal = refl; chains = λ istd some. chain_at istd (slot istd) some }

@@ -4,9 +4,9 @@ use Rattle.doc_bits.specs.declared.places.Where.TheVariants.{Main}
 use Rattle.doc_bits.specs.Places.{Upto}
 use Rattle.doc_bits.specs.Rules.{Nowhere, IsLeast}
 use Rattle.doc_bits.proofs.Public.{upto_same}
-use Rattle.doc_parts.specs.Names.{HasSameName}
-use Rattle.plain_doc.specs.declared.document.Document.{Document}
-use Rattle.plain_doc.specs.Marks.{most_bookmarks, HasWrongBookmarks}
+use Rattle.document_bookmarks.specs.Names.{HasSameName}
+use Rattle.doc_model.specs.declared.document.Document.{Document}
+use Rattle.doc_model.specs.Marks.{most_bookmarks, HasWrongBookmarks}
 
 pub too_many : (document : Document) → most_bookmarks < length document.bookmarks →
     IsLeast Upto (HasWrongBookmarks document) (Main, 0)

@@ -7,7 +7,7 @@ use Rattle.std.proofs.lemmas.Option.{same_Some, none-some}
 use Rattle.doc_bits.specs.declared.places.Where.{Where}
 use Rattle.doc_bits.specs.declared.places.Where.TheVariants.{File, Wd, Table, Sheet, Main, Note, Head}
 use Rattle.doc_bits.specs.Places.{rank}
-use Rattle.plain_doc.specs.Nesting.{AreFields, most_open}
+use Rattle.plain_doc.specs.Nesting.{AreNestedFields, most_open}
 use Rattle.plain_doc.specs.OpenFields.{Open}
 use Rattle.plain_doc.specs.Rows.{HasCells}
 use Rattle.plain_doc.specs.RulesOfTexts.{IsHead}
@@ -95,12 +95,12 @@ cells_or (Some value) cells = some_or (slice_get value 0) cells
 
 -- field characters nest exactly where the walk over them comes to an end with nothing open
 nest_by : (units : List ℕ) (open_fields : Option Open) → after_all most_open units (Some []) ≡ open_fields →
-    IsDecided (AreFields most_open units)
+    IsDecided (AreNestedFields most_open units)
 nest_by units None e = inr (λ nests. let passes = nest_passes most_open units nests in absurd (cc))
 nest_by units (Some []) e = inl (fields_nest most_open units e)
 nest_by units (Some (field ∷ fields)) e = inr (λ nests. let passes = nest_passes most_open units nests in absurd (cc))
 
-pub nest_or : (units : List ℕ) → IsDecided (AreFields most_open units)
+pub nest_or : (units : List ℕ) → IsDecided (AreNestedFields most_open units)
 nest_or units = nest_by units (after_all most_open units (Some [])) refl
 
 -- what is said of what may be there

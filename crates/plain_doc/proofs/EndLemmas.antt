@@ -4,23 +4,24 @@ use Rattle.std.proofs.Common.{Option, Some, None, refl, sym, ◌∙◌, ap, subs
 use Rattle.std.proofs.lemmas.Bool.{cases_eq, ne_eqb, lt-ltb, le-ltb}
 use Rattle.std.proofs.lemmas.List.Concat.{flat_map-cons}
 use Rattle.std.proofs.lemmas.List.Elements.{All-nil, All-cons}
-use Rattle.plain_doc.specs.Nesting.{result_part, IsField, AreFields}
-use Rattle.plain_doc.specs.OpenFields.{Open, begun, separated, ended, after_unit}
+use Rattle.plain_doc.specs.Nesting.{result_part, IsField, AreNestedFields}
+use Rattle.plain_doc.specs.OpenFields.{Open, begun, separated, field_ended, after_field_character}
 use Rattle.plain_doc.proofs.WalkLemmas.{after_all, after_none}
 
 -- no fields nest, however deep they may be
-no_fields : (depth : ℕ) → AreFields depth []
-unfolding AreFields
+no_fields : (depth : ℕ) → AreNestedFields depth []
+unfolding AreNestedFields
 no_fields zero = refl
-no_fields (suc depth) = record { fields = []; each = All-nil (IsField (AreFields depth)); joined = refl }
+no_fields (suc depth) = record { fields = []; each = All-nil (IsField (AreNestedFields depth)); joined = refl }
 
 -- a field and then fields are fields
-field_and_fields : (depth : ℕ) (units rest : List ℕ) → IsField (AreFields depth) units → AreFields (suc depth) rest →
-    AreFields (suc depth) (units ++ rest)
-unfolding AreFields
+field_and_fields : (depth : ℕ) (units rest : List ℕ) → IsField (AreNestedFields depth) units → AreNestedFields (suc
+    depth) rest →
+    AreNestedFields (suc depth) (units ++ rest)
+unfolding AreNestedFields
 field_and_fields depth units rest field joined = record {
   fields = units ∷ joined.fields;
-  each = All-cons (IsField (AreFields depth)) units joined.fields field joined.each;
+  each = All-cons (IsField (AreNestedFields depth)) units joined.fields field joined.each;
   joined = ap (λ xs. units ++ xs) joined.joined ∙ sym (flat_map-cons (λ f. f) units joined.fields);
 }
 
@@ -38,11 +39,11 @@ record Ends (such around : List ℕ → Type 0) (is_separated : Bool) (units : L
 
 -- with room for so many more
 EndAll : ℕ → Open → List ℕ → Type 0
-EndAll room [] units = AreFields room units
-EndAll room (is_separated ∷ fields) units = Ends (AreFields room) (EndAll (suc room) fields) is_separated units
+EndAll room [] units = AreNestedFields room units
+EndAll room (is_separated ∷ fields) units = Ends (AreNestedFields room) (EndAll (suc room) fields) is_separated units
 
 -- a field before them
-field_first : (room : ℕ) (fields : Open) (units rest : List ℕ) → IsField (AreFields room) units →
+field_first : (room : ℕ) (fields : Open) (units rest : List ℕ) → IsField (AreNestedFields room) units →
     EndAll (suc room) fields rest → EndAll (suc room) fields (units ++ rest)
 unfolding EndAll
 field_first room [] units rest field more = field_and_fields room units rest field more
@@ -65,7 +66,7 @@ after_begun : (room : ℕ) (fields : Open) (units : List ℕ) → EndAll room (f
 unfolding EndAll
 after_begun room fields units ends =
     let tail : List ℕ = result_part ends.result ++ 0x15 ∷ [] in
-    let field : IsField (AreFields room) (0x13 ∷ (ends.inner ++ tail)) =
+    let field : IsField (AreNestedFields room) (0x13 ∷ (ends.inner ++ tail)) =
     record {
       instruction = ends.inner;
       result = ends.result;
@@ -92,7 +93,7 @@ after_separated room fields units ends = record {
   rest = ends.rest;
   once = λ e. absurd (cc);
   inner_is = no_fields room;
-  result_is = λ others e. let same : ends.inner ≡ others = cc in subst (AreFields room) same ends.inner_is;
+  result_is = λ others e. let same : ends.inner ≡ others = cc in subst (AreNestedFields room) same ends.inner_is;
   rest_is = ends.rest_is;
   spelt =
       ap (λ xs. 0x14 ∷ xs) (ends.spelt ∙ ap (λ o. ends.inner ++ (result_part o ++ 0x15 ∷ ends.rest))
@@ -138,7 +139,7 @@ end_separated limit room (false ∷ fields) units later count e =
 
 end_ended : (limit room : ℕ) (fields : Open) (units : List ℕ) →
     ((room : ℕ) (fields : Open) → room + length fields ≡ limit → after_all limit units (Some fields) ≡ Some [] →
-    EndAll room fields units) → room + length fields ≡ limit → after_all limit units (ended fields) ≡ Some [] →
+    EndAll room fields units) → room + length fields ≡ limit → after_all limit units (field_ended fields) ≡ Some [] →
     EndAll room fields (0x15 ∷ units)
 end_ended limit room [] units later count e = absurd (no_end limit units e)
 end_ended limit room (field ∷ fields) units later count e =
@@ -147,7 +148,7 @@ end_ended limit room (field ∷ fields) units later count e =
 -- the three characters, and any other
 character_cases : (unit : ℕ) →
     (unit ≡ 0x13) ⊎ ((unit ≡ 0x14) ⊎ ((unit ≡ 0x15) ⊎
-    ((limit : ℕ) (fields : Open) → after_unit limit unit fields ≡ None)))
+    ((limit : ℕ) (fields : Open) → after_field_character limit unit fields ≡ None)))
 character_cases unit = elim (cases_eq unit 0x13) [
   | inl begin ↦ inl begin
   | inr a ↦ elim (cases_eq unit 0x14) [
@@ -168,22 +169,22 @@ end_all limit (unit ∷ units) room fields count e = elim (character_cases unit)
   | inl begin ↦
       subst (λ u. EndAll room fields (u ∷ units)) (sym begin)
       (end_begun limit room fields units (end_all limit units) count
-      (subst (λ u. after_all limit units (after_unit limit u fields) ≡ Some []) begin e))
+      (subst (λ u. after_all limit units (after_field_character limit u fields) ≡ Some []) begin e))
   | inr more ↦ elim more [
     | inl middle ↦
         subst (λ u. EndAll room fields (u ∷ units)) (sym middle)
         (end_separated limit room fields units (end_all limit units) count
-        (subst (λ u. after_all limit units (after_unit limit u fields) ≡ Some []) middle e))
+        (subst (λ u. after_all limit units (after_field_character limit u fields) ≡ Some []) middle e))
     | inr last ↦ elim last [
       | inl end ↦
           subst (λ u. EndAll room fields (u ∷ units)) (sym end)
           (end_ended limit room fields units (end_all limit units) count
-          (subst (λ u. after_all limit units (after_unit limit u fields) ≡ Some []) end e))
+          (subst (λ u. after_all limit units (after_field_character limit u fields) ≡ Some []) end e))
       | inr other ↦ absurd (no_end limit units (subst (λ o. after_all limit units o ≡ Some []) (other limit fields) e))
     ]
   ]
 ]
 
-pub fields_nest : (limit : ℕ) (units : List ℕ) → after_all limit units (Some []) ≡ Some [] → AreFields limit units
+pub fields_nest : (limit : ℕ) (units : List ℕ) → after_all limit units (Some []) ≡ Some [] → AreNestedFields limit units
 unfolding EndAll
 fields_nest limit units e = end_all limit units limit [] (omega arith) e

@@ -9,9 +9,9 @@ use Rattle.std.proofs.lemmas.Bool.{cases_lt}
 use Rattle.std.proofs.lemmas.List.{append-nil, map-append, reverse-append, take_more}
 use Rattle.std.proofs.lemmas.List.Elements.{filter-append}
 use Rattle.doc_bits.specs.Rules.{IsLeast, Nowhere}
-use Rattle.plain_doc.specs.declared.item.Item.{Item}
-use Rattle.plain_doc.specs.Nesting.{AreFields, CanBecomeFields, field_characters, most_open, BreaksNesting}
-use Rattle.plain_doc.specs.OpenFields.{Open, ended, after_unit}
+use Rattle.doc_model.specs.declared.item.Item.{Item}
+use Rattle.plain_doc.specs.Nesting.{AreNestedFields, CanBecomeFields, field_characters, most_open, BreaksNesting}
+use Rattle.plain_doc.specs.OpenFields.{Open, field_ended, after_field_character}
 use Rattle.plain_doc.proofs.WalkLemmas.{after_all, after_both}
 use Rattle.plain_doc.proofs.EndLemmas.{fields_nest}
 use Rattle.plain_doc.proofs.NestingLemmas.{nest_passes, walked_on, stuck}
@@ -23,10 +23,10 @@ turned list at h = ap reverse (take_more list at false h) ∙ reverse-append (ta
 
 -- the innermost field is the last entry
 pub ended_last : (list : List Bool) (depth : ℕ) → 0 < depth → depth ≤ length list →
-    ended (reverse (take depth list)) ≡ Some (reverse (take (depth - 1) list))
+    field_ended (reverse (take depth list)) ≡ Some (reverse (take (depth - 1) list))
 ended_last list depth some fits =
     let e : depth ≡ (depth - 1) + 1 = omega arith in
-    ap (λ n. ended (reverse (take n list))) e ∙ ap ended (turned list (depth - 1) (omega arith))
+    ap (λ n. field_ended (reverse (take n list))) e ∙ ap field_ended (turned list (depth - 1) (omega arith))
 
 pub characters-append : (front back : List Item) →
     field_characters (front ++ back) ≡ field_characters front ++ field_characters back
@@ -51,7 +51,8 @@ no_character item e = rw e refl
 pub open_after : (text : List Item) (i : ℕ) (item : Item) (fields : Open) → i < length text →
     item ≡ get_or text i item → is_some item.fld ≡ true →
     after_all most_open (field_characters (take i text)) (Some []) ≡ Some fields →
-    after_all most_open (field_characters (take (i + 1) text)) (Some []) ≡ after_unit most_open item.unit fields
+    after_all most_open (field_characters (take (i + 1) text)) (Some []) ≡ after_field_character most_open item.unit
+    fields
 open_after text i item fields h is has before =
     ap (λ units. after_all most_open units (Some []))
     (characters_more text i item h is ∙ ap (λ units. field_characters (take i text) ++ units)
@@ -72,7 +73,10 @@ open_still text i item fields h is has before =
 -- the front of units that can become fields can
 shorter : (limit : ℕ) (front back : List ℕ) → CanBecomeFields limit (front ++ back) → CanBecomeFields limit front
 shorter limit front back can =
-    record { rest = back ++ can.rest; nests = subst (AreFields limit) (append_assoc front back can.rest) can.nests }
+    record {
+      rest = back ++ can.rest;
+      nests = subst (AreNestedFields limit) (append_assoc front back can.rest) can.nests;
+    }
 
 -- no item before one up to which nothing was wrong
 passed : (text : List Item) (n i : ℕ) → i < n → CanBecomeFields most_open (field_characters (take n text)) →

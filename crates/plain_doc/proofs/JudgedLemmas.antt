@@ -2,17 +2,17 @@
 use Rattle.std.proofs.Common.{◌≡◌, ◌≤◌, length, None, ◌∙◌, ap, arith}
 use Rattle.doc_bits.specs.Rules.{Nowhere}
 use Rattle.doc_bits.specs.declared.places.Where.TheVariants.{Main}
-use Rattle.doc_parts.specs.Names.{HasSameName}
+use Rattle.document_bookmarks.specs.Names.{HasSameName}
 use Rattle.style_sheet.specs.Chain.{BreaksBases}
-use Rattle.plain_doc.specs.declared.document.Document.{Document}
+use Rattle.doc_model.specs.declared.document.Document.{Document}
 use Rattle.plain_doc.specs.declared.rules_counts.Counts.{Counts}
 use Rattle.plain_doc.specs.declared.rules_texts.Side.TheVariants.{Notes, Heads}
-use Rattle.plain_doc.specs.Marks.{HasFormedBookmarks, most_bookmarks}
+use Rattle.doc_model.specs.Marks.{HasFormedBookmarks, most_bookmarks}
 use Rattle.plain_doc.specs.RulesOfItems.{IsWrongItem, HasShortProperties}
 use Rattle.plain_doc.specs.RulesOfSheet.{HasShortStyle, FitsStd, heads_of_sections, item_count, most_items}
 use Rattle.plain_doc.specs.Sound.{IsSound, IsValidSheet}
 use Rattle.plain_doc.specs.TextRules.{BreaksText}
-use Rattle.plain_doc.specs.TextWalk.{KeepsTextRules, AreValidTexts, AreTextsRight, HasCounts}
+use Rattle.plain_doc.specs.TextWalk.{KeepsTextRules, AreValidTexts, AreTextsRight, HasTextCounts}
 use Rattle.plain_doc.proofs.BookmarkRuleLemmas.{none_wrong_bookmarks}
 use Rattle.plain_doc.proofs.SheetLemmas.{no_style, texts_after}
 use Rattle.plain_doc.proofs.TextPlaceLemmas.{first_in_heads}
@@ -28,7 +28,7 @@ all_texts document main notes heads =
 
 -- what the counts and the bookmarks of a document are to be
 pub record HasValidCounts (document : Document) (counts : Counts) : Type 0 where
-  pub counted : HasCounts document.main counts
+  pub counted : HasTextCounts document.main counts
   pub notes : length document.notes ≡ counts.notes
   pub heads : length document.heads ≡ heads_of_sections counts.sections
   pub few : item_count document ≤ most_items

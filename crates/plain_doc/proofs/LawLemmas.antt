@@ -4,11 +4,10 @@ use Rattle.doc_bits.specs.Places.{Upto}
 use Rattle.doc_bits.proofs.Public.{least_of_all}
 use Rattle.plain_doc.specs.Sound.{document_rules, FirstDocFaultIsLeast, SoundSheetIsWritable}
 use Rattle.plain_doc.specs.RightDocument.{SoundDocumentsAreValid}
-use Rattle.plain_doc.specs.Settings.{EqualPropertiesAreSame}
-use Rattle.plain_doc.specs.Stretches.{ItemsAreCutIntoStretches, StretchesAreOne}
-use Rattle.plain_doc.proofs.CutLemmas.{are_stretches, stretches_only}
+use Rattle.doc_model.specs.Settings.{EqualPropertiesAreSame}
+use Rattle.doc_model.specs.Stretches.{ItemsAreCutIntoStretches, StretchesAreOne}
+use Rattle.doc_model.proofs.Public.{are_stretches, stretches_only, same_properties-Decides}
 use Rattle.plain_doc.proofs.RightLemmas.{sound_is_valid, right_is_sound}
-use Rattle.plain_doc.proofs.SettingsLemmas.{same_properties-Decides}
 use Rattle.plain_doc.proofs.SoundLemmas.{document_rules-IsSingle, document_rules-Ascends}
 
 pub first_fault_least : FirstDocFaultIsLeast

@@ -1,13 +1,9 @@
 pub mod Public
-mod FormedLemmas
-mod StreamLemmas
-mod WithBytesLemmas
-mod MarkLemmas
+mod ItemLemmas
 mod WalkLemmas
 mod EndLemmas
 mod NestingLemmas
 mod FieldLemmas
-mod ItemLemmas
 mod RowLemmas
 mod PlaceLemmas
 mod TextPlaceLemmas
@@ -15,17 +11,11 @@ mod StyleLemmas
 mod SheetLemmas
 mod TextWalkLemmas
 mod SoundLemmas
-mod BlankLemmas
 mod BlankSheetLemmas
-mod StretchLemmas
-mod CutLemmas
-mod SettingsLemmas
 mod DecisionLemmas
 mod RightLemmas
 mod MainLemmas
 mod MarkedLemmas
 mod LawLemmas
-mod CollectedLemmas
-mod TextListLemmas
 mod BookmarkRuleLemmas
 mod JudgedLemmas

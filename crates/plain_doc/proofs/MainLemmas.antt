@@ -9,10 +9,10 @@ use Rattle.doc_bits.specs.declared.places.Where.TheVariants.{Main}
 use Rattle.doc_bits.specs.Places.{rank}
 use Rattle.text_codes.specs.Paragraph.{paragraph_mark}
 use Rattle.prop_map.specs.Formed.{IsPropertyMap, character_groups}
-use Rattle.plain_doc.specs.declared.item.Item.{Item}
-use Rattle.plain_doc.specs.declared.document.Document.{Document}
-use Rattle.plain_doc.specs.Document.{HasPropertyMaps, IsFormedItem, IsFormedText}
-use Rattle.plain_doc.specs.Paragraphs.{EndsParagraph, HasNoParagraphEnd}
+use Rattle.doc_model.specs.declared.item.Item.{Item}
+use Rattle.doc_model.specs.declared.document.Document.{Document}
+use Rattle.doc_model.specs.Document.{HasPropertyMaps, IsFormedItem, IsFormedText}
+use Rattle.doc_model.specs.Paragraphs.{EndsParagraph, HasNoParagraphEnd}
 use Rattle.plain_doc.specs.RulesOfTexts.{last_unit}
 use Rattle.plain_doc.specs.RightDocument.{IsValidText, IsValidDocument}
 

@@ -6,7 +6,7 @@ use Rattle.std.proofs.lemmas.Option.{slice_get_within, get_or_from_slice_get}
 use Rattle.text_codes.specs.Paragraph.{paragraph_mark, cell_mark, section_mark, is_paragraph_end}
 use Rattle.doc_bits.specs.declared.places.Where.{Where}
 use Rattle.style_sheet.specs.Sheet.{Sheet}
-use Rattle.plain_doc.specs.declared.item.Item.{Item}
+use Rattle.doc_model.specs.declared.item.Item.{Item}
 use Rattle.plain_doc.specs.RulesOfItems.{IsPlacedRight}
 use Rattle.plain_doc.specs.RulesOfTexts.{EndsRight}
 use Rattle.plain_doc.specs.RightDocument.{IsValidText}

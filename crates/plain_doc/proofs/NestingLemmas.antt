@@ -1,14 +1,14 @@
 -- Going through the field characters with the open fields in hand finds exactly what nests.
 use Rattle.std.proofs.Common.{◌≡◌, ℕ, List, [], ◌∷◌, ◌++◌, Some, None, refl, sym, ◌∙◌, ap, arith}
 use Rattle.std.proofs.lemmas.List.{append-nil}
-use Rattle.plain_doc.specs.Nesting.{AreFields, CanBecomeFields}
+use Rattle.plain_doc.specs.Nesting.{AreNestedFields, CanBecomeFields}
 use Rattle.plain_doc.specs.OpenFields.{Open}
 use Rattle.plain_doc.proofs.WalkLemmas.{after_all, after_both, after_none, fields_pass}
 use Rattle.plain_doc.proofs.EndLemmas.{fields_nest}
 
 -- What nests is exactly what the walk comes through with nothing open.
 
-pub nest_passes : (limit : ℕ) (units : List ℕ) → AreFields limit units → after_all limit units (Some []) ≡ Some []
+pub nest_passes : (limit : ℕ) (units : List ℕ) → AreNestedFields limit units → after_all limit units (Some []) ≡ Some []
 nest_passes limit units fields =
     ap (λ xs. after_all limit xs (Some [])) (sym (append-nil units))
     ∙ fields_pass limit limit units [] [] (omega arith) fields

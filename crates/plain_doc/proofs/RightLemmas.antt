@@ -7,19 +7,19 @@ use Rattle.doc_bits.specs.declared.places.Where.TheVariants.{Sheet as SheetPart,
 use Rattle.doc_bits.specs.Rules.{Nowhere, Hold}
 use Rattle.text_codes.specs.Paragraph.{paragraph_mark, cell_mark, section_mark}
 use Rattle.style_sheet.specs.Sheet.{Sheet, style_at}
-use Rattle.style_sheet.specs.Chain.{kind_at, BreaksBases}
+use Rattle.style_sheet.specs.Chain.{style_kind_at, BreaksBases}
 use Rattle.style_sheet.specs.Written.{written_slot}
 use Rattle.style_sheet.specs.declared.styles.Kind.{Kind}
 use Rattle.style_sheet.specs.declared.styles.Kind.TheVariants.{Para, Char, Other}
-use Rattle.plain_doc.specs.declared.item.Item.{Item}
-use Rattle.plain_doc.specs.declared.document.Document.{Document}
+use Rattle.doc_model.specs.declared.item.Item.{Item}
+use Rattle.doc_model.specs.declared.document.Document.{Document}
 use Rattle.plain_doc.specs.Nesting.{field_characters, most_open, BreaksNesting}
 use Rattle.plain_doc.specs.Rows.{FitsRow, open_cells, BreaksRows, paragraph_value, is_row_mark, is_mark_outside}
 use Rattle.plain_doc.specs.RulesOfItems.{IsWrongItem, IsPlacedRight, HasMarkRight, HasSectionRight, HasShortProperties}
 use Rattle.plain_doc.specs.RulesOfItems.{IsShortPap, IsShortSect, printed_length}
-use Rattle.plain_doc.specs.RulesOfTexts.{InTexts, text_of, EndsRight, HasWrongEnd, HasParagraphStyle, last_unit}
+use Rattle.plain_doc.specs.RulesOfTexts.{InTexts, text_of_place, EndsRight, HasWrongEnd, HasParagraphStyle, last_unit}
 use Rattle.plain_doc.specs.RulesOfSheet.{HasShortKind, note_count, head_count, item_count, most_items}
-use Rattle.plain_doc.specs.Marks.{most_bookmarks, HasWrongBookmarks}
+use Rattle.doc_model.specs.Marks.{most_bookmarks, HasWrongBookmarks}
 use Rattle.plain_doc.specs.Sound.{IsSound, document_rules}
 use Rattle.plain_doc.specs.RightDocument.{HoldsAtItems, IsValidText, IsValidDocument}
 use Rattle.style_sheet.proofs.Public.{unbroken_bases}
@@ -88,7 +88,8 @@ short_settled item wrong = record {
 
 style_settled : (sheet : Sheet) (item : Item) → ¬ ¬ (HasParagraphStyle sheet item) → HasParagraphStyle sheet item
 style_settled sheet item =
-    ForSome_settled (λ mark. kind_at sheet mark.istd ≡ 1) item.mark (λ mark. equal_or (kind_at sheet mark.istd) 1)
+    ForSome_settled (λ mark. style_kind_at sheet mark.istd ≡ 1) item.mark (λ mark. equal_or (style_kind_at sheet
+    mark.istd) 1)
 
 kind_or : (kind : Kind) → IsDecided (HasShortKind kind)
 kind_or (Para pap chp) = both_or (at_most_or (printed_length pap) 480) (at_most_or (printed_length chp) 255)
@@ -114,14 +115,14 @@ none_wrong such text right i wrong = wrong.wrong (right i wrong.item wrong.there
 
 -- a rule that no text of the document breaks is broken in none of them
 in_text : (document : Document) (breaks : Where → List Item → ℕ → Type 0) → Nowhere (InTexts document breaks) →
-    (part : Where) (text : List Item) → text_of document part ≡ Some text → (i : ℕ) → ¬ (breaks part text i)
+    (part : Where) (text : List Item) → text_of_place document part ≡ Some text → (i : ℕ) → ¬ (breaks part text i)
 in_text document breaks none part text there i broken =
     none (part, i) (record { text = text; there = there; broken = broken })
 
 -- ---- from soundness
 
 text_right : (document : Document) → IsSound document → (part : Where) (text : List Item) →
-    text_of document part ≡ Some text → IsValidText document.sheet part text
+    text_of_place document part ≡ Some text → IsValidText document.sheet part text
 text_right document sound part text there = record {
   ends =
       settled (ends_or part text)

@@ -7,7 +7,7 @@ use Rattle.std.proofs.lemmas.Bool.{cases_lt}
 use Rattle.std.proofs.lemmas.List.{reverse-append, take_more}
 use Rattle.std.proofs.lemmas.List.Sums.{take_while-cons, sum_by-cons}
 use Rattle.doc_bits.specs.Rules.{IsLeast, Nowhere}
-use Rattle.plain_doc.specs.declared.item.Item.{Item}
+use Rattle.doc_model.specs.declared.item.Item.{Item}
 use Rattle.plain_doc.specs.RulesOfItems.{IsWrongItem}
 use Rattle.plain_doc.proofs.ItemLemmas.{wrong_within}
 use Rattle.plain_doc.specs.Rows.{is_row_mark, is_cell_mark, open_cells, cells_after, FitsRow, BreaksRows}

@@ -1,7 +1,7 @@
 -- The numbers of the rules on documents ascend, and none of them speaks of an object.
 use Rattle.std.proofs.Common.{lit≤, lit<, ◌≡◌, sym, subst}
 use Rattle.doc_bits.specs.Rules.{IsSingle, Ascends}
-use Rattle.plain_doc.specs.declared.document.Document.{Document}
+use Rattle.doc_model.specs.declared.document.Document.{Document}
 use Rattle.plain_doc.specs.Sound.{document_rules, text_rules, count_rules, size_rules, IsSound}
 
 pub document_rules-IsSingle : (document : Document) → IsSingle (document_rules document)

@@ -6,11 +6,11 @@ use Rattle.doc_bits.specs.declared.places.Where.TheVariants.{File, Wd, Table, Sh
 use Rattle.doc_bits.specs.Rules.{Nowhere, IsLeast}
 use Rattle.doc_bits.specs.Places.{Place, rank, Upto}
 use Rattle.std.proofs.Common.{List}
-use Rattle.plain_doc.specs.declared.item.Item.{Item}
-use Rattle.plain_doc.specs.declared.document.Document.{Document}
+use Rattle.doc_model.specs.declared.item.Item.{Item}
+use Rattle.doc_model.specs.declared.document.Document.{Document}
 use Rattle.plain_doc.specs.declared.rules_texts.Side.TheVariants.{Notes, Heads}
 use Rattle.doc_bits.specs.Places.{LeastPlaceOrNone}
-use Rattle.plain_doc.specs.RulesOfTexts.{InTexts, text_of}
+use Rattle.plain_doc.specs.RulesOfTexts.{InTexts, text_of_place}
 use Rattle.plain_doc.specs.TextRules.{InList}
 use Rattle.doc_bits.proofs.Public.{upto_later, upto_same, least_first, least_second, same_places}
 
@@ -48,15 +48,15 @@ module _ (document : Document) (breaks : Where → List Item → ℕ → Type 0)
     | inl main ↦
         record {
           text = document.main;
-          there = ap (text_of document) main.0;
+          there = ap (text_of_place document) main.0;
           broken = subst
               (λ part. breaks part document.main place.1) (sym main.0) main.1;
         }
     | inr more ↦ elim more [
       | inl note ↦
-          record { text = note.text; there = ap (text_of document) note.here ∙ note.there; broken = note.broken }
+          record { text = note.text; there = ap (text_of_place document) note.here ∙ note.there; broken = note.broken }
       | inr head ↦
-          record { text = head.text; there = ap (text_of document) head.here ∙ head.there; broken = head.broken }
+          record { text = head.text; there = ap (text_of_place document) head.here ∙ head.there; broken = head.broken }
     ]
   ]
 

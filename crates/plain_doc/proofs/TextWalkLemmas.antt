@@ -10,14 +10,14 @@ use Rattle.doc_bits.specs.declared.places.Where.TheVariants.{Main}
 use Rattle.doc_bits.specs.Rules.{Nowhere}
 use Rattle.text_codes.specs.Paragraph.{paragraph_mark}
 use Rattle.style_sheet.specs.Sheet.{Sheet}
-use Rattle.plain_doc.specs.declared.item.Item.{Item}
-use Rattle.plain_doc.specs.declared.document.Document.{Document}
+use Rattle.doc_model.specs.declared.item.Item.{Item}
+use Rattle.doc_model.specs.declared.document.Document.{Document}
 use Rattle.plain_doc.specs.declared.rules_texts.ItemRule.TheVariants.{Placing, Styles, Properties}
 use Rattle.plain_doc.specs.declared.rules_texts.TextRule.{TextRule}
 use Rattle.plain_doc.specs.declared.rules_texts.TextRule.TheVariants.{End, Fields, Rows, Each}
 use Rattle.plain_doc.specs.declared.text_walk.TextWalk.{TextWalk}
 use Rattle.plain_doc.specs.Nesting.{most_open, field_characters}
-use Rattle.plain_doc.specs.OpenFields.{Open, after_unit, after_item}
+use Rattle.plain_doc.specs.OpenFields.{Open, after_field_character, after_item}
 use Rattle.plain_doc.specs.Rows.{FitsRow, cells_after, is_row_mark, is_cell_mark}
 use Rattle.plain_doc.specs.RulesOfItems.{IsWrongItem}
 use Rattle.plain_doc.specs.RulesOfSheet.{note_count, section_count}
@@ -28,11 +28,11 @@ use Rattle.plain_doc.proofs.WalkLemmas.{after_all}
 use Rattle.plain_doc.proofs.FieldLemmas.{open_after, open_still, nothing_open}
 use Rattle.plain_doc.proofs.RowLemmas.{RightIn, open_cells-nil, open_cells_more, no_row_open}
 use Rattle.plain_doc.proofs.ItemLemmas.{right_there, wrong_within}
-use Rattle.doc_parts.proofs.Public.{one_at_most}
+use Rattle.document_bookmarks.proofs.Public.{one_at_most}
 
 open_by : (has : Bool) (text : List Item) (i : ℕ) (item : Item) (fields next : Open) → i < length text →
     item ≡ get_or text i item → is_some item.fld ≡ has →
-    cond has (after_unit most_open item.unit fields) (Some fields) ≡ Some next →
+    cond has (after_field_character most_open item.unit fields) (Some fields) ≡ Some next →
     after_all most_open (field_characters (take i text)) (Some []) ≡ Some fields →
     after_all most_open (field_characters (take (i + 1) text)) (Some []) ≡ Some next
 open_by true text i item fields next h is has passes before = open_after text i item fields h is has before ∙ passes

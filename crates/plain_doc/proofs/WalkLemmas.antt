@@ -5,8 +5,8 @@ use Rattle.std.specs.List.{All, flat_map}
 use Rattle.std.proofs.lemmas.Bool.{lt-ltb}
 use Rattle.std.proofs.lemmas.List.Concat.{flat_map-cons}
 use Rattle.std.proofs.lemmas.List.Elements.{All-head, All-tail}
-use Rattle.plain_doc.specs.Nesting.{result_part, IsField, AreFields}
-use Rattle.plain_doc.specs.OpenFields.{Open, after_unit, after_next}
+use Rattle.plain_doc.specs.Nesting.{result_part, IsField, AreNestedFields}
+use Rattle.plain_doc.specs.OpenFields.{Open, after_field_character, after_next}
 pub use Rattle.plain_doc.specs.OpenFields.{after_all}
 
 pub after_both : (limit : ℕ) (front back : List ℕ) (fields : Option Open) →
@@ -19,23 +19,24 @@ after_none limit [] = refl
 after_none limit (unit ∷ units) = after_none limit units
 
 -- a beginning where there is room
-begins : (limit : ℕ) (fields : Open) → length fields < limit → after_unit limit 0x13 fields ≡ Some (false ∷ fields)
+begins : (limit : ℕ) (fields : Open) → length fields < limit → after_field_character limit 0x13 fields ≡ Some (false ∷
+    fields)
 begins limit fields h = rw (lt-ltb (length fields) limit h) refl
 
 -- fields leave what is open as it was, where there is room for them
 result_passes : (limit depth : ℕ) (result : Option (List ℕ)) (rest : List ℕ) (fields : Open) →
-    ((units rest : List ℕ) (fields : Open) → length fields + depth ≤ limit → AreFields depth units →
+    ((units rest : List ℕ) (fields : Open) → length fields + depth ≤ limit → AreNestedFields depth units →
     after_all limit (units ++ rest) (Some fields) ≡ after_all limit rest (Some fields)) →
-    ((inner : List ℕ) → result ≡ Some inner → AreFields depth inner) → suc (length fields) + depth ≤ limit →
+    ((inner : List ℕ) → result ≡ Some inner → AreNestedFields depth inner) → suc (length fields) + depth ≤ limit →
     after_all limit (result_part result ++ 0x15 ∷ rest) (Some (false ∷ fields)) ≡ after_all limit rest (Some fields)
 result_passes limit depth None rest fields inner_passes such room = refl
 result_passes limit depth (Some inner) rest fields inner_passes such room =
     inner_passes inner (0x15 ∷ rest) (true ∷ fields) room (such inner refl)
 
 field_passes : (limit depth : ℕ) (units rest : List ℕ) (fields : Open) →
-    ((units rest : List ℕ) (fields : Open) → length fields + depth ≤ limit → AreFields depth units →
+    ((units rest : List ℕ) (fields : Open) → length fields + depth ≤ limit → AreNestedFields depth units →
     after_all limit (units ++ rest) (Some fields) ≡ after_all limit rest (Some fields)) →
-    IsField (AreFields depth) units → suc (length fields) + depth ≤ limit →
+    IsField (AreNestedFields depth) units → suc (length fields) + depth ≤ limit →
     after_all limit (units ++ rest) (Some fields) ≡ after_all limit rest (Some fields)
 field_passes limit depth units rest fields inner_passes field room =
     let tail : List ℕ = result_part field.result ++ 0x15 ∷ [] in
@@ -55,9 +56,9 @@ field_passes limit depth units rest fields inner_passes field room =
     ap (λ xs. after_all limit xs (Some fields)) joined ∙ here ∙ inner ∙ result
 
 list_passes : (limit depth : ℕ) (list : List (List ℕ)) (rest : List ℕ) (fields : Open) →
-    ((units rest : List ℕ) (fields : Open) → length fields + depth ≤ limit → AreFields depth units →
+    ((units rest : List ℕ) (fields : Open) → length fields + depth ≤ limit → AreNestedFields depth units →
     after_all limit (units ++ rest) (Some fields) ≡ after_all limit rest (Some fields)) →
-    All (IsField (AreFields depth)) list → suc (length fields) + depth ≤ limit →
+    All (IsField (AreNestedFields depth)) list → suc (length fields) + depth ≤ limit →
     after_all limit (flat_map (λ field. field) list ++ rest) (Some fields) ≡ after_all limit rest (Some fields)
 list_passes limit depth [] rest fields inner_passes each room = refl
 list_passes limit depth (units ∷ list) rest fields inner_passes each room =
@@ -66,12 +67,13 @@ list_passes limit depth (units ∷ list) rest fields inner_passes each room =
     ap (λ xs. xs ++ rest) (flat_map-cons (λ field. field) units list) ∙ append_assoc units more rest in
     ap (λ xs. after_all limit xs (Some fields)) joined
     ∙ field_passes limit depth units (more ++ rest) fields inner_passes
-    (All-head (IsField (AreFields depth)) units list each) room
-    ∙ list_passes limit depth list rest fields inner_passes (All-tail (IsField (AreFields depth)) units list each) room
+    (All-head (IsField (AreNestedFields depth)) units list each) room
+    ∙ list_passes limit depth list rest fields inner_passes (All-tail (IsField (AreNestedFields depth)) units list each)
+    room
 
 pub fields_pass : (limit depth : ℕ) (units rest : List ℕ) (fields : Open) → length fields + depth ≤ limit →
-    AreFields depth units → after_all limit (units ++ rest) (Some fields) ≡ after_all limit rest (Some fields)
-unfolding AreFields
+    AreNestedFields depth units → after_all limit (units ++ rest) (Some fields) ≡ after_all limit rest (Some fields)
+unfolding AreNestedFields
 fields_pass limit zero units rest fields room none = ap (λ xs. after_all limit (xs ++ rest) (Some fields)) none
 fields_pass limit (suc depth) units rest fields room joins =
     ap (λ xs. after_all limit (xs ++ rest) (Some fields)) joins.joined

@@ -1,9 +1,3 @@
-pub mod Document
-pub mod Paragraphs
-pub mod Carried
-pub mod NothingCarried
-pub mod OtherBytes
-pub mod Blank
 pub mod Nesting
 pub mod OpenFields
 pub mod RulesOfItems
@@ -14,11 +8,4 @@ pub mod RulesOfSheet
 pub mod StyleRules
 pub mod Sound
 pub mod TextWalk
-pub mod Formed
 pub mod RightDocument
-pub mod Stretches
-pub mod Settings
-pub mod Entries
-pub mod Collected
-pub mod TextLists
-pub mod Marks

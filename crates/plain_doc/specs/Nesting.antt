@@ -3,7 +3,7 @@
 use Rattle.std.specs.Prelude.{◌≡◌, ◌⊎◌, ℕ, suc, zero, ◌+◌, ◌<◌, List, [], ◌∷◌, ◌++◌, length, take, map, filter}
 use Rattle.std.specs.Prelude.{is_some, Option, Some, None}
 use Rattle.std.specs.List.{All, flat_map}
-use Rattle.plain_doc.specs.declared.item.Item.{Item}
+use Rattle.doc_model.specs.declared.item.Item.{Item}
 
 -- the result of a field, after its separator 0x14, where there is one
 abbrev pub result_part : Option (List ℕ) → List ℕ
@@ -25,14 +25,14 @@ pub record JoinsFields (such : List ℕ → Type 0) (units : List ℕ) : Type 0 
   pub joined : units ≡ flat_map (λ field. field) fields
 
 -- fields one after another, with at most so many open at once
-unfoldable pub AreFields : ℕ → List ℕ → Type 0
-AreFields zero units = units ≡ []
-AreFields (suc depth) units = JoinsFields (AreFields depth) units
+unfoldable pub AreNestedFields : ℕ → List ℕ → Type 0
+AreNestedFields zero units = units ≡ []
+AreNestedFields (suc depth) units = JoinsFields (AreNestedFields depth) units
 
 -- units that begin such fields
 pub record CanBecomeFields (depth : ℕ) (units : List ℕ) : Type 0 where
   pub rest : List ℕ
-  pub nests : AreFields depth (units ++ rest)
+  pub nests : AreNestedFields depth (units ++ rest)
 
 -- Profile: the most fields that are open at once
 abbrev pub most_open : ℕ
@@ -46,4 +46,4 @@ field_characters text = map (λ item. item.unit) (filter (λ item. is_some item.
 abbrev pub BreaksNesting : List Item → ℕ → Type 0
 BreaksNesting text place =
     ((place < length text) × ¬ (CanBecomeFields most_open (field_characters (take (place + 1) text)))) ⊎
-    ((place ≡ length text) × ¬ (AreFields most_open (field_characters text)))
+    ((place ≡ length text) × ¬ (AreNestedFields most_open (field_characters text)))

@@ -4,16 +4,16 @@ use Rattle.doc_bits.specs.declared.places.Where.{Where}
 use Rattle.style_sheet.specs.Sheet.{Sheet}
 use Rattle.style_sheet.specs.Chain.{HasSoundBases}
 use Rattle.style_sheet.specs.Written.{IsWritable}
-use Rattle.plain_doc.specs.declared.item.Item.{Item}
-use Rattle.plain_doc.specs.declared.document.Document.{Document}
-use Rattle.plain_doc.specs.Nesting.{AreFields, field_characters, most_open}
+use Rattle.doc_model.specs.declared.item.Item.{Item}
+use Rattle.doc_model.specs.declared.document.Document.{Document}
+use Rattle.plain_doc.specs.Nesting.{AreNestedFields, field_characters, most_open}
 use Rattle.plain_doc.specs.Rows.{FitsRow, open_cells}
 use Rattle.plain_doc.specs.RulesOfItems.{IsPlacedRight, HasShortProperties}
-use Rattle.plain_doc.specs.RulesOfTexts.{text_of, EndsRight, HasParagraphStyle}
+use Rattle.plain_doc.specs.RulesOfTexts.{text_of_place, EndsRight, HasParagraphStyle}
 use Rattle.plain_doc.specs.RulesOfSheet.{HasShortStyle, note_count, head_count, item_count, most_items}
 use Rattle.doc_bits.specs.Rules.{Nowhere}
-use Rattle.doc_parts.specs.Names.{HasSameName}
-use Rattle.plain_doc.specs.Marks.{HasFormedBookmarks, most_bookmarks}
+use Rattle.document_bookmarks.specs.Names.{HasSameName}
+use Rattle.doc_model.specs.Marks.{HasFormedBookmarks, most_bookmarks}
 use Rattle.plain_doc.specs.Sound.{IsSound}
 
 -- each item of the text is such, at its place
@@ -24,7 +24,7 @@ HoldsAtItems text such = (i : ℕ) (item : Item) → slice_get text i ≡ Some i
 pub record IsValidText (sheet : Sheet) (part : Where) (text : List Item) : Type 0 where
   pub ends : EndsRight part text
   pub placed : HoldsAtItems text (IsPlacedRight part (length text))
-  pub fields : AreFields most_open (field_characters text)
+  pub fields : AreNestedFields most_open (field_characters text)
   pub rows : HoldsAtItems text (λ i item. FitsRow (open_cells (take i text)) item)
   pub row_ends : open_cells text ≡ 0
   pub styles : HoldsAtItems text (λ i item. HasParagraphStyle sheet item)
@@ -36,7 +36,7 @@ pub record IsValidText (sheet : Sheet) (part : Where) (text : List Item) : Type 
 -- name of an earlier one
 pub record IsValidDocument (document : Document) : Type 0 where
   pub texts :
-      (part : Where) (text : List Item) → text_of document part ≡ Some text → IsValidText document.sheet part text
+      (part : Where) (text : List Item) → text_of_place document part ≡ Some text → IsValidText document.sheet part text
   pub notes : length document.notes ≡ note_count document.main
   pub heads : length document.heads ≡ head_count document.main
   pub few : item_count document ≤ most_items

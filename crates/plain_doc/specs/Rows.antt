@@ -6,36 +6,36 @@ use Rattle.std.specs.Prelude.{reverse, slice_get, slice_index, is_some, Option, 
 use Rattle.std.specs.List.{count_by, take_while}
 use Rattle.std.specs.FinMap.{get}
 use Rattle.text_codes.specs.Paragraph.{cell_mark}
-use Rattle.plain_doc.specs.declared.item.Item.{Item}
-use Rattle.plain_doc.specs.declared.item.Mark.{Mark}
+use Rattle.doc_model.specs.declared.item.Item.{Item}
+use Rattle.doc_model.specs.declared.item.Mark.{Mark}
 use Rattle.plain_doc.specs.RulesOfItems.{IsWrongItem}
 
 -- the value that a mark has at a code
-abbrev pub value_in : Option Mark → ℕ → Option (List ℕ)
-value_in None code = None
-value_in (Some mark) code = get mark.pap code
+abbrev pub mark_value_in : Option Mark → ℕ → Option (List ℕ)
+mark_value_in None code = None
+mark_value_in (Some mark) code = get mark.pap code
 
 -- the value that the item's mark, where there is one, has at a code
 abbrev pub paragraph_value : Item → ℕ → Option (List ℕ)
-paragraph_value item code = value_in item.mark code
+paragraph_value item code = mark_value_in item.mark code
 
 -- the value is there, and it is the byte 01
-abbrev pub is_on : Option (List ℕ) → Bool
-is_on None = false
-is_on (Some value) = length value == 1 && slice_index value 0 == 1
+abbrev pub is_byte_one : Option (List ℕ) → Bool
+is_byte_one None = false
+is_byte_one (Some value) = length value == 1 && slice_index value 0 == 1
 
 -- the end of a row
 abbrev pub is_row_mark : Item → Bool
-is_row_mark item = item.unit == cell_mark && is_on (paragraph_value item 0x2417)
+is_row_mark item = item.unit == cell_mark && is_byte_one (paragraph_value item 0x2417)
 
 -- the end of a cell
 abbrev pub is_cell_mark : Item → Bool
-is_cell_mark item = item.unit == cell_mark && not (is_on (paragraph_value item 0x2417))
+is_cell_mark item = item.unit == cell_mark && not (is_byte_one (paragraph_value item 0x2417))
 
 -- the end of a paragraph that is in no table
 abbrev pub is_mark_outside : Item → Bool
 is_mark_outside item =
-    is_some item.mark && (not (item.unit == cell_mark) && not (is_on (paragraph_value item 0x2416)))
+    is_some item.mark && (not (item.unit == cell_mark) && not (is_byte_one (paragraph_value item 0x2416)))
 
 -- the cells of the row that is open after these items: the cell marks after the last row mark
 unfoldable pub open_cells : List Item → ℕ

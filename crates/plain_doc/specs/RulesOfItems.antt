@@ -6,7 +6,7 @@ use Rattle.doc_bits.specs.declared.places.Where.TheVariants.{Main}
 use Rattle.text_codes.specs.Paragraph.{paragraph_mark, cell_mark, section_mark}
 use Rattle.prop_map.specs.Settings.{Properties}
 use Rattle.prop_map.specs.Printing.{printed_list}
-use Rattle.plain_doc.specs.declared.item.Item.{Item}
+use Rattle.doc_model.specs.declared.item.Item.{Item}
 
 -- the item at the place is there and not right
 pub record IsWrongItem (right : ℕ → Item → Type 0) (text : List Item) (place : ℕ) : Type 0 where

@@ -5,25 +5,25 @@ use Rattle.doc_bits.specs.declared.places.Where.{Where}
 use Rattle.doc_bits.specs.declared.places.Where.TheVariants.{File, Wd, Table, Sheet, Main, Note, Head}
 use Rattle.doc_bits.specs.Places.{Place}
 use Rattle.text_codes.specs.Paragraph.{paragraph_mark}
-use Rattle.style_sheet.specs.Chain.{kind_at}
+use Rattle.style_sheet.specs.Chain.{style_kind_at}
 use Rattle.style_sheet.specs.Sheet.{Sheet as StyleList}
-use Rattle.plain_doc.specs.declared.item.Item.{Item}
-use Rattle.plain_doc.specs.declared.document.Document.{Document}
+use Rattle.doc_model.specs.declared.item.Item.{Item}
+use Rattle.doc_model.specs.declared.document.Document.{Document}
 
 -- the text that a place speaks of
-abbrev pub text_of : Document → Where → Option (List Item)
-text_of document File = None
-text_of document Wd = None
-text_of document Table = None
-text_of document Sheet = None
-text_of document Main = Some document.main
-text_of document (Note number) = slice_get document.notes number
-text_of document (Head number) = slice_get document.heads number
+abbrev pub text_of_place : Document → Where → Option (List Item)
+text_of_place document File = None
+text_of_place document Wd = None
+text_of_place document Table = None
+text_of_place document Sheet = None
+text_of_place document Main = Some document.main
+text_of_place document (Note number) = slice_get document.notes number
+text_of_place document (Head number) = slice_get document.heads number
 
 -- the rule is broken in the text of the place, at its offset
 pub record InTexts (document : Document) (breaks : Where → List Item → ℕ → Type 0) (place : Place) : Type 0 where
   pub text : List Item
-  pub there : text_of document place.0 ≡ Some text
+  pub there : text_of_place document place.0 ≡ Some text
   pub broken : breaks place.0 text place.1
 
 -- the unit of the last item
@@ -43,4 +43,4 @@ HasWrongEnd part text place = (place ≡ length text - 1) × ¬ (EndsRight part 
 
 -- the style of a mark is one of paragraphs
 abbrev pub HasParagraphStyle : StyleList → Item → Type 0
-HasParagraphStyle sheet item = ForSome item.mark (λ mark. kind_at sheet mark.istd ≡ 1)
+HasParagraphStyle sheet item = ForSome item.mark (λ mark. style_kind_at sheet mark.istd ≡ 1)

@@ -6,8 +6,8 @@ use Rattle.style_sheet.specs.Chain.{BreaksBases}
 use Rattle.style_sheet.specs.Sheet.{Sheet}
 use Rattle.style_sheet.specs.Written.{IsWritable}
 use Rattle.plain_doc.specs.declared.judge.DocFault.{DocFault}
-use Rattle.plain_doc.specs.declared.document.Document.{Document}
-use Rattle.plain_doc.specs.Marks.{HasFormedBookmarks, HasWrongBookmarks}
+use Rattle.doc_model.specs.declared.document.Document.{Document}
+use Rattle.doc_model.specs.Marks.{HasFormedBookmarks, HasWrongBookmarks}
 use Rattle.plain_doc.specs.Nesting.{BreaksNesting}
 use Rattle.plain_doc.specs.Rows.{BreaksRows}
 use Rattle.plain_doc.specs.RulesOfItems.{IsWrongItem, IsPlacedRight, HasShortProperties}

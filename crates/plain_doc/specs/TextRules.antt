@@ -4,7 +4,7 @@ use Rattle.doc_bits.specs.declared.places.Where.{Where}
 use Rattle.doc_bits.specs.declared.places.Where.TheVariants.{Note, Head}
 use Rattle.doc_bits.specs.Places.{Place}
 use Rattle.style_sheet.specs.Sheet.{Sheet}
-use Rattle.plain_doc.specs.declared.item.Item.{Item}
+use Rattle.doc_model.specs.declared.item.Item.{Item}
 use Rattle.plain_doc.specs.declared.rules_texts.ItemRule.{ItemRule}
 use Rattle.plain_doc.specs.declared.rules_texts.ItemRule.TheVariants.{Placing, Styles, Properties}
 use Rattle.plain_doc.specs.declared.rules_texts.TextRule.{TextRule}
@@ -30,9 +30,9 @@ BreaksText Rows sheet part text place = BreaksRows text place
 BreaksText (Each rule) sheet part text place = IsWrongItem (IsValidItem rule sheet part (length text)) text place
 
 -- the place of a note or of a header text, by its number
-abbrev pub part_of : Side → ℕ → Where
-part_of Notes number = Note number
-part_of Heads number = Head number
+abbrev pub side_text_place : Side → ℕ → Where
+side_text_place Notes number = Note number
+side_text_place Heads number = Head number
 
 -- the rule is broken in one of these texts
 pub record InList (side : Side) (texts : List (List Item)) (breaks : Where → List Item → ℕ → Type 0) (place : Place) :
@@ -40,5 +40,5 @@ pub record InList (side : Side) (texts : List (List Item)) (breaks : Where → L
   pub number : ℕ
   pub text : List Item
   pub there : slice_get texts number ≡ Some text
-  pub here : place.0 ≡ part_of side number
+  pub here : place.0 ≡ side_text_place side number
   pub broken : breaks place.0 text place.1

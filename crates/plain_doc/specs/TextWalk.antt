@@ -4,8 +4,8 @@ use Rattle.doc_bits.specs.declared.places.Where.{Where}
 use Rattle.doc_bits.specs.Rules.{Hold, Nowhere}
 use Rattle.text_codes.specs.Paragraph.{paragraph_mark, cell_mark}
 use Rattle.style_sheet.specs.Sheet.{Sheet}
-use Rattle.plain_doc.specs.declared.item.Item.{Item}
-use Rattle.plain_doc.specs.declared.document.Document.{Document}
+use Rattle.doc_model.specs.declared.item.Item.{Item}
+use Rattle.doc_model.specs.declared.document.Document.{Document}
 use Rattle.plain_doc.specs.declared.rules_counts.Counts.{Counts}
 use Rattle.plain_doc.specs.declared.rules_texts.ItemRule.{ItemRule}
 use Rattle.plain_doc.specs.declared.rules_texts.Side.{Side}
@@ -21,7 +21,7 @@ use Rattle.plain_doc.specs.Sound.{text_rules}
 use Rattle.plain_doc.specs.TextRules.{IsValidItem, BreaksText, InList}
 
 -- an item that ends nothing and has nothing beside its properties
-pub record IsPlain (item : Item) : Type 0 where
+pub record IsPlainItem (item : Item) : Type 0 where
   pub mark : item.mark ≡ None
   pub sect : item.sect ≡ None
   pub fld : item.fld ≡ None
@@ -59,7 +59,7 @@ pub record AreTextsRight (document : Document) : Type 0 where
   pub properties : Nowhere (InTexts document (λ part text. IsWrongItem (λ i item. HasShortProperties item) text))
 
 -- how many items of the text refer to notes, and how many end a section
-pub record HasCounts (text : List Item) (counts : Counts) : Type 0 where
+pub record HasTextCounts (text : List Item) (counts : Counts) : Type 0 where
   pub notes : counts.notes ≡ note_count text
   pub sections : counts.sections ≡ section_count text
   pub few : counts.sections < 2 ^ 32
@@ -68,7 +68,7 @@ pub record HasCounts (text : List Item) (counts : Counts) : Type 0 where
 abbrev pub EndsWalk : TextWalk → Counts → Type 0
 EndsWalk walk counts =
     (sheet : Sheet) (part : Where) (text : List Item) → EndsRight part text → length text < 2 ^ 32 →
-    HasPassed sheet part text (length text) walk → KeepsTextRules sheet part text × HasCounts text counts
+    HasPassed sheet part text (length text) walk → KeepsTextRules sheet part text × HasTextCounts text counts
 
 -- no text of the list breaks one of the rules on texts
 abbrev pub AreValidTexts : Sheet → Side → List (List Item) → Type 0

@@ -1,14 +1,14 @@
 // The blank document.
 ghost use Rattle.std.specs.Prelude.{◌≡◌, ◌+◌, ◌<◌, ◌≤◌};
 ghost use Rattle.std.specs.Prelude.{[], ◌∷◌, ◌++◌, length, replicate, Some, None, IfOk};
-ghost use Rattle.plain_doc.specs.Blank.{blank_item, normal_style, heading_style, default_font_style, one_property};
-ghost use Rattle.plain_doc.specs.Blank.{blank_sheet, blank_carried, blank_document};
+ghost use Rattle.doc_model.specs.Blank.{blank_item, normal_style, heading_style, default_font_style, one_property};
+ghost use Rattle.doc_model.specs.Blank.{blank_sheet, blank_carried, blank_document};
 
-use crate::document::{AllTexts, OtherParts};
 use crate::rules_counts::{HEADERS_PER_SECTION, SEPARATORS};
 use crate::{Carried, Document, Item, Items, Mark, Texts};
 use cfb_streams::Streams;
 use doc_bits::{Bytes, Memory, Units};
+use doc_model::{AllTexts, OtherParts};
 use doc_parts::Bookmarks;
 use prop_map::PropMap;
 use sprm_table::{Code, SPRM_C_F_BOLD, SPRM_P_OUT_LVL};

@@ -3,7 +3,7 @@ ghost use Rattle.std.specs.Prelude.{◌≡◌, ◌^◌, ◌<◌, ◌↔◌, []};
 ghost use Rattle.std.specs.Prelude.{length, IsTrue, MatchBool, Some, None};
 ghost use Rattle.doc_bits.specs.Rules.{LeastOrNone};
 ghost use Rattle.plain_doc.specs.Nesting.{BreaksNesting, most_open};
-ghost use Rattle.plain_doc.specs.OpenFields.{begun, separated, ended, after_unit, after_item};
+ghost use Rattle.plain_doc.specs.OpenFields.{begun, separated, field_ended, after_field_character, after_item};
 
 use crate::Item;
 use std::marker::Model;
@@ -72,7 +72,7 @@ impl OpenFields {
 
     /// Closes the innermost field, where there is one.
     fn end(&mut self) -> bool
-        ensures { MatchBool result (ended self.old ≡ Some self.new) (ended self.old ≡ None) }
+        ensures { MatchBool result (field_ended self.old ≡ Some self.new) (field_ended self.old ≡ None) }
     {
         if self.depth == 0 {
             return false;
@@ -96,8 +96,8 @@ impl OpenFields {
     /// Goes past a field character, where it is not a wrong one.
     fn pass(&mut self, unit: u16) -> bool
         ensures { MatchBool result
-            (after_unit most_open unit self.old ≡ Some self.new)
-            (after_unit most_open unit self.old ≡ None) }
+            (after_field_character most_open unit self.old ≡ Some self.new)
+            (after_field_character most_open unit self.old ≡ None) }
     {
         if unit == FIELD_BEGIN {
             return self.begin();

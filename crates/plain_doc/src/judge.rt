@@ -2,10 +2,10 @@
 ghost use Rattle.std.specs.Prelude.{◌≡◌, MatchResult};
 ghost use Rattle.doc_bits.specs.Rules.{Hold, Nowhere, rule as rule_of};
 ghost use Rattle.doc_bits.specs.Places.{LeastPlaceOrNone};
-ghost use Rattle.plain_doc.specs.Marks.{HasFormedBookmarks, HasWrongBookmarks};
+ghost use Rattle.doc_model.specs.Marks.{HasFormedBookmarks, HasWrongBookmarks};
 ghost use Rattle.plain_doc.specs.RulesOfTexts.{InTexts};
 ghost use Rattle.plain_doc.specs.TextRules.{BreaksText};
-ghost use Rattle.plain_doc.specs.TextWalk.{AreTextsRight, HasCounts};
+ghost use Rattle.plain_doc.specs.TextWalk.{HasTextCounts};
 ghost use Rattle.plain_doc.specs.Sound.{IsSound, NamesFirstRule, document_rules, text_rules, base_rules, count_rules};
 ghost use Rattle.plain_doc.specs.Sound.{size_rules, HasLongProperties};
 
@@ -13,7 +13,6 @@ use crate::Document;
 use crate::rules_counts::{Counts, HEADERS_PER_SECTION, SEPARATORS, all_items, counts_in};
 use crate::rules_sheet::{StyleRule, wrong_style};
 use crate::rules_texts::{ItemRule, TextRule, first_in_texts};
-use crate::text_walk::right_counts;
 use doc_bits::Where;
 use thiserror::Error;
 
@@ -57,33 +56,8 @@ pub struct DocFault {
     pub at: u32,
 }
 
-/// Checks a document by the rules 60 to 71. One whose bookmarks are formed, and that breaks none, is sound.
+/// Checks a document by the rules 60 to 71.
 pub fn check(document: &Document) -> Result<(), DocFault>
-    requires { HasFormedBookmarks document.now }
-    ensures { MatchResult result (λ _. IsSound document.now) (NamesFirstRule (document_rules document.now)) }
-{
-    // Only where one walk over the texts finds something wrong they are checked rule by rule.
-    match right_counts(document) {
-        Some(counts) => check_beside(document, counts),
-        None => check_each(document),
-    }
-}
-
-/// Checks a document whose texts break no rule on texts.
-fn check_beside(document: &Document, counts: Counts) -> Result<(), DocFault>
-    requires right { AreTextsRight document.now }
-    requires counts { HasCounts document.now.main counts }
-    requires bookmarks { HasFormedBookmarks document.now }
-    ensures { MatchResult result (λ _. IsSound document.now) (NamesFirstRule (document_rules document.now)) }
-{
-    check_bases(document)?;
-    check_counts(document, counts)?;
-    check_sizes(document, first_long_style(document))?;
-    Ok(())
-}
-
-/// Checks any document, rule by rule.
-fn check_each(document: &Document) -> Result<(), DocFault>
     requires { HasFormedBookmarks document.now }
     ensures { MatchResult result (λ _. IsSound document.now) (NamesFirstRule (document_rules document.now)) }
 {
@@ -130,7 +104,7 @@ fn check_bases(document: &Document) -> Result<(), DocFault>
 
 /// Checks the numbers of texts, items and bookmarks, and the names of these, rules 66 to 69.
 fn check_counts(document: &Document, counts: Counts) -> Result<(), DocFault>
-    requires counts { HasCounts document.now.main counts }
+    requires counts { HasTextCounts document.now.main counts }
     requires bookmarks { HasFormedBookmarks document.now }
     ensures { MatchResult result (λ _. Hold (count_rules document.now)) (NamesFirstRule (count_rules document.now)) }
 {
@@ -187,17 +161,6 @@ fn first_long(document: &Document) -> Option<(Where, u32)>
         return Some((Where::Sheet, istd));
     }
     first_in_texts(TextRule::Each(ItemRule::Properties), document)
-}
-
-/// The first place where the properties of a style are too long, where no properties of texts are.
-fn first_long_style(document: &Document) -> Option<(Where, u32)>
-    requires { AreTextsRight document.now }
-    ensures { LeastPlaceOrNone (HasLongProperties document.now) result }
-{
-    match wrong_style(StyleRule::Properties, &document.sheet) {
-        None => None,
-        Some(istd) => Some((Where::Sheet, istd)),
-    }
 }
 
 /// The fault of a rule at a place.

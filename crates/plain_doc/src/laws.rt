@@ -1,8 +1,8 @@
 // Laws over the definitions alone.
 ghost use Rattle.plain_doc.specs.Sound.{FirstDocFaultIsLeast, SoundSheetIsWritable};
 ghost use Rattle.plain_doc.specs.RightDocument.{SoundDocumentsAreValid};
-ghost use Rattle.plain_doc.specs.Settings.{EqualPropertiesAreSame};
-ghost use Rattle.plain_doc.specs.Stretches.{ItemsAreCutIntoStretches, StretchesAreOne};
+ghost use Rattle.doc_model.specs.Settings.{EqualPropertiesAreSame};
+ghost use Rattle.doc_model.specs.Stretches.{ItemsAreCutIntoStretches, StretchesAreOne};
 
 /// The first broken rule of a document is the least of all that are broken, at its least place.
 pub fn first_doc_fault_is_least()

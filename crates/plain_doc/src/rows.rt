@@ -2,8 +2,8 @@
 ghost use Rattle.std.specs.Prelude.{◌≡◌, ◌+◌, ◌^◌, ◌<◌, ◌≤◌, option_map, Some, None};
 ghost use Rattle.std.specs.Prelude.{◌↔◌, length, IsTrue, option_map};
 ghost use Rattle.doc_bits.specs.Rules.{LeastOrNone};
-ghost use Rattle.plain_doc.specs.Rows.{paragraph_value, is_on, is_row_mark, is_mark_outside, HasCells, FitsRow};
-ghost use Rattle.plain_doc.specs.Rows.{BreaksRows, cells_after, value_in};
+ghost use Rattle.plain_doc.specs.Rows.{paragraph_value, is_byte_one, is_row_mark, is_mark_outside, HasCells, FitsRow};
+ghost use Rattle.plain_doc.specs.Rows.{BreaksRows, cells_after, mark_value_in};
 
 use crate::{Item, Mark};
 use sprm_table::{Code, SPRM_P_F_IN_TABLE, SPRM_P_F_TTP, SPRM_T_DEF_TABLE};
@@ -79,7 +79,7 @@ fn ends_outside(item: &Item) -> bool
 
 /// Whether the item's mark has the value 01 at the code.
 fn is_set(item: &Item, code: Code) -> bool
-    ensures { result ≡ is_on (paragraph_value item.now code.0) }
+    ensures { result ≡ is_byte_one (paragraph_value item.now code.0) }
 {
     match paragraph_property(item, code) {
         None => false,
@@ -99,7 +99,7 @@ fn paragraph_property(item: &Item, code: Code) -> Option<&[u8]>
 
 /// The value that the mark, where there is one, has at the code.
 pub fn value_at(mark: &Option<Mark>, code: Code) -> Option<&[u8]>
-    ensures { option_map (λ v. v.now) result ≡ value_in mark.now code.0 }
+    ensures { option_map (λ v. v.now) result ≡ mark_value_in mark.now code.0 }
 {
     match mark {
         None => None,

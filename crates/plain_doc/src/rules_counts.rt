@@ -2,7 +2,7 @@
 ghost use Rattle.std.specs.Prelude.{◌≡◌, ◌+◌, ◌^◌, ◌<◌, ◌≤◌, length};
 ghost use Rattle.std.specs.List.{sum_by};
 ghost use Rattle.plain_doc.specs.RulesOfSheet.{note_count, section_count, item_count};
-ghost use Rattle.plain_doc.specs.TextWalk.{HasCounts};
+ghost use Rattle.plain_doc.specs.TextWalk.{HasTextCounts};
 
 use crate::{Document, Item, Texts};
 
@@ -22,7 +22,7 @@ pub struct Counts {
 /// The counts of a text, by a walk for each.
 pub(crate) fn counts_in(text: &[Item]) -> Counts
     requires { length text.now < 2 ^ 32 }
-    ensures { HasCounts text.now result }
+    ensures { HasTextCounts text.now result }
 {
     Counts {
         notes: notes_in(text),

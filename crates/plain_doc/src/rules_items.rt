@@ -4,7 +4,7 @@ ghost use Rattle.std.specs.Prelude.{◌↔◌, IsTrue};
 ghost use Rattle.std.specs.Option.{ForSome};
 ghost use Rattle.doc_bits.specs.declared.places.Where.TheVariants.{Main};
 ghost use Rattle.prop_map.specs.Formed.{IsFormedMap};
-ghost use Rattle.plain_doc.specs.Document.{HasPropertyMaps};
+ghost use Rattle.doc_model.specs.Document.{HasPropertyMaps};
 ghost use Rattle.plain_doc.specs.RulesOfItems.{HasMarkRight, HasSectionRight, HasFieldRight, HasNoteRight};
 ghost use Rattle.plain_doc.specs.RulesOfItems.{IsPlacedRight, IsShortChp, IsShortPap, IsShortSect, HasShortProperties};
 

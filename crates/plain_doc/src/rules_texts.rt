@@ -2,11 +2,11 @@
 ghost use Rattle.std.specs.Prelude.{◌≡◌, ◌^◌, ◌<◌, ◌↔◌, length, IsTrue};
 ghost use Rattle.doc_bits.specs.Rules.{LeastOrNone};
 ghost use Rattle.doc_bits.specs.Places.{LeastPlaceOrNone};
-ghost use Rattle.plain_doc.specs.Document.{IsFormedText, HasPropertyMaps};
+ghost use Rattle.doc_model.specs.Document.{IsFormedText, HasPropertyMaps};
 ghost use Rattle.plain_doc.specs.RulesOfItems.{IsWrongItem};
 ghost use Rattle.plain_doc.specs.RulesOfTexts.{InTexts, HasWrongEnd, EndsRight, IsHead, HasParagraphStyle};
-ghost use Rattle.plain_doc.specs.TextRules.{IsValidItem, BreaksText, InList, part_of};
-ghost use Rattle.style_sheet.specs.Chain.{kind_at};
+ghost use Rattle.plain_doc.specs.TextRules.{IsValidItem, BreaksText, InList, side_text_place};
+ghost use Rattle.style_sheet.specs.Chain.{style_kind_at};
 
 use crate::fields::wrong_field;
 use crate::rows::wrong_row;
@@ -49,7 +49,7 @@ pub enum Side {
 impl Side {
     /// The place of the text of this number.
     pub fn part(self, number: u32) -> Where
-        ensures { result ≡ part_of self number }
+        ensures { result ≡ side_text_place self number }
     {
         match self {
             Side::Notes => Where::Note(number),
@@ -181,7 +181,7 @@ pub(crate) fn has_paragraph_style(sheet: &StyleSheet, item: &Item) -> bool
 
 /// Whether the style of this number is there and one of paragraphs.
 fn is_paragraph_style(sheet: &StyleSheet, istd: u16) -> bool
-    ensures { IsTrue result ↔ kind_at sheet.now istd ≡ 1 }
+    ensures { IsTrue result ↔ style_kind_at sheet.now istd ≡ 1 }
 {
     match sheet.get(istd) {
         None => false,

@@ -9,7 +9,7 @@ use Rattle.std.proofs.lemmas.Bool.{eqb-true}
 use Rattle.std.proofs.lemmas.List.Elements.{All-head, All-tail, All-nil, All-cons}
 use Rattle.sprm_table.specs.declared.codes.Class.{Class}
 use Rattle.sprm_table.specs.declared.codes.Class.TheVariants.{Plain, Toggle, Clear, Style, Refused}
-use Rattle.sprm_table.specs.Codes.{sgc, is_held, is_among, toggles, refused_codes, class_of, is_property, is_clear}
+use Rattle.sprm_table.specs.Codes.{sgc, is_held, is_code_among, toggles, refused_codes, class_of, is_property, is_clear}
 use Rattle.sprm_table.specs.Codes.{is_style, IsRefusedIn}
 use Rattle.sprm_table.specs.Operands.{size_of, IsSizeOf}
 use Rattle.sprm_table.specs.Sprm.{Prl, IsPrl, IsAcceptedList}
@@ -18,7 +18,7 @@ use Rattle.prop_map.specs.declared.acting.Acted.{Acted}
 use Rattle.prop_map.specs.declared.modifiers.Modifier.{Modifier}
 use Rattle.prop_map.specs.Settings.{Properties}
 use Rattle.prop_map.specs.Formed.{character_groups, paragraph_groups}
-use Rattle.prop_map.specs.Acting.{is_kept, concerns_code, left_by, value_after, names_style, style_named}
+use Rattle.prop_map.specs.Acting.{is_kept_by_plain, concerns_code, left_by, value_after, names_style, style_named}
 use Rattle.prop_map.specs.Acting.{ArePropertiesAfter, IsActed, IsActedBy}
 use Rattle.prop_map.specs.Modifiers.{IsModifierOf, IsSpeltModifier}
 use Rattle.prl_skips.specs.Skips.{picture_code, skipped_code, skipped, SkipsRefused, HoldsNoPictures}
@@ -37,7 +37,7 @@ one_of P code first others here more among =
 
 -- what holds of each code that is not read
 pub of_each : (P : ℕ → Type 0) → P 0x4610 → P 0xC615 → P 0xCA47 → P 0x6645 → P 0x6646 → P 0x0800 → P 0x0801 →
-    P 0xCA57 → P 0xC63F → (code : ℕ) → is_among code refused_codes ≡ true → P code
+    P 0xCA57 → P 0xC63F → (code : ℕ) → is_code_among code refused_codes ≡ true → P code
 of_each P a b c d e f g h i code among =
     one_of P code 0x4610 _ a
     (one_of P code 0xC615 _ b
@@ -49,22 +49,23 @@ of_each P a b c d e f g h i code among =
     among
 
 -- it is of the class that is not read, and no code of pictures is
-pub refused_class : (code : ℕ) → is_among code refused_codes ≡ true → class_of code ≡ Refused
+pub refused_class : (code : ℕ) → is_code_among code refused_codes ≡ true → class_of code ≡ Refused
 refused_class = of_each (λ code. class_of code ≡ Refused) refl refl refl refl refl refl refl refl refl
 
-pub picture_class : (code : ℕ) → is_among code refused_codes ≡ true → class_of (picture_code code) ≡ Plain
+pub picture_class : (code : ℕ) → is_code_among code refused_codes ≡ true → class_of (picture_code code) ≡ Plain
 picture_class = of_each (λ code. class_of (picture_code code) ≡ Plain) refl refl refl refl refl refl refl refl refl
 
-pub picture_group : (code : ℕ) → is_among code refused_codes ≡ true → sgc (picture_code code) ≡ 3
+pub picture_group : (code : ℕ) → is_code_among code refused_codes ≡ true → sgc (picture_code code) ≡ 3
 picture_group = of_each (λ code. sgc (picture_code code) ≡ 3) refl refl refl refl refl refl refl refl refl
 
-pub picture_size : (code : ℕ) → is_among code refused_codes ≡ true → size_of (picture_code code) ≡ size_of code
+pub picture_size : (code : ℕ) → is_code_among code refused_codes ≡ true → size_of (picture_code code) ≡ size_of code
 picture_size = of_each (λ code. size_of (picture_code code) ≡ size_of code) refl refl refl refl refl refl refl refl refl
 
-pub picture_read : (code : ℕ) → is_among code refused_codes ≡ true →
-    is_among (picture_code code) refused_codes ≡ false
+pub picture_read : (code : ℕ) → is_code_among code refused_codes ≡ true →
+    is_code_among (picture_code code) refused_codes ≡ false
 picture_read =
-    of_each (λ code. is_among (picture_code code) refused_codes ≡ false) refl refl refl refl refl refl refl refl refl
+    of_each (λ code. is_code_among (picture_code code) refused_codes ≡ false) refl refl refl refl refl refl refl refl
+    refl
 
 -- no other code is of that class
 other_class : (a b c d : Bool) → d ≡ false →
@@ -75,28 +76,29 @@ other_class false false true d e is = absurd (cc is)
 other_class false false false true e is = absurd (cc e)
 other_class false false false false e is = absurd (cc is)
 
-pub class_refused : (code : ℕ) → class_of code ≡ Refused → is_among code refused_codes ≡ true
+pub class_refused : (code : ℕ) → class_of code ≡ Refused → is_code_among code refused_codes ≡ true
 class_refused code is =
-    elim (is_among code refused_codes) as (λ r. is_among code refused_codes ≡ r → r ≡ true) [
+    elim (is_code_among code refused_codes) as (λ r. is_code_among code refused_codes ≡ r → r ≡ true) [
       | true ↦ λ e. refl
       | false ↦ λ e. absurd
-          (other_class (code == 0x2A33) (code == 0x4600) (is_among code toggles) (is_among code refused_codes) e is)
+          (other_class (code == 0x2A33) (code == 0x4600) (is_code_among code toggles) (is_code_among code refused_codes)
+          e is)
     ] refl
 
 -- ---- skipped codes
 
-pub skipped_is : (code : ℕ) → is_among code refused_codes ≡ true → skipped_code code ≡ picture_code code
+pub skipped_is : (code : ℕ) → is_code_among code refused_codes ≡ true → skipped_code code ≡ picture_code code
 skipped_is code among = rw among refl
 
-pub skipped_same : (code : ℕ) → is_among code refused_codes ≡ false → skipped_code code ≡ code
+pub skipped_same : (code : ℕ) → is_code_among code refused_codes ≡ false → skipped_code code ≡ code
 skipped_same code other = rw other refl
 
 -- either a code is not read, or it stays
-pub case : (code : ℕ) (P : ℕ → Type 0) → (is_among code refused_codes ≡ true → P (picture_code code)) →
-    (is_among code refused_codes ≡ false → P code) → P (skipped_code code)
+pub case : (code : ℕ) (P : ℕ → Type 0) → (is_code_among code refused_codes ≡ true → P (picture_code code)) →
+    (is_code_among code refused_codes ≡ false → P code) → P (skipped_code code)
 case code P refused other =
-    elim (is_among code refused_codes) as
-    (λ r. is_among code refused_codes ≡ r → P (if r then picture_code code else code)) [
+    elim (is_code_among code refused_codes) as
+    (λ r. is_code_among code refused_codes ≡ r → P (if r then picture_code code else code)) [
       | true ↦ λ e. refused e
       | false ↦ λ e. other e
     ] refl
@@ -154,7 +156,7 @@ accepted_skips old new s groups = record
 
 -- the test passes no such entry, whether skipped or not
 abbrev pub PassesNone : (Prl → Bool) → Type 0
-PassesNone test = (prl : Prl) → is_among prl.0 refused_codes ≡ true →
+PassesNone test = (prl : Prl) → is_code_among prl.0 refused_codes ≡ true →
     (test prl ≡ false) × (test (picture_code prl.0, prl.1) ≡ false)
 
 filter_none : (test : Prl → Bool) (x y : Prl) (xs ys : List Prl) → test x ≡ false → test y ≡ false →
@@ -184,7 +186,7 @@ any_skips test none (x ∷ xs) =
     (λ other. ap (λ b. test x || b) more)
 
 -- a place does not hold a skipped code
-not_held : (groups code : ℕ) → HoldsNoPictures groups → is_among code refused_codes ≡ true →
+not_held : (groups code : ℕ) → HoldsNoPictures groups → is_code_among code refused_codes ≡ true →
     is_held groups (picture_code code) ≡ false
 not_held groups code none among = ap (λ s. groups / 2 ^ s % 2 == 1) (picture_group code among) ∙ ap (λ r. r == 1) none
 
@@ -208,10 +210,11 @@ clears_none false class e = refl
 
 no_concern : (groups code : ℕ) → HoldsNoPictures groups → PassesNone (concerns_code groups code)
 no_concern groups code none prl among = (
-  concerns_none (is_held groups prl.0) (code == prl.0) (is_kept code) (class_of prl.0) (refused_class prl.0 among),
+  concerns_none (is_held groups prl.0) (code == prl.0) (is_kept_by_plain code) (class_of prl.0) (refused_class prl.0
+      among),
   unheld (is_held groups (picture_code prl.0)) (code == picture_code prl.0 && is_property (class_of (picture_code
       prl.0)))
-      (is_clear (class_of (picture_code prl.0)) && not (is_kept code)) (not_held groups prl.0 none among),
+      (is_clear (class_of (picture_code prl.0)) && not (is_kept_by_plain code)) (not_held groups prl.0 none among),
 )
 
 no_name : (groups : ℕ) → HoldsNoPictures groups → PassesNone (names_style groups)

@@ -12,14 +12,15 @@ use Rattle.doc_bits.proofs.Public.{length-number_bytes}
 use Rattle.sprm_table.specs.Operands.{size_of, operand_bytes}
 use Rattle.sprm_table.specs.Sprm.{Prl, IsPrl, spelling, EndsSprmList, SpellsSprmList, IsAcceptedList}
 use Rattle.sprm_table.proofs.Public.{drop-spelling}
-use Rattle.sprm_table.specs.Cursor.{SprmCursor, Gives, Takes}
+use Rattle.sprm_table.specs.Cursor.{SprmCursor, GivesPrl, TakesFirstPrl}
 use Rattle.prl_skips.specs.Skips.{skipped_code, skipped, SkipsRefused}
 use Rattle.prl_skips.specs.Fronts.{HasFirst}
 use Rattle.prl_skips.proofs.SkipLemmas.{size_stays, entries_stay}
 
 -- what is given first is the first entry of the list
 first_at : (list : List ℕ) (new : SprmCursor) (code from to : ℕ) (prls : List Prl) →
-    Gives (record { bytes = list; at = 0 }) new code from to → Takes (record { bytes = list; at = 0 }) new prls
+    GivesPrl (record { bytes = list; at = 0 }) new code from to → TakesFirstPrl (record { bytes = list; at = 0 }) new
+    prls
     code from to →
     HasFirst list prls code to
 first_at list new code from to prls given taken =
@@ -40,10 +41,11 @@ first_at list new code from to prls given taken =
     }
 
 pub first_given : (list : List ℕ) (old new : SprmCursor) (code from to : ℕ) (prls : List Prl) →
-    old ≡ record { bytes = list; at = 0 } → Gives old new code from to → Takes old new prls code from to →
+    old ≡ record { bytes = list; at = 0 } → GivesPrl old new code from to → TakesFirstPrl old new prls code from to →
     HasFirst list prls code to
 first_given list old new code from to prls e =
-    subst (λ o. Gives o new code from to → Takes o new prls code from to → HasFirst list prls code to) (sym e)
+    subst (λ o. GivesPrl o new code from to → TakesFirstPrl o new prls code from to → HasFirst list prls code to) (sym
+    e)
     (first_at list new code from to prls)
 
 -- whole entries come before the place, with their refused codes skipped, and the bytes from there on are as they were

@@ -2,7 +2,7 @@
 -- not read gets this group: its operand has the size that it had, so nothing else of a list changes.
 use Rattle.std.specs.Prelude.{◌≡◌, ◌⊎◌, ℕ, ◌+◌, ◌-◌, ◌*◌, ◌/◌, ◌%◌, List, ◌++◌, length, map, take, drop, slice_range}
 use Rattle.std.specs.Prelude.{if◌then◌else◌}
-use Rattle.sprm_table.specs.Codes.{sgc, is_among, refused_codes}
+use Rattle.sprm_table.specs.Codes.{sgc, is_code_among, refused_codes}
 use Rattle.sprm_table.specs.Sprm.{Prl, SpellsSprmList, IsAcceptedList}
 
 -- the code with the group of pictures, 3
@@ -11,7 +11,7 @@ picture_code code = code - sgc code * 1024 + 3 * 1024
 
 -- a code that is not read gets this group
 abbrev pub skipped_code : ℕ → ℕ
-skipped_code code = if is_among code refused_codes then picture_code code else code
+skipped_code code = if is_code_among code refused_codes then picture_code code else code
 
 abbrev pub skipped : Prl → Prl
 skipped prl = (skipped_code prl.0, prl.1)

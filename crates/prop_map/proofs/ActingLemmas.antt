@@ -15,12 +15,12 @@ use Rattle.sprm_table.specs.Sprm.{Prl, IsPrl}
 use Rattle.prop_map.specs.Settings.{Properties}
 use Rattle.doc_bits.specs.Number.{AreBytes}
 use Rattle.prop_map.specs.Formed.{IsMapEntry, IsPropertyMap}
-use Rattle.prop_map.specs.Acting.{is_kept, concerns_code, left_by, value_after, names_style, style_named}
+use Rattle.prop_map.specs.Acting.{is_kept_by_plain, concerns_code, left_by, value_after, names_style, style_named}
 use Rattle.prop_map.specs.Acting.{ArePropertiesAfter}
 
 -- ---- the last of two lists
 
-last_or_both : (o : Option Prl) (xs ys : List Prl) → last_or o (xs ++ ys) ≡ last_or (last_or o xs) ys
+pub last_or_both : (o : Option Prl) (xs ys : List Prl) → last_or o (xs ++ ys) ≡ last_or (last_or o xs) ys
 last_or_both o [] ys = refl
 last_or_both o (x ∷ xs) ys = last_or_both (Some x) xs ys
 
@@ -82,10 +82,11 @@ clear_case false false prl before sets = rw sets refl
 
 -- it clears
 pub value_after-clear : (groups code key : ℕ) (value : List ℕ) (before : Option (List ℕ)) → is_held groups key ≡
-    true → is_property (class_of key) ≡ false → is_clear (class_of key) ≡ true → cond (is_kept code) before None ≡
+    true → is_property (class_of key) ≡ false → is_clear (class_of key) ≡ true → cond (is_kept_by_plain code) before
+    None ≡
     value_after ((key, value) ∷ []) groups code before
 value_after-clear groups code key value before held sets clears = rw (held, sets, clears) (clear_case (code == key)
-    (is_kept code) (key, value) before sets)
+    (is_kept_by_plain code) (key, value) before sets)
 
 -- ---- what stays true
 
@@ -131,7 +132,8 @@ formed_from groups code value list before (Some prl) was entries values old e =
     let concerns = last_has (λ x. concerns_code groups code x ≡ true) (filter (concerns_code groups code) list) prl
     None tt (filter_passes (concerns_code groups code) list) was in
     let facts = concern_case (is_held groups prl.0) (code == prl.0) (is_property (class_of prl.0))
-    (is_clear (class_of prl.0)) (not (is_kept code)) sets.0 (sets_not_clears (class_of prl.0) sets.0) concerns in
+    (is_clear (class_of prl.0)) (not (is_kept_by_plain code)) sets.0 (sets_not_clears (class_of prl.0) sets.0) concerns
+    in
     let key = eqb-true code prl.0 facts.1 in
     let same : prl ≡ (code, value) = λ i. (sym key i, sets.1 i) in
     subst (IsMapEntry groups) same (record {

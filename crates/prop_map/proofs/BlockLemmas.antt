@@ -12,15 +12,15 @@ use Rattle.std.proofs.lemmas.List.Elements.{All-head, All-tail, All-push, All-co
 use Rattle.doc_bits.specs.Number.{number_bytes, u16_at, u32_at}
 use Rattle.doc_bits.proofs.Public.{length-number_bytes, number_at-number_bytes, number_at-read_back, not_zero}
 use Rattle.prop_map.specs.Entries.{Entries}
-use Rattle.prop_map.specs.Block.{entry_bytes, block_bytes, IsBlockEntry, AreBlockEntries, first_end, first_entry}
-use Rattle.prop_map.specs.Block.{entries_upto, entries_in, IsBlock, IsSortedBlock, IsPutBetween}
+use Rattle.prop_map.specs.Block.{block_entry_bytes, block_bytes, IsBlockEntry, AreBlockEntries, first_end, first_entry}
+use Rattle.prop_map.specs.Block.{entries_upto, entries_in, IsPropertyBlock, IsSortedBlock, IsPutBetween}
 use Rattle.prop_map.proofs.EntriesLemmas.{cmp_less, cmp_equal, cmp_greater, sorted-put}
 use Rattle.std.specs.declared.cmp.Ordering.TheVariants.{Equal}
 use Rattle.std.specs.Cmp.Lexicographic.{slice_cmp}
 
 -- ---- one entry
 
-pub length-entry : (code : ℕ) (value : List ℕ) → length (entry_bytes (code, value)) ≡ 6 + length value
+pub length-entry : (code : ℕ) (value : List ℕ) → length (block_entry_bytes (code, value)) ≡ 6 + length value
 length-entry code value =
     let two = length-number_bytes 2 code in
     let four = length-number_bytes 4 (length value) in
@@ -31,42 +31,46 @@ module _ (code : ℕ) (value rest : List ℕ) (is : IsBlockEntry (code, value)) 
   abbrev behind : List ℕ
   behind = number_bytes 4 (length value) ++ (value ++ rest)
 
-  whole : entry_bytes (code, value) ++ rest ≡ number_bytes 2 code ++ behind
+  whole : block_entry_bytes (code, value) ++ rest ≡ number_bytes 2 code ++ behind
   whole =
       append_assoc (number_bytes 2 code) (number_bytes 4 (length value) ++ value) rest
       ∙ ap (λ l. number_bytes 2 code ++ l) (append_assoc (number_bytes 4 (length value)) value rest)
 
-  code_at : u16_at (entry_bytes (code, value) ++ rest) 0 ≡ code
+  code_at : u16_at (block_entry_bytes (code, value) ++ rest) 0 ≡ code
   code_at = ap (λ l. u16_at l 0) whole ∙ number_at-number_bytes 2 code behind is.code
 
-  len_at : u32_at (entry_bytes (code, value) ++ rest) 2 ≡ length value
+  len_at : u32_at (block_entry_bytes (code, value) ++ rest) 2 ≡ length value
   len_at =
       ap (λ l. u32_at l 2) whole
       ∙ (ap (λ n. u32_at (number_bytes 2 code ++ behind) n) (sym (length-number_bytes 2 code))
       ∙ number_at-read_back 4 (length value) (number_bytes 2 code) (value ++ rest) is.len)
 
-  pub end_at : first_end (entry_bytes (code, value) ++ rest) ≡ 6 + length value
+  pub end_at : first_end (block_entry_bytes (code, value) ++ rest) ≡ 6 + length value
   end_at = ap (λ n. 6 + n) len_at
 
-  pub rest_at : drop (first_end (entry_bytes (code, value) ++ rest)) (entry_bytes (code, value) ++ rest) ≡ rest
-  rest_at = drop_at (entry_bytes (code, value)) rest (first_end (entry_bytes (code, value) ++ rest)) (length-entry
+  pub rest_at : drop (first_end (block_entry_bytes (code, value) ++ rest)) (block_entry_bytes (code, value) ++ rest) ≡
+      rest
+  rest_at = drop_at (block_entry_bytes (code, value)) rest (first_end (block_entry_bytes (code, value) ++ rest))
+      (length-entry
       code value ∙ sym end_at)
 
-  value_at : slice_range (entry_bytes (code, value) ++ rest) 6 (first_end (entry_bytes (code, value) ++ rest)) ≡ value
+  value_at : slice_range (block_entry_bytes (code, value) ++ rest) 6 (first_end (block_entry_bytes (code, value) ++
+      rest)) ≡ value
   value_at =
       let head : List ℕ = number_bytes 2 code ++ number_bytes 4 (length value) in
       let two = length-number_bytes 2 code in
       let four = length-number_bytes 4 (length value) in
       let six : length head ≡ 6 = simp (length-append) (omega arith) in
-      let joined : entry_bytes (code, value) ++ rest ≡ head ++ (value ++ rest) = whole ∙ sym (append_assoc
+      let joined : block_entry_bytes (code, value) ++ rest ≡ head ++ (value ++ rest) = whole ∙ sym (append_assoc
       (number_bytes 2 code) (number_bytes 4 (length value)) (value ++ rest)) in
-      let dropped : drop 6 (entry_bytes (code, value) ++ rest) ≡ value ++ rest = ap (drop 6) joined ∙ drop_at head
+      let dropped : drop 6 (block_entry_bytes (code, value) ++ rest) ≡ value ++ rest = ap (drop 6) joined ∙ drop_at head
       (value ++ rest) 6 six in
-      let width : first_end (entry_bytes (code, value) ++ rest) - 6 ≡ length value = let e = end_at in omega arith in
-      ap (λ n. take n (drop 6 (entry_bytes (code, value) ++ rest))) width
+      let width : first_end (block_entry_bytes (code, value) ++ rest) - 6 ≡ length value = let e = end_at in omega arith
+      in
+      ap (λ n. take n (drop 6 (block_entry_bytes (code, value) ++ rest))) width
       ∙ (ap (take (length value)) dropped ∙ take_at value rest (length value) refl)
 
-  pub entry_at : first_entry (entry_bytes (code, value) ++ rest) ≡ (code, value)
+  pub entry_at : first_entry (block_entry_bytes (code, value) ++ rest) ≡ (code, value)
   entry_at =
       let c = code_at in
       let v = value_at in
@@ -74,14 +78,15 @@ module _ (code : ℕ) (value rest : List ℕ) (is : IsBlockEntry (code, value)) 
 
 -- the bytes of one entry more
 pub block_more : (es : Entries) (code : ℕ) (value : List ℕ) → block_bytes (es ++ (code, value) ∷ []) ≡ block_bytes es ++
-    entry_bytes (code, value)
-block_more [] code value = append-nil (entry_bytes (code, value))
-block_more (e ∷ es) code value = ap (λ l. entry_bytes e ++ l) (block_more es code value) ∙ sym (append_assoc
-    (entry_bytes e) (block_bytes es) (entry_bytes (code, value)))
+    block_entry_bytes (code, value)
+block_more [] code value = append-nil (block_entry_bytes (code, value))
+block_more (e ∷ es) code value = ap (λ l. block_entry_bytes e ++ l) (block_more es code value) ∙ sym (append_assoc
+    (block_entry_bytes e) (block_bytes es) (block_entry_bytes (code, value)))
 
 pub blocks_joined : (xs ys : Entries) → block_bytes (xs ++ ys) ≡ block_bytes xs ++ block_bytes ys
 blocks_joined [] ys = refl
-blocks_joined (e ∷ xs) ys = ap (λ l. entry_bytes e ++ l) (blocks_joined xs ys) ∙ sym (append_assoc (entry_bytes e)
+blocks_joined (e ∷ xs) ys = ap (λ l. block_entry_bytes e ++ l) (blocks_joined xs ys) ∙ sym (append_assoc
+    (block_entry_bytes e)
     (block_bytes xs) (block_bytes ys))
 
 -- ---- the entries of a block
@@ -103,15 +108,16 @@ upto_block n [] all h = none_upto n
 upto_block zero (e ∷ es) all h =
     let is = All-head IsBlockEntry e es all in
     let long = length-entry e.0 e.1 in
-    let both = length-append (entry_bytes e) (block_bytes es) in
+    let both = length-append (block_entry_bytes e) (block_bytes es) in
     absurd (omega arith)
 upto_block (suc n) (e ∷ es) all h =
     let is = All-head IsBlockEntry e es all in
     let rest = block_bytes es in
     let long = length-entry e.0 e.1 in
-    let both = length-append (entry_bytes e) rest in
-    some_upto n (entry_bytes e ++ rest) (omega arith)
-    ∙ (ap (λ x. x ∷ entries_upto n (drop (first_end (entry_bytes e ++ rest)) (entry_bytes e ++ rest))) (entry_at e.0
+    let both = length-append (block_entry_bytes e) rest in
+    some_upto n (block_entry_bytes e ++ rest) (omega arith)
+    ∙ (ap (λ x. x ∷ entries_upto n (drop (first_end (block_entry_bytes e ++ rest)) (block_entry_bytes e ++ rest)))
+    (entry_at e.0
     e.1 rest is)
     ∙ ap (λ l. e ∷ l) (ap (entries_upto n) (rest_at e.0 e.1 rest is) ∙ upto_block n es (All-tail IsBlockEntry e es
     all) (omega arith)))
@@ -122,7 +128,7 @@ entries_in-block es all = upto_block (length (block_bytes es)) es all (omega ari
 pub entries_in-none : entries_in [] ≡ []
 entries_in-none = none_upto 0
 
-pub block_of : (block : List ℕ) (es : Entries) → AreBlockEntries es → block ≡ block_bytes es → IsBlock block
+pub block_of : (block : List ℕ) (es : Entries) → AreBlockEntries es → block ≡ block_bytes es → IsPropertyBlock block
 block_of block es all e =
     let same : entries_in block ≡ es = ap entries_in e ∙ entries_in-block es all in
     record { entries = subst AreBlockEntries (sym same) all; is = e ∙ ap block_bytes (sym same) }
@@ -138,7 +144,7 @@ pub record HasFirst (block : List ℕ) : Type 0 where
   pub head : 6 ≤ length block
   pub within : first_end block ≤ length block
   pub is : entries_in block ≡ first_entry block ∷ entries_in (drop (first_end block) block)
-  pub rest : IsBlock (drop (first_end block) block)
+  pub rest : IsPropertyBlock (drop (first_end block) block)
 
 has_first_of : (block : List ℕ) (es : Entries) → AreBlockEntries es → block ≡ block_bytes es → 0 < length block →
     HasFirst block
@@ -149,20 +155,20 @@ has_first_of block (x ∷ es) all e some =
     let rest = block_bytes es in
     let P : List ℕ → Type 0 = HasFirst in
     let long = length-entry x.0 x.1 in
-    let both = length-append (entry_bytes x) rest in
+    let both = length-append (block_entry_bytes x) rest in
     let end = end_at x.0 x.1 rest is in
     let behind_is = rest_at x.0 x.1 rest is in
     let first = entry_at x.0 x.1 rest is in
-    let there : P (entry_bytes x ++ rest) = record {
+    let there : P (block_entry_bytes x ++ rest) = record {
       head = omega arith;
       within = omega arith;
-      is = entries_in-block (x ∷ es) all ∙ (ap (λ y. y ∷ es) (sym first) ∙ ap (λ l. first_entry (entry_bytes x ++
+      is = entries_in-block (x ∷ es) all ∙ (ap (λ y. y ∷ es) (sym first) ∙ ap (λ l. first_entry (block_entry_bytes x ++
           rest) ∷ l) (sym (ap entries_in behind_is ∙ entries_in-block es others)));
-      rest = subst IsBlock (sym behind_is) (block_of rest es others refl);
+      rest = subst IsPropertyBlock (sym behind_is) (block_of rest es others refl);
     } in
     subst P (sym e) there
 
-pub has_first : (block : List ℕ) → IsBlock block → 0 < length block → HasFirst block
+pub has_first : (block : List ℕ) → IsPropertyBlock block → 0 < length block → HasFirst block
 has_first block is some = has_first_of block (entries_in block) is.entries is.is some
 
 -- a length that is not 0
@@ -191,10 +197,10 @@ next_is block code len h c l =
     (λ n. drop n block) end)))
 
 pub rest_is : (block : List ℕ) (len : ℕ) → HasFirst block → len ≡ u32_at block 2 →
-    IsBlock (take (length block - (6 + len)) (drop (6 + len) block))
-rest_is block len h l = subst IsBlock (sym (take_rest block (6 + len) ∙ ap (λ n. drop (6 + n) block) l)) h.rest
+    IsPropertyBlock (take (length block - (6 + len)) (drop (6 + len) block))
+rest_is block len h l = subst IsPropertyBlock (sym (take_rest block (6 + len) ∙ ap (λ n. drop (6 + n) block) l)) h.rest
 
-pub empty_alike : (block : List ℕ) → IsBlock block → (length block == 0) ≡ (length (entries_in block) == 0)
+pub empty_alike : (block : List ℕ) → IsPropertyBlock block → (length block == 0) ≡ (length (entries_in block) == 0)
 empty_alike block is = elim (cases_lt 0 (length block)) [
   | inl some ↦
       let long = ap length (has_first block is some).is in
@@ -211,14 +217,15 @@ no_block_entries = λ k d within. absurd (omega arith)
 -- a code put into a block
 pub put_block : (entries rest : Entries) (code : ℕ) (value start bytes : List ℕ) → IsPutBetween entries code [] start
     rest → AreBlockEntries rest → IsBlockEntry (code, value) → IsTrue (is_sorted nat_cmp entries) →
-    bytes ≡ (start ++ entry_bytes (code, value)) ++ block_bytes rest →
+    bytes ≡ (start ++ block_entry_bytes (code, value)) ++ block_bytes rest →
     IsSortedBlock bytes × (entries_in bytes ≡ put nat_cmp code value entries)
 put_block entries rest code value start bytes h formed is sorted e =
     let all : Entries = h.below ++ (code, value) ∷ rest in
     let put_is : put nat_cmp code value entries ≡ all = h.between value in
     let spelt : bytes ≡ block_bytes all =
-    e ∙ (ap (λ l. (l ++ entry_bytes (code, value)) ++ block_bytes rest) h.bytes
-    ∙ (append_assoc (block_bytes h.below) (entry_bytes (code, value)) (block_bytes rest) ∙ sym (blocks_joined h.below
+    e ∙ (ap (λ l. (l ++ block_entry_bytes (code, value)) ++ block_bytes rest) h.bytes
+    ∙ (append_assoc (block_bytes h.below) (block_entry_bytes (code, value)) (block_bytes rest) ∙ sym (blocks_joined
+    h.below
     ((code, value) ∷ rest)))) in
     let formed_all : AreBlockEntries all = All-append IsBlockEntry h.below ((code, value) ∷ rest) h.formed
     (All-cons IsBlockEntry (code, value) rest is formed) in
@@ -288,7 +295,8 @@ put_behind_old entries rest code old bytes new h e = record {
 }
 
 -- the bytes of the first entries of a block
-pub bytes_before : (block rest : List ℕ) (n : ℕ) (below : Entries) → IsBlock block → IsBlock rest → entries_in block ≡
+pub bytes_before : (block rest : List ℕ) (n : ℕ) (below : Entries) → IsPropertyBlock block → IsPropertyBlock rest →
+    entries_in block ≡
     below ++ entries_in rest → n ≡ length block - length rest → (take n block ≡ block_bytes below) × AreBlockEntries
     below
 bytes_before block rest n below is last e len =
@@ -320,11 +328,11 @@ pub none_appended : (all : Entries) (bytes : List ℕ) → bytes ≡ [] → HasA
 none_appended all bytes e = record { done = []; joined = refl; spelt = e; formed = no_block_entries }
 
 pub one_appended : (all left : Entries) (code : ℕ) (value old new : List ℕ) → HasAppended all ((code, value) ∷ left)
-    old → new ≡ old ++ entry_bytes (code, value) → IsBlockEntry (code, value) → HasAppended all left new
+    old → new ≡ old ++ block_entry_bytes (code, value) → IsBlockEntry (code, value) → HasAppended all left new
 one_appended all left code value old new h e is = record {
   done = h.done ++ (code, value) ∷ [];
   joined = h.joined ∙ sym (append_assoc h.done ((code, value) ∷ []) left);
-  spelt = e ∙ (ap (λ b. b ++ entry_bytes (code, value)) h.spelt ∙ sym (block_more h.done code value));
+  spelt = e ∙ (ap (λ b. b ++ block_entry_bytes (code, value)) h.spelt ∙ sym (block_more h.done code value));
   formed = All-push IsBlockEntry h.done (code, value) h.formed is;
 }
 

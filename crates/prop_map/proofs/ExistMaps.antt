@@ -9,7 +9,7 @@ use Rattle.sprm_table.specs.Codes.{is_held, class_of, is_property, is_clear}
 use Rattle.sprm_table.specs.Sprm.{Prl}
 use Rattle.prop_map.specs.declared.modifiers.Modifier.{Modifier}
 use Rattle.prop_map.specs.Settings.{Properties}
-use Rattle.prop_map.specs.Acting.{is_kept, left_by, value_after, ArePropertiesAfter}
+use Rattle.prop_map.specs.Acting.{is_kept_by_plain, left_by, value_after, ArePropertiesAfter}
 use Rattle.prop_map.specs.Modifiers.{IsCharacterAfter, IsMarkAfter}
 use Rattle.prop_map.specs.Overlay.{cleared, modified_characters, modified_paragraph}
 use Rattle.prop_map.proofs.ActingLemmas.{value_after-append, value_after-set, value_after-clear, sets_not_clears}
@@ -42,13 +42,14 @@ after_one prl groups old = elim (cases_Bool (is_held groups prl.0)) [
     | inr sets ↦ elim (cases_Bool (is_clear (class_of prl.0))) [
       | inl clears ↦ record {
         new = cleared old;
-        after = λ code. get-retained old is_kept code ∙ value_after-clear groups code prl.0 prl.1 (get old code) held
+        after = λ code. get-retained old is_kept_by_plain code ∙ value_after-clear groups code prl.0 prl.1 (get old
+            code) held
             sets clears;
       }
       | inr clears ↦ record {
         new = old;
         after = λ code. rw (held, sets, clears) (nothing_said (code == prl.0)
-            (is_kept code) prl (get old code));
+            (is_kept_by_plain code) prl (get old code));
       }
     ]
   ]

@@ -12,7 +12,7 @@ use Rattle.sprm_table.specs.declared.Class.TheVariants.{Plain, Toggle, Clear, St
 use Rattle.sprm_table.specs.Codes.{is_held, class_of, is_property, is_clear}
 use Rattle.sprm_table.specs.Sprm.{Prl}
 use Rattle.prop_map.specs.Formed.{character_groups, paragraph_groups, IsMapEntry}
-use Rattle.prop_map.specs.Acting.{is_kept, sets_code, clears_code, concerns_code, left_by, value_after}
+use Rattle.prop_map.specs.Acting.{is_kept_by_plain, sets_code, clears_code, concerns_code, left_by, value_after}
 use Rattle.prop_map.specs.Laws.{SaidCodeByCode, ListsActInTurn, ActingIsOne, ModifierIsOne, PropertiesStayFormed}
 use Rattle.prop_map.proofs.ActingLemmas.{value_after-append, style_of-append}
 use Rattle.doc_bits.proofs.Public.{or_second}
@@ -88,7 +88,7 @@ one_removes groups code prl before clears =
     let concerns : concerns_code groups code prl ≡ true = or_second (sets_code groups code prl) (clears_code groups code
     prl) clears in
     let none = clears_sets_none (class_of prl.0) (second (is_held groups prl.0) (is_clear (class_of prl.0))
-    (not (is_kept code)) clears) in
+    (not (is_kept_by_plain code)) clears) in
     ap (λ b. left_by (last_or None (cond b (prl ∷ []) [])) before) concerns ∙ rw none refl
 
 one_leaves_none : (groups code : ℕ) (prl : Prl) → sets_code groups code prl ≡ false → value_after (prl ∷ []) groups

@@ -10,7 +10,7 @@ use Rattle.sprm_table.specs.Operands.{size_of, IsSizeOf}
 use Rattle.sprm_table.specs.Sprm.{Prl, IsPrl, spelling}
 use Rattle.prop_map.specs.Settings.{Properties}
 use Rattle.prop_map.specs.Entries.{Entries}
-use Rattle.prop_map.specs.Block.{block_bytes, entry_bytes}
+use Rattle.prop_map.specs.Block.{block_bytes, block_entry_bytes}
 use Rattle.prop_map.specs.Formed.{IsFormedMap}
 use Rattle.prop_map.specs.Printing.{printed_list}
 use Rattle.prop_map.proofs.PrintLemmas.{operand_len, length-spelling_of, prls_of, few_len}
@@ -79,5 +79,5 @@ pub block-first : (left rest : Entries) (code : ℕ) (value : List ℕ) → left
     length (block_bytes left) ≡ 6 + length value + length (block_bytes rest)
 block-first left rest code value e =
     ap (λ es. length (block_bytes es)) e
-    ∙ (length-append (entry_bytes (code, value)) (block_bytes rest) ∙ ap (λ n. n + length (block_bytes rest))
+    ∙ (length-append (block_entry_bytes (code, value)) (block_bytes rest) ∙ ap (λ n. n + length (block_bytes rest))
     (length-entry code value))

@@ -17,7 +17,7 @@ use Rattle.sprm_table.proofs.Public.{spelt_unique, spells_joined}
 use Rattle.prop_map.specs.declared.modifiers.Modifier.{Modifier}
 use Rattle.prop_map.specs.Settings.{Properties}
 use Rattle.prop_map.specs.Formed.{IsPropertyMap, character_groups, paragraph_groups, prc_groups}
-use Rattle.prop_map.specs.Acting.{is_kept, concerns_code, left_by, value_after, style_named}
+use Rattle.prop_map.specs.Acting.{is_kept_by_plain, concerns_code, left_by, value_after, style_named}
 use Rattle.prop_map.specs.Modifiers.{clears_characters, style_prls, clear_prls, modifier_prls, printed_modifier}
 use Rattle.prop_map.specs.Modifiers.{IsModifierOf, IsFormedModifier}
 use Rattle.prop_map.proofs.ActingLemmas.{value_after-append, style_of-append, sets_not_clears}
@@ -39,7 +39,8 @@ none_held groups held code apart [] all = refl
 none_held groups held code apart (e ∷ es) all =
     let property = All-head (IsProperty held) e es all in
     rw (unheld (is_held groups e.0) (is_property (class_of e.0)) (is_clear (class_of e.0)) (code == e.0)
-    (not (is_kept code)) (apart e.0 property.held)) (none_held groups held code apart es (All-tail (IsProperty held)
+    (not (is_kept_by_plain code)) (apart e.0 property.held)) (none_held groups held code apart es (All-tail (IsProperty
+    held)
     e es all))
 
 unheld_keeps : (groups held code : ℕ) (es : List Prl) (before : Option (List ℕ)) → ((key : ℕ) → is_held held key ≡
@@ -63,7 +64,7 @@ style_keeps : (istd : Option ℕ) (groups code : ℕ) (before : Option (List ℕ
     code before ≡ before
 style_keeps None groups code before = refl
 style_keeps (Some n) groups code before = rw (concerns_none (is_held groups 0x4600) (code == 0x4600)
-    (not (is_kept code))) refl
+    (not (is_kept_by_plain code))) refl
   where
     concerns_none : (held same other : Bool) → ((held && (same && false)) || (held && (false && other))) ≡ false
     concerns_none true true other = refl

@@ -6,12 +6,12 @@ use Rattle.std.specs.Cmp.{nat_cmp_total}
 use Rattle.std.specs.Option.{option_or}
 use Rattle.std.specs.FinMap.{get, empty, retain_keys, entries, find, get-empty}
 use Rattle.std.specs.FinMap.{get-entries, get-from_entries, same_map, nat_cmp-IsAntisymmetric}
-use Rattle.sprm_table.specs.Codes.{is_among}
+use Rattle.sprm_table.specs.Codes.{is_code_among}
 use Rattle.prop_map.specs.declared.modifiers.Modifier.{Modifier}
 use Rattle.prop_map.specs.Settings.{Properties}
 use Rattle.prop_map.specs.Entries.{Entries}
 use Rattle.prop_map.specs.Formed.{IsPropertyMap}
-use Rattle.prop_map.specs.Acting.{is_kept}
+use Rattle.prop_map.specs.Acting.{is_kept_by_plain}
 use Rattle.prop_map.specs.Modifiers.{IsOver, IsCharacterAfter, IsMarkAfter, IsComposed}
 use Rattle.prop_map.specs.Overlay.{overlay, without, cleared_where, modified_characters, modified_paragraph}
 use Rattle.prop_map.specs.Overlay.{composed}
@@ -45,13 +45,14 @@ unless_kept true o = refl
 unless_kept false o = refl
 
 pub get-cleared_where : (clear : Bool) (base : Properties) (code : ℕ) → get (cleared_where clear base) code ≡ cond
-    (clear && not (is_kept code)) None (get base code)
-get-cleared_where true base code = get-retained base is_kept code ∙ unless_kept (is_kept code) (get base code)
+    (clear && not (is_kept_by_plain code)) None (get base code)
+get-cleared_where true base code = get-retained base is_kept_by_plain code ∙ unless_kept (is_kept_by_plain code) (get
+    base code)
 get-cleared_where false base code = refl
 
 pub get-without : (codes : List ℕ) (map : Properties) (code : ℕ) → get (without codes map) code ≡ cond
-    (not (is_among code codes)) (get map code) None
-get-without codes map code = get-retained map (λ key. not (is_among key codes)) code
+    (not (is_code_among code codes)) (get map code) None
+get-without codes map code = get-retained map (λ key. not (is_code_among key codes)) code
 
 -- ---- the relations say the functions
 
@@ -131,4 +132,4 @@ retained_formed groups p map formed code value e = formed code value (where_kept
 
 pub without_formed : (groups : ℕ) (codes : List ℕ) (map : Properties) → IsPropertyMap groups map → IsPropertyMap groups
     (without codes map)
-without_formed groups codes map formed = retained_formed groups (λ code. not (is_among code codes)) map formed
+without_formed groups codes map formed = retained_formed groups (λ code. not (is_code_among code codes)) map formed

@@ -11,7 +11,7 @@ use Rattle.std.specs.Cmp.{nat_cmp_total, unsigned_tied}
 use Rattle.std.specs.FinMap.{find, put, is_sorted, from_sorted, insert}
 use Rattle.std.specs.FinMap.Entries.{below_all, find-put}
 use Rattle.prop_map.specs.Entries.{Entries}
-use Rattle.prop_map.specs.Block.{entry_bytes, block_bytes, entries_in, map_of, IsBlockEntry, AreBlockEntries}
+use Rattle.prop_map.specs.Block.{block_entry_bytes, block_bytes, entries_in, map_of, IsBlockEntry, AreBlockEntries}
 use Rattle.prop_map.specs.Block.{IsSortedBlock, IsPutBetween, HasCodesBelow}
 use Rattle.prop_map.proofs.EntriesLemmas.{true_of, of_true, both_first, both_second, less_from, cmp_less, cmp_greater}
 use Rattle.prop_map.proofs.EntriesLemmas.{sorted-put, from_sorted-put}
@@ -109,7 +109,7 @@ none_merged base top bytes e s t = record {
 
 -- an entry of the upper list more, and those of the lower one before it
 pub one_merged : (base top lower left rest : Entries) (code : ℕ) (value old start new : List ℕ) → HasMerged base top
-    lower ((code, value) ∷ left) old → IsPutBetween lower code old start rest → new ≡ start ++ entry_bytes
+    lower ((code, value) ∷ left) old → IsPutBetween lower code old start rest → new ≡ start ++ block_entry_bytes
     (code, value) → IsBlockEntry (code, value) → HasMerged base top rest left new
 one_merged base top lower left rest code value old start new h p e is =
     let x : ℕ × List ℕ = (code, value) in
@@ -122,8 +122,8 @@ one_merged base top lower left rest code value old start new h p e is =
     ∙ sym (append_assoc p.below (x ∷ []) (put_over left rest))) in
     record {
       done = h.done ++ (p.below ++ x ∷ []);
-      spelt = e ∙ (ap (λ b. b ++ entry_bytes x) (p.bytes ∙ ap (λ b. b ++ block_bytes p.below) h.spelt)
-          ∙ (append_assoc (block_bytes h.done) (block_bytes p.below) (entry_bytes x)
+      spelt = e ∙ (ap (λ b. b ++ block_entry_bytes x) (p.bytes ∙ ap (λ b. b ++ block_bytes p.below) h.spelt)
+          ∙ (append_assoc (block_bytes h.done) (block_bytes p.below) (block_entry_bytes x)
           ∙ (ap (λ b. block_bytes h.done ++ b) (sym (block_more p.below code value))
           ∙ sym (blocks_joined h.done (p.below ++ x ∷ [])))));
       formed = All-append IsBlockEntry h.done (p.below ++ x ∷ []) h.formed (All-push IsBlockEntry p.below x p.formed
@@ -186,7 +186,7 @@ none_below block e = record {
 }
 
 pub one_behind : (old new : List ℕ) (least code : ℕ) (value : List ℕ) → HasCodesBelow old least → least ≤ code →
-    new ≡ old ++ entry_bytes (code, value) → IsBlockEntry (code, value) → HasCodesBelow new (code + 1) ×
+    new ≡ old ++ block_entry_bytes (code, value) → IsBlockEntry (code, value) → HasCodesBelow new (code + 1) ×
     (map_of new ≡ insert (map_of old) code value)
 one_behind old new least code value h low e is =
     let es : Entries = entries_in old in
@@ -194,7 +194,8 @@ one_behind old new least code value h low e is =
     let block = h.ascending.block_is in
     let behind : put nat_cmp code value es ≡ es ++ x ∷ [] = put_behind es code value (λ k d within. let l = h.below k d
     within in omega arith) in
-    let spelt : new ≡ block_bytes (es ++ x ∷ []) = e ∙ (ap (λ b. b ++ entry_bytes x) block.is ∙ sym (block_more es code
+    let spelt : new ≡ block_bytes (es ++ x ∷ []) = e ∙ (ap (λ b. b ++ block_entry_bytes x) block.is ∙ sym (block_more es
+    code
     value)) in
     let every : AreBlockEntries (es ++ x ∷ []) = All-push IsBlockEntry es x block.entries is in
     let up : IsTrue (is_sorted nat_cmp (es ++ x ∷ [])) = subst (λ l. IsTrue (is_sorted nat_cmp l)) behind (sorted-put

@@ -9,12 +9,12 @@ use Rattle.std.specs.Ordering.{nat_cmp}
 use Rattle.std.proofs.lemmas.Bool.{eqb-true}
 use Rattle.doc_bits.proofs.Public.{both_true, and_false}
 use Rattle.sprm_table.specs.declared.Class.TheVariants.{Plain, Toggle, Clear, Style, Refused}
-use Rattle.sprm_table.specs.Codes.{is_held, is_among, toggles, refused_codes, class_of, is_property, is_clear}
+use Rattle.sprm_table.specs.Codes.{is_held, is_code_among, toggles, refused_codes, class_of, is_property, is_clear}
 use Rattle.sprm_table.specs.Sprm.{Prl}
 use Rattle.prop_map.specs.declared.modifiers.Modifier.{Modifier}
 use Rattle.prop_map.specs.Settings.{Properties}
 use Rattle.prop_map.specs.Formed.{IsMapEntry, IsPropertyMap, character_groups, paragraph_groups}
-use Rattle.prop_map.specs.Acting.{is_kept, concerns_code, left_by, value_after}
+use Rattle.prop_map.specs.Acting.{is_kept_by_plain, concerns_code, left_by, value_after}
 use Rattle.prop_map.specs.Modifiers.{value_over, clears_characters, IsModifierOf, DoesAsListed, IsComposed, ActsInTurn}
 use Rattle.prop_map.proofs.ActingLemmas.{last_has}
 
@@ -47,10 +47,10 @@ or_assoc (Some a) b c = refl
 pub acts_in_turn : (first next made : Modifier) → IsComposed first next made → ActsInTurn first next made
 acts_in_turn first next made h = record {
   characters = λ code before.
-      ap (λ o. option_or o (cond (made.clear && not (is_kept code)) None before)) (h.chp code)
+      ap (λ o. option_or o (cond (made.clear && not (is_kept_by_plain code)) None before)) (h.chp code)
       ∙ (ap (λ b. option_or (value_over next.clear code (get next.chp code) (get first.chp code))
-      (cond (b && not (is_kept code)) None before)) h.clear
-      ∙ over_twice (get next.chp code) (get first.chp code) before first.clear next.clear (is_kept code));
+      (cond (b && not (is_kept_by_plain code)) None before)) h.clear
+      ∙ over_twice (get next.chp code) (get first.chp code) before first.clear next.clear (is_kept_by_plain code));
   marks = λ code before. ap (λ o. option_or o before) (h.pap code) ∙ or_assoc (get next.pap code) (get first.pap code)
       before;
   style = λ istd. ap (λ o. unwrap_or o istd) h.istd ∙ style_twice next.istd first.istd istd;
@@ -65,7 +65,8 @@ unless false before value e = e
 from_over : (over before : Option (List ℕ)) (clear : Bool) (code : ℕ) (value : List ℕ) (P : Type 0) → value_over clear
     code over before ≡ Some value → (over ≡ Some value → P) → (before ≡ Some value → P) → P
 from_over (Some v) before clear code value P e later earlier = later e
-from_over None before clear code value P e later earlier = earlier (unless (clear && not (is_kept code)) before value e)
+from_over None before clear code value P e later earlier = earlier (unless (clear && not (is_kept_by_plain code)) before
+    value e)
 
 pub IsPropertyMap-over : (groups : ℕ) (clear : Bool) (top base made : Properties) → ((code : ℕ) → get made code ≡
     value_over clear code (get top code) (get base code)) → IsPropertyMap groups top → IsPropertyMap groups base →
@@ -125,7 +126,7 @@ concern_clears true true false false kept s e = cc
 concern_clears true false sets false kept s e = cc
 concern_clears false same sets clears kept s e = cc
 
-unkept : (prls : List Prl) (code : ℕ) (kept : Bool) → is_kept code ≡ kept →
+unkept : (prls : List Prl) (code : ℕ) (kept : Bool) → is_kept_by_plain code ≡ kept →
     last_or None (filter (concerns_code character_groups code) prls) ≡ None → (clears_characters prls && not kept) ≡
     false
 unkept prls code true k was = and_false (clears_characters prls)
@@ -133,7 +134,7 @@ unkept prls code false k was =
     rw (none_listed (concerns_code character_groups code) (λ prl. is_held character_groups prl.0 && is_clear
     (class_of prl.0)) prls
     (λ x h. clears_concern (is_held character_groups x.0) (code == x.0) (is_property (class_of x.0))
-    (is_clear (class_of x.0)) (is_kept code) k h) was) refl
+    (is_clear (class_of x.0)) (is_kept_by_plain code) k h) was) refl
 
 listed : (q : Prl → Bool) (xs : List Prl) (x : Prl) → ((All (λ y. q y ≡ false) xs) → q x ≡ false) → q x ≡ true →
     list_any q xs ≡ true
@@ -146,7 +147,7 @@ listed q xs x none here =
 character_case : (prls : List Prl) (code : ℕ) (before : Option (List ℕ)) (last : Option Prl) →
     last_or None (filter (concerns_code character_groups code) prls) ≡ last → value_over (clears_characters prls) code
     (left_by last None) before ≡ left_by last before
-character_case prls code before None was = rw (unkept prls code (is_kept code) refl was) refl
+character_case prls code before None was = rw (unkept prls code (is_kept_by_plain code) refl was) refl
 character_case prls code before (Some prl) was =
     elim (is_property (class_of prl.0)) as (λ b. is_property (class_of prl.0) ≡ b → value_over (clears_characters prls)
     code (cond b (Some prl.1) None) before ≡ cond b (Some prl.1) None) [
@@ -156,7 +157,7 @@ character_case prls code before (Some prl) was =
           (filter (concerns_code character_groups code) prls) prl None tt (filter_passes (concerns_code
           character_groups code) prls) was in
           let facts = concern_clears (is_held character_groups prl.0) (code == prl.0) (is_property (class_of prl.0))
-          (is_clear (class_of prl.0)) (is_kept code) s concerns in
+          (is_clear (class_of prl.0)) (is_kept_by_plain code) s concerns in
           let clears = listed (λ x. is_held character_groups x.0 && is_clear (class_of x.0)) prls prl
           (λ all. last_has (λ x. (is_held character_groups x.0 && is_clear (class_of x.0)) ≡ false)
           (filter (concerns_code character_groups code) prls) prl None tt (All-filter (concerns_code
@@ -176,10 +177,11 @@ others_not_clear false false false = refl
 clear_not_marked : (code : ℕ) → is_clear (class_of code) ≡ true → is_held paragraph_groups code ≡ false
 clear_not_marked code h =
     elim (code == 0x2A33) as (λ b. (code == 0x2A33) ≡ b → is_clear (cond b Clear (cond (code == 0x4600) Style
-    (cond (is_among code toggles) Toggle (cond (is_among code refused_codes) Refused Plain)))) ≡ true →
+    (cond (is_code_among code toggles) Toggle (cond (is_code_among code refused_codes) Refused Plain)))) ≡ true →
     is_held paragraph_groups code ≡ false) [
       | true ↦ λ t h. let e = eqb-true code 0x2A33 t in rw e refl
-      | false ↦ λ t h. absurd (let f = others_not_clear (code == 0x4600) (is_among code toggles) (is_among code
+      | false ↦ λ t h. absurd (let f = others_not_clear (code == 0x4600) (is_code_among code toggles) (is_code_among
+          code
           refused_codes) in cc)
     ] refl h
 
@@ -196,7 +198,7 @@ mark_case prls code before (Some prl) was =
           (filter (concerns_code paragraph_groups code) prls) prl None tt (filter_passes (concerns_code
           paragraph_groups code) prls) was in
           let facts = concern_clears (is_held paragraph_groups prl.0) (code == prl.0) (is_property (class_of prl.0))
-          (is_clear (class_of prl.0)) (is_kept code) s concerns in
+          (is_clear (class_of prl.0)) (is_kept_by_plain code) s concerns in
           let both = both_true (is_held paragraph_groups prl.0) (is_clear (class_of prl.0)) facts.0 in
           absurd (let none = clear_not_marked prl.0 both.1 in let held = both.0 in cc)
     ] refl

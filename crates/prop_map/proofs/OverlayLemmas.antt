@@ -4,14 +4,14 @@ use Rattle.std.specs.Ordering.{nat_cmp}
 use Rattle.std.specs.Option.{option_or}
 use Rattle.std.specs.FinMap.{get, empty, get-empty}
 use Rattle.prop_map.specs.Settings.{Properties}
-use Rattle.prop_map.specs.Acting.{is_kept}
+use Rattle.prop_map.specs.Acting.{is_kept_by_plain}
 use Rattle.prop_map.specs.Modifiers.{value_over}
 use Rattle.prop_map.proofs.ChangeLemmas.{or_none}
 
 pub over_nothing : (clear : Bool) (code : ℕ) (top base : Properties) → base ≡ empty → get top code ≡ value_over clear
     code (get top code) (get base code)
 over_nothing clear code top base e = sym (ap (λ o. value_over clear code (get top code) o) (ap (λ m. get m code) e ∙
-    get-empty nat_cmp code) ∙ or_nothing (get top code) (clear && not (is_kept code)))
+    get-empty nat_cmp code) ∙ or_nothing (get top code) (clear && not (is_kept_by_plain code)))
   where
     or_nothing : (o : Option (List ℕ)) (b : Bool) → option_or o (cond b None None) ≡ o
     or_nothing (Some v) b = refl

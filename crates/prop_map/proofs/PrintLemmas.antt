@@ -24,7 +24,7 @@ use Rattle.sprm_table.proofs.Public.{spelt_unique, spells_joined}
 use Rattle.prop_map.specs.Settings.{Properties}
 use Rattle.prop_map.specs.Entries.{Entries}
 use Rattle.prop_map.specs.Formed.{IsMapEntry, IsPropertyMap, IsFormedMap}
-use Rattle.prop_map.specs.Acting.{is_kept, concerns_code, left_by, value_after, names_style, style_named}
+use Rattle.prop_map.specs.Acting.{is_kept_by_plain, concerns_code, left_by, value_after, names_style, style_named}
 use Rattle.prop_map.specs.Acting.{ArePropertiesAfter}
 use Rattle.prop_map.specs.Printing.{printed_list, IsPrintOf}
 use Rattle.prop_map.proofs.EntriesLemmas.{rises, find_found, AllBelow, less_from, both_first, both_second, cmp_less}
@@ -115,7 +115,7 @@ concern_same false same sets clears other h s c = cc
 concerns-property : (groups code : ℕ) (prl : Prl) → IsProperty groups prl → concerns_code groups code prl ≡
     (code == prl.0)
 concerns-property groups code prl h = concern_same (is_held groups prl.0) (code == prl.0) (is_property (class_of prl.0))
-    (is_clear (class_of prl.0)) (not (is_kept code)) h.held h.sets (sets_not_clears (class_of prl.0) h.sets)
+    (is_clear (class_of prl.0)) (not (is_kept_by_plain code)) h.held h.sets (sets_not_clears (class_of prl.0) h.sets)
 
 none_above : (groups code : ℕ) (es : Entries) → T (below_all nat_cmp code es) → All (IsProperty groups) es →
     filter (concerns_code groups code) es ≡ []

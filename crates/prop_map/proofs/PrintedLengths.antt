@@ -13,7 +13,7 @@ use Rattle.std.proofs.lemmas.Grind.{flat_map-append}
 use Rattle.std.proofs.lemmas.Option.{none-some}
 use Rattle.std.proofs.Common.{◌&&◌}
 use Rattle.sprm_table.specs.Sprm.{Prl, spelling}
-use Rattle.prop_map.specs.Acting.{is_kept}
+use Rattle.prop_map.specs.Acting.{is_kept_by_plain}
 use Rattle.prop_map.specs.declared.modifiers.Modifier.{Modifier}
 use Rattle.prop_map.specs.Settings.{Properties}
 use Rattle.prop_map.specs.Printing.{printed_list}
@@ -115,7 +115,7 @@ left_if false base value here = or_base base ∙ here
 
 left_value : (clear : Bool) (code : ℕ) (base : Option (List ℕ)) (value : List ℕ) →
     value_over clear code None base ≡ Some value → base ≡ Some value
-left_value clear code base value here = left_if (clear && not (is_kept code)) base value here
+left_value clear code base value here = left_if (clear && not (is_kept_by_plain code)) base value here
 
 over_rest : (over new base : Option (List ℕ)) (clear : Bool) (code : ℕ) (value : List ℕ) →
     new ≡ value_over clear code over base → cond (not (is_some over)) new None ≡ Some value → base ≡ Some value

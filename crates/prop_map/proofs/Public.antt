@@ -3,8 +3,8 @@
 -- A list of sprms without a fault is accepted.
 pub use Rattle.prop_map.proofs.AcceptedLemmas.{accepted_of}
 -- Acting with one list and then another, with a list of one entry, and what stays true of a map.
-pub use Rattle.prop_map.proofs.ActingLemmas.{HasByteValue, IsPropertyMap-after, IsPropertyMap-empty, sets_not_clears}
-pub use Rattle.prop_map.proofs.ActingLemmas.{value_after-append}
+pub use Rattle.prop_map.proofs.ActingLemmas.{HasByteValue, IsPropertyMap-after, IsPropertyMap-empty, last_or_both}
+pub use Rattle.prop_map.proofs.ActingLemmas.{sets_not_clears, value_after-append}
 -- The bytes of entries spell these entries and no others.
 pub use Rattle.prop_map.proofs.BlockLemmas.{same_bytes}
 -- The values of entries that bytes spell are bytes.

@@ -11,8 +11,9 @@ use Rattle.std.specs.Ordering.{nat_cmp}
 use Rattle.std.specs.FinMap.{put}
 use Rattle.prop_map.specs.declared.values.SetValue.{SetValue}
 use Rattle.prop_map.specs.Entries.{Entries}
-use Rattle.prop_map.specs.Block.{entry_bytes, block_bytes, entries_in, IsBlockEntry, AreBlockEntries, IsSortedBlock}
-use Rattle.prop_map.specs.Values.{entry_of, entries_of, AreInOrder, IsLesserCount}
+use Rattle.prop_map.specs.Block.{block_entry_bytes, block_bytes, entries_in, IsBlockEntry, AreBlockEntries}
+use Rattle.prop_map.specs.Block.{IsSortedBlock}
+use Rattle.prop_map.specs.Values.{entry_of, set_value_entries, AreCodesInOrder, IsLesserCount}
 use Rattle.prop_map.proofs.EntriesLemmas.{of_true, rises, AllBelow, AllAbove, cmp_less, cmp_equal, cmp_greater}
 use Rattle.prop_map.proofs.BlockLemmas.{block_more, sorted_block, entries_in-block, no_block_entries}
 
@@ -45,21 +46,21 @@ put_found (suc at) code v (e ∷ es) within below here =
 
 -- the code of an entry is that of its value
 code_at : (values : List SetValue) (i : ℕ) (d : SetValue) (e : ℕ × List ℕ) → i < length values →
-    (get_or (entries_of values) i e).0 ≡ (slice_index_or values i d).code.0
+    (get_or (set_value_entries values) i e).0 ≡ (slice_index_or values i d).code.0
 code_at values i d e h = ap (λ (x : ℕ × List ℕ). x.0) (get_or-map entry_of values i d e h)
 
-pub ascends : (values : List SetValue) (i j : ℕ) (d : SetValue) → AreInOrder values → i < j → j < length values →
+pub ascends : (values : List SetValue) (i j : ℕ) (d : SetValue) → AreCodesInOrder values → i < j → j < length values →
     (slice_index_or values i d).code.0 < (slice_index_or values j d).code.0
 ascends values i j d h lt within =
     let e = entry_of d in
     let long = length-map values entry_of in
     let low = code_at values i d e (omega arith) in
     let high = code_at values j d e within in
-    let rise = rises (entries_of values) i j e (of_true _ h) lt (omega arith) in
+    let rise = rises (set_value_entries values) i j e (of_true _ h) lt (omega arith) in
     omega arith
 
 below_of : (values : List SetValue) (code count : ℕ) (d : SetValue) → IsLesserCount values code count → AllBelow code
-    count (entries_of values)
+    count (set_value_entries values)
 below_of values code count d h i e lt =
     let inside = h.inside in
     let here = code_at values i d e (omega arith) in
@@ -67,7 +68,7 @@ below_of values code count d h i e lt =
     omega arith
 
 -- where the middle one has a lesser code, those before it have, and where it has not, those behind it have not
-pub lower_half : (values : List SetValue) (code middle : ℕ) (here : SetValue) → AreInOrder values → middle < length
+pub lower_half : (values : List SetValue) (code middle : ℕ) (here : SetValue) → AreCodesInOrder values → middle < length
     values → (slice_index_or values middle here).code.0 < code → (k : ℕ) (d : SetValue) → k < middle + 1 →
     (slice_index_or values k d).code.0 < code
 lower_half values code middle here sorted within less k d below =
@@ -80,7 +81,7 @@ lower_half values code middle here sorted within less k d below =
           omega arith
     ]
 
-pub upper_half : (values : List SetValue) (code middle : ℕ) (here : SetValue) → AreInOrder values → middle < length
+pub upper_half : (values : List SetValue) (code middle : ℕ) (here : SetValue) → AreCodesInOrder values → middle < length
     values → code ≤ (slice_index_or values middle here).code.0 → (k : ℕ) (d : SetValue) → middle ≤ k →
     k < length values → code ≤ (slice_index_or values k d).code.0
 upper_half values code middle here sorted within least k d above inner =
@@ -94,7 +95,7 @@ upper_half values code middle here sorted within least k d above inner =
     ]
 
 -- the code is there: so many have lesser ones
-pub found_at : (values : List SetValue) (code at : ℕ) (here : SetValue) → AreInOrder values → at < length values →
+pub found_at : (values : List SetValue) (code at : ℕ) (here : SetValue) → AreCodesInOrder values → at < length values →
     (slice_index_or values at here).code.0 ≡ code → IsLesserCount values code at
 found_at values code at here sorted within same = record {
   inside = omega arith;
@@ -108,11 +109,12 @@ found_at values code at here sorted within same = record {
 -- the value is there already
 pub set_found : (values : List SetValue) (at : ℕ) (set d : SetValue) → IsLesserCount values set.code.0 at →
     at < length values → (slice_index_or values at d).code.0 ≡ set.code.0 →
-    entries_of (slice_set values at set) ≡ put nat_cmp set.code.0 set.value.now (entries_of values)
+    set_value_entries (slice_set values at set) ≡ put nat_cmp set.code.0 set.value.now (set_value_entries values)
 set_found values at set d h within same =
     let long = length-map values entry_of in
     map-set entry_of values at set
-    ∙ sym (put_found at set.code.0 set.value.now (entries_of values) (omega arith) (below_of values set.code.0 at d h)
+    ∙ sym (put_found at set.code.0 set.value.now (set_value_entries values) (omega arith) (below_of values set.code.0 at
+    d h)
     (λ e. code_at values at d e within ∙ same))
 
 -- it has its place between two others
@@ -123,8 +125,8 @@ strictly code other least apart = elim (cases_lt code other) [
 ]
 
 above_of : (values : List SetValue) (code at : ℕ) (d : SetValue) → IsLesserCount values code at →
-    (at < length values → ¬ ((slice_index_or values at d).code.0 ≡ code)) → AreInOrder values → AllAbove code at
-    (entries_of values)
+    (at < length values → ¬ ((slice_index_or values at d).code.0 ≡ code)) → AreCodesInOrder values → AllAbove code at
+    (set_value_entries values)
 above_of values code at d h apart sorted i e low within =
     let long = length-map values entry_of in
     let inner : i < length values = omega arith in
@@ -140,49 +142,54 @@ above_of values code at d h apart sorted i e low within =
     ]
 
 pub set_between : (values : List SetValue) (at : ℕ) (set d : SetValue) → IsLesserCount values set.code.0 at →
-    (at < length values → ¬ ((slice_index_or values at d).code.0 ≡ set.code.0)) → AreInOrder values →
-    entries_of (insert values at set) ≡ put nat_cmp set.code.0 set.value.now (entries_of values)
+    (at < length values → ¬ ((slice_index_or values at d).code.0 ≡ set.code.0)) → AreCodesInOrder values →
+    set_value_entries (insert values at set) ≡ put nat_cmp set.code.0 set.value.now (set_value_entries values)
 set_between values at set d h apart sorted =
     let long = length-map values entry_of in
     let inside = h.inside in
     map-append entry_of (take at values) (set ∷ drop at values)
-    ∙ (ap (λ front. front ++ entry_of set ∷ entries_of (drop at values)) (sym (take-map entry_of at values))
-    ∙ (ap (λ rest. take at (entries_of values) ++ entry_of set ∷ rest) (sym (drop-map entry_of at values))
-    ∙ sym (put_gap at set.code.0 set.value.now (entries_of values) (omega arith) (below_of values set.code.0 at d h)
+    ∙ (ap (λ front. front ++ entry_of set ∷ set_value_entries (drop at values)) (sym (take-map entry_of at values))
+    ∙ (ap (λ rest. take at (set_value_entries values) ++ entry_of set ∷ rest) (sym (drop-map entry_of at values))
+    ∙ sym (put_gap at set.code.0 set.value.now (set_value_entries values) (omega arith) (below_of values set.code.0 at d
+    h)
     (above_of values set.code.0 at d h apart sorted))))
 
 -- ---- the block of values
 
 -- the first of them were appended
 pub record HasValueBytes (values : List SetValue) (count : ℕ) (bytes : List ℕ) : Type 0 where
-  pub spelt : bytes ≡ block_bytes (entries_of (take count values))
-  pub formed : AreBlockEntries (entries_of (take count values))
+  pub spelt : bytes ≡ block_bytes (set_value_entries (take count values))
+  pub formed : AreBlockEntries (set_value_entries (take count values))
 
 pub no_values : (values : List SetValue) (bytes : List ℕ) → bytes ≡ [] → HasValueBytes values 0 bytes
 no_values values bytes e = record { spelt = e; formed = no_block_entries }
 
 pub one_value : (values : List SetValue) (count : ℕ) (d : SetValue) (old new : List ℕ) →
     HasValueBytes values count old →
-    count < length values → new ≡ old ++ entry_bytes (entry_of (get_or values count d)) → IsBlockEntry
+    count < length values → new ≡ old ++ block_entry_bytes (entry_of (get_or values count d)) → IsBlockEntry
     (entry_of (get_or values count d)) → HasValueBytes values (count + 1) new
 one_value values count d old new h within e is =
     let set = get_or values count d in
-    let more : entries_of (take (count + 1) values) ≡ entries_of (take count values) ++ entry_of set ∷ [] =
-    ap entries_of (take_more values count d within) ∙ map-append entry_of (take count values) (set ∷ []) in
+    let more : set_value_entries (take (count + 1) values) ≡ set_value_entries (take count values) ++ entry_of set ∷ []
+    =
+    ap set_value_entries (take_more values count d within) ∙ map-append entry_of (take count values) (set ∷ []) in
     record {
-      spelt = e ∙ (ap (λ b. b ++ entry_bytes (entry_of set)) h.spelt ∙ (sym (block_more (entries_of (take count values))
+      spelt = e ∙ (ap (λ b. b ++ block_entry_bytes (entry_of set)) h.spelt ∙ (sym (block_more (set_value_entries (take
+          count values))
           set.code.0 set.value.now) ∙ sym (ap block_bytes more)));
-      formed = subst AreBlockEntries (sym more) (All-push IsBlockEntry (entries_of (take count values)) (entry_of set)
+      formed = subst AreBlockEntries (sym more) (All-push IsBlockEntry (set_value_entries (take count values)) (entry_of
+          set)
           h.formed is);
     }
 
 pub all_values : (values : List SetValue) (count : ℕ) (bytes : List ℕ) → HasValueBytes values count bytes →
-    length values ≤ count → AreInOrder values → IsSortedBlock bytes × (entries_in bytes ≡ entries_of values)
+    length values ≤ count → AreCodesInOrder values → IsSortedBlock bytes × (entries_in bytes ≡ set_value_entries values)
 all_values values count bytes h all sorted =
-    let whole : entries_of (take count values) ≡ entries_of values = ap entries_of (take_all count values all) in
-    let spelt : bytes ≡ block_bytes (entries_of values) = h.spelt ∙ ap block_bytes whole in
-    let formed : AreBlockEntries (entries_of values) = subst AreBlockEntries whole h.formed in (
-      sorted_block bytes (entries_of values) formed spelt sorted,
-      ap entries_in spelt ∙ entries_in-block (entries_of
+    let whole : set_value_entries (take count values) ≡ set_value_entries values = ap set_value_entries (take_all count
+    values all) in
+    let spelt : bytes ≡ block_bytes (set_value_entries values) = h.spelt ∙ ap block_bytes whole in
+    let formed : AreBlockEntries (set_value_entries values) = subst AreBlockEntries whole h.formed in (
+      sorted_block bytes (set_value_entries values) formed spelt sorted,
+      ap entries_in spelt ∙ entries_in-block (set_value_entries
           values) formed,
     )

@@ -6,7 +6,7 @@ use Rattle.std.specs.Prelude.{if◌then◌else◌}
 use Rattle.std.specs.List.{filter, last_or}
 use Rattle.std.specs.FinMap.{get}
 use Rattle.doc_bits.specs.Number.{u16_at}
-use Rattle.sprm_table.specs.Codes.{is_held, is_among, class_of, is_property, is_clear, is_style}
+use Rattle.sprm_table.specs.Codes.{is_held, is_code_among, class_of, is_property, is_clear, is_style}
 use Rattle.sprm_table.specs.Sprm.{Prl, SpellsSprmList}
 use Rattle.prop_map.specs.declared.acting.Acted.{Acted}
 use Rattle.prop_map.specs.Settings.{Properties}
@@ -15,8 +15,8 @@ use Rattle.prop_map.specs.Settings.{Properties}
 abbrev pub kept_codes : List ℕ
 kept_codes = 0x0855 ∷ 0x0806 ∷ 0x6A03 ∷ 0x4A30 ∷ []
 
-abbrev pub is_kept : ℕ → Bool
-is_kept code = is_among code kept_codes
+abbrev pub is_kept_by_plain : ℕ → Bool
+is_kept_by_plain code = is_code_among code kept_codes
 
 -- the entry sets the code, at a place that holds these groups
 abbrev pub sets_code : ℕ → ℕ → Prl → Bool
@@ -24,7 +24,7 @@ sets_code groups code prl = is_held groups prl.0 && (code == prl.0 && is_propert
 
 -- the entry removes the code
 abbrev pub clears_code : ℕ → ℕ → Prl → Bool
-clears_code groups code prl = is_held groups prl.0 && (is_clear (class_of prl.0) && not (is_kept code))
+clears_code groups code prl = is_held groups prl.0 && (is_clear (class_of prl.0) && not (is_kept_by_plain code))
 
 -- the entry sets the code or removes it
 abbrev pub concerns_code : ℕ → ℕ → Prl → Bool

@@ -9,12 +9,12 @@ use Rattle.prop_map.specs.Settings.{Properties}
 use Rattle.prop_map.specs.Entries.{Entries}
 
 -- the bytes of an entry
-abbrev pub entry_bytes : ℕ × List ℕ → List ℕ
-entry_bytes entry = number_bytes 2 entry.0 ++ (number_bytes 4 (length entry.1) ++ entry.1)
+abbrev pub block_entry_bytes : ℕ × List ℕ → List ℕ
+block_entry_bytes entry = number_bytes 2 entry.0 ++ (number_bytes 4 (length entry.1) ++ entry.1)
 
 -- the bytes of entries, one after the other
 abbrev pub block_bytes : Entries → List ℕ
-block_bytes entries = flat_map entry_bytes entries
+block_bytes entries = flat_map block_entry_bytes entries
 
 -- a code of 16 bits, and a value whose length has 32
 pub record IsBlockEntry (entry : ℕ × List ℕ) : Type 0 where
@@ -44,13 +44,13 @@ abbrev pub entries_in : List ℕ → Entries
 entries_in block = entries_upto (length block) block
 
 -- the bytes are those of their entries
-pub record IsBlock (block : List ℕ) : Type 0 where
+pub record IsPropertyBlock (block : List ℕ) : Type 0 where
   pub entries : AreBlockEntries (entries_in block)
   pub is : block ≡ block_bytes (entries_in block)
 
 -- and the codes ascend
 pub record IsSortedBlock (block : List ℕ) : Type 0 where
-  pub block_is : IsBlock block
+  pub block_is : IsPropertyBlock block
   pub sorted : IsTrue (is_sorted nat_cmp (entries_in block))
 
 -- the map of the entries of a block

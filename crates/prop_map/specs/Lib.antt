@@ -8,5 +8,4 @@ pub mod Printing
 pub mod Modifiers
 pub mod Overlay
 pub mod Values
-pub mod Places
 pub mod Laws

@@ -10,7 +10,7 @@ use Rattle.sprm_table.specs.Sprm.{Prl, spelling, SpellsSprmList}
 use Rattle.prop_map.specs.declared.modifiers.Modifier.{Modifier}
 use Rattle.prop_map.specs.Settings.{Properties}
 use Rattle.prop_map.specs.Formed.{character_groups, paragraph_groups, IsPropertyMap}
-use Rattle.prop_map.specs.Acting.{is_kept, value_after, style_named, ArePropertiesAfter}
+use Rattle.prop_map.specs.Acting.{is_kept_by_plain, value_after, style_named, ArePropertiesAfter}
 
 -- the modifier that does nothing
 abbrev pub no_modifier : Modifier
@@ -18,7 +18,7 @@ no_modifier = record { istd = None; clear = false; chp = empty; pap = empty }
 
 -- the value at a code where a map is put over a value, which a clear removed first unless the code is kept
 abbrev pub value_over : Bool → ℕ → Option (List ℕ) → Option (List ℕ) → Option (List ℕ)
-value_over clear code over before = option_or over (if clear && not (is_kept code) then None else before)
+value_over clear code over before = option_or over (if clear && not (is_kept_by_plain code) then None else before)
 
 -- the map where one was put over another, which may be cleared first
 abbrev pub IsOver : Bool → Properties → Properties → Properties → Type 0

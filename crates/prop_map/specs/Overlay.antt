@@ -2,10 +2,10 @@
 use Rattle.std.specs.Prelude.{ℕ, Bool, not, ◌||◌, List, ◌++◌, if◌then◌else◌}
 use Rattle.std.specs.Option.{option_or}
 use Rattle.std.specs.FinMap.{entries, from_entries, retain_keys}
-use Rattle.sprm_table.specs.Codes.{is_among}
+use Rattle.sprm_table.specs.Codes.{is_code_among}
 use Rattle.prop_map.specs.declared.modifiers.Modifier.{Modifier}
 use Rattle.prop_map.specs.Settings.{Properties}
-use Rattle.prop_map.specs.Acting.{is_kept}
+use Rattle.prop_map.specs.Acting.{is_kept_by_plain}
 
 -- all properties of the first map, and those of the second at other codes; of two entries of one code the first counts
 abbrev pub overlay : Properties → Properties → Properties
@@ -13,11 +13,11 @@ overlay set base = from_entries (entries set ++ entries base)
 
 -- the map without what is at these codes
 abbrev pub without : List ℕ → Properties → Properties
-without codes map = retain_keys map (λ code. not (is_among code codes))
+without codes map = retain_keys map (λ code. not (is_code_among code codes))
 
 -- what sprmCPlain leaves of the map
 abbrev pub cleared : Properties → Properties
-cleared map = retain_keys map is_kept
+cleared map = retain_keys map is_kept_by_plain
 
 -- the same where it is to be cleared
 abbrev pub cleared_where : Bool → Properties → Properties

@@ -12,8 +12,8 @@ abbrev pub printed_list : Properties → List ℕ
 printed_list map = flat_map spelling (entries map)
 
 -- whatever list the bytes spell, acting with it on the empty map gives the map, where the place holds its codes
-abbrev pub IsReadBack : List ℕ → Properties → Type 0
-IsReadBack bytes map =
+abbrev pub IsMapReadBack : List ℕ → Properties → Type 0
+IsMapReadBack bytes map =
     (groups : ℕ) (prls : List Prl) → IsPropertyMap groups map → SpellsSprmList bytes prls →
     ArePropertiesAfter prls groups empty map × (style_named prls groups ≡ None)
 
@@ -21,4 +21,4 @@ IsReadBack bytes map =
 pub record IsPrintOf (map : Properties) (bytes : List ℕ) : Type 0 where
   pub spelt : SpellsSprmList bytes (entries map)
   pub accepted : (groups : ℕ) → IsAcceptedList bytes groups
-  pub back : IsReadBack bytes map
+  pub back : IsMapReadBack bytes map

@@ -14,6 +14,6 @@ abbrev pub properties_code : Coded Properties
 properties_code = code coded_ℕ (coded_list coded_ℕ)
 
 -- what is shared, and the empty map where nothing is
-abbrev pub behind : {A : Type 0} → Option (Rc Properties A) → Properties
-behind None = empty
-behind (Some shared) = shared.value
+abbrev pub shared_or_empty : {A : Type 0} → Option (Rc Properties A) → Properties
+shared_or_empty None = empty
+shared_or_empty (Some shared) = shared.value

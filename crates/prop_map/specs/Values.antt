@@ -10,16 +10,16 @@ use Rattle.prop_map.specs.Entries.{Entries}
 abbrev pub entry_of : SetValue → ℕ × List ℕ
 entry_of set = (set.code.0, set.value.now)
 
-abbrev pub entries_of : List SetValue → Entries
-entries_of values = map entry_of values
+abbrev pub set_value_entries : List SetValue → Entries
+set_value_entries values = map entry_of values
 
 -- the codes ascend
-abbrev pub AreInOrder : List SetValue → Type 0
-AreInOrder values = IsTrue (is_sorted nat_cmp (entries_of values))
+abbrev pub AreCodesInOrder : List SetValue → Type 0
+AreCodesInOrder values = IsTrue (is_sorted nat_cmp (set_value_entries values))
 
 -- the map of values in order
 abbrev pub set_map : List SetValue → Properties
-set_map values = from_sorted (entries_of values)
+set_map values = from_sorted (set_value_entries values)
 
 -- so many of the values have lesser codes, and the others have not
 pub record IsLesserCount (values : List SetValue) (code count : ℕ) : Type 0 where

@@ -6,7 +6,7 @@ ghost use Rattle.sprm_table.specs.Sprm.{IsPrl, IsAcceptedList};
 ghost use Rattle.prop_map.specs.Formed.{StaysFormed};
 ghost use Rattle.prop_map.specs.Acting.{ArePropertiesAfter, IsActedBy, style_named};
 ghost use Rattle.prop_map.specs.Block.{HasCodesBelow, map_of};
-ghost use Rattle.prop_map.specs.Values.{entry_of, set_map, AreInOrder};
+ghost use Rattle.prop_map.specs.Values.{entry_of, set_map, AreCodesInOrder};
 
 use crate::PropMap;
 use crate::block::{Block, push_entry};
@@ -99,8 +99,8 @@ fn keep_value<'a>(
     groups: u8,
     set: SetValue<'a>,
 ) -> Result<Option<usize>, Memory>
-    requires { AreInOrder values.old.items }
-    ensures order { OnOk result (AreInOrder values.new.items) }
+    requires { AreCodesInOrder values.old.items }
+    ensures order { OnOk result (AreCodesInOrder values.new.items) }
     ensures kept { IfOk result (λ kept. IfSome kept (λ _. ArePropertiesAfter (entry_of set.entry ∷ []) groups
         (set_map values.old.items) (set_map values.new.items))) }
 {

@@ -4,8 +4,8 @@ ghost use Rattle.std.specs.Prelude.{IsTrue, IfOk, OnOk, MatchOption};
 ghost use Rattle.std.specs.Option.{option_or};
 ghost use Rattle.std.specs.Ordering.{nat_cmp};
 ghost use Rattle.std.specs.FinMap as map;
-ghost use Rattle.prop_map.specs.Block.{block_bytes, entry_bytes, AreBlockEntries, IsBlockEntry, IsPutBetween};
-ghost use Rattle.prop_map.specs.Block.{entries_in, list_length, IsBlock, IsSortedBlock};
+ghost use Rattle.prop_map.specs.Block.{block_bytes, block_entry_bytes, AreBlockEntries, IsBlockEntry, IsPutBetween};
+ghost use Rattle.prop_map.specs.Block.{entries_in, list_length, IsPropertyBlock, IsSortedBlock};
 ghost use Rattle.prop_map.specs.Printing.{printed_list};
 ghost use Rattle.doc_bits.specs.Number.{number_bytes};
 
@@ -48,13 +48,13 @@ pub struct Entries<'a> {
 
 impl<'a> Model for Entries<'a> {
     ghost use Rattle.std.specs.Prelude.{List, ℕ};
-    ghost use Rattle.prop_map.specs.Block.{entries_in, IsBlock};
+    ghost use Rattle.prop_map.specs.Block.{entries_in, IsPropertyBlock};
 
     ghost Value = { List (ℕ × List ℕ) };
 
     ghost view = { λ e. entries_in e.left.now };
 
-    ghost invariant = { λ e. IsBlock e.left.now };
+    ghost invariant = { λ e. IsPropertyBlock e.left.now };
 }
 
 impl<'a> Entries<'a> {
@@ -114,10 +114,10 @@ impl<'a> Entries<'a> {
 /// The code and the value of the first entry of a block, and the bytes behind it.
 #[tactic(auto, using(crate::proofs::BlockLemmas::has_first))]
 fn first_of(block: &[u8]) -> (Code, &[u8], &[u8])
-    requires block { IsBlock block.now }
+    requires block { IsPropertyBlock block.now }
     requires some { 0 < length block.now }
     ensures first { entries_in block.now ≡ (result.0.0, result.1.now) ∷ entries_in result.2.now }
-    ensures rest { IsBlock result.2.now }
+    ensures rest { IsPropertyBlock result.2.now }
 {
     let end = HEAD_LEN + get32(block, 2) as usize;
     (Code(get16(block, 0)), &block[HEAD_LEN..end], &block[end..])
@@ -194,7 +194,7 @@ impl Block {
 
 /// How many bytes the entries of a block have as a list of sprms.
 fn list_len(block: &[u8]) -> u64
-    requires { IsBlock block.now }
+    requires { IsPropertyBlock block.now }
     ensures { result ≡ list_length block.now }
 {
     let mut len = block.len() as u64;
@@ -246,7 +246,7 @@ pub(crate) fn same_code(one: Code, other: Code) -> bool
 
 /// Appends the bytes of an entry. A value of 4 GiB or more is refused.
 pub(crate) fn push_entry(bytes: &mut Bytes, code: Code, value: &[u8]) -> Result<(), Memory>
-    ensures bytes { OnOk result (bytes.new ≡ bytes.old ++ entry_bytes (code.0, value.now)) }
+    ensures bytes { OnOk result (bytes.new ≡ bytes.old ++ block_entry_bytes (code.0, value.now)) }
     ensures entry { OnOk result (IsBlockEntry (code.0, value.now)) }
 {
     if value.len() == 1 {
@@ -262,7 +262,7 @@ pub(crate) fn push_entry(bytes: &mut Bytes, code: Code, value: &[u8]) -> Result<
 
 /// Appends the bytes of an entry whose value is one byte, all at once.
 fn push_small(bytes: &mut Bytes, code: Code, value: u8) -> Result<(), Memory>
-    ensures bytes { OnOk result (bytes.new ≡ bytes.old ++ entry_bytes (code.0, value ∷ [])) }
+    ensures bytes { OnOk result (bytes.new ≡ bytes.old ++ block_entry_bytes (code.0, value ∷ [])) }
     ensures entry { OnOk result (IsBlockEntry (code.0, value ∷ [])) }
 {
     let word = code.0.to_le_bytes();

@@ -2,8 +2,8 @@
 ghost use Rattle.std.specs.Prelude.{◌≡◌, ℕ, [], ◌∷◌, map as each, OnOk, OnErr, IfOk};
 ghost use Rattle.std.specs.Option.{option_map, option_or};
 ghost use Rattle.std.specs.FinMap as map;
-ghost use Rattle.sprm_table.specs.Codes.{is_among};
-ghost use Rattle.prop_map.specs.Acting.{is_kept, ArePropertiesAfter};
+ghost use Rattle.sprm_table.specs.Codes.{is_code_among};
+ghost use Rattle.prop_map.specs.Acting.{is_kept_by_plain, ArePropertiesAfter};
 ghost use Rattle.prop_map.specs.Overlay.{without};
 
 use crate::PropMap;
@@ -78,7 +78,7 @@ impl Draft {
 
     /// Removes all but what sprmCPlain leaves: sprmCFSpec, sprmCFData, sprmCPicLocation and sprmCIstd.
     pub(crate) fn clear(&mut self)
-        ensures { self.new ≡ map.retain_keys self.old is_kept }
+        ensures { self.new ≡ map.retain_keys self.old is_kept_by_plain }
     {
         self.tree.retain(|code, _| matches!(*code, 0x0855 | 0x0806 | 0x6A03 | 0x4A30));
     }
@@ -126,7 +126,7 @@ impl Draft {
 
 /// Whether the code is one of these.
 fn is_one_of(codes: &[Code], code: u16) -> bool
-    ensures { result ≡ is_among code (each (λ c. c.0) codes.now) }
+    ensures { result ≡ is_code_among code (each (λ c. c.0) codes.now) }
 {
     for other in codes {
         if other.0 == code {

@@ -6,14 +6,11 @@ mod acting;
 mod block;
 mod codes;
 mod draft;
-mod grpprl_index;
 mod laws;
 mod map;
 mod modifiers;
 mod overlay;
-mod places;
 mod printing;
-mod seen_grpprls;
 mod values;
 
 pub use acting::{Acted, act};
@@ -26,5 +23,3 @@ pub use laws::{
 };
 pub use map::PropMap;
 pub use modifiers::Modifier;
-pub use places::ListPlaces;
-pub use seen_grpprls::SeenGrpprls;

@@ -23,13 +23,13 @@ pub struct PropMap {
 }
 
 impl Model for PropMap {
-    ghost use Rattle.prop_map.specs.Settings.{Properties, properties_code, behind};
+    ghost use Rattle.prop_map.specs.Settings.{Properties, properties_code, shared_or_empty};
 
     ghost Value = { Properties };
 
     ghost coded = { properties_code };
 
-    ghost view = { λ p. behind p.shared };
+    ghost view = { λ p. shared_or_empty p.shared };
 }
 
 impl PropMap {

@@ -2,7 +2,7 @@
 ghost use Rattle.std.specs.Prelude.{◌≡◌, IfOk, IfSome, OnOk};
 ghost use Rattle.std.specs.Ordering.{nat_cmp};
 ghost use Rattle.std.specs.FinMap as map;
-ghost use Rattle.prop_map.specs.Values.{entries_of, AreInOrder, IsLesserCount};
+ghost use Rattle.prop_map.specs.Values.{set_value_entries, AreCodesInOrder, IsLesserCount};
 
 use crate::block::{Block, push_entry};
 use doc_bits::{Bytes, Memory};
@@ -26,10 +26,10 @@ pub(crate) fn put_value<'a>(
     guess: usize,
     set: SetValue<'a>,
 ) -> Result<Option<usize>, Memory>
-    requires { AreInOrder values.old.items }
-    ensures order { OnOk result (AreInOrder values.new.items) }
-    ensures put { IfOk result (λ put. IfSome put (λ _. entries_of values.new.items
-        ≡ map.put nat_cmp set.entry.code.0 set.entry.value.now (entries_of values.old.items))) }
+    requires { AreCodesInOrder values.old.items }
+    ensures order { OnOk result (AreCodesInOrder values.new.items) }
+    ensures put { IfOk result (λ put. IfSome put (λ _. set_value_entries values.new.items
+        ≡ map.put nat_cmp set.entry.code.0 set.entry.value.now (set_value_entries values.old.items))) }
 {
     let at = place_of(values, guess, set.code);
     if at < values.len() && values[at].code.0 == set.code.0 {
@@ -45,7 +45,7 @@ pub(crate) fn put_value<'a>(
 
 /// How many of the values have lesser codes: as many as are before the guess, where the code is there.
 fn place_of(values: &[SetValue<'_>], guess: usize, code: Code) -> usize
-    requires { AreInOrder values.now }
+    requires { AreCodesInOrder values.now }
     ensures { IsLesserCount values.now code.0 result }
 {
     if guess < values.len() && values[guess].code.0 == code.0 {
@@ -56,7 +56,7 @@ fn place_of(values: &[SetValue<'_>], guess: usize, code: Code) -> usize
 
 /// How many of the values have lesser codes.
 fn lesser_count(values: &[SetValue<'_>], code: Code) -> usize
-    requires { AreInOrder values.now }
+    requires { AreCodesInOrder values.now }
     ensures { IsLesserCount values.now code.0 result }
 {
     let mut low = 0;
@@ -74,8 +74,8 @@ fn lesser_count(values: &[SetValue<'_>], code: Code) -> usize
 
 /// The block of the values.
 pub(crate) fn block_of(alloc: Global, values: &[SetValue<'_>]) -> Result<Block, Memory>
-    requires { AreInOrder values.now }
-    ensures { IfOk result (λ made. made ≡ map.from_sorted (entries_of values.now)) }
+    requires { AreCodesInOrder values.now }
+    ensures { IfOk result (λ made. made ≡ map.from_sorted (set_value_entries values.now)) }
 {
     let mut bytes = Bytes::new(alloc);
     for set in values {

@@ -9,7 +9,7 @@ use Rattle.property_sets.specs.declared.property.TypedValue.{TypedValue}
 use Rattle.property_sets.specs.declared.set.PropertyPair.{PropertyPair}
 use Rattle.property_sets.specs.Sets.{pairs_of}
 use Rattle.property_sets.specs.Values.{value_at}
-use Rattle.property_sets.specs.Properties.{limited, properties_within, value_len, value_of}
+use Rattle.property_sets.specs.Properties.{limited, properties_within, value_len, typed_value_of}
 use Rattle.property_sets.specs.Laws.{ValuesAreBounded}
 
 chosen_short : (is : Bool) (room : ℕ) (value : TypedValue) → (is ≡ true → length value.bytes ≤ room) →
@@ -27,7 +27,7 @@ dictionary_short : (is : Bool) (room : ℕ) (found : Option TypedValue) → valu
 dictionary_short true room found short = omega arith
 dictionary_short false room found short = short
 
-value_short : (set : List ℕ) (room : ℕ) (pair : PropertyPair) → value_len (value_of set room pair) ≤ room
+value_short : (set : List ℕ) (room : ℕ) (pair : PropertyPair) → value_len (typed_value_of set room pair) ≤ room
 value_short set room pair =
     dictionary_short (pair.id == 0) room (limited room (value_at set pair.offset))
     (limited_short room (value_at set pair.offset))
@@ -40,11 +40,11 @@ unfolding properties_within
 empty_room set room = refl
 
 first_room : (set : List ℕ) (room : ℕ) (pair : PropertyPair) (rest : List PropertyPair) →
-    sum_by property_len (properties_within set room (pair ∷ rest)) ≡ value_len (value_of set room pair)
-    + sum_by property_len (properties_within set (room - value_len (value_of set room pair)) rest)
+    sum_by property_len (properties_within set room (pair ∷ rest)) ≡ value_len (typed_value_of set room pair)
+    + sum_by property_len (properties_within set (room - value_len (typed_value_of set room pair)) rest)
 unfolding properties_within
 first_room set room pair rest =
-    let value = value_of set room pair in
+    let value = typed_value_of set room pair in
     sum_by-cons property_len (record { id = pair.id; value = value })
     (properties_within set (room - value_len value) rest)
 
@@ -52,7 +52,7 @@ within_room : (set : List ℕ) (room : ℕ) (pairs : List PropertyPair) →
     sum_by property_len (properties_within set room pairs) ≤ room
 within_room set room [] = omega (arith, empty_room set room)
 within_room set room (pair ∷ rest) =
-    let less = room - value_len (value_of set room pair) in
+    let less = room - value_len (typed_value_of set room pair) in
     omega (arith, first_room set room pair rest, value_short set room pair, within_room set less rest)
 
 pub values_bounded : ValuesAreBounded

@@ -8,8 +8,8 @@ use Rattle.property_sets.specs.declared.property.TypedValue.{TypedValue}
 use Rattle.property_sets.specs.declared.dictionary.PropertyName.{PropertyName}
 use Rattle.property_sets.specs.declared.set.PropertyPair.{PropertyPair}
 use Rattle.property_sets.specs.Sets.{pair_at, pair_count}
-use Rattle.property_sets.specs.Properties.{properties_within, value_len, value_of}
-use Rattle.property_sets.specs.Names.{has_entry, name_at, names_at, next_entry}
+use Rattle.property_sets.specs.Properties.{properties_within, value_len, typed_value_of}
+use Rattle.property_sets.specs.Names.{has_entry, property_name_at, names_at, next_entry}
 
 -- the pairs from one on
 abbrev pub pairs_from : List ℕ → ℕ → List PropertyPair
@@ -34,7 +34,7 @@ pairs_from-end set i all =
 
 -- the property of a pair
 abbrev pub property_of : List ℕ → ℕ → PropertyPair → Property
-property_of set room pair = record { id = pair.id; value = value_of set room pair }
+property_of set room pair = record { id = pair.id; value = typed_value_of set room pair }
 
 pub same_property : {id other : ℕ} {value found : Option TypedValue} → id ≡ other → value ≡ found →
     (let p : Property = record { id = id; value = value } in p) ≡ record { id = other; value = found }
@@ -42,7 +42,7 @@ same_property ids values = cc
 
 properties_cons : (set : List ℕ) (room : ℕ) (pair : PropertyPair) (rest : List PropertyPair) →
     properties_within set room (pair ∷ rest)
-    ≡ property_of set room pair ∷ properties_within set (room - value_len (value_of set room pair)) rest
+    ≡ property_of set room pair ∷ properties_within set (room - value_len (typed_value_of set room pair)) rest
 unfolding properties_within
 properties_cons set room pair rest = refl
 
@@ -50,7 +50,7 @@ properties_cons set room pair rest = refl
 pub properties_step : (all found : List Property) (set : List ℕ) (i room left : ℕ) (property : Property) →
     i < pair_count set → all ≡ found ++ properties_within set room (pairs_from set i) →
     property ≡ property_of set room (pair_at set i) →
-    left ≡ room - value_len (value_of set room (pair_at set i)) →
+    left ≡ room - value_len (typed_value_of set room (pair_at set i)) →
     all ≡ (found ++ property ∷ []) ++ properties_within set left (pairs_from set (i + 1))
 properties_step all found set i room left property below was is less =
     let rest = pairs_from set (i + 1) in
@@ -112,7 +112,7 @@ dictionary_nowhere set i last = ap (find names_dictionary) (pairs_from-end set i
 -- ---- its entries
 
 names_more : (set : List ℕ) (wide : Bool) (n at : ℕ) → has_entry set wide at ≡ true →
-    names_at set wide (suc n) at ≡ name_at set wide at ∷ names_at set wide n (next_entry set wide at)
+    names_at set wide (suc n) at ≡ property_name_at set wide at ∷ names_at set wide n (next_entry set wide at)
 unfolding names_at
 names_more set wide n at there = rw there refl
 
@@ -127,14 +127,14 @@ names_zero set wide at = refl
 
 -- one entry more was read
 pub names_step : (all found : List PropertyName) (set : List ℕ) (wide : Bool) (left less at next : ℕ)
-    (name : PropertyName) → left ≡ suc less → has_entry set wide at ≡ true → name ≡ name_at set wide at →
+    (name : PropertyName) → left ≡ suc less → has_entry set wide at ≡ true → name ≡ property_name_at set wide at →
     next ≡ next_entry set wide at → all ≡ found ++ names_at set wide left at →
     all ≡ (found ++ name ∷ []) ++ names_at set wide less next
 names_step all found set wide left less at next name fewer there is behind was =
     was
     ∙ ap (λ (n : ℕ). found ++ names_at set wide n at) fewer
     ∙ ap (λ (more : List PropertyName). found ++ more) (names_more set wide less at there)
-    ∙ ap (λ (n : ℕ). found ++ name_at set wide at ∷ names_at set wide less n) (sym behind)
+    ∙ ap (λ (n : ℕ). found ++ property_name_at set wide at ∷ names_at set wide less n) (sym behind)
     ∙ ap (λ (n : PropertyName). found ++ n ∷ names_at set wide less next) (sym is)
     ∙ sym (append_assoc found (name ∷ []) (names_at set wide less next))
 

@@ -8,29 +8,29 @@ use Rattle.property_sets.specs.Sets.{pairs_of}
 
 -- [MS-OLEPS] DictionaryEntry: PropertyIdentifier, Length, and a name of so many characters: of one byte each, or of
 -- two in a set of the code page 1200 (CP_WINUNICODE)
-abbrev pub name_len : List ℕ → Bool → ℕ → ℕ
-name_len set wide at = (if wide then 2 else 1) * u32_at set (at + 4)
+abbrev pub entry_name_len : List ℕ → Bool → ℕ → ℕ
+entry_name_len set wide at = (if wide then 2 else 1) * u32_at set (at + 4)
 
 -- the zeros behind a name of two bytes a character, up to a multiple of 4
 abbrev pub name_pad : Bool → ℕ → ℕ
 name_pad wide len = if wide then (4 - len % 4) % 4 else 0
 
 abbrev pub has_entry : List ℕ → Bool → ℕ → Bool
-has_entry set wide at = nat_le (at + 8 + name_len set wide at) (length set)
+has_entry set wide at = nat_le (at + 8 + entry_name_len set wide at) (length set)
 
-abbrev pub name_at : List ℕ → Bool → ℕ → PropertyName
-name_at set wide at =
-    record { id = u32_at set at; bytes = slice_range set (at + 8) (at + 8 + name_len set wide at) }
+abbrev pub property_name_at : List ℕ → Bool → ℕ → PropertyName
+property_name_at set wide at =
+    record { id = u32_at set at; bytes = slice_range set (at + 8) (at + 8 + entry_name_len set wide at) }
 
 -- where the entry behind one begins
 abbrev pub next_entry : List ℕ → Bool → ℕ → ℕ
-next_entry set wide at = at + 8 + name_len set wide at + name_pad wide (name_len set wide at)
+next_entry set wide at = at + 8 + entry_name_len set wide at + name_pad wide (entry_name_len set wide at)
 
 -- so many entries from a place on; those behind one that leaves the set are not read
 unfoldable pub names_at : List ℕ → Bool → ℕ → ℕ → List PropertyName
 names_at set wide zero at = []
 names_at set wide (suc n) at =
-    if has_entry set wide at then name_at set wide at ∷ names_at set wide n (next_entry set wide at) else []
+    if has_entry set wide at then property_name_at set wide at ∷ names_at set wide n (next_entry set wide at) else []
 
 -- the entries of a dictionary at an offset: NumEntries of them
 abbrev pub dictionary_names : List ℕ → Bool → ℕ → List PropertyName
@@ -42,5 +42,5 @@ abbrev pub names_by : List ℕ → Bool → Option PropertyPair → List Propert
 names_by set wide None = []
 names_by set wide (Some pair) = dictionary_names set wide pair.offset
 
-abbrev pub names_of : List ℕ → Bool → List PropertyName
-names_of set wide = names_by set wide (find (λ pair. pair.id == 0) (pairs_of set))
+abbrev pub names_of_set : List ℕ → Bool → List PropertyName
+names_of_set set wide = names_by set wide (find (λ pair. pair.id == 0) (pairs_of set))

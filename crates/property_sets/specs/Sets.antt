@@ -34,7 +34,7 @@ pub record IsSet (set : List ℕ) : Type 0 where
   pub pairs : 8 + 8 * pair_count set ≤ length set
 
 -- these bytes are a set of the stream, in form: it is named, the stream has all of it, and it has its pairs
-pub record IsSetOf (stream : List ℕ) (k : ℕ) (set : List ℕ) : Type 0 where
+pub record IsSetInStream (stream : List ℕ) (k : ℕ) (set : List ℕ) : Type 0 where
   pub named : NamesSet stream k
   pub within : set_begin stream k + set_size stream k ≤ length stream
   pub bytes : set ≡ slice_range stream (set_begin stream k) (set_begin stream k + set_size stream k)

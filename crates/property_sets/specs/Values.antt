@@ -31,8 +31,8 @@ has_eight kind =
     kind == 0x05 || (kind == 0x06 || (kind == 0x07 || (kind == 0x14 || (kind == 0x15 || kind == 0x40))))
 
 -- how many bytes the data of a type has that has no count. Of VT_CLSID 16; the data of all others is not read
-abbrev pub fixed_len : ℕ → ℕ
-fixed_len kind =
+abbrev pub fixed_value_len : ℕ → ℕ
+fixed_value_len kind =
     if has_one kind then 1 else
     if has_two kind then 2 else
     if has_four kind then 4 else
@@ -46,7 +46,7 @@ head_len kind = if counted_width kind == 0 then 4 else 8
 -- how many bytes the data has
 abbrev pub data_len : List ℕ → ℕ → ℕ → ℕ
 data_len set offset kind =
-    if counted_width kind == 0 then fixed_len kind else counted_width kind * u32_at set (offset + 4)
+    if counted_width kind == 0 then fixed_value_len kind else counted_width kind * u32_at set (offset + 4)
 
 -- the value at an offset, where the set has all of it
 abbrev pub typed_value : List ℕ → ℕ → ℕ → Option TypedValue

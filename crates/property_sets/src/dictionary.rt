@@ -1,8 +1,9 @@
 // [MS-OLEPS] Dictionary: names of properties.
 ghost use Rattle.std.specs.Prelude.{◌≡◌, ◌≤◌, ◌<◌, ◌+◌, ◌==◌, ◌++◌, [], ◌∷◌, length, find, IfOk, OnOk, true};
 ghost use Rattle.property_sets.specs.Sets.{IsSet, pairs_of};
-ghost use Rattle.property_sets.specs.Names.{dictionary_names, has_entry, name_at, name_len, name_pad, names_at};
-ghost use Rattle.property_sets.specs.Names.{names_of, next_entry};
+ghost use Rattle.property_sets.specs.Names.{dictionary_names, has_entry, property_name_at, entry_name_len, name_pad};
+ghost use Rattle.property_sets.specs.Names.{names_at};
+ghost use Rattle.property_sets.specs.Names.{names_of_set, next_entry};
 
 use crate::set::{PropertyPair, pair_at, pair_count};
 use doc_bits::{Bytes, Memory, get32};
@@ -26,7 +27,7 @@ pub struct PropertyName {
 /// The names that the dictionary of a set has. With `wide` a character has two bytes: in a set of the code page 1200.
 pub fn property_names(alloc: Global, set: &[u8], wide: bool) -> Result<Vec<PropertyName>, Memory>
     requires { IsSet set.now }
-    ensures { IfOk result (λ found. found.items ≡ names_of set.now wide) }
+    ensures { IfOk result (λ found. found.items ≡ names_of_set set.now wide) }
 {
     match dictionary_pair(set) {
         Some(pair) => dictionary_names(alloc, set, wide, pair.offset),
@@ -107,7 +108,7 @@ fn has_entry(set: &[u8], wide: bool, at: usize) -> bool
 /// How many bytes the name of an entry has.
 fn name_len(set: &[u8], wide: bool, at: usize) -> usize
     requires { at + 8 ≤ length set.now }
-    ensures { result ≡ name_len set.now wide at }
+    ensures { result ≡ entry_name_len set.now wide at }
 {
     let width = if wide { 2 } else { 1 };
     width * get32(set, at + LENGTH) as usize
@@ -116,7 +117,7 @@ fn name_len(set: &[u8], wide: bool, at: usize) -> usize
 /// The entry at a place.
 fn name_at(alloc: Global, set: &[u8], wide: bool, at: usize) -> Result<PropertyName, Memory>
     requires { has_entry set.now wide at ≡ true }
-    ensures { IfOk result (λ name. name ≡ name_at set.now wide at) }
+    ensures { IfOk result (λ name. name ≡ property_name_at set.now wide at) }
 {
     let from = at + NAME;
     let bytes = Bytes::from_slice(alloc, &set[from..from + name_len(set, wide, at)])?;

@@ -2,7 +2,7 @@
 ghost use Rattle.std.specs.Prelude.{◌≡◌, ◌≤◌, ◌++◌, [], ◌∷◌, IfOk, OnOk, Some};
 ghost use Rattle.property_sets.specs.Sets.{IsSet};
 ghost use Rattle.property_sets.specs.Values.{value_at};
-ghost use Rattle.property_sets.specs.Properties.{limited, properties_of, value_len, value_of};
+ghost use Rattle.property_sets.specs.Properties.{limited, properties_of_set, value_len, typed_value_of};
 
 use crate::set::{PropertyPair, pair_at, pair_count};
 use crate::values::{TypedData, value_at};
@@ -27,7 +27,7 @@ pub struct Property {
 /// The properties of a set, in the order of its pairs. Their values have no more bytes in all than the set.
 pub fn properties(alloc: Global, set: &[u8]) -> Result<Vec<Property>, Memory>
     requires { IsSet set.now }
-    ensures { IfOk result (λ found. found.items ≡ properties_of set.now) }
+    ensures { IfOk result (λ found. found.items ≡ properties_of_set set.now) }
 {
     let mut found = Vec::new(alloc);
     let mut room = set.len();
@@ -54,7 +54,7 @@ fn value_of(
     room: usize,
     pair: PropertyPair,
 ) -> Result<Option<TypedValue>, Memory>
-    ensures is { IfOk result (λ value. value ≡ value_of set.now room pair) }
+    ensures is { IfOk result (λ value. value ≡ typed_value_of set.now room pair) }
     ensures short { IfOk result (λ value. value_len value ≤ room) }
 {
     if pair.id == 0 {

@@ -1,6 +1,6 @@
 // The property sets of a stream, and the pairs of a set.
 ghost use Rattle.std.specs.Prelude.{◌≡◌, ◌≤◌, ◌<◌, ◌+◌, ◌*◌, ◌↔◌, ℕ, List, length, IsTrue, MatchOption};
-ghost use Rattle.property_sets.specs.Sets.{IsSet, IsSetOf, NamesSet, pair_at, pair_count};
+ghost use Rattle.property_sets.specs.Sets.{IsSet, IsSetInStream, NamesSet, pair_at, pair_count};
 
 use doc_bits::{get16, get32};
 
@@ -35,8 +35,8 @@ pub struct PropertyPair {
 pub fn property_set(stream: &[u8], k: usize) -> Option<&[u8]>
     requires { k < 2 }
     ensures { MatchOption result
-        ((set : List ℕ) → ¬ IsSetOf stream.now k set)
-        (λ set. IsSetOf stream.now k set.now) }
+        ((set : List ℕ) → ¬ IsSetInStream stream.now k set)
+        (λ set. IsSetInStream stream.now k set.now) }
 {
     if !names_set(stream, k) {
         return None;

@@ -1,6 +1,6 @@
 // [MS-OLEPS] TypedPropertyValue: a type, two bytes of padding, and the data of the type.
 ghost use Rattle.std.specs.Prelude.{◌≡◌, ◌≤◌, ◌+◌, ◌^◌, None, Some, length, MatchOption};
-ghost use Rattle.property_sets.specs.Values.{counted_width, counts_bytes, data_len, fixed_len, head_len};
+ghost use Rattle.property_sets.specs.Values.{counted_width, counts_bytes, data_len, fixed_value_len, head_len};
 ghost use Rattle.property_sets.specs.Values.{has_one, has_two, has_four, has_eight, typed_value, value_at};
 
 use doc_bits::{get16, get32};
@@ -92,7 +92,7 @@ fn counts_bytes(kind: u16) -> bool
 
 /// How many bytes the data of a type has that has no count.
 fn fixed_len(kind: u16) -> usize
-    ensures is { result ≡ fixed_len kind }
+    ensures is { result ≡ fixed_value_len kind }
     ensures most { result ≤ 16 }
 {
     if has_one(kind) {

@@ -1,7 +1,7 @@
 // A text in which a control is its number.
 ghost use Rattle.std.specs.Prelude.{◌≡◌, false, IfOk};
 ghost use Rattle.std.specs.String.{string_bytes};
-ghost use Rattle.property_text.specs.Printable.{is_control, HasNoControls};
+ghost use Rattle.property_text.specs.Printable.{is_control_in_lines, HasNoControls};
 
 use doc_bits::{Memory, Text};
 use std::alloc::Global;
@@ -79,7 +79,7 @@ impl Printable {
 
 /// Whether a character is a control, but a line feed.
 fn is_control(character: char) -> bool
-    ensures { result ≡ is_control character }
+    ensures { result ≡ is_control_in_lines character }
 {
     let code = character as u32;
     (code < 0x20 && code != 10) || (code >= 0x7F && code <= 0x9F)
@@ -87,7 +87,7 @@ fn is_control(character: char) -> bool
 
 /// The lower-case hexadecimal digit of a number below 16.
 fn digit(number: u32) -> char
-    ensures { is_control result ≡ false }
+    ensures { is_control_in_lines result ≡ false }
 {
     match number {
         0 => '0',
@@ -111,7 +111,7 @@ fn digit(number: u32) -> char
 
 /// Adds a character that is no control.
 fn push_visible(text: &mut String, character: char) -> Result<(), Memory>
-    requires visible { is_control character ≡ false }
+    requires visible { is_control_in_lines character ≡ false }
     requires before { HasNoControls (string_bytes text.old) }
     ensures { HasNoControls (string_bytes text.new) }
 {

@@ -15,7 +15,7 @@ use Rattle.doc_bits.proofs.Public.{range_mid, All_at}
 use Rattle.run_lists.specs.declared.runs.Run.{Run}
 use Rattle.run_lists.specs.Spread.{expanded, total_len}
 use Rattle.run_lists.specs.declared.cursor.Cursor.{Cursor}
-use Rattle.run_lists.specs.Places.{IsAt, IsCut}
+use Rattle.run_lists.specs.Places.{IsAtRunBegin, AreCutRuns}
 use Rattle.run_lists.proofs.SpreadLemmas.{spread-nil, spread-append, spread-cons, spread_push, length-spread}
 use Rattle.run_lists.proofs.SpreadLemmas.{extent-nil, extent_push, extent_more, extent-take}
 
@@ -104,7 +104,7 @@ same_in_two {T = T} runs k run front back is front_is back_is counts =
 -- the second of the two begins behind the first
 pub cut_in_two : {T : Type 0} (runs : List (Run T)) (begin place k : ℕ) (front back : Run T) → begin ≤ k →
     k < length runs → total_len (take k runs) + front.count ≡ total_len (take begin runs) + place
-    → IsCut runs (set (insert runs (k + 1) back) k front) begin place (k + 1)
+    → AreCutRuns runs (set (insert runs (k + 1) back) k front) begin place (k + 1)
 cut_in_two {T = T} runs begin place k front back le within here =
     let rest = drop (k + 1) runs in
     let parts = parts_in_two runs k front back within in
@@ -151,7 +151,7 @@ value_in_run {T = T} runs k left run is inside =
 
 -- the values of the cursor's run from a place on
 pub values_at : {T : Type 0} (runs : List (Run T)) (cursor : Cursor) (place k : ℕ) (run : Run T) (value : T) →
-    IsAt runs cursor → cursor.begin ≤ place → slice_get runs cursor.run ≡ Some run →
+    IsAtRunBegin runs cursor → cursor.begin ≤ place → slice_get runs cursor.run ≡ Some run →
     place < cursor.begin + run.count → slice_get (expanded runs) place ≡ Some value → place ≤ k →
     k < cursor.begin + run.count → slice_get (expanded runs) k ≡ Some value
 values_at {T = T} runs cursor place k run value at ahead there inside is le until =
@@ -204,7 +204,8 @@ All-spread P (run ∷ runs) each =
 
 -- whole runs in place of those between two cuts
 pub spliced : {T : Type 0} (old mid new fresh : List (Run T)) (from to i j : ℕ) → from ≤ to →
-    expanded mid ≡ expanded old → expanded new ≡ expanded mid → IsCut old mid 0 from i → IsCut mid new i (to - from) j
+    expanded mid ≡ expanded old → expanded new ≡ expanded mid → AreCutRuns old mid 0 from i → AreCutRuns mid new i (to -
+    from) j
     → expanded (splice new i j fresh) ≡ splice (expanded old) from to (expanded fresh)
 spliced {T = T} old mid new fresh from to i j ordered same same_again first second =
     let nothing : total_len (take 0 old) ≡ 0 = extent-nil T in

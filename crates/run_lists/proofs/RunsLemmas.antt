@@ -10,7 +10,7 @@ use Rattle.std.proofs.lemmas.Option.{slice_get-get_or, slice_get_within}
 use Rattle.run_lists.specs.declared.runs.Run.{Run}
 use Rattle.run_lists.specs.declared.cut.Spot.{Spot}
 use Rattle.run_lists.specs.Spread.{expanded, total_len}
-use Rattle.run_lists.specs.Places.{IsFound, IsCut}
+use Rattle.run_lists.specs.Places.{IsFoundSpot, AreCutRuns}
 use Rattle.run_lists.proofs.SpreadLemmas.{length-spread, extent_all, count_within, spread_push}
 use Rattle.run_lists.proofs.CutLemmas.{same_in_two, cut_in_two, value_in_run, last_grows, spliced}
 
@@ -22,7 +22,8 @@ pub extent_of : {T : Type 0} (runs : List (Run T)) (value : List T) → expanded
 extent_of runs value is = sym (length-spread runs) ∙ ap length is
 
 -- a place before the end is in a run
-pub spot_inside : {T : Type 0} (runs : List (Run T)) (begin place : ℕ) (spot : Spot) → IsFound runs begin place spot →
+pub spot_inside : {T : Type 0} (runs : List (Run T)) (begin place : ℕ) (spot : Spot) → IsFoundSpot runs begin place spot
+    →
     total_len (take begin runs) + place < total_len runs → spot.run < length runs
 spot_inside runs begin place spot found before = elim (cases_lt spot.run (length runs)) [
   | inl inside ↦ inside
@@ -33,7 +34,8 @@ spot_inside runs begin place spot found before = elim (cases_lt spot.run (length
 ]
 
 -- and so is one that does not begin a run
-pub spot_partial : {T : Type 0} (runs : List (Run T)) (begin place : ℕ) (spot : Spot) → IsFound runs begin place spot →
+pub spot_partial : {T : Type 0} (runs : List (Run T)) (begin place : ℕ) (spot : Spot) → IsFoundSpot runs begin place
+    spot →
     (spot.left ≡ 0 → ⊥) → spot.run < length runs
 spot_partial runs begin place spot found some = elim (cases_lt spot.run (length runs)) [
   | inl inside ↦ inside
@@ -42,7 +44,7 @@ spot_partial runs begin place spot found some = elim (cases_lt spot.run (length 
 
 -- how far into it
 pub left_inside : {T : Type 0} (runs : List (Run T)) (begin place : ℕ) (spot : Spot) (d : Run T) →
-    IsFound runs begin place spot → spot.run < length runs → spot.left < (get_or runs spot.run d).count
+    IsFoundSpot runs begin place spot → spot.run < length runs → spot.left < (get_or runs spot.run d).count
 left_inside {T = T} runs begin place spot d found inside =
     let there = found.inside inside in
     let whole : Some (get_or runs spot.run d) ≡ Some there.0 =
@@ -52,7 +54,7 @@ left_inside {T = T} runs begin place spot d found inside =
 
 -- it is no farther than the run is long
 pub left_of : {T : Type 0} (runs : List (Run T)) (begin place : ℕ) (spot : Spot) (run : Run T) →
-    IsFound runs begin place spot → slice_get runs spot.run ≡ Some run → spot.left ≤ run.count
+    IsFoundSpot runs begin place spot → slice_get runs spot.run ≡ Some run → spot.left ≤ run.count
 left_of {T = T} runs begin place spot run found is =
     let there = found.inside (slice_get_within runs spot.run run is) in
     let same : run ≡ there.0 = (let whole : Some run ≡ Some there.0 = sym is ∙ there.1 in cc) in
@@ -70,7 +72,7 @@ number_inside runs number skipped left to some place within = elim (cases_lt num
 
 -- the value there
 pub found_value : {T : Type 0} (runs : List (Run T)) (begin place : ℕ) (spot : Spot) (d : Run T) →
-    IsFound runs begin place spot → total_len (take begin runs) + place < total_len runs
+    IsFoundSpot runs begin place spot → total_len (take begin runs) + place < total_len runs
     → slice_get (expanded runs) (total_len (take begin runs) + place) ≡ Some (get_or runs spot.run d).value
 found_value {T = T} runs begin place spot d found before =
     let inside = spot_inside runs begin place spot found before in
@@ -121,10 +123,10 @@ cut_same {T = T} runs inserted k left one again rest front new cuts count value 
 
 pub cut_is : {T : Type 0} (runs inserted : List (Run T)) (begin place : ℕ) (spot : Spot)
     (one again rest front new : Run T) → CutsRun runs inserted spot.run spot.left one again rest front →
-    IsFound runs begin place spot → new.count ≡ spot.left
-    → IsCut runs (set inserted spot.run new) begin place (spot.run + 1)
+    IsFoundSpot runs begin place spot → new.count ≡ spot.left
+    → AreCutRuns runs (set inserted spot.run new) begin place (spot.run + 1)
 cut_is {T = T} runs inserted begin place spot one again rest front new cuts found count =
-    subst (λ (t : List (Run T)). IsCut runs (set t spot.run new) begin place (spot.run + 1)) (sym cuts.put)
+    subst (λ (t : List (Run T)). AreCutRuns runs (set t spot.run new) begin place (spot.run + 1)) (sym cuts.put)
     (cut_in_two runs begin place spot.run new rest found.begun cuts.within (omega (arith, found.here, count)))
 
 -- ---- more values
@@ -170,7 +172,7 @@ length_more all value more x is few =
 pub spliced_is : {T : Type 0} (old mid last new fresh_runs : List (Run T)) (value fresh : List T) (from to i j : ℕ) →
     from ≤ to → expanded old ≡ value → expanded fresh_runs ≡ fresh → expanded mid ≡ expanded old → expanded last ≡
     expanded mid
-    → IsCut old mid 0 from i → IsCut mid last i (to - from) j → new ≡ splice last i j fresh_runs
+    → AreCutRuns old mid 0 from i → AreCutRuns mid last i (to - from) j → new ≡ splice last i j fresh_runs
     → expanded new ≡ splice value from to fresh
 spliced_is {T = T} old mid last new fresh_runs value fresh from to i j ordered old_is fresh_is same again first second
     is =

@@ -2,7 +2,7 @@
 ghost use Rattle.std.specs.Prelude.{◌≡◌, ◌≤◌, ◌<◌, ◌^◌, length, slice_range, IfOk, OnOk, OnErr};
 ghost use Rattle.doc_bits.specs.Together.{AreTogether};
 ghost use Rattle.run_lists.specs.Spread.{expanded, total_len};
-ghost use Rattle.run_lists.specs.Places.{IsAt, IsFound, IsIn};
+ghost use Rattle.run_lists.specs.Places.{IsAtRunBegin, IsFoundSpot, IsIn};
 ghost use Rattle.run_lists.specs.Changed.{IsChanged};
 
 use crate::cursor::reach;
@@ -73,12 +73,12 @@ pub fn copy_runs<T: Shared>(
     from: usize,
     to: usize,
 ) -> Result<Runs<T>, Memory>
-    requires at { IsAt runs.now cursor.old }
+    requires at { IsAtRunBegin runs.now cursor.old }
     requires ahead { cursor.old.begin ≤ from }
     requires ordered { from ≤ to }
     requires within { to ≤ total_len runs.now }
     requires few { total_len runs.now < 2 ^ 32 }
-    ensures at { IsAt runs.now cursor.new }
+    ensures at { IsAtRunBegin runs.now cursor.new }
     ensures ahead { cursor.new.begin ≤ from }
     ensures stops { from < total_len runs.now → IsIn runs.now cursor.new from }
     ensures copy { IfOk result (λ copy. copy ≡ slice_range (expanded runs.now) from to) }
@@ -97,7 +97,7 @@ fn change_range<T: Shared, C: Change<T>>(
     to: usize,
     by: &C,
 ) -> Result<Runs<T>, Memory>
-    requires found { IsFound runs.now 0 from spot }
+    requires found { IsFoundSpot runs.now 0 from spot }
     requires ordered { from ≤ to }
     requires within { to ≤ total_len runs.now }
     requires few { total_len runs.now < 2 ^ 32 }
@@ -121,7 +121,7 @@ fn change_range<T: Shared, C: Change<T>>(
 
 /// How many runs the values from `from`, whose run and place in it are the spot, to before `to` are in.
 fn run_count<T>(runs: &[Run<T>], spot: Spot, from: usize, to: usize) -> usize
-    requires found { IsFound runs.now 0 from spot }
+    requires found { IsFoundSpot runs.now 0 from spot }
     requires ordered { from ≤ to }
     requires within { to ≤ total_len runs.now }
     requires few { total_len runs.now < 2 ^ 32 }

@@ -1,7 +1,7 @@
 // A walk over a list of runs.
 ghost use Rattle.std.specs.Prelude.{◌≡◌, ◌<◌, ◌≤◌, ◌^◌, ℕ, slice_get, Some};
 ghost use Rattle.run_lists.specs.Spread.{expanded, total_len};
-ghost use Rattle.run_lists.specs.Places.{IsAt, IsFound, IsIn};
+ghost use Rattle.run_lists.specs.Places.{IsAtRunBegin, IsFoundSpot, IsIn};
 
 use crate::{Run, Spot, find};
 
@@ -23,10 +23,10 @@ impl Cursor {
 
 /// The value at a place, which the cursor is not behind and goes to.
 pub fn seek<'a, T>(runs: &'a [Run<T>], cursor: &mut Cursor, place: usize) -> &'a T
-    requires at { IsAt runs.now cursor.old }
+    requires at { IsAtRunBegin runs.now cursor.old }
     requires ahead { cursor.old.begin ≤ place }
     requires within { place < total_len runs.now }
-    ensures at { IsAt runs.now cursor.new }
+    ensures at { IsAtRunBegin runs.now cursor.new }
     ensures ahead { cursor.new.begin ≤ place }
     ensures stops { IsIn runs.now cursor.new place }
     ensures value { slice_get (expanded runs.now) place ≡ Some result.now }
@@ -37,11 +37,11 @@ pub fn seek<'a, T>(runs: &'a [Run<T>], cursor: &mut Cursor, place: usize) -> &'a
 
 /// The value at a place, and where its run ends. The cursor is not behind the place, and goes to it.
 pub fn value_until<'a, T>(runs: &'a [Run<T>], cursor: &mut Cursor, place: usize) -> (&'a T, usize)
-    requires at { IsAt runs.now cursor.old }
+    requires at { IsAtRunBegin runs.now cursor.old }
     requires ahead { cursor.old.begin ≤ place }
     requires within { place < total_len runs.now }
     requires few { total_len runs.now < 2 ^ 32 }
-    ensures at { IsAt runs.now cursor.new }
+    ensures at { IsAtRunBegin runs.now cursor.new }
     ensures ahead { cursor.new.begin ≤ place }
     ensures some { place < result.1 }
     ensures within { result.1 ≤ total_len runs.now }
@@ -54,13 +54,13 @@ pub fn value_until<'a, T>(runs: &'a [Run<T>], cursor: &mut Cursor, place: usize)
 
 /// The run of a place, which the cursor is not behind and goes to.
 pub(crate) fn reach<T>(runs: &[Run<T>], cursor: &mut Cursor, place: usize) -> Spot
-    requires at { IsAt runs.now cursor.old }
+    requires at { IsAtRunBegin runs.now cursor.old }
     requires ahead { cursor.old.begin ≤ place }
     requires within { place ≤ total_len runs.now }
-    ensures at { IsAt runs.now cursor.new }
+    ensures at { IsAtRunBegin runs.now cursor.new }
     ensures ahead { cursor.new.begin ≤ place }
     ensures stops { place < total_len runs.now → IsIn runs.now cursor.new place }
-    ensures found { IsFound runs.now 0 place result }
+    ensures found { IsFoundSpot runs.now 0 place result }
 {
     let spot = find(runs, cursor.run, place - cursor.begin);
     *cursor = Cursor {

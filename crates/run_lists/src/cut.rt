@@ -1,7 +1,7 @@
 // Places of a list in its runs, and runs cut in two.
 ghost use Rattle.std.specs.Prelude.{◌≡◌, ◌+◌, ◌^◌, ◌<◌, ◌≤◌, length, take, IfOk};
 ghost use Rattle.run_lists.specs.Spread.{expanded, total_len};
-ghost use Rattle.run_lists.specs.Places.{IsFound, IsCut};
+ghost use Rattle.run_lists.specs.Places.{IsFoundSpot, AreCutRuns};
 
 use crate::{Run, Shared};
 use doc_bits::Memory;
@@ -19,7 +19,7 @@ pub struct Spot {
 pub fn find<T>(runs: &[Run<T>], begin: usize, place: usize) -> Spot
     requires begun { begin ≤ length runs.now }
     requires within { total_len (take begin runs.now) + place ≤ total_len runs.now }
-    ensures { IsFound runs.now begin place result }
+    ensures { IsFoundSpot runs.now begin place result }
 {
     let mut left = place;
     for run in begin..runs.len() {
@@ -47,7 +47,7 @@ pub(crate) fn cut<T: Shared>(
     requires within { total_len (take begin runs.old.items) + place ≤ total_len runs.old.items }
     requires few { length (expanded runs.old.items) < 2 ^ 32 }
     ensures same { expanded runs.new.items ≡ expanded runs.old.items }
-    ensures cut { IfOk result (IsCut runs.old.items runs.new.items begin place) }
+    ensures cut { IfOk result (AreCutRuns runs.old.items runs.new.items begin place) }
 {
     let spot = find(runs, begin, place);
     if spot.left == 0 {

@@ -5,13 +5,13 @@ use Rattle.doc_bits.specs.Places.{Place, Upto}
 use Rattle.doc_bits.proofs.Public.{place_one, first_agrees}
 use Rattle.run_stages.specs.Lines.{rule_line}
 use Rattle.run_stages.specs.Outcomes.{Outcome, says, IsAfterReading}
-use Rattle.run_stages.specs.Judged.{IsRefused, Judges}
+use Rattle.run_stages.specs.Judged.{IsRuleRefusal, Judges}
 use Rattle.run_stages.proofs.OutcomeLemmas.{said_inside}
 
 -- one refusal
 pub refused_one :
-    (rules : Rules Place) (name : List ℕ) (a b : Outcome) → IsSingle rules → IsRefused rules name a →
-    IsRefused rules name b → a ≡ b
+    (rules : Rules Place) (name : List ℕ) (a b : Outcome) → IsSingle rules → IsRuleRefusal rules name a →
+    IsRuleRefusal rules name b → a ≡ b
 refused_one rules name a b single x y =
     let xy = first_agrees Upto rules x.rule y.rule x.place y.place single x.first y.first in
     let yx = first_agrees Upto rules y.rule x.rule y.place x.place single y.first x.first in

@@ -4,7 +4,7 @@ use Rattle.std.proofs.Common.{length, arith}
 use Rattle.doc_outer.specs.Held.{Files, IsLonger, file_at}
 use Rattle.run_stages.specs.Lines.{missing_line}
 use Rattle.run_stages.specs.Outcomes.{Outcome, says}
-use Rattle.run_stages.specs.Stages.{longest_file, Reads}
+use Rattle.run_stages.specs.Stages.{longest_file, ReadsNamedFile}
 
 -- what a stage that reads says of what the name holds
 abbrev pub Says :
@@ -22,7 +22,7 @@ longer_says name overlong next (Some bytes) outcome long ends = inl (long, ends)
 -- where what the name holds is known, the stage says that, unless the shelf failed
 pub settled :
     (name : List ℕ) (files : Files) (overlong : Outcome → Type 0) (next : List ℕ → Outcome → Type 0)
-    (outcome : Outcome) → Reads name (Some files) overlong next outcome → outcome.status ≢ 4 →
+    (outcome : Outcome) → ReadsNamedFile name (Some files) overlong next outcome → outcome.status ≢ 4 →
     Says name overlong next (file_at files name) outcome
 settled name files overlong next outcome (inl missing) calm =
     subst (λ t. Says name overlong next t outcome) (sym missing.absent) missing.ends
@@ -52,7 +52,7 @@ pub reads_one :
     (same : Type 0) (name : List ℕ) (files : Files) (overlong : Outcome → Type 0) (next : List ℕ → Outcome → Type 0)
     (a b : Outcome) → a.status ≢ 4 → b.status ≢ 4 → (a ≡ b → same) → (overlong a → overlong b → a ≡ b) →
     ((bytes : List ℕ) → file_at files name ≡ Some bytes → next bytes a → next bytes b → same) →
-    Reads name (Some files) overlong next a → Reads name (Some files) overlong next b → same
+    ReadsNamedFile name (Some files) overlong next a → ReadsNamedFile name (Some files) overlong next b → same
 reads_one same name files overlong next a b ca cb equal long one x y =
     says_one same name overlong next (file_at files name) a b equal long one
     (settled name files overlong next a x ca) (settled name files overlong next b y cb)

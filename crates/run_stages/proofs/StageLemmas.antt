@@ -13,15 +13,15 @@ use Rattle.run_stages.specs.declared.stage.Stage.TheVariants.{Go, Stop}
 use Rattle.run_stages.specs.Outcomes.{Outcome, IsAfterReading}
 use Rattle.run_stages.specs.Judged.{Judges}
 use Rattle.run_stages.specs.Leaves.{HasCause, IsCaused, IsOnlyRead}
-use Rattle.run_stages.specs.Stages.{IsMissing, IsShelfFault, IsOverlong, Reads, ReadsFile, BreaksLengthRule}
-use Rattle.run_stages.specs.Reading.{IsTaken, stage_status, Follows}
+use Rattle.run_stages.specs.Stages.{IsMissing, IsShelfFault, IsOverlong, ReadsNamedFile, ReadsFile, BreaksLengthRule}
+use Rattle.run_stages.specs.Reading.{IsFileStage, stage_status, FollowsStage}
 use Rattle.run_stages.proofs.OutcomeLemmas.{said_inside}
 use Rattle.run_stages.proofs.JudgedLemmas.{judged_inside}
 
 -- what a name is read with, where an overlong one ends the run in a way that is said otherwise
 pub taken_weaker :
     (name : List ℕ) (held : Option Files) (one other : Outcome → Type 0) (taken : Stage (List ℕ)) →
-    ((o : Outcome) → one o → other o) → IsTaken name held one taken → IsTaken name held other taken
+    ((o : Outcome) → one o → other o) → IsFileStage name held one taken → IsFileStage name held other taken
 taken_weaker name held one other (Go bytes) step is = is
 taken_weaker name held one other (Stop ending) step (inl missing) = inl missing
 taken_weaker name held one other (Stop ending) step (inr (inl fault)) = inr (inl fault)
@@ -30,15 +30,15 @@ taken_weaker name held one other (Stop ending) step (inr (inr long)) =
 
 stopped_as :
     (name : List ℕ) (held : Option Files) (overlong : Outcome → Type 0) (next : List ℕ → Outcome → Type 0)
-    (ending : Outcome) → IsTaken name held overlong (Stop ending) → Reads name held overlong next ending
+    (ending : Outcome) → IsFileStage name held overlong (Stop ending) → ReadsNamedFile name held overlong next ending
 stopped_as name held overlong next ending (inl missing) = inl missing
 stopped_as name held overlong next ending (inr (inl fault)) = inr (inl fault)
 stopped_as name held overlong next ending (inr (inr long)) = inr (inr (inl long))
 
 pub follow_reads :
     (name : List ℕ) (held : Option Files) (taken : Stage (List ℕ)) (overlong : Outcome → Type 0)
-    (next : List ℕ → Outcome → Type 0) (outcome : Outcome) → IsTaken name held overlong taken →
-    Follows taken next outcome → Reads name held overlong next outcome
+    (next : List ℕ → Outcome → Type 0) (outcome : Outcome) → IsFileStage name held overlong taken →
+    FollowsStage taken next outcome → ReadsNamedFile name held overlong next outcome
 follow_reads name held (Go bytes) overlong next outcome is follows =
     inr (inr (inr (record {
       bytes = bytes;
@@ -48,22 +48,23 @@ follow_reads name held (Go bytes) overlong next outcome is follows =
       goes_on = follows.1;
     })))
 follow_reads name held (Stop ending) overlong next outcome is follows =
-    subst (λ o. Reads name held overlong next o) (sym follows) (stopped_as name held overlong next ending is)
+    subst (λ o. ReadsNamedFile name held overlong next o) (sym follows) (stopped_as name held overlong next ending is)
 
 -- what comes of what was read is an ending of the stage
 pub follows_reads :
     {E : Type 0} (name : List ℕ) (held : Option Files) (taken : Stage (List ℕ)) (overlong : Outcome → Type 0)
-    (next : List ℕ → Outcome → Type 0) (result : Result Outcome E) → IsTaken name held overlong taken →
-    IfOk result (λ o. Follows taken next o) → IfOk result (λ o. Reads name held overlong next o)
+    (next : List ℕ → Outcome → Type 0) (result : Result Outcome E) → IsFileStage name held overlong taken →
+    IfOk result (λ o. FollowsStage taken next o) → IfOk result (λ o. ReadsNamedFile name held overlong next o)
 follows_reads name held taken overlong next result is follows =
-    IfOk-weaker result (λ o. Follows taken next o) (λ o. Reads name held overlong next o)
+    IfOk-weaker result (λ o. FollowsStage taken next o) (λ o. ReadsNamedFile name held overlong next o)
     (λ o f. follow_reads name held taken overlong next o is f) follows
 
 -- the same of a file that is checked
 pub file_reads :
     {E : Type 0} (name : List ℕ) (held : Option Files) (taken : Stage (List ℕ)) (rules : List ℕ → Rules Place)
-    (next : List ℕ → Outcome → Type 0) (result : Result Outcome E) → IsTaken name held (BreaksLengthRule name) taken →
-    IfOk result (λ o. Follows taken (λ bytes. Judges (rules bytes) name (next bytes)) o) →
+    (next : List ℕ → Outcome → Type 0) (result : Result Outcome E) → IsFileStage name held (BreaksLengthRule name) taken
+    →
+    IfOk result (λ o. FollowsStage taken (λ bytes. Judges (rules bytes) name (next bytes)) o) →
     IfOk result (λ o. ReadsFile name held rules next o)
 file_reads name held taken rules next result is follows =
     follows_reads name held taken (BreaksLengthRule name) (λ bytes. Judges (rules bytes) name (next bytes)) result is
@@ -73,11 +74,11 @@ file_reads name held taken rules next result is follows =
 pub whole_follows :
     {E : Type 0} (taken : Stage (List ℕ)) (bytes read : List ℕ) (next : List ℕ → Outcome → Type 0)
     (result : Result Outcome E) → taken ≡ Go bytes → read ≡ bytes → AreBytes read → IfOk result (λ o. next read o) →
-    IfOk result (λ o. Follows taken next o)
+    IfOk result (λ o. FollowsStage taken next o)
 whole_follows taken bytes read next result whole same are goes_on =
-    subst (λ t. IfOk result (λ o. Follows t next o)) (sym whole)
-    (subst (λ b. IfOk result (λ o. Follows (Go b) next o)) same
-    (IfOk-weaker result (λ o. next read o) (λ o. Follows (Go read) next o) (λ o h. (are, h)) goes_on))
+    subst (λ t. IfOk result (λ o. FollowsStage t next o)) (sym whole)
+    (subst (λ b. IfOk result (λ o. FollowsStage (Go b) next o)) same
+    (IfOk-weaker result (λ o. next read o) (λ o. FollowsStage (Go read) next o) (λ o h. (are, h)) goes_on))
 
 judges_map :
     (rules : Rules Place) (name : List ℕ) (P Q : Outcome → Type 0) (outcome : Outcome) → (P outcome → Q outcome) →
@@ -113,7 +114,7 @@ inside_caused status a b c d (inr e) = no_cause status a b c d (λ s. omega (ari
 follow_caused :
     (taken : Stage (List ℕ)) (next : List ℕ → Outcome → Type 0) (outcome : Outcome) (a b c d : ℕ) →
     ((bytes : List ℕ) → next bytes outcome → IsAfterReading outcome.status) →
-    HasCause (stage_status taken) a b c d → Follows taken next outcome → HasCause outcome.status a b c d
+    HasCause (stage_status taken) a b c d → FollowsStage taken next outcome → HasCause outcome.status a b c d
 follow_caused (Go bytes) next outcome a b c d step cause follows =
     inside_caused outcome.status a b c d (step bytes follows.1)
 follow_caused (Stop ending) next outcome a b c d step cause follows =
@@ -123,10 +124,10 @@ follow_caused (Stop ending) next outcome a b c d step cause follows =
 pub follows_caused :
     {S E : Type 0} (shelf : Ghosts S) (before now : S) (taken : Stage (List ℕ)) (next : List ℕ → Outcome → Type 0)
     (result : Result Outcome E) → ((bytes : List ℕ) (o : Outcome) → next bytes o → IsAfterReading o.status) →
-    IsCaused shelf before now (stage_status taken) → IfOk result (λ o. Follows taken next o) →
+    IsCaused shelf before now (stage_status taken) → IfOk result (λ o. FollowsStage taken next o) →
     IfOk result (λ o. IsCaused shelf before now o.status)
 follows_caused shelf before now taken next result step cause follows =
-    IfOk-weaker result (λ o. Follows taken next o) (λ o. IsCaused shelf before now o.status)
+    IfOk-weaker result (λ o. FollowsStage taken next o) (λ o. IsCaused shelf before now o.status)
     (λ o f. follow_caused taken next o (shelf.missed before) (shelf.missed now) (shelf.faults before)
     (shelf.faults now) (λ bytes. step bytes o) cause f) follows
 
@@ -136,7 +137,7 @@ pub file_caused :
     (rules : List ℕ → Rules Place) (next : List ℕ → Outcome → Type 0) (result : Result Outcome E) →
     ((bytes : List ℕ) (o : Outcome) → next bytes o → IsAfterReading o.status) →
     IsCaused shelf before now (stage_status taken) →
-    IfOk result (λ o. Follows taken (λ bytes. Judges (rules bytes) name (next bytes)) o) →
+    IfOk result (λ o. FollowsStage taken (λ bytes. Judges (rules bytes) name (next bytes)) o) →
     IfOk result (λ o. IsCaused shelf before now o.status)
 file_caused shelf before now name taken rules next result step cause follows =
     follows_caused shelf before now taken (λ bytes. Judges (rules bytes) name (next bytes)) result
@@ -146,7 +147,7 @@ file_caused shelf before now name taken rules next result step cause follows =
 pub stopped_caused :
     {S : Type 0} (shelf : Ghosts S) (before now : S) (taken : Stage (List ℕ)) (next : List ℕ → Outcome → Type 0)
     (outcome : Outcome) → ((bytes : List ℕ) → next bytes outcome → IsAfterReading outcome.status) →
-    IsCaused shelf before now (stage_status taken) → Follows taken next outcome →
+    IsCaused shelf before now (stage_status taken) → FollowsStage taken next outcome →
     IsCaused shelf before now outcome.status
 stopped_caused shelf before now taken next outcome step cause follows =
     follow_caused taken next outcome (shelf.missed before) (shelf.missed now) (shelf.faults before)

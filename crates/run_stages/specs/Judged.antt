@@ -6,7 +6,7 @@ use Rattle.run_stages.specs.Lines.{rule_line}
 use Rattle.run_stages.specs.Outcomes.{Outcome, says}
 
 -- a rule is broken, and the line names the first one at its least place
-pub record IsRefused (rules : Rules Place) (name : List ℕ) (outcome : Outcome) : Type 0 where
+pub record IsRuleRefusal (rules : Rules Place) (name : List ℕ) (outcome : Outcome) : Type 0 where
   pub rule : ℕ
   pub place : Place
   pub first : IsFirstPlace rules rule place
@@ -14,4 +14,4 @@ pub record IsRefused (rules : Rules Place) (name : List ℕ) (outcome : Outcome)
 
 -- a stage that checks: a rule is broken, or the next stage goes on
 abbrev pub Judges : Rules Place → (name : List ℕ) → (Outcome → Type 0) → Outcome → Type 0
-Judges rules name next outcome = IsRefused rules name outcome ⊎ (Hold rules × next outcome)
+Judges rules name next outcome = IsRuleRefusal rules name outcome ⊎ (Hold rules × next outcome)

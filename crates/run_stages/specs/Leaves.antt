@@ -1,6 +1,6 @@
 -- What a run leaves of a shelf, and what its status says of it.
 use Rattle.std.specs.Prelude.{◌≡◌, ◌≢◌, ◌⊎◌, ℕ, Option, Some, None}
-use Rattle.doc_outer.specs.Counts.{Rose, GoesOn}
+use Rattle.doc_outer.specs.Counts.{Rose, CountGoesOn}
 use Rattle.doc_outer.specs.Held.{Files, held_with}
 use Rattle.doc_outer.specs.declared.shelf.Shelf.{Ghosts}
 use Rattle.run_stages.specs.Outcomes.{PutFile, Outcome}
@@ -18,8 +18,8 @@ IsCaused shelf before now status =
 -- the shelf was read and nothing else: it holds what it held, counts go on, and no put failed
 pub record IsOnlyRead {S : Type 0} (shelf : Ghosts S) (before now : S) : Type 0 where
   pub kept : shelf.held now ≡ shelf.held before
-  pub faults : GoesOn (shelf.faults before) (shelf.faults now)
-  pub missed : GoesOn (shelf.missed before) (shelf.missed now)
+  pub faults : CountGoesOn (shelf.faults before) (shelf.faults now)
+  pub missed : CountGoesOn (shelf.missed before) (shelf.missed now)
   pub put_faults : shelf.put_faults now ≡ shelf.put_faults before
 
 -- what names hold after a put, where that is known

@@ -4,7 +4,7 @@ use Rattle.doc_bits.specs.declared.places.Where.TheVariants.{File}
 use Rattle.doc_bits.specs.Number.{AreBytes}
 use Rattle.doc_bits.specs.Rules.{Rules}
 use Rattle.doc_bits.specs.Places.{Place}
-use Rattle.doc_outer.specs.Held.{Files, Told, IsAbsent, IsLonger, IsWhole}
+use Rattle.doc_outer.specs.Held.{Files, Told, IsAbsent, IsLonger, HoldsExactly}
 use Rattle.run_stages.specs.Lines.{rule_line, missing_line, shelf_fault_line}
 use Rattle.run_stages.specs.Outcomes.{Outcome, says}
 use Rattle.run_stages.specs.Judged.{Judges}
@@ -32,14 +32,15 @@ pub record IsOverlong
 pub record IsReadWhole
     (name : List ℕ) (held : Option Files) (next : List ℕ → Outcome → Type 0) (outcome : Outcome) : Type 0 where
   pub bytes : List ℕ
-  pub told : Told held name (IsWhole bytes)
+  pub told : Told held name (HoldsExactly bytes)
   pub are : AreBytes bytes
   pub short : length bytes ≤ longest_file
   pub goes_on : next bytes outcome
 
 -- a stage that reads a name: what an overlong file means is the stage's own
-abbrev pub Reads : (name : List ℕ) → Option Files → (Outcome → Type 0) → (List ℕ → Outcome → Type 0) → Outcome → Type 0
-Reads name held overlong next outcome =
+abbrev pub ReadsNamedFile : (name : List ℕ) → Option Files → (Outcome → Type 0) → (List ℕ → Outcome → Type 0) → Outcome
+    → Type 0
+ReadsNamedFile name held overlong next outcome =
     IsMissing name held outcome
     ⊎ (IsShelfFault outcome ⊎ (IsOverlong name held overlong outcome ⊎ IsReadWhole name held next outcome))
 
@@ -51,4 +52,4 @@ BreaksLengthRule name outcome = outcome ≡ says 1 (rule_line name 1 (File, long
 abbrev pub ReadsFile :
     (name : List ℕ) → Option Files → (List ℕ → Rules Place) → (List ℕ → Outcome → Type 0) → Outcome → Type 0
 ReadsFile name held rules next =
-    Reads name held (BreaksLengthRule name) (λ bytes. Judges (rules bytes) name (next bytes))
+    ReadsNamedFile name held (BreaksLengthRule name) (λ bytes. Judges (rules bytes) name (next bytes))

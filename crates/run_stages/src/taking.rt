@@ -5,7 +5,7 @@ ghost use Rattle.run_stages.specs.Lines.{rule_line as rule_of, missing_line as m
 ghost use Rattle.run_stages.specs.Lines.{shelf_fault_line as shelf_fault_of};
 ghost use Rattle.run_stages.specs.Leaves.{IsCaused, IsOnlyRead};
 ghost use Rattle.run_stages.specs.Stages.{BreaksLengthRule};
-ghost use Rattle.run_stages.specs.Reading.{IsTaken, stage_status};
+ghost use Rattle.run_stages.specs.Reading.{IsFileStage, stage_status};
 ghost use Rattle.run_stages.specs.declared.stage.Stage.TheVariants.{Stop};
 
 use crate::ending::Ending;
@@ -32,7 +32,7 @@ pub fn take_whole<S: Shelf>(
 ) -> Result<Stage<Bytes>, Memory>
     requires { IsAfterReading overlong.status }
     ensures read { IsOnlyRead S.Shelf shelf.old shelf.new }
-    ensures is { IfOk result (λ t. IsTaken name.now (S.held shelf.old) (λ o. o ≡ overlong) t) }
+    ensures is { IfOk result (λ t. IsFileStage name.now (S.held shelf.old) (λ o. o ≡ overlong) t) }
     ensures cause { IfOk result (λ t. IsCaused S.Shelf shelf.old shelf.new (stage_status t)) }
 {
     match read_whole(alloc, shelf, name) {
@@ -64,7 +64,7 @@ fn shelf_failure(alloc: Global) -> Result<Stage<Bytes>, Memory>
 /// Reads a document's file whole: one that has more bytes than any file breaks rule 1.
 pub fn take_file<S: Shelf>(alloc: Global, shelf: &mut S, name: &str) -> Result<Stage<Bytes>, Memory>
     ensures read { IsOnlyRead S.Shelf shelf.old shelf.new }
-    ensures is { IfOk result (λ t. IsTaken name.now (S.held shelf.old) (BreaksLengthRule name.now) t) }
+    ensures is { IfOk result (λ t. IsFileStage name.now (S.held shelf.old) (BreaksLengthRule name.now) t) }
     ensures cause { IfOk result (λ t. IsCaused S.Shelf shelf.old shelf.new (stage_status t)) }
 {
     let overlong = overlong_file(alloc, name)?;

@@ -4,7 +4,7 @@ use Rattle.cfb_sectors.specs.Header.{sector_count, fat_sector_count, valid_below
 use Rattle.cfb_layout.specs.Sectors.{units_for}
 use Rattle.cfb_in_place.specs.Change.{added_for, grown_more, sectors_after}
 use Rattle.save_laws.specs.SectorCounts.{TwoLengths}
-use Rattle.save_laws.specs.FastSizes.{SaveCounts, WrittenLengths, AreCounted, AreAppended, reckoned_bytes}
+use Rattle.save_laws.specs.FastSizes.{SaveCounts, WrittenLengths, AreWithinCounts, AreAppended, reckoned_bytes}
 use Rattle.save_laws.specs.FilesBehind.{AreBehind, SavesBehindAreFew}
 
 -- the sectors after, where the added ones but for the FAT's are reckoned as bytes
@@ -18,7 +18,7 @@ few_after file chain grown table bytes within =
 
 -- the sectors that WordDocument gets
 grown_few : (chain table : ℕ) (counts : SaveCounts) (written : WrittenLengths) (before after : TwoLengths) →
-    AreCounted counts written → AreAppended counts written before after → AreBehind chain table before after →
+    AreWithinCounts counts written → AreAppended counts written before after → AreBehind chain table before after →
     512 * grown_more chain after.wd ≤ 2 * counts.units + 512 * counts.runs + 1536 + 512 * counts.sections
 grown_few chain table counts written before after counted appended behind =
     let text = counted.text in

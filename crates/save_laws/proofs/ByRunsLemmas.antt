@@ -7,14 +7,15 @@ use Rattle.std.proofs.lemmas.List.{reverse-append}
 use Rattle.std.proofs.lemmas.List.Sums.{sum_by-cons, sum_by-append}
 use Rattle.std.proofs.lemmas.Option.{same_Some, slice_get_within, slice_get-get_or}
 use Rattle.doc_bits.proofs.Public.{there_is, All_at, in_front, in_back}
-use Rattle.piece_table.specs.Piece.{TextPiece, UnitPlace, unit_bytes, unit_places, flat_pieces, total_length}
+use Rattle.piece_table.specs.Piece.{TextPiece, UnitPlace, unit_bytes, places_of_piece, flat_pieces, total_length}
 use Rattle.piece_table.specs.Piece.{ArePieces}
 use Rattle.piece_table.specs.Piece.{IsTextPiece}
 use Rattle.piece_table.proofs.Public.{flat_pieces-append, flat_pieces-cons, length-unit_places, length-flat_pieces}
 use Rattle.piece_table.proofs.Public.{get_or-unit_places}
 use Rattle.save_laws.specs.Places.{PagedStream}
-use Rattle.save_laws.specs.ByRuns.{IsRunAt, ranges_end, BeginsRun, IsFirstFrom, IsEarlier, IsFirstByRuns, IsLastFrom}
-use Rattle.save_laws.specs.ByRuns.{IsLater, HasBegin, IsBounded}
+use Rattle.save_laws.specs.ByRuns.{IsPageRunAt, ranges_end, BeginsRun, IsFirstFrom, IsEarlier, IsFirstByRuns}
+use Rattle.save_laws.specs.ByRuns.{IsLastFrom}
+use Rattle.save_laws.specs.ByRuns.{IsLater, HasRunBegin, IsBounded}
 use Rattle.save_laws.specs.ByRuns.{AreBounded, BoundedTextsHaveTheirParagraphs}
 
 -- ---- a unit of a piece
@@ -35,16 +36,16 @@ unit_bounded from pieces front behind piece ends j bounded is below within =
       wide = piece.wide;
       modifier = piece.modifier;
     } in
-    let inner : slice_get (unit_places piece) j ≡ Some place =
-    slice_get-get_or (unit_places piece) j place (omega (arith, below, length-unit_places piece))
+    let inner : slice_get (places_of_piece piece) j ≡ Some place =
+    slice_get-get_or (places_of_piece piece) j place (omega (arith, below, length-unit_places piece))
     ∙ ap Some (get_or-unit_places piece j place below) in
-    let flat : flat_pieces pieces ≡ flat_pieces front ++ (unit_places piece ++ flat_pieces behind) =
+    let flat : flat_pieces pieces ≡ flat_pieces front ++ (places_of_piece piece ++ flat_pieces behind) =
     ap flat_pieces is ∙ (flat_pieces-append front (piece ∷ behind) ∙ ap (λ l. flat_pieces front ++ l)
     (flat_pieces-cons piece behind)) in
     let there : slice_get (flat_pieces pieces) (total_length front + j) ≡ Some place =
     ap (λ l. slice_get l (total_length front + j)) flat
-    ∙ in_back (flat_pieces front) (unit_places piece ++ flat_pieces behind) j (total_length front + j) place
-    (in_front (unit_places piece) (flat_pieces behind) j place inner) (omega (arith, length-flat_pieces front)) in
+    ∙ in_back (flat_pieces front) (places_of_piece piece ++ flat_pieces behind) j (total_length front + j) place
+    (in_front (places_of_piece piece) (flat_pieces behind) j place inner) (omega (arith, length-flat_pieces front)) in
     record { end = found.0; here = found.1; is = bounded (total_length front + j) place found.0 there found.1 }
 
 -- the byte behind a unit is that of the next one
@@ -206,22 +207,22 @@ module _ (from : PagedStream) (pieces : List TextPiece) (ends : List Bool) (are 
 
   -- where the runs of a piece's places begin
   starts_at : (front behind : List TextPiece) (piece : TextPiece) (k : ℕ) → pieces ≡ front ++ (piece ∷ behind) →
-      k < piece.len → total_length front + k < length ends → HasBegin from (piece.at + k * unit_bytes piece.wide)
+      k < piece.len → total_length front + k < length ends → HasRunBegin from (piece.at + k * unit_bytes piece.wide)
   starts_at front behind piece k is below within = (units_of front behind piece is k below within).is.here
 
   starts_behind : (front behind : List TextPiece) (piece : TextPiece) → pieces ≡ front ++ (piece ∷ behind) →
       total_length front + piece.len ≤ length ends →
-      HasBegin from (piece.at + piece.len * unit_bytes piece.wide)
+      HasRunBegin from (piece.at + piece.len * unit_bytes piece.wide)
   starts_behind front behind piece is within =
       let some = some_units front behind piece is in
       let j : ℕ = piece.len - 1 in
       let e : suc j ≡ piece.len = omega (arith, some) in
       let unit = units_of front behind piece is j (omega (arith, some)) (omega (arith, some, within)) in
-      subst (λ n. HasBegin from (piece.at + n * unit_bytes piece.wide)) e
-      (subst (HasBegin from) (next_place piece j) unit.is.there)
+      subst (λ n. HasRunBegin from (piece.at + n * unit_bytes piece.wide)) e
+      (subst (HasRunBegin from) (next_place piece j) unit.is.there)
 
   first_exists : (Earlier : ℕ → Type 0) (piece : TextPiece) (begin k : ℕ) →
-      HasBegin from (piece.at + k * unit_bytes piece.wide) → ((first : ℕ) × Earlier first) →
+      HasRunBegin from (piece.at + k * unit_bytes piece.wide) → ((first : ℕ) × Earlier first) →
       (first : ℕ) × IsFirstFrom from (Earlier first) piece begin k first
   first_exists Earlier piece begin k starts earlier = elim (cases_lt piece.at starts.0) [
     | inl above ↦ (
@@ -285,7 +286,8 @@ module _ (from : PagedStream) (pieces : List TextPiece) (ends : List Bool) (are 
       within : (n : ℕ) → n < piece.len → begin + n ≡ m → lim ≡ place (suc n)
       beyond : begin + piece.len ≤ m → place piece.len < lim
 
-    passes : (left k first lim : ℕ) → k + left ≡ piece.len → IsLastAt (begin + k) m → IsRunAt from (place k) first lim →
+    passes : (left k first lim : ℕ) → k + left ≡ piece.len → IsLastAt (begin + k) m → IsPageRunAt from (place k) first
+        lim →
         Passes k first lim
     passes zero k first lim counted at run = record {
       within = λ n below is. let high = at.high in
@@ -302,7 +304,7 @@ module _ (from : PagedStream) (pieces : List TextPiece) (ends : List Bool) (are 
         passes left (suc k) first lim (omega (arith, counted)) next_at next_run)
       where
         by_end : (end : Bool) → slice_get ends (begin + k) ≡ Some end → IsBounded from (place k) piece.wide end →
-            (IsLastAt (begin + suc k) m → IsRunAt from (place (suc k)) first lim → Passes (suc k) first lim) →
+            (IsLastAt (begin + suc k) m → IsPageRunAt from (place (suc k)) first lim → Passes (suc k) first lim) →
             Passes k first lim
         by_end true mark is again =
             let m_is = ends_here k at mark in
@@ -314,8 +316,8 @@ module _ (from : PagedStream) (pieces : List TextPiece) (ends : List Bool) (are 
               beyond = λ high. absurd (omega (arith, m_is, high, counted));
             }
         by_end false none is again =
-            let next : IsRunAt from (place (suc k)) first lim =
-            subst (λ n. IsRunAt from n first lim) (next_place piece k) (is.meets.goes_on first lim run) in
+            let next : IsPageRunAt from (place (suc k)) first lim =
+            subst (λ n. IsPageRunAt from n first lim) (next_place piece k) (is.meets.goes_on first lim run) in
             let rest = again (goes_on k at none) next in
             record { within = rest.within; beyond = rest.beyond }
 
@@ -393,7 +395,7 @@ module _ (from : PagedStream) (pieces : List TextPiece) (ends : List Bool) (are 
 
     -- and the mark is found
     last_found : (Later : Type 0) (left k : ℕ) → k + left ≡ piece.len → IsLastAt (begin + k) m →
-        (IsLastAt (begin + piece.len) m → Later) → HasBegin from (place k) → IsLastFrom from Later piece begin k m
+        (IsLastAt (begin + piece.len) m → Later) → HasRunBegin from (place k) → IsLastFrom from Later piece begin k m
     last_found Later left k counted at later (first, inl (behind, is)) = elim (cases_lt m (begin + piece.len)) [
       | inl inside ↦ absurd (not_behind left k counted at inside behind)
       | inr outside ↦ inr (behind, later (at_end left k counted at outside))

@@ -7,7 +7,7 @@ use Rattle.doc_bits.specs.Rules.{Hold}
 use Rattle.doc_bits.proofs.Public.{there_is, All_at, All-from_slice_get}
 use Rattle.fib_form.specs.Fib.{fib_size, fib_pair}
 use Rattle.fib_form.specs.FibFields.{fib_fields, text_length}
-use Rattle.fib_form.specs.TableParts.{pair_of}
+use Rattle.fib_form.specs.TableParts.{pair_number}
 use Rattle.fib_form.specs.declared.table_parts.TablePart.TheVariants.{Clx}
 use Rattle.fib_form.proofs.Public.{sum-three}
 use Rattle.piece_table.specs.Piece.{TextPiece, UnitPlace, unit_bytes, bare_piece, total_length, place_of_cp}
@@ -15,7 +15,7 @@ use Rattle.piece_table.specs.Piece.{IsTextPiece}
 use Rattle.piece_table.specs.declared.pieces.TextBounds.{TextBounds}
 use Rattle.piece_table.specs.Clx.{IsClx}
 use Rattle.piece_table.specs.ClxRules.{StaysInStream, clx_rules, text_bounds}
-use Rattle.piece_table.specs.Printing.{IsReadBack}
+use Rattle.piece_table.specs.Printing.{IsClxReadBack}
 use Rattle.piece_table.proofs.Public.{read_back}
 use Rattle.file_rules.specs.FileRules.{clx_of}
 use Rattle.doc_read.proofs.Public.{place_at, place_in_piece}
@@ -75,7 +75,7 @@ some_pieces s =
     let counted = sum-three (story_counts s.document s.saved.ends) refl in
     some_by s.saved.pieces (omega (arith, counted, total_is s, main_some s))
 
-clx_read : (s : Save) (at : ℕ) → IsReadBack s.saved.pieces s.saved.clx at (saved_bounds s)
+clx_read : (s : Save) (at : ℕ) → IsClxReadBack s.saved.pieces s.saved.clx at (saved_bounds s)
 clx_read s at =
     read_back s.saved.pieces s.saved.clx at (saved_bounds s) s.is.pieces s.is.printable
     (some_pieces s) (pieces_stay s) s.is.clx
@@ -87,11 +87,11 @@ pub pieces_are : (s : Save) → IsClx (clx_of s.saved.stream.wd s.table) s.saved
 pieces_are s = subst (λ clx. IsClx clx s.saved.pieces) (sym (clx_part s)) (clx_read s 0).is
 
 pub clx_holds : (s : Save) →
-    Hold (clx_rules (clx_of s.saved.stream.wd s.table) (fib_pair s.saved.stream.wd (pair_of Clx)).0
+    Hold (clx_rules (clx_of s.saved.stream.wd s.table) (fib_pair s.saved.stream.wd (pair_number Clx)).0
     (saved_bounds s) (text_length (fib_fields s.saved.stream.wd).ccps))
 clx_holds s =
     let wd = s.saved.stream.wd in
-    let at = (fib_pair wd (pair_of Clx)).0 in
+    let at = (fib_pair wd (pair_number Clx)).0 in
     let bounds = saved_bounds s in
     let len : total_length s.saved.pieces ≡ text_length (fib_fields wd).ccps =
     total_is s ∙ ap text_length (sym s.is.counts) in

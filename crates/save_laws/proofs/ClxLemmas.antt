@@ -15,7 +15,7 @@ use Rattle.doc_bits.specs.Number.{number_bytes}
 use Rattle.doc_bits.proofs.Public.{length-number_bytes}
 use Rattle.prop_map.specs.declared.modifiers.Modifier.{Modifier}
 use Rattle.prop_map.specs.Modifiers.{no_modifier, printed_modifier}
-use Rattle.piece_table.specs.Piece.{TextPiece, UnitPlace, bare_piece, unit_bytes, unit_places, flat_pieces}
+use Rattle.piece_table.specs.Piece.{TextPiece, UnitPlace, bare_piece, unit_bytes, places_of_piece, flat_pieces}
 use Rattle.piece_table.specs.Piece.{IsTextPiece}
 use Rattle.piece_table.specs.ClxRules.{FitsPages}
 use Rattle.piece_table.proofs.Public.{length-unit_places, length-plc_bytes, length-pcd_bytes, printed_short}
@@ -82,7 +82,7 @@ clx_is_short pieces bytes most is short =
 
 -- the first unit of a piece has its modifier
 first_of : (piece : TextPiece) (more : List UnitPlace) (d : UnitPlace) → 1 ≤ piece.len →
-    (get_or (unit_places piece ++ more) 0 d).modifier ≡ piece.modifier
+    (get_or (places_of_piece piece ++ more) 0 d).modifier ≡ piece.modifier
 first_of piece more d some =
     let place : ℕ → UnitPlace = λ (j : ℕ). record {
       at = piece.at + j * unit_bytes piece.wide;
@@ -91,16 +91,16 @@ first_of piece more d some =
     } in
     let len = length-unit_places piece in
     ap (λ (p : UnitPlace). p.modifier)
-    (get_or_append_left (unit_places piece) more d 0 (omega (arith, len, some))
+    (get_or_append_left (places_of_piece piece) more d 0 (omega (arith, len, some))
     ∙ get_or-map-range_with_len place 0 piece.len 0 0 d some (omega arith))
 
 behind : (piece : TextPiece) (more : List UnitPlace) (P : Modifier → Type 0) →
-    All (λ (place : UnitPlace). P place.modifier) (unit_places piece ++ more) →
+    All (λ (place : UnitPlace). P place.modifier) (places_of_piece piece ++ more) →
     All (λ (place : UnitPlace). P place.modifier) more
 behind piece more P all k d low =
-    let parts = length-append (unit_places piece) more in
-    subst (λ (place : UnitPlace). P place.modifier) (get_or-append-add (unit_places piece) more k d)
-    (all (length (unit_places piece) + k) d (omega (arith, low, parts)))
+    let parts = length-append (places_of_piece piece) more in
+    subst (λ (place : UnitPlace). P place.modifier) (get_or-append-add (places_of_piece piece) more k d)
+    (all (length (places_of_piece piece) + k) d (omega (arith, low, parts)))
 
 -- what holds of the modifier of each unit holds of that of each piece
 pub by_units : (P : Modifier → Type 0) (pieces : List TextPiece) → All IsTextPiece pieces →
@@ -112,7 +112,7 @@ by_units P (piece ∷ pieces) each all =
     let more = flat_pieces pieces in
     let some = (All-head IsTextPiece piece pieces each).units.some in
     let units = length-unit_places piece in
-    let parts = length-append (unit_places piece) more in
+    let parts = length-append (places_of_piece piece) more in
     let d : UnitPlace = record { at = 0; wide = true; modifier = no_modifier } in
     All-cons (λ (other : TextPiece). P other.modifier) piece pieces
     (subst P (first_of piece more d some) (all 0 d (omega (arith, some, units, parts))))

@@ -6,9 +6,9 @@ use Rattle.piece_table.specs.Piece.{UnitPlace}
 use Rattle.save_laws.specs.Plans.{Plan, StandsInPlan, IsWrittenPlan}
 use Rattle.save_laws.specs.FastSaves.{StandsInEither, IsGivenBy}
 use Rattle.save_laws.specs.Saves.{HasPropertiesAt}
-use Rattle.save_laws.specs.Places.{PagedStream, Given, StandsInside, GivesAt}
+use Rattle.save_laws.specs.Places.{PagedStream, GivenUnit, StandsInside, GivesAt}
 use Rattle.save_laws.specs.KeptPages.{KeepsBytes, KeepsPages}
-use Rattle.save_laws.specs.Slots.{Slot, shown, loose, last, IsPlaced}
+use Rattle.save_laws.specs.Slots.{Slot, shown, loose, last, IsPlaceForSlot}
 use Rattle.save_laws.specs.Laws.{FastSavesAreSaves}
 use Rattle.save_laws.proofs.PlanLemmas.{plans_give}
 use Rattle.save_laws.proofs.KeptLemmas.{place_kept, kept_places_give, kept_properties_are_there}
@@ -28,7 +28,7 @@ stands_written : (old written : PagedStream) (plan : Plan) (at : ℕ) (wide : Bo
 stands_written old written plan at wide keeps is (inl stands) = place_kept old written plan.base at wide keeps stands
 stands_written old written plan at wide keeps is (inr planned) = planned_stands plan written at wide is planned
 
-gives_written : (old written : PagedStream) (plan : Plan) (at : ℕ) (wide : Bool) (given : Given) →
+gives_written : (old written : PagedStream) (plan : Plan) (at : ℕ) (wide : Bool) (given : GivenUnit) →
     KeepsPages old written plan.base → IsWrittenPlan plan written → IsGivenBy old plan at wide given →
     GivesAt written at wide given
 gives_written old written plan at wide given keeps is (inl gives) =
@@ -37,8 +37,8 @@ gives_written old written plan at wide given keeps is (inr planned) = plans_give
 
 pub placed_written : (old written : PagedStream) (plan : Plan) (place : UnitPlace) (slot : Slot) →
     KeepsPages old written plan.base → IsWrittenPlan plan written →
-    IsPlaced (StandsInEither old plan) (IsGivenBy old plan) place slot →
-    IsPlaced (StandsInside written) (GivesAt written) place slot
+    IsPlaceForSlot (StandsInEither old plan) (IsGivenBy old plan) place slot →
+    IsPlaceForSlot (StandsInside written) (GivesAt written) place slot
 placed_written old written plan place (shown item) keeps is placed = record {
   before = placed.before;
   gives = gives_written old written plan place.at place.wide placed.before keeps is placed.gives;

@@ -16,17 +16,17 @@ use Rattle.direct_props.specs.PageRules.{page_rules, IsValidPlace}
 use Rattle.direct_props.proofs.Public.{right_lists_are_valid, right_places_hold}
 use Rattle.piece_table.specs.Piece.{UnitPlace}
 use Rattle.text_codes.specs.Paragraph.{is_paragraph_end}
-use Rattle.plain_doc.specs.declared.item.Item.{Item}
-use Rattle.plain_doc.specs.Collected.{sections_of}
+use Rattle.doc_model.specs.declared.item.Item.{Item}
+use Rattle.doc_model.specs.Collected.{sections_of}
 use Rattle.file_rules.proofs.Public.{index_of_get}
-use Rattle.file_rules.specs.Source.{part_bytes, story_length}
+use Rattle.file_rules.specs.Source.{table_part_bytes, story_length}
 use Rattle.file_rules.specs.FormatRules.{text_count, judged_units, judged_places, section_ends, is_end, ends_section}
-use Rattle.file_rules.specs.FormatRules.{ends_paragraph, paragraph_places, rules_of_formats}
+use Rattle.file_rules.specs.FormatRules.{ends_paragraph, paragraph_end_places, rules_of_formats}
 use Rattle.doc_read.proofs.Public.{read_at_place, paragraphs_right as ends_right, any_index, ends_more}
 use Rattle.doc_read.specs.Sections.{section_lasts}
 use Rattle.save_laws.specs.Places.{IsMarkedAfter, StandsInside, GivesAt}
-use Rattle.save_laws.specs.Slots.{Slot, shown, loose, last, IsPlaced}
-use Rattle.plain_doc.proofs.Public.{collected_from}
+use Rattle.save_laws.specs.Slots.{Slot, shown, loose, last, IsPlaceForSlot}
+use Rattle.doc_model.proofs.Public.{collected_from}
 use Rattle.save_laws.proofs.SlotLemmas.{slot_unit, IsJudgedSlot, IsShownAs, all_shown, front_slot, main_slot}
 use Rattle.save_laws.proofs.PlaceLemmas.{mark_before, given_there}
 use Rattle.save_laws.proofs.SavedLemmas.{Save, the_source, the_whole, the_flat, main_len, note_len, head_len}
@@ -48,7 +48,7 @@ record IsJudgedAt (s : Save) (cp : ℕ) : Type 0 where
   judged : IsJudgedSlot slot
   place : UnitPlace
   there : slice_get (the_flat s) cp ≡ Some place
-  is : IsPlaced (StandsInside s.saved.stream) (GivesAt s.saved.stream) place slot
+  is : IsPlaceForSlot (StandsInside s.saved.stream) (GivesAt s.saved.stream) place slot
 
 judged_at : (s : Save) (cp : ℕ) → cp < text_count (the_source s) → IsJudgedAt s cp
 judged_at s cp below =
@@ -134,7 +134,7 @@ section_there s cp item here ends =
 
 -- a place whose slot ends a paragraph is right
 paragraph_right : (s : Save) (cp : ℕ) (place : UnitPlace) (slot : Slot) → slice_get (the_whole s) cp ≡ Some slot →
-    IsJudgedSlot slot → IsPlaced (StandsInside s.saved.stream) (GivesAt s.saved.stream) place slot →
+    IsJudgedSlot slot → IsPlaceForSlot (StandsInside s.saved.stream) (GivesAt s.saved.stream) place slot →
     is_paragraph_end (slot_unit slot) (ends_section s.saved.seds (story_length (the_source s) Main) cp) ≡ true →
     IsShownAs IsSavedItem slot →
     IsValidPlace Papx s.saved.stream.wd s.saved.stream.paragraphs place.at
@@ -170,32 +170,35 @@ end_right s cp below ends =
     (All_at (IsShownAs IsSavedItem) (the_whole s) cp j.slot saved j.here))
 
 paragraphs_right : (s : Save) →
-    Hold (page_rules Papx s.saved.stream.wd s.saved.stream.paragraphs (paragraph_places (the_source s) s.saved.seds))
+    Hold (page_rules Papx s.saved.stream.wd s.saved.stream.paragraphs (paragraph_end_places (the_source s)
+    s.saved.seds))
 paragraphs_right s =
     let source = the_source s in
     let seds = s.saved.seds in
     let wd = s.saved.stream.wd in
     let bin = s.saved.stream.paragraphs in
     let most = length-take (text_count source) source.text.units in
-    right_places_hold Papx wd bin (paragraph_places source seds)
+    right_places_hold Papx wd bin (paragraph_end_places source seds)
     (ends_right wd bin source seds (λ cp below ends. end_right s cp (omega (arith, below, most)) ends))
 
 pub formats_hold : (s : Save) → Hold (rules_of_formats (the_source s))
 formats_hold s =
     let source = the_source s in
     let wd = s.saved.stream.wd in
-    let first : Hold (page_rules Chpx wd (part_bytes source PlcfBteChpx) (judged_places source)) =
+    let first : Hold (page_rules Chpx wd (table_part_bytes source PlcfBteChpx) (judged_places source)) =
     subst (λ bin. Hold (page_rules Chpx wd bin (judged_places source))) (sym (characters_part s))
     (characters_right s) in
-    let next : Hold (page_rules Papx wd (part_bytes source PlcfBtePapx) (paragraph_places source s.saved.seds)) =
-    subst (λ bin. Hold (page_rules Papx wd bin (paragraph_places source s.saved.seds))) (sym (paragraphs_part s))
+    let next : Hold (page_rules Papx wd (table_part_bytes source PlcfBtePapx) (paragraph_end_places source
+    s.saved.seds)) =
+    subst (λ bin. Hold (page_rules Papx wd bin (paragraph_end_places source s.saved.seds))) (sym (paragraphs_part s))
     (paragraphs_right s) in (
       s.saved.seds,
       (
         (sections_part s).has,
         (
-          hold_in Wd (page_rules Chpx wd (part_bytes source PlcfBteChpx) (judged_places source)) first,
-          hold_in Wd (page_rules Papx wd (part_bytes source PlcfBtePapx) (paragraph_places source s.saved.seds)) next,
+          hold_in Wd (page_rules Chpx wd (table_part_bytes source PlcfBteChpx) (judged_places source)) first,
+          hold_in Wd (page_rules Papx wd (table_part_bytes source PlcfBtePapx) (paragraph_end_places source
+              s.saved.seds)) next,
         ),
       ),
     )

@@ -14,27 +14,28 @@ use Rattle.doc_bits.specs.declared.places.Where.TheVariants.{Main}
 use Rattle.doc_bits.proofs.Public.{there_is, from_map, get-map, in_front, in_back}
 use Rattle.fkp_pages.specs.declared.kind.PageKind.TheVariants.{Papx}
 use Rattle.fkp_pages.specs.declared.lists.Run.{Run}
-use Rattle.fkp_pages.specs.Rows.{IsInRun, IsRow}
+use Rattle.fkp_pages.specs.Rows.{IsInRun, IsPageRow}
 use Rattle.fkp_pages.specs.Packed.{pages_of}
 use Rattle.fkp_pages.proofs.Public.{runs_have_pages, pages_are_whole}
 use Rattle.piece_table.specs.Piece.{UnitPlace}
 use Rattle.text_codes.specs.Paragraph.{paragraph_mark}
-use Rattle.plain_doc.specs.declared.item.Item.{Item}
-use Rattle.plain_doc.specs.declared.document.Document.{Document}
-use Rattle.plain_doc.specs.Collected.{joined_texts, sections_of}
+use Rattle.doc_model.specs.declared.item.Item.{Item}
+use Rattle.doc_model.specs.declared.document.Document.{Document}
+use Rattle.doc_model.specs.Collected.{joined_texts, sections_of}
 use Rattle.plain_doc.specs.RightDocument.{IsValidDocument}
 use Rattle.plain_doc.specs.RulesOfTexts.{EndsRight, last_unit}
-use Rattle.plain_doc.specs.Settings.{is_inside}
-use Rattle.plain_doc.specs.Stretches.{stretches, joins_next, IsJoined, goes_over, AreStretches}
-use Rattle.plain_doc.proofs.Public.{are_stretches, sound_is_valid}
+use Rattle.doc_model.specs.Settings.{is_inside}
+use Rattle.doc_model.specs.Stretches.{stretches, joins_next, IsJoinedStretch, goes_over, AreStretches}
+use Rattle.plain_doc.proofs.Public.{sound_is_valid}
+use Rattle.doc_model.proofs.Public.{are_stretches}
 use Rattle.full_save.specs.Runs.{run_at, runs_from}
 use Rattle.full_save.specs.Text.{text_items}
 use Rattle.full_save.specs.Sections.{sepxes}
-use Rattle.full_save.specs.WordDocument.{text_at, document_runs, wd_stream}
+use Rattle.full_save.specs.WordDocument.{text_offset, document_runs, wd_stream}
 use Rattle.full_save.proofs.Public.{LaidOut, paragraph_table, stand_sepxes, at_seam}
 use Rattle.save_laws.specs.Places.{PagedStream}
 use Rattle.save_laws.specs.Slots.{Slot, shown, loose, last, StoryEnds, loose_if, last_slots, note_slots, head_slots}
-use Rattle.save_laws.specs.Slots.{story_slots, whole_text}
+use Rattle.save_laws.specs.Slots.{story_slots, document_slots}
 use Rattle.save_laws.specs.FullSaves.{full_saved_text}
 use Rattle.save_laws.specs.ByRuns.{IsBounded, slot_end, text_ends}
 use Rattle.save_laws.specs.FullByRuns.{FullSavesAreBounded}
@@ -59,7 +60,7 @@ not_neither true flipped is = absurd (cc (is))
 not_neither false flipped is = absurd (cc (flipped))
 
 -- an item of a stretch that has a mark is the last one
-mark_last : (part : List Item) (k : ℕ) (item : Item) → IsJoined is_inside part → slice_get part k ≡ Some item →
+mark_last : (part : List Item) (k : ℕ) (item : Item) → IsJoinedStretch is_inside part → slice_get part k ≡ Some item →
     is_some item.mark ≡ true → k + 1 ≡ length part
 mark_last part k item joined here marked =
     let within = slice_get_within part k item here in
@@ -103,7 +104,7 @@ unit_run [] at k item cut here = absurd (none-some item here)
 unit_run (part ∷ parts) at k item cut here = elim (at_seam part (joined_texts parts) k item here) [
   | inl front ↦
       let within = slice_get_within part k item front in
-      let joined = All-head (IsJoined is_inside) part parts cut.joined in
+      let joined = All-head (IsJoinedStretch is_inside) part parts cut.joined in
       record {
         run = run_at Papx at part;
         is = record { number = 0; there = refl; from = omega arith; to = omega (arith, within) };
@@ -121,7 +122,7 @@ unit_run (part ∷ parts) at k item cut here = elim (at_seam part (joined_texts 
       let found = unit_run parts (at + 2 * length part) back.0 item (record {
         whole = refl;
         some = All-tail (λ (p : List Item). 0 < length p) part parts cut.some;
-        joined = All-tail (IsJoined is_inside) part parts cut.joined;
+        joined = All-tail (IsJoinedStretch is_inside) part parts cut.joined;
         apart = λ i one next a b.
             let e : suc (i + 1) ≡ suc i + 1 = omega arith in
             cut.apart (suc i) one next a (subst (λ n. slice_get (part ∷ parts) n ≡ Some next) e b);
@@ -193,8 +194,8 @@ module _ (document : Document) (ends : StoryEnds) where
   behind : List Slot
   behind = last_slots (note_slots document ends ++ head_slots document ends)
 
-  whole_is : whole_text document ends ≡ front ++ behind
-  unfolding whole_text front behind
+  whole_is : document_slots document ends ≡ front ++ behind
+  unfolding document_slots front behind
   whole_is =
       let main = map shown document.main in
       let notes = note_slots document ends in
@@ -211,7 +212,7 @@ module _ (document : Document) (ends : StoryEnds) where
       All-append P (map shown document.main) (notes ++ heads) (shown_ends document.main)
       (All-append P notes heads (story_ends document.notes ends.notes) (story_ends document.heads ends.heads))
 
-  ends_are : text_ends (whole_text document ends) ≡ filter_map slot_end front
+  ends_are : text_ends (document_slots document ends) ≡ filter_map slot_end front
   unfolding behind
   ends_are =
       ap (filter_map slot_end) whole_is
@@ -220,8 +221,8 @@ module _ (document : Document) (ends : StoryEnds) where
       ∙ append-nil (filter_map slot_end front)))
 
   -- the slot of an end
-  pub slot_there : (k : ℕ) (end : Bool) → slice_get (text_ends (whole_text document ends)) k ≡ Some end →
-      IsEndOf (whole_text document ends) k end
+  pub slot_there : (k : ℕ) (end : Bool) → slice_get (text_ends (document_slots document ends)) k ≡ Some end →
+      IsEndOf (document_slots document ends) k end
   slot_there k end here =
       let found = end_of front k end front_ends (ap (λ l. slice_get l k) (sym ends_are) ∙ here) in
       record {
@@ -277,9 +278,9 @@ no_more document ends right k slot (other ∷ others) is here all none =
     absurd (none-some false (ap slot_end same ∙ none))
 
 follows : (document : Document) (ends : StoryEnds) → IsValidDocument document → (k : ℕ) (slot : Slot) →
-    slice_get (whole_text document ends) k ≡ Some slot → slot_end slot ≡ Some false →
-    k + 1 < length (whole_text document ends)
-unfolding whole_text
+    slice_get (document_slots document ends) k ≡ Some slot → slot_end slot ≡ Some false →
+    k + 1 < length (document_slots document ends)
+unfolding document_slots
 follows document ends right k slot here none =
     let main = map shown document.main in
     let notes = note_slots document ends in
@@ -297,7 +298,7 @@ follows document ends right k slot here none =
 
 -- ---- the whole
 
-behind_text : (s : LaidOut) → text_at + 2 * length (text_items s.document) < length (wd_stream s.document)
+behind_text : (s : LaidOut) → text_offset + 2 * length (text_items s.document) < length (wd_stream s.document)
 behind_text s =
     let document = s.document in
     let has = paragraph_table s in
@@ -315,7 +316,7 @@ behind_text s =
       length-append sepxes_are.before behind,
     )
 
-bounded_by : (wd characters : List ℕ) (runs : List Run) (first : ℕ) (row : IsRow Papx wd runs first) (at k : ℕ)
+bounded_by : (wd characters : List ℕ) (runs : List Run) (first : ℕ) (row : IsPageRow Papx wd runs first) (at k : ℕ)
     (marked end : Bool) (more : Type 0) → marked ≡ end → IsUnitRun runs at k marked more → (end ≡ false → more) →
     at + 2 * k + 2 < length wd →
     IsBounded (stream_of_row wd characters runs first row) (at + 2 * k) true end
@@ -330,7 +331,7 @@ full_saves_are_bounded document formed sound short k place end here there =
     let s : LaidOut = record { document = document; formed = formed; right = right; short = short } in
     let ends = full_ends document in
     let items = text_items document in
-    let slots = whole_text document ends in
+    let slots = document_slots document ends in
     let has = paragraph_table s in
     let wd = wd_stream document in
     let runs = document_runs Papx document in
@@ -345,7 +346,7 @@ full_saves_are_bounded document formed sound short k place end here there =
     let cut = are_stretches is_inside items in
     let in_parts : slice_get (joined_texts parts) k ≡ Some (slot_item found.slot) =
     subst (λ (xs : List Item). slice_get xs k ≡ Some (slot_item found.slot)) (sym cut.whole) item in
-    let unit = unit_run parts text_at k (slot_item found.slot) (record {
+    let unit = unit_run parts text_offset k (slot_item found.slot) (record {
       whole = refl;
       some = cut.some;
       joined = cut.joined;
@@ -353,13 +354,13 @@ full_saves_are_bounded document formed sound short k place end here there =
     }) in_parts in
     let long : length (joined_texts parts) ≡ length slots =
     ap length cut.whole ∙ (sym (ap length (whole_items document)) ∙ length-map slots slot_item) in
-    let at : place.at ≡ text_at + 2 * k = ap (λ (p : UnitPlace). p.at) (place_is (length items) k place here) in
+    let at : place.at ≡ text_offset + 2 * k = ap (λ (p : UnitPlace). p.at) (place_is (length items) k place here) in
     let wide : place.wide ≡ true = ap (λ (p : UnitPlace). p.wide) (place_is (length items) k place here) in
     let within = slice_get_within items k (slot_item found.slot) item in
-    let bounded : IsBounded (stream_of_row wd stream.characters runs has.first has.row) (text_at + 2 * k) true end =
-    bounded_by wd stream.characters runs has.first has.row text_at k (is_some (slot_item found.slot).mark) end
+    let bounded : IsBounded (stream_of_row wd stream.characters runs has.first has.row) (text_offset + 2 * k) true end =
+    bounded_by wd stream.characters runs has.first has.row text_offset k (is_some (slot_item found.slot).mark) end
     (k + 1 < length (joined_texts parts)) (item_end found.slot end found.is) unit
     (λ none.
     let more = follows document ends right k found.slot found.here (found.is ∙ ap Some none) in
     omega (arith, more, long)) (omega (arith, behind_text s, within)) in
-    rw (at, wide) (subst (λ (f : PagedStream). IsBounded f (text_at + 2 * k) true end) same bounded)
+    rw (at, wide) (subst (λ (f : PagedStream). IsBounded f (text_offset + 2 * k) true end) same bounded)

@@ -15,36 +15,37 @@ use Rattle.prop_map.specs.Modifiers.{no_modifier, IsCharacterAfter}
 use Rattle.cfb_streams.specs.Contents.{Contents, HasNamed}
 use Rattle.cfb_streams.specs.Names.{table_name, second_table_name}
 use Rattle.fib_form.specs.Fib.{fib_form, fib_pair, fib_which_table}
-use Rattle.fib_form.specs.FibFields.{FibFields, pair_at}
+use Rattle.fib_form.specs.FibFields.{FibFields, listed_pair}
 use Rattle.fib_form.proofs.Public.{form_size-most, pair_at-fib_pairs}
 use Rattle.fkp_pages.specs.declared.kind.PageKind.{PageKind}
 use Rattle.fkp_pages.specs.declared.kind.PageKind.TheVariants.{Chpx, Papx}
 use Rattle.fkp_pages.specs.declared.lists.Run.{Run}
-use Rattle.piece_table.specs.Piece.{TextPiece, UnitPlace, unit_places, flat_pieces, total_length, one_piece}
+use Rattle.piece_table.specs.Piece.{TextPiece, UnitPlace, places_of_piece, flat_pieces, total_length, one_piece}
 use Rattle.piece_table.specs.Printing.{IsPrintedPrc, IsPrintedPcd, IsPrintedClx, pcd_bytes}
 use Rattle.piece_table.proofs.Public.{one_sound, length-flat_pieces, length-unit_places, get_or-unit_places}
 use Rattle.piece_table.proofs.Public.{one_printable}
-use Rattle.plain_doc.specs.declared.item.Mark.{Mark}
-use Rattle.plain_doc.specs.declared.item.Item.{Item}
-use Rattle.plain_doc.specs.declared.document.Document.{Document}
-use Rattle.plain_doc.specs.Collected.{joined_texts, sections_of}
-use Rattle.plain_doc.specs.Document.{IsFormedItem}
-use Rattle.plain_doc.proofs.Public.{sound_is_valid, collected_from}
+use Rattle.doc_model.specs.declared.item.Mark.{Mark}
+use Rattle.doc_model.specs.declared.item.Item.{Item}
+use Rattle.doc_model.specs.declared.document.Document.{Document}
+use Rattle.doc_model.specs.Collected.{joined_texts, sections_of}
+use Rattle.doc_model.specs.Document.{IsFormedItem}
+use Rattle.plain_doc.proofs.Public.{sound_is_valid}
+use Rattle.doc_model.proofs.Public.{collected_from}
 use Rattle.full_save.specs.Text.{extra_mark, with_mark, note_story, head_story, text_items, text_counts}
 use Rattle.fib_form.specs.TableEntries.{TableEntry, IsPartAt}
 use Rattle.full_save.specs.TableText.{table_entries}
 use Rattle.full_save.specs.TableStream.{entries_bytes, entries_pairs}
-use Rattle.full_save.specs.WordDocument.{text_at, document_runs, full_text, full_entries, table_stream, full_fib}
+use Rattle.full_save.specs.WordDocument.{text_offset, document_runs, full_text, full_entries, table_stream, full_fib}
 use Rattle.full_save.specs.WordDocument.{wd_stream}
 use Rattle.full_save.specs.Sections.{seds_from}
-use Rattle.save_laws.specs.Places.{PagedStream, Given, given_of, StandsInside, GivesAt, IsMarkedAfter, IsGivenAfter}
+use Rattle.save_laws.specs.Places.{PagedStream, GivenUnit, given_of, StandsInside, GivesAt, IsMarkedAfter, IsGivenAfter}
 use Rattle.save_laws.specs.Slots.{Slot, shown, loose, last, StoryEnds, loose_if, note_slots, head_slots}
-use Rattle.save_laws.specs.Slots.{last_slots, whole_text, story_counts, IsPlaced}
+use Rattle.save_laws.specs.Slots.{last_slots, document_slots, story_counts, IsPlaceForSlot}
 use Rattle.save_laws.specs.Saves.{saved_entries, HasRanges, AreSavedSections, StandsForText, IsSavedAs}
 use Rattle.file_rules.specs.FileRules.{table_stream_name}
 use Rattle.fkp_pages.specs.Bin.{IsBinPage}
-use Rattle.fkp_pages.specs.Rows.{IsRow, NamesRow}
-use Rattle.save_laws.specs.Plans.{Plan, IsPlanned, AreRunsOf, IsWrittenPlan}
+use Rattle.fkp_pages.specs.Rows.{IsPageRow, NamesRow}
+use Rattle.save_laws.specs.Plans.{Plan, IsPlannedUnit, AreRunsOf, IsWrittenPlan}
 use Rattle.save_laws.specs.FullSaves.{has_items, full_saved_text, HasLayout, FullSavesAreSaves}
 use Rattle.fkp_pages.proofs.Public.{table_of_row}
 use Rattle.save_laws.proofs.PlanLemmas.{plans_give}
@@ -87,8 +88,9 @@ unfolding head_story
 heads_by document = story_by (joined_texts document.heads)
 
 -- the slots of the whole text are the items of the layout
-pub whole_items : (document : Document) → map slot_item (whole_text document (full_ends document)) ≡ text_items document
-unfolding whole_text text_items
+pub whole_items : (document : Document) → map slot_item (document_slots document (full_ends document)) ≡ text_items
+    document
+unfolding document_slots text_items
 whole_items document =
     let main : List Slot = map shown document.main in
     let notes = note_slots document (full_ends document) in
@@ -116,7 +118,7 @@ abbrev the_stream : Document → PagedStream
 the_stream document = (full_saved_text document).stream
 
 abbrev the_plan : Document → Plan
-the_plan document = record { base = text_at; added = map given_of (text_items document) }
+the_plan document = record { base = text_offset; added = map given_of (text_items document) }
 
 runs_of : (document : Document) →
     AreRunsOf (the_plan document) (document_runs Chpx document) (document_runs Papx document)
@@ -125,16 +127,16 @@ runs_of document =
     record {
       character = λ k given here.
           let found = from_map given_of items k given here in
-          let run = character_run text_at items k found.0 found.1.0 in
-          (run.0, (run.1.0, run.1.1 ∙ ap (λ (g : Given). g.chp) found.1.1));
+          let run = character_run text_offset items k found.0 found.1.0 in
+          (run.0, (run.1.0, run.1.1 ∙ ap (λ (g : GivenUnit). g.chp) found.1.1));
       paragraph = λ k given mark here marked.
           let found = from_map given_of items k given here in
-          paragraph_run text_at items k found.0 mark found.1.0 (ap (λ (g : Given). g.mark) found.1.1 ∙ marked);
+          paragraph_run text_offset items k found.0 mark found.1.0 (ap (λ (g : GivenUnit). g.mark) found.1.1 ∙ marked);
     }
 
 -- a row's own table names its pages
 names_own : (kind : PageKind) (wd : List ℕ) (runs : List Run) (table : List ℕ) → HasRowTable kind wd runs table →
-    (first : ℕ) × ((row : IsRow kind wd runs first) × NamesRow row table)
+    (first : ℕ) × ((row : IsPageRow kind wd runs first) × NamesRow row table)
 names_own kind wd runs table has =
     (has.first, (has.row, λ fc number is. subst (λ bin. IsBinPage bin fc number) has.table_is is))
 
@@ -149,7 +151,7 @@ written s =
       within = omega (arith, count, within);
       units = λ k given here.
           let found = from_map given_of items k given here in
-          unit_there s k found.0 found.1.0 ∙ ap (λ (g : Given). g.unit) found.1.1;
+          unit_there s k found.0 found.1.0 ∙ ap (λ (g : GivenUnit). g.unit) found.1.1;
       characters = document_runs Chpx d;
       paragraphs = document_runs Papx d;
       runs = runs_of d;
@@ -167,11 +169,11 @@ pub mark_stays : (mark : Option Mark) → IsMarkedAfter no_modifier mark mark
 mark_stays None = tt
 mark_stays (Some mark) = (refl, λ code. ap (λ o. option_or o (get mark.pap code)) (sym (get-empty _ code)))
 
-pub given_after : (given : Given) → IsGivenAfter no_modifier given given
+pub given_after : (given : GivenUnit) → IsGivenAfter no_modifier given given
 given_after given = record { unit = refl; characters = nothing_done given.chp; mark = mark_stays given.mark }
 
 placed_by : (stream : PagedStream) (at : ℕ) (slot : Slot) → GivesAt stream at true (given_of (slot_item slot)) →
-    IsPlaced (StandsInside stream) (GivesAt stream) (record { at = at; wide = true; modifier = no_modifier }) slot
+    IsPlaceForSlot (StandsInside stream) (GivesAt stream) (record { at = at; wide = true; modifier = no_modifier }) slot
 placed_by stream at (shown item) gives =
     record { before = given_of item; gives = gives; after = given_after (given_of item) }
 placed_by stream at loose gives = record { given = given_of extra_mark; unit = refl; marked = refl; gives = gives }
@@ -179,75 +181,75 @@ placed_by stream at last gives = gives.stands
 
 -- the places of the one piece
 abbrev the_piece : ℕ → TextPiece
-the_piece len = record { at = text_at; wide = true; len = len; modifier = no_modifier }
+the_piece len = record { at = text_offset; wide = true; len = len; modifier = no_modifier }
 
 abbrev pub the_place : ℕ → UnitPlace
-the_place k = record { at = text_at + 2 * k; wide = true; modifier = no_modifier }
+the_place k = record { at = text_offset + 2 * k; wide = true; modifier = no_modifier }
 
-pub place_is : (len k : ℕ) (place : UnitPlace) → slice_get (flat_pieces (one_piece text_at len)) k ≡ Some place →
+pub place_is : (len k : ℕ) (place : UnitPlace) → slice_get (flat_pieces (one_piece text_offset len)) k ≡ Some place →
     place ≡ the_place k
 unfolding flat_pieces
 place_is len k place here =
-    let all : flat_pieces (one_piece text_at len) ≡ unit_places (the_piece len) =
-    append-nil (unit_places (the_piece len)) in
-    let there : slice_get (unit_places (the_piece len)) k ≡ Some place =
+    let all : flat_pieces (one_piece text_offset len) ≡ places_of_piece (the_piece len) =
+    append-nil (places_of_piece (the_piece len)) in
+    let there : slice_get (places_of_piece (the_piece len)) k ≡ Some place =
     subst (λ (places : List UnitPlace). slice_get places k ≡ Some place) all here in
-    let within = slice_get_within (unit_places (the_piece len)) k place there in
+    let within = slice_get_within (places_of_piece (the_piece len)) k place there in
     let count = length-unit_places (the_piece len) in
     let below : k < len = omega (arith, within, count) in
     let got = get_or-unit_places (the_piece len) k place below in
-    let e : text_at + k * 2 ≡ text_at + 2 * k = omega arith in
-    sym (get_or_from_slice_get (unit_places (the_piece len)) k place place there)
+    let e : text_offset + k * 2 ≡ text_offset + 2 * k = omega arith in
+    sym (get_or_from_slice_get (places_of_piece (the_piece len)) k place place there)
     ∙ (got ∙ (λ i. record { at = e i; wide = true; modifier = no_modifier }))
 
 full_placed : (s : LaidOut) →
-    StandsForText (the_stream s.document) (one_piece text_at (length (text_items s.document))) s.document
+    StandsForText (the_stream s.document) (one_piece text_offset (length (text_items s.document))) s.document
     (full_ends s.document)
 full_placed s =
     let d = s.document in
     let items = text_items d in
-    let slots = whole_text d (full_ends d) in
+    let slots = document_slots d (full_ends d) in
     let stream = the_stream d in
-    let flat = length-flat_pieces (one_piece text_at (length items)) in
+    let flat = length-flat_pieces (one_piece text_offset (length items)) in
     let whole = length-map slots slot_item in
     let same = ap length (whole_items d) in
-    let one : total_length (one_piece text_at (length items)) ≡ length items = omega arith in
+    let one : total_length (one_piece text_offset (length items)) ≡ length items = omega arith in
     record {
       len = omega (arith, flat, whole, same, one);
       each = λ k place slot here there.
           let item : slice_get items k ≡ Some (slot_item slot) =
           subst (λ (xs : List Item). slice_get xs k ≡ Some (slot_item slot)) (whole_items d)
           (get-map slot_item slots k slot there) in
-          let planned : IsPlanned (the_plan d) (text_at + 2 * k) true (given_of (slot_item slot)) = record {
+          let planned : IsPlannedUnit (the_plan d) (text_offset + 2 * k) true (given_of (slot_item slot)) = record {
             number = k;
             there = get-map given_of items k (slot_item slot) item;
             here = refl;
             two_bytes = refl;
           } in
           let gives =
-          plans_give (the_plan d) stream (text_at + 2 * k) true (given_of (slot_item slot)) (written s) planned in
-          subst (λ p. IsPlaced (StandsInside stream) (GivesAt stream) p slot)
+          plans_give (the_plan d) stream (text_offset + 2 * k) true (given_of (slot_item slot)) (written s) planned in
+          subst (λ p. IsPlaceForSlot (StandsInside stream) (GivesAt stream) p slot)
           (sym (place_is (length items) k place here))
-          (placed_by stream (text_at + 2 * k) slot gives);
+          (placed_by stream (text_offset + 2 * k) slot gives);
     }
 
 -- ---- the pieces
 
-one_pcd : (len k : ℕ) (piece : TextPiece) → slice_get (one_piece text_at len) k ≡ Some piece →
-    IsPrintedPcd [] piece (slice_index_or (pcd_bytes (record { at = text_at; wide = true; len = len }) 0 ∷ []) k [])
+one_pcd : (len k : ℕ) (piece : TextPiece) → slice_get (one_piece text_offset len) k ≡ Some piece →
+    IsPrintedPcd [] piece (slice_index_or (pcd_bytes (record { at = text_offset; wide = true; len = len }) 0 ∷ []) k [])
 one_pcd len zero piece here =
-    subst (λ p. IsPrintedPcd [] p (pcd_bytes (record { at = text_at; wide = true; len = len }) 0))
+    subst (λ p. IsPrintedPcd [] p (pcd_bytes (record { at = text_offset; wide = true; len = len }) 0))
     (same_Some (the_piece len) piece here)
     (record { prm = 0; names = inl (refl, refl); spelt = refl })
 one_pcd len (suc k) piece here = absurd (none-some piece here)
 
 one_printed : (document : Document) →
-    IsPrintedClx (one_piece text_at (length (text_items document))) (full_saved_text document).clx
+    IsPrintedClx (one_piece text_offset (length (text_items document))) (full_saved_text document).clx
 one_printed document = record {
   prcs = [];
-  pcds = pcd_bytes (record { at = text_at; wide = true; len = length (text_items document) }) 0 ∷ [];
+  pcds = pcd_bytes (record { at = text_offset; wide = true; len = length (text_items document) }) 0 ∷ [];
   few = omega arith;
-  each = All-nil (IsPrintedPrc (one_piece text_at (length (text_items document))));
+  each = All-nil (IsPrintedPrc (one_piece text_offset (length (text_items document))));
   once = λ i j modifier here there. absurd (none-some modifier here);
   count = refl;
   pcd = one_pcd (length (text_items document));
@@ -285,8 +287,8 @@ unfolding table_stream full_fib
 full_part s k part here =
     let d = s.document in
     let stands = entry_stands (full_entries d) k part (table_numbered d (full_text d) s.formed.carried.lists) here in
-    let pairs : pair_at (entries_pairs (full_entries d)) part.number ≡ fib_pair (wd_stream d) part.number =
-    ap (λ (fib : FibFields). pair_at fib.pairs part.number) (sym (fib_read s).fields)
+    let pairs : listed_pair (entries_pairs (full_entries d)) part.number ≡ fib_pair (wd_stream d) part.number =
+    ap (λ (fib : FibFields). listed_pair fib.pairs part.number) (sym (fib_read s).fields)
     ∙ pair_at-fib_pairs (wd_stream d) part.number stands.below in
     subst (λ pair. IsPartAt (entries_bytes (full_entries d)) pair part) pairs stands.there
 
@@ -314,8 +316,8 @@ saved_of s contents has =
     let which : fib_which_table (wd_stream d) ≡ 1 = ap (λ (fib : FibFields). fib.which_table) read.fields in
     let named : table_stream_name (wd_stream d) ≡ second_table_name = ap table_name which in
     record {
-      pieces = one_sound text_at (length (text_items d)) few.some few.all (omega (arith, few.all));
-      printable = one_printable text_at (length (text_items d)) (omega arith);
+      pieces = one_sound text_offset (length (text_items d)) few.some few.all (omega (arith, few.all));
+      printable = one_printable text_offset (length (text_items d)) (omega arith);
       clx = one_printed d;
       text = full_placed s;
       characters = has_ranges Chpx (wd_stream d) (document_runs Chpx d) (the_stream d).characters (character_table s);

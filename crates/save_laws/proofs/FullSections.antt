@@ -19,7 +19,7 @@ use Rattle.direct_props.specs.Direct.{MakesProperties}
 use Rattle.style_sheet.specs.Counted.{written_counted}
 use Rattle.doc_parts.specs.declared.lists.Sed.{Sed}
 use Rattle.file_rules.specs.SectionRules.{sepx_list}
-use Rattle.plain_doc.specs.TextLists.{starts_from}
+use Rattle.doc_model.specs.TextLists.{starts_from}
 use Rattle.full_save.specs.Sections.{is_plain_section, sepx_bytes, sepxes, no_sepx, fc_sepx, seds_from}
 use Rattle.save_laws.specs.Saves.{HasPropertiesAt, AreSavedSections}
 use Rattle.full_save.proofs.Public.{length-seds}

@@ -10,12 +10,12 @@ use Rattle.cfb_streams.specs.Names.{wd_name}
 use Rattle.cfb_streams.proofs.Public.{contents_unique}
 use Rattle.fib_form.specs.declared.table_parts.TablePart.TheVariants.{Clx}
 use Rattle.piece_table.specs.Piece.{flat_pieces}
-use Rattle.plain_doc.specs.declared.document.Document.{Document}
+use Rattle.doc_model.specs.declared.document.Document.{Document}
 use Rattle.file_rules.specs.Units.{unit_at}
 use Rattle.file_rules.specs.SectionRules.{sed_rules}
 use Rattle.file_rules.specs.FormatRules.{text_count}
 use Rattle.file_rules.specs.PartRules.{part_rules}
-use Rattle.file_rules.specs.FileRules.{HasText, source_of, table_stream_name, loading_rules, file_rules}
+use Rattle.file_rules.specs.FileRules.{HasFileText, doc_source_of, table_stream_name, loading_rules, file_rules}
 use Rattle.file_rules.proofs.Public.{text_one, sections_one, parts_one}
 use Rattle.doc_read.proofs.Public.{AreByteFields, parts_of, items_there, named_bytes, text_held, text_fits}
 use Rattle.doc_read.proofs.Public.{part_bytes_are, part_lists_there, section_maps_there, ready, section_maps_one}
@@ -30,19 +30,19 @@ use Rattle.save_laws.proofs.GivenLemmas.{ReadText}
 -- the rules hold of the text and the streams that the file was read by
 pub record AreHeld (file : List ℕ) (parts : FileParts) : Type 0 where
   pub loading : Hold (loading_rules parts.contents)
-  pub parts_hold : Hold (part_rules (source_of parts.text))
+  pub parts_hold : Hold (part_rules (doc_source_of parts.text))
 
 pub held_rules : (file : List ℕ) (parts : FileParts) → Hold (file_rules file) → HasFileParts file parts →
     AreHeld file parts
 held_rules file parts h has =
     let contents : h.1.0 ≡ parts.contents = contents_unique file h.1.0 parts.contents h.1.1.0 has.has_contents in
     let rest = h.1.1.1 in
-    let text : HasText parts.contents rest.1.0 = subst (λ c. HasText c rest.1.0) contents rest.1.1.0 in
+    let text : HasFileText parts.contents rest.1.0 = subst (λ c. HasFileText c rest.1.0) contents rest.1.1.0 in
     let same : rest.1.0 ≡ parts.text =
     text_one file parts.contents rest.1.0 parts.text has.has_contents text has.has_text in
     record {
       loading = subst (λ c. Hold (loading_rules c)) contents rest.0;
-      parts_hold = subst (λ t. Hold (part_rules (source_of t))) same rest.1.1.1;
+      parts_hold = subst (λ t. Hold (part_rules (doc_source_of t))) same rest.1.1.1;
     }
 
 -- the text of the file with what was read of it
@@ -57,7 +57,7 @@ read_text file document bytes held =
     let contents = parts.contents in
     let text = parts.text in
     let has = held.has_parts in
-    let source = source_of text in
+    let source = doc_source_of text in
     let rules = held_rules file parts held.rules has in
     let wd = named_bytes file contents wd_name text.wd bytes has.has_contents has.has_text.has_wd in
     let table =

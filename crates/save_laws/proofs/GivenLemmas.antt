@@ -20,25 +20,25 @@ use Rattle.direct_props.proofs.Public.{right_places_have_lists}
 use Rattle.piece_table.specs.Piece.{UnitPlace, flat_pieces}
 use Rattle.piece_table.specs.Clx.{IsClx}
 use Rattle.text_codes.specs.Paragraph.{is_paragraph_end}
-use Rattle.plain_doc.specs.declared.item.Item.{Item}
-use Rattle.plain_doc.specs.declared.item.Mark.{Mark}
-use Rattle.plain_doc.specs.declared.document.Document.{Document}
-use Rattle.plain_doc.specs.Collected.{joined_texts}
+use Rattle.doc_model.specs.declared.item.Item.{Item}
+use Rattle.doc_model.specs.declared.item.Mark.{Mark}
+use Rattle.doc_model.specs.declared.document.Document.{Document}
+use Rattle.doc_model.specs.Collected.{joined_texts}
 use Rattle.file_rules.specs.Source.{story_begin, story_length, DocSource}
 use Rattle.file_rules.specs.Units.{unit_at}
-use Rattle.file_rules.specs.EndRules.{last_end, IsLooseUnit, HasLooseUnit}
+use Rattle.file_rules.specs.EndRules.{last_text_end, IsLooseUnit, HasLooseUnit}
 use Rattle.file_rules.specs.FormatRules.{text_count}
 use Rattle.file_rules.specs.PartRules.{PartLists, HasPartLists, part_rules}
-use Rattle.file_rules.specs.FileRules.{FileText, source_of, clx_of, table_rules}
+use Rattle.file_rules.specs.FileRules.{FileText, doc_source_of, clx_of, table_rules}
 use Rattle.file_rules.proofs.Public.{place_stands}
-use Rattle.doc_read.specs.Items.{TextParts, IsMarkAt, IsItemAt, HoldsItems, HoldsTexts}
+use Rattle.doc_read.specs.Items.{TextParts, IsDirectMarkAt, IsItemAt, HoldsItems, HoldsTexts}
 use Rattle.doc_read.specs.Texts.{AreCutsWithin}
 use Rattle.doc_read.proofs.Public.{TextFits, parts_of, RightText, character_place, mark_place}
 use Rattle.doc_read.specs.Holds.{head_texts}
 use Rattle.save_laws.specs.Places.{PagedStream, given_of, GivesMark, StandsInside, GivesAt, IsMarkedAfter}
-use Rattle.save_laws.specs.GivenFiles.{stream_of}
-use Rattle.save_laws.specs.Slots.{Slot, shown, loose, ReadsAfter, IsPlaced}
-use Rattle.plain_doc.proofs.Public.{length-joined, next_joined}
+use Rattle.save_laws.specs.GivenFiles.{paged_stream_of}
+use Rattle.save_laws.specs.Slots.{Slot, shown, loose, ReadsAfter, IsPlaceForSlot}
+use Rattle.doc_model.proofs.Public.{length-joined, next_joined}
 
 -- a text that was read, with what was read of it
 pub record ReadText : Type 0 where
@@ -47,22 +47,23 @@ pub record ReadText : Type 0 where
   pub maps : List Properties
   pub document : Document
   pub table : Hold (table_rules text.wd text.table)
-  pub parts_hold : Hold (part_rules (source_of text))
+  pub parts_hold : Hold (part_rules (doc_source_of text))
   pub clx : IsClx (clx_of text.wd text.table) text.pieces
   pub fits : TextFits text.wd text.pieces
-  pub has : HasPartLists (source_of text) lists
-  pub main : HoldsItems (parts_of text lists maps) 0 (story_length (source_of text) Main) document.main
+  pub has : HasPartLists (doc_source_of text) lists
+  pub main : HoldsItems (parts_of text lists maps) 0 (story_length (doc_source_of text) Main) document.main
   pub notes :
-      HoldsTexts (parts_of text lists maps) (story_begin (source_of text) Notes) lists.notes (length lists.notes - 1)
+      HoldsTexts (parts_of text lists maps) (story_begin (doc_source_of text) Notes) lists.notes (length lists.notes -
+      1)
       document.notes
   pub heads :
-      HoldsTexts (parts_of text lists maps) (story_begin (source_of text) Heads) lists.heads (head_texts lists)
+      HoldsTexts (parts_of text lists maps) (story_begin (doc_source_of text) Heads) lists.heads (head_texts lists)
       document.heads
   pub each :
-      (cp : ℕ) → cp < text_count (source_of text) → (item : Item) × IsItemAt (parts_of text lists maps) cp item
+      (cp : ℕ) → cp < text_count (doc_source_of text) → (item : Item) × IsItemAt (parts_of text lists maps) cp item
 
 abbrev pub the_text : ReadText → DocSource
-the_text r = source_of r.text
+the_text r = doc_source_of r.text
 
 abbrev pub read_parts : ReadText → TextParts
 read_parts r = parts_of r.text r.lists r.maps
@@ -71,7 +72,7 @@ abbrev pub read_places : ReadText → List UnitPlace
 read_places r = flat_pieces r.text.pieces
 
 abbrev pub read_stream : ReadText → PagedStream
-read_stream r = stream_of (source_of r.text)
+read_stream r = paged_stream_of (doc_source_of r.text)
 
 -- ---- each place is in the stream
 
@@ -96,7 +97,7 @@ record IsMarkGiven (stream : PagedStream) (at : ℕ) (modifier : Modifier) (mark
   after : IsMarkedAfter modifier before mark
 
 mark_given : (stream : PagedStream) (at : ℕ) (modifier : Modifier) (ends : Bool) (mark : Option Mark) →
-    IsMarkAt ends stream.wd stream.paragraphs at modifier mark →
+    IsDirectMarkAt ends stream.wd stream.paragraphs at modifier mark →
     (ends ≡ true → IsValidPlace Papx stream.wd stream.paragraphs at) → IsMarkGiven stream at modifier mark
 mark_given stream at modifier true None is right = absurd is
 mark_given stream at modifier false (Some mark) is right = absurd is
@@ -121,7 +122,7 @@ mark_given stream at modifier true (Some mark) is right =
 abbrev pub StandsAt : ReadText → ℕ → Slot → Type 0
 StandsAt r cp slot =
     (place : UnitPlace) → slice_get (read_places r) cp ≡ Some place →
-    IsPlaced (StandsInside (read_stream r)) (GivesAt (read_stream r)) place slot
+    IsPlaceForSlot (StandsInside (read_stream r)) (GivesAt (read_stream r)) place slot
 
 pub item_shown : (r : ReadText) (cp : ℕ) (item : Item) → cp < text_count (the_text r) →
     IsItemAt (read_parts r) cp item →
@@ -162,7 +163,7 @@ mark_some modifier None (Some mark) after some = absurd after
 mark_some modifier (Some before) mark after some = refl
 
 mark_there : (wd bin : List ℕ) (fc : ℕ) (modifier : Modifier) (ends : Bool) (mark : Option Mark) →
-    IsMarkAt ends wd bin fc modifier mark → ends ≡ true → is_some mark ≡ true
+    IsDirectMarkAt ends wd bin fc modifier mark → ends ≡ true → is_some mark ≡ true
 mark_there wd bin fc modifier true (Some mark) is yes_ends = refl
 mark_there wd bin fc modifier true None is yes_ends = absurd is
 mark_there wd bin fc modifier false mark is yes_ends = absurd (cc (yes_ends))
@@ -233,7 +234,7 @@ rest_empty (text ∷ texts) (suc k) empty =
 
 pub end_count : (parts : TextParts) (begin count len : ℕ) (cuts : List ℕ) (texts : List (List Item)) →
     HoldsTexts parts begin cuts count texts → AreCutsWithin begin cuts len → slice_index cuts 0 ≡ 0 →
-    length cuts ≤ count + 1 → last_end cuts ≡ length (joined_texts texts)
+    length cuts ≤ count + 1 → last_text_end cuts ≡ length (joined_texts texts)
 end_count parts begin count len cuts texts holds within first few = elim (cases_lt 0 (length cuts)) [
   | inl some ↦
       let k : ℕ = length cuts - 1 in

@@ -13,19 +13,19 @@ use Rattle.prop_map.proofs.Public.{accepted_of}
 use Rattle.fib_form.specs.declared.stories.StoryKind.TheVariants.{Main}
 use Rattle.doc_parts.specs.declared.lists.Sed.{Sed}
 use Rattle.doc_parts.specs.Sections.{HasSepx}
-use Rattle.plain_doc.specs.declared.item.Item.{Item}
-use Rattle.plain_doc.specs.Collected.{collected, sections_of, entry_before}
-use Rattle.plain_doc.specs.Entries.{entry_at}
-use Rattle.plain_doc.proofs.Public.{entry_here, entry_later}
+use Rattle.doc_model.specs.declared.item.Item.{Item}
+use Rattle.doc_model.specs.Collected.{collected, sections_of, entry_before}
+use Rattle.doc_model.specs.Entries.{entry_at_cp}
+use Rattle.doc_model.proofs.Public.{entry_here, entry_later}
 use Rattle.file_rules.proofs.Public.{index_of_get}
 use Rattle.file_rules.specs.Source.{story_length}
 use Rattle.file_rules.specs.FormatRules.{section_ends}
 use Rattle.file_rules.specs.SectionRules.{section_fc, sepx_list}
-use Rattle.file_rules.specs.FileRules.{source_of}
+use Rattle.file_rules.specs.FileRules.{doc_source_of}
 use Rattle.doc_read.specs.Sections.{section_lasts, HaveProperties}
 use Rattle.doc_read.proofs.Public.{some_section, ends_up, length-section_lasts, IsUpWithin, sepx-there, sepx-right}
 use Rattle.save_laws.specs.Saves.{HasPropertiesAt, AreSavedSections}
-use Rattle.plain_doc.specs.TextLists.{starts_from}
+use Rattle.doc_model.specs.TextLists.{starts_from}
 use Rattle.doc_parts.proofs.Public.{Rise}
 use Rattle.save_laws.proofs.GivenLemmas.{ReadText}
 
@@ -33,7 +33,7 @@ use Rattle.save_laws.proofs.GivenLemmas.{ReadText}
 
 -- entries from a CP on have nothing below it
 rise_none : {A : Type 0} (low high cp : ℕ) (entries : List (ℕ × A)) →
-    Rise low high (map (λ (e : ℕ × A). e.0) entries) → cp < low → entry_at entries cp ≡ None
+    Rise low high (map (λ (e : ℕ × A). e.0) entries) → cp < low → entry_at_cp entries cp ≡ None
 rise_none low high cp [] rise below = refl
 rise_none {A = A} low high cp (e ∷ entries) rise below =
     let first = rise.0 in
@@ -44,7 +44,7 @@ rise_none {A = A} low high cp (e ∷ entries) rise below =
 pub collected_is : {A : Type 0} (what : Item → Option A) (from high : ℕ) (items : List Item) (entries : List (ℕ × A)) →
     high ≡ from + length items →
     Rise from high (map (λ (e : ℕ × A). e.0) entries) →
-    ((i : ℕ) (item : Item) → slice_get items i ≡ Some item → what item ≡ entry_at entries (from + i)) →
+    ((i : ℕ) (item : Item) → slice_get items i ≡ Some item → what item ≡ entry_at_cp entries (from + i)) →
     collected what from items ≡ entries
 unfolding collected
 collected_is what from high [] [] long rise each = refl
@@ -58,14 +58,14 @@ collected_is what from high (item ∷ items) (e ∷ entries) long rise each = el
   | inl same ↦
       let at : from + zero ≡ from = omega arith in
       let value : what item ≡ Some e.1 =
-      each zero item refl ∙ (ap (entry_at (e ∷ entries)) at ∙ entry_here e.0 from e.1 entries same) in
+      each zero item refl ∙ (ap (entry_at_cp (e ∷ entries)) at ∙ entry_here e.0 from e.1 entries same) in
       let next : e.0 + 1 ≡ from + 1 = omega (arith, same) in
       let later =
       collected_is what (from + 1) high items entries (omega (arith, long))
       (subst (λ n. Rise n high (map (λ x. x.0) entries)) next rise.1.1) (λ i it here.
       let cp : from + suc i ≡ from + 1 + i = omega arith in
       each (suc i) it here
-      ∙ (ap (entry_at (e ∷ entries)) cp
+      ∙ (ap (entry_at_cp (e ∷ entries)) cp
       ∙ entry_later e.0 (from + 1 + i) e.1 entries (λ here_too. absurd (omega (arith, here_too, same))))) in
       ap (λ o. entry_before o from (collected what (from + 1) items)) value
       ∙ (ap (λ l. (from, e.1) ∷ l) later ∙ ap (λ n. (n, e.1) ∷ entries) (sym same))
@@ -75,12 +75,12 @@ collected_is what from high (item ∷ items) (e ∷ entries) long rise each = el
       let moved : Rise (from + 1) high (map (λ x. x.0) (e ∷ entries)) = (low, (rise.1.0, rise.1.1)) in
       let at : from + zero ≡ from = omega arith in
       let none : what item ≡ None =
-      each zero item refl ∙ (ap (entry_at (e ∷ entries)) at
+      each zero item refl ∙ (ap (entry_at_cp (e ∷ entries)) at
       ∙ rise_none (from + 1) high from (e ∷ entries) moved (omega arith)) in
       ap (λ o. entry_before o from (collected what (from + 1) items)) none
       ∙ collected_is what (from + 1) high items (e ∷ entries) (omega (arith, long)) moved (λ i it here.
       let cp : from + suc i ≡ from + 1 + i = omega arith in
-      each (suc i) it here ∙ ap (entry_at (e ∷ entries)) cp)
+      each (suc i) it here ∙ ap (entry_at_cp (e ∷ entries)) cp)
 ]
 
 -- ---- CPs that ascend
@@ -162,10 +162,10 @@ first_of (start ∷ starts) some first = ap (λ n. n ∷ starts) (sym first)
 
 -- ---- the sections of a file
 
-seds_up : (r : ReadText) → IsUpWithin 1 (story_length (source_of r.text) Main + 1)
-    (section_ends r.lists.sections (story_length (source_of r.text) Main))
+seds_up : (r : ReadText) → IsUpWithin 1 (story_length (doc_source_of r.text) Main + 1)
+    (section_ends r.lists.sections (story_length (doc_source_of r.text) Main))
 seds_up r =
-    let source = source_of r.text in
+    let source = doc_source_of r.text in
     ends_up r.lists.sections (story_length source Main)
     (some_section source r.lists.sections r.parts_hold.0.0 r.has.has_sections) r.has.has_sections.leading.in_order
 
@@ -175,9 +175,9 @@ record AreRead (r : ReadText) : Type 0 where
   have : HaveProperties r.text.wd r.lists.sections r.maps
 
 sections_are : (r : ReadText) → AreRead r →
-    sections_of r.document.main ≡ zip (section_lasts r.lists.sections (story_length (source_of r.text) Main)) r.maps
+    sections_of r.document.main ≡ zip (section_lasts r.lists.sections (story_length (doc_source_of r.text) Main)) r.maps
 sections_are r are =
-    let source = source_of r.text in
+    let source = doc_source_of r.text in
     let sections = r.lists.sections in
     let main_len = story_length source Main in
     let lasts = section_lasts sections main_len in
@@ -208,7 +208,7 @@ sepx_by wd fc wrong = record {
 properties_at : (r : ReadText) → AreRead r → (k : ℕ) (map : Properties) → slice_get r.maps k ≡ Some map →
     HasPropertiesAt r.text.wd (section_fc r.lists.sections k) map
 properties_at r are k map here =
-    let source = source_of r.text in
+    let source = doc_source_of r.text in
     let wd = r.text.wd in
     let sections = r.lists.sections in
     let fc = section_fc sections k in
@@ -227,7 +227,7 @@ properties_at r are k map here =
 pub given_sections : (r : ReadText) → AreBytes r.text.wd → HaveProperties r.text.wd r.lists.sections r.maps →
     AreSavedSections (sections_of r.document.main) r.text.wd r.lists.sections
 given_sections r bytes have =
-    let source = source_of r.text in
+    let source = doc_source_of r.text in
     let sections = r.lists.sections in
     let main_len = story_length source Main in
     let are : AreRead r = record { bytes = bytes; have = have } in

@@ -15,14 +15,14 @@ use Rattle.fib_form.specs.declared.stories.StoryKind.TheVariants.{Main, Notes, H
 use Rattle.fib_form.proofs.Public.{sum-three}
 use Rattle.piece_table.specs.Piece.{flat_pieces}
 use Rattle.doc_parts.specs.Stories.{AreCuts}
-use Rattle.plain_doc.specs.declared.item.Item.{Item}
-use Rattle.plain_doc.specs.Collected.{joined_texts}
-use Rattle.file_rules.specs.Source.{story_begin, part_bytes, part_place, story_length, story_units, story_places}
+use Rattle.doc_model.specs.declared.item.Item.{Item}
+use Rattle.doc_model.specs.Collected.{joined_texts}
+use Rattle.file_rules.specs.Source.{story_begin, table_part_bytes, part_place, story_length, story_units, story_places}
 use Rattle.file_rules.specs.Units.{unit_at}
-use Rattle.file_rules.specs.EndRules.{last_end, HasLooseUnit, BreaksEnds}
+use Rattle.file_rules.specs.EndRules.{last_text_end, HasLooseUnit, BreaksEnds}
 use Rattle.file_rules.specs.HeadRules.{IsHeadTable}
 use Rattle.file_rules.specs.FormatRules.{text_count}
-use Rattle.file_rules.specs.FileRules.{source_of}
+use Rattle.file_rules.specs.FileRules.{doc_source_of}
 use Rattle.file_rules.proofs.Public.{sections_one, notes_one, heads_one}
 use Rattle.doc_read.specs.Texts.{AreCutsWithin}
 use Rattle.doc_read.specs.Items.{HoldsTexts}
@@ -30,7 +30,7 @@ use Rattle.doc_read.specs.Holds.{head_texts}
 use Rattle.doc_read.proofs.Public.{notes_within, heads_within, cuts_within, note_cuts_within}
 use Rattle.save_laws.specs.GivenFiles.{StandsTogether}
 use Rattle.save_laws.specs.Slots.{note_slots, head_slots, story_counts, Slot, shown, loose, last, StoryEnds, loose_if}
-use Rattle.save_laws.specs.Slots.{story_slots, last_slots, whole_text}
+use Rattle.save_laws.specs.Slots.{story_slots, last_slots, document_slots}
 use Rattle.save_laws.proofs.SlotLemmas.{length-story_slots, length-whole}
 use Rattle.save_laws.proofs.GivenLemmas.{ReadText, read_parts, place_given, StandsAt, item_shown, mark_loose}
 use Rattle.save_laws.proofs.GivenLemmas.{end_count, texts_shown, end_or_mark}
@@ -79,47 +79,49 @@ record HasEnd (r : ReadText) (begin len : ℕ) (texts : List (List Item)) : Type
   len_is : len ≡ length (story_slots texts end)
   stands : AllStand r (begin + length (joined_texts texts)) (loose_if end)
 
-story_unit_at : (r : ReadText) (story : StoryKind) (i : ℕ) → i < story_length (source_of r.text) story →
-    slice_index (story_units (source_of r.text) story) i
-    ≡ slice_index (source_of r.text).text.units (story_begin (source_of r.text) story + i)
+story_unit_at : (r : ReadText) (story : StoryKind) (i : ℕ) → i < story_length (doc_source_of r.text) story →
+    slice_index (story_units (doc_source_of r.text) story) i
+    ≡ slice_index (doc_source_of r.text).text.units (story_begin (doc_source_of r.text) story + i)
 story_unit_at r story i below =
-    let source = source_of r.text in
+    let source = doc_source_of r.text in
     let begin = story_begin source story in
     range_index source.text.units begin (begin + story_length source story) i (omega (arith, below))
 
-enough : (r : ReadText) → text_count (source_of r.text) ≤ length (source_of r.text).text.units
+enough : (r : ReadText) → text_count (doc_source_of r.text) ≤ length (doc_source_of r.text).text.units
 enough r =
-    let source = source_of r.text in
+    let source = doc_source_of r.text in
     let total = r.fits.total in
     let units = length-map (flat_pieces r.text.pieces) (unit_at r.text.wd) in
     let counted = sum-three (fib_fields r.text.wd).ccps refl in
     omega (arith, total, units, counted)
 
 within_text : (r : ReadText) (story : StoryKind) →
-    story_begin (source_of r.text) story + story_length (source_of r.text) story ≤ text_count (source_of r.text)
+    story_begin (doc_source_of r.text) story + story_length (doc_source_of r.text) story ≤ text_count (doc_source_of
+    r.text)
 within_text r Main = omega arith
 within_text r Notes = omega arith
 within_text r Heads = omega arith
 
 length-story : (r : ReadText) (story : StoryKind) →
-    length (story_units (source_of r.text) story) ≡ story_length (source_of r.text) story
+    length (story_units (doc_source_of r.text) story) ≡ story_length (doc_source_of r.text) story
 length-story r story =
-    let source = source_of r.text in
+    let source = doc_source_of r.text in
     let begin = story_begin source story in
     let len = story_length source story in
     let range = length-range source.text.units begin (begin + len) (omega (arith, within_text r story, enough r)) in
     omega (arith, range)
 
 end_of : (r : ReadText) (story : StoryKind) (texts : List (List Item)) (cuts : List ℕ) →
-    last_end cuts ≡ length (joined_texts texts) → last_end cuts ≤ story_length (source_of r.text) story →
+    last_text_end cuts ≡ length (joined_texts texts) → last_text_end cuts ≤ story_length (doc_source_of r.text) story →
     Nowhere
-    (HasLooseUnit (story_places (source_of r.text) story) (story_units (source_of r.text) story) (last_end cuts)) →
-    HasEnd r (story_begin (source_of r.text) story) (story_length (source_of r.text) story) texts
+    (HasLooseUnit (story_places (doc_source_of r.text) story) (story_units (doc_source_of r.text) story) (last_text_end
+    cuts)) →
+    HasEnd r (story_begin (doc_source_of r.text) story) (story_length (doc_source_of r.text) story) texts
 end_of r story texts cuts count most none =
-    let source = source_of r.text in
+    let source = doc_source_of r.text in
     let begin = story_begin source story in
     let long = length-story r story in
-    elim (end_or_mark (story_places source story) (story_units source story) (last_end cuts) none
+    elim (end_or_mark (story_places source story) (story_units source story) (last_text_end cuts) none
     (omega (arith, most, long))) [
       | inl ends ↦
           let len = length-story_slots texts false in
@@ -151,16 +153,17 @@ first_zero plc len (cut ∷ cuts) are = (are.leading.in_order 0 (omega arith)).b
 note_zero : (r : ReadText) → slice_index r.lists.notes 0 ≡ 0
 note_zero r = elim r.has.has_notes [
   | inl some ↦
-      first_zero (part_bytes (source_of r.text) PlcffndTxt) (story_length (source_of r.text) Notes) r.lists.notes some.1
+      first_zero (table_part_bytes (doc_source_of r.text) PlcffndTxt) (story_length (doc_source_of r.text) Notes)
+      r.lists.notes some.1
   | inr none ↦ ap (λ l. slice_index l 0) none.1
 ]
 
 head_zero : (r : ReadText) → slice_index r.lists.heads 0 ≡ 0
 head_zero r =
-    first_zero (part_bytes (source_of r.text) PlcfHdd)
-    (story_length (source_of r.text) Heads) r.lists.heads r.has.has_heads
+    first_zero (table_part_bytes (doc_source_of r.text) PlcfHdd)
+    (story_length (doc_source_of r.text) Heads) r.lists.heads r.has.has_heads
 
-last_within : (cuts : List ℕ) (len : ℕ) → AreCutsWithin 0 cuts len → last_end cuts ≤ len
+last_within : (cuts : List ℕ) (len : ℕ) → AreCutsWithin 0 cuts len → last_text_end cuts ≤ len
 last_within [] len within = omega arith
 last_within (cut ∷ cuts) len within =
     let last_cut = within.within (length (cut ∷ cuts) - 1) (omega arith) in omega (arith, last_cut)
@@ -179,18 +182,18 @@ few_by bytes sections count is wrong = elim (cases_lt (6 + 6 * sections + 1) cou
 
 few_heads : (r : ReadText) → length r.lists.heads ≤ head_texts r.lists + 1
 few_heads r =
-    let source = source_of r.text in
+    let source = doc_source_of r.text in
     let heads = r.parts_hold.1.1.1.1.1.0 in
     let same = sections_one source heads.0 r.lists.sections heads.1.0 r.has.has_sections in
-    let bytes = part_bytes source PlcfHdd in
+    let bytes = table_part_bytes source PlcfHdd in
     let many : length heads.0 ≡ length r.lists.sections = ap length same in
     let few = few_by bytes (length heads.0) (length r.lists.heads) r.has.has_heads.all
     (λ wrong. heads.1.1 (Table, part_place source PlcfHdd) (refl, inl (refl, wrong))) in
     omega (arith, few, many)
 
-ends_none : (r : ReadText) → Nowhere (BreaksEnds (source_of r.text) r.lists.notes r.lists.heads)
+ends_none : (r : ReadText) → Nowhere (BreaksEnds (doc_source_of r.text) r.lists.notes r.lists.heads)
 ends_none r place broken =
-    let source = source_of r.text in
+    let source = doc_source_of r.text in
     let ends = r.parts_hold.1.1.1.1.1.1.0 in
     let notes = notes_one source ends.0 r.lists.notes ends.1.0 r.has.has_notes in
     let heads = heads_one source ends.1.1.0 r.lists.heads ends.1.1.1.0 r.has.has_heads in
@@ -205,18 +208,20 @@ ends_none r place broken =
 -- what holds of a story
 record IsStory (r : ReadText) (story : StoryKind) (texts : List (List Item)) : Type 0 where
   end : Bool
-  len : story_length (source_of r.text) story ≡ length (story_slots texts end)
-  stands : AllStand r (story_begin (source_of r.text) story) (story_slots texts end)
+  len : story_length (doc_source_of r.text) story ≡ length (story_slots texts end)
+  stands : AllStand r (story_begin (doc_source_of r.text) story) (story_slots texts end)
 
 story_of : (r : ReadText) (story : StoryKind) (texts : List (List Item)) (cuts : List ℕ) (count : ℕ) →
-    HoldsTexts (read_parts r) (story_begin (source_of r.text) story) cuts count texts →
-    AreCutsWithin (story_begin (source_of r.text) story) cuts (text_count (source_of r.text)) →
-    AreCutsWithin 0 cuts (story_length (source_of r.text) story) → slice_index cuts 0 ≡ 0 → length cuts ≤ count + 1 →
+    HoldsTexts (read_parts r) (story_begin (doc_source_of r.text) story) cuts count texts →
+    AreCutsWithin (story_begin (doc_source_of r.text) story) cuts (text_count (doc_source_of r.text)) →
+    AreCutsWithin 0 cuts (story_length (doc_source_of r.text) story) → slice_index cuts 0 ≡ 0 → length cuts ≤ count + 1
+    →
     Nowhere
-    (HasLooseUnit (story_places (source_of r.text) story) (story_units (source_of r.text) story) (last_end cuts)) →
+    (HasLooseUnit (story_places (doc_source_of r.text) story) (story_units (doc_source_of r.text) story) (last_text_end
+    cuts)) →
     IsStory r story texts
 story_of r story texts cuts count holds within own first few none =
-    let source = source_of r.text in
+    let source = doc_source_of r.text in
     let begin = story_begin source story in
     let number = end_count (read_parts r) begin count (text_count source) cuts texts holds within first few in
     let found = end_of r story texts cuts number (last_within cuts (story_length source story) own) none in
@@ -234,7 +239,7 @@ story_of r story texts cuts count holds within own first few none =
 
 note_story : (r : ReadText) → IsStory r Notes r.document.notes
 note_story r =
-    let source = source_of r.text in
+    let source = doc_source_of r.text in
     story_of r Notes r.document.notes r.lists.notes (length r.lists.notes - 1) r.notes
     (notes_within source r.lists (text_count source) r.has refl)
     (note_cuts_within source 0 (story_length source Notes) r.lists.notes r.has.has_notes (omega arith)) (note_zero r)
@@ -242,10 +247,11 @@ note_story r =
 
 head_story : (r : ReadText) → IsStory r Heads r.document.heads
 head_story r =
-    let source = source_of r.text in
+    let source = doc_source_of r.text in
     story_of r Heads r.document.heads r.lists.heads (head_texts r.lists) r.heads
     (heads_within source r.lists (text_count source) r.has refl)
-    (cuts_within (part_bytes source PlcfHdd) (story_length source Heads) 0 (story_length source Heads) r.lists.heads
+    (cuts_within (table_part_bytes source PlcfHdd) (story_length source Heads) 0 (story_length source Heads)
+    r.lists.heads
     r.has.has_heads (omega arith)) (head_zero r) (few_heads r) (λ place broken. ends_none r place (inr broken))
 
 -- ---- the whole text
@@ -258,14 +264,14 @@ main_stands r =
     item_shown r (0 + i) item (omega (arith, within, len)) (r.main.each i item here))
 
 whole_stands : (r : ReadText) (ends : StoryEnds) →
-    story_length (source_of r.text) Main ≡ length r.document.main →
-    story_length (source_of r.text) Notes ≡ length (note_slots r.document ends) →
-    AllStand r (story_begin (source_of r.text) Notes) (note_slots r.document ends) →
-    AllStand r (story_begin (source_of r.text) Heads) (head_slots r.document ends) →
-    AllStand r 0 (whole_text r.document ends)
-unfolding whole_text
+    story_length (doc_source_of r.text) Main ≡ length r.document.main →
+    story_length (doc_source_of r.text) Notes ≡ length (note_slots r.document ends) →
+    AllStand r (story_begin (doc_source_of r.text) Notes) (note_slots r.document ends) →
+    AllStand r (story_begin (doc_source_of r.text) Heads) (head_slots r.document ends) →
+    AllStand r 0 (document_slots r.document ends)
+unfolding document_slots
 whole_stands r ends main_is notes_are notes heads =
-    let source = source_of r.text in
+    let source = doc_source_of r.text in
     let main_slots : List Slot = map shown r.document.main in
     let note_list = note_slots r.document ends in
     let head_list = head_slots r.document ends in
@@ -283,7 +289,7 @@ whole_stands r ends main_is notes_are notes heads =
 
 pub given_stands : (r : ReadText) → StandsTogether r.text r.document
 given_stands r =
-    let source = source_of r.text in
+    let source = doc_source_of r.text in
     let note_is = note_story r in
     let head_is = head_story r in
     let ends : StoryEnds = record { notes = note_is.end; heads = head_is.end } in

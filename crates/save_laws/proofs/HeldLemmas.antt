@@ -11,17 +11,18 @@ use Rattle.cfb_streams.specs.Names.{wd_name}
 use Rattle.fib_form.specs.Fib.{fib_pair}
 use Rattle.fib_form.specs.FibFields.{fib_fields, text_length}
 use Rattle.fib_form.specs.FibRules.{fib_rules}
-use Rattle.fib_form.specs.TableParts.{pair_of}
+use Rattle.fib_form.specs.TableParts.{pair_number}
 use Rattle.fib_form.specs.declared.table_parts.TablePart.TheVariants.{Stshf, SttbfFfn, Dop, SttbfAssoc, Clx, PlfLst}
 use Rattle.fib_form.specs.declared.table_parts.TablePart.TheVariants.{PlfLfo}
 use Rattle.fib_form.specs.declared.stories.StoryKind.TheVariants.{Notes, Heads}
 use Rattle.piece_table.specs.ClxRules.{clx_rules}
 use Rattle.doc_parts.specs.declared.lists.Sed.{Sed}
 use Rattle.style_sheet.specs.Stsh.{stsh_rules}
-use Rattle.plain_doc.specs.Collected.{sections_of}
+use Rattle.doc_model.specs.Collected.{sections_of}
 use Rattle.plain_doc.proofs.Public.{sound_is_valid}
-use Rattle.file_rules.specs.Source.{story_begin, part_bytes, part_place}
-use Rattle.file_rules.specs.FileRules.{file_rules, HasText, loading_rules, table_stream_name, clx_of, contents_rules}
+use Rattle.file_rules.specs.Source.{story_begin, table_part_bytes, part_place}
+use Rattle.file_rules.specs.FileRules.{file_rules, HasFileText, loading_rules, table_stream_name, clx_of}
+use Rattle.file_rules.specs.FileRules.{contents_rules}
 use Rattle.file_rules.specs.ListRules.{rules_of_lists}
 use Rattle.file_rules.specs.SheetRules.{rules_of_sheet}
 use Rattle.file_rules.specs.PairRules.{BreaksPairs}
@@ -52,7 +53,7 @@ use Rattle.save_laws.proofs.ClxHeld.{saved_bounds, pieces_are, clx_holds}
 sheet_holds : (s : Save) → Hold (rules_of_sheet (the_source s))
 sheet_holds s =
     let source = the_source s in
-    hold_in Table (stsh_rules (part_bytes source Stshf) (part_place source Stshf))
+    hold_in Table (stsh_rules (table_part_bytes source Stshf) (part_place source Stshf))
     ((sheet_part s).rules (part_place source Stshf))
 
 lists_hold : (s : Save) → Hold (rules_of_lists (the_source s))
@@ -70,7 +71,7 @@ parts_hold s = (
   ),
 )
 
-text_held : (s : Save) → HasText s.contents (file_text s.saved s.table)
+text_held : (s : Save) → HasFileText s.contents (file_text s.saved s.table)
 text_held s = record { has_wd = s.is.has_wd; has_table = s.is.has_table; has_pieces = pieces_are s }
 
 rules_hold : (s : Save) → Hold (contents_rules s.contents)
@@ -78,7 +79,7 @@ rules_hold s =
     let wd = s.saved.stream.wd in
     let name = table_stream_name wd in
     let text_len = text_length (fib_fields wd).ccps in
-    let clx = clx_rules (clx_of wd s.table) (fib_pair wd (pair_of Clx)).0 (saved_bounds s) text_len in
+    let clx = clx_rules (clx_of wd s.table) (fib_pair wd (pair_number Clx)).0 (saved_bounds s) text_len in
     let loading : Hold (loading_rules s.contents) = (
       stream-there File s.contents wd_name wd 15 0 s.is.has_wd,
       (
@@ -143,7 +144,7 @@ properties_held s =
 carried_held : (s : Save) → HoldsCarried s.contents (the_source s) s.document.carried.levels s.document.carried
 carried_held s =
     let carried = s.document.carried in
-    let lst : TableEntry = record { number = pair_of PlfLst; bytes = carried.lst; behind = carried.levels } in
+    let lst : TableEntry = record { number = pair_number PlfLst; bytes = carried.lst; behind = carried.levels } in
     record {
       fonts = sym (part_is s 7 SttbfFfn carried.fonts refl);
       dop = sym (part_is s 14 Dop carried.dop refl);

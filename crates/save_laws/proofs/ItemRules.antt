@@ -11,11 +11,12 @@ use Rattle.doc_bits.proofs.Public.{All-from_slice_get}
 use Rattle.doc_parts.specs.Fields.{is_field_unit}
 use Rattle.text_codes.specs.Paragraph.{is_paragraph_end}
 use Rattle.plain_doc.specs.RulesOfTexts.{last_unit}
-use Rattle.plain_doc.specs.declared.item.Item.{Item}
-use Rattle.plain_doc.specs.declared.document.Document.{Document}
-use Rattle.plain_doc.specs.Collected.{joined_texts}
+use Rattle.doc_model.specs.declared.item.Item.{Item}
+use Rattle.doc_model.specs.declared.document.Document.{Document}
+use Rattle.doc_model.specs.Collected.{joined_texts}
 use Rattle.plain_doc.specs.RightDocument.{IsValidText, IsValidDocument}
-use Rattle.plain_doc.proofs.Public.{marked_at_ends, joined_all, empty_joined}
+use Rattle.plain_doc.proofs.Public.{marked_at_ends}
+use Rattle.doc_model.proofs.Public.{joined_all, empty_joined}
 
 -- a mark is exactly where a paragraph ends, and a field byte on a field unit alone
 pub record IsSavedItem (item : Item) : Type 0 where

@@ -9,19 +9,20 @@ use Rattle.prop_map.specs.declared.modifiers.Modifier.{Modifier}
 use Rattle.fib_form.specs.declared.stories.StoryKind.TheVariants.{Main, Notes, Heads}
 use Rattle.direct_props.specs.Direct.{IsDirectCharacter, IsDirectMark}
 use Rattle.text_codes.specs.Paragraph.{is_paragraph_end}
-use Rattle.plain_doc.specs.declared.item.Mark.{Mark}
-use Rattle.plain_doc.specs.declared.item.Item.{Item}
-use Rattle.plain_doc.specs.Entries.{entry_at}
-use Rattle.plain_doc.specs.Collected.{joined_texts, collected, fields_of, refs_of, sections_of, cuts_from}
-use Rattle.plain_doc.proofs.Public.{entry_of_item, found_before, length-cuts_from, main_ends, ends_main, cut_at}
-use Rattle.plain_doc.proofs.Public.{in_joined, next_joined, empty_joined}
+use Rattle.doc_model.specs.declared.item.Mark.{Mark}
+use Rattle.doc_model.specs.declared.item.Item.{Item}
+use Rattle.doc_model.specs.Entries.{entry_at_cp}
+use Rattle.doc_model.specs.Collected.{joined_texts, collected, fields_of, refs_of, sections_of, cuts_from}
+use Rattle.plain_doc.proofs.Public.{main_ends, ends_main}
+use Rattle.doc_model.proofs.Public.{entry_of_item, found_before, length-cuts_from, cut_at, in_joined, next_joined}
+use Rattle.doc_model.proofs.Public.{empty_joined}
 use Rattle.file_rules.specs.Source.{story_length, story_begin}
 use Rattle.file_rules.specs.PartRules.{PartLists}
 use Rattle.doc_read.specs.Sections.{section_lasts, section_marks}
-use Rattle.doc_read.specs.Marked.{story_bytes, field_bytes}
-use Rattle.doc_read.specs.Items.{TextParts, IsMarkAt, IsItemAt, HoldsItems, HoldsTexts}
+use Rattle.doc_read.specs.Marked.{story_bytes, field_mark_bytes}
+use Rattle.doc_read.specs.Items.{TextParts, IsDirectMarkAt, IsItemAt, HoldsItems, HoldsTexts}
 use Rattle.doc_read.proofs.Public.{entry_of_parts}
-use Rattle.plain_doc.specs.TextLists.{cuts_of}
+use Rattle.doc_model.specs.TextLists.{cuts_of}
 use Rattle.save_laws.specs.Slots.{shown}
 use Rattle.save_laws.proofs.SlotLemmas.{main_slot, note_slot, head_slot, story_item}
 use Rattle.save_laws.proofs.PlaceLemmas.{item_read}
@@ -72,8 +73,8 @@ section_cps s =
     (main_len s) (omega (arith, some)) last.here (ends_main s.document s.right) s.is.sections.starts
 
 section_found : (s : Save) (cp : ℕ) →
-    entry_at (section_marks s.saved.seds (story_length (the_source s) Main) (the_maps s)) cp
-    ≡ entry_at (sections_of s.document.main) cp
+    entry_at_cp (section_marks s.saved.seds (story_length (the_source s) Main) (the_maps s)) cp
+    ≡ entry_at_cp (sections_of s.document.main) cp
 section_found s cp =
     entry_of_parts (sections_of s.document.main) (section_lasts s.saved.seds (story_length (the_source s) Main))
     (the_maps s) cp (section_cps s) refl
@@ -84,7 +85,7 @@ the_fields s =
     story_entries (λ item. item.fld) s.document.main (note_items s) (head_items s)
     (story_begin (the_source s) Notes) (story_begin (the_source s) Heads)
 
-fields_are : (s : Save) → field_bytes (the_source s) (the_lists s) ≡ the_fields s
+fields_are : (s : Save) → field_mark_bytes (the_source s) (the_lists s) ≡ the_fields s
 fields_are s =
     let main = s.document.main in
     let notes = note_items s in
@@ -108,7 +109,7 @@ fields_read s =
 
 mark_by : (ends : Bool) (wd bin : List ℕ) (fc : ℕ) (modifier : Modifier) (o : Option Mark) → is_some o ≡ ends →
     ((mark : Mark) → o ≡ Some mark → IsDirectMark wd bin fc modifier mark.istd mark.pap) →
-    IsMarkAt ends wd bin fc modifier o
+    IsDirectMarkAt ends wd bin fc modifier o
 mark_by true wd bin fc modifier None e reads = absurd (cc (e))
 mark_by true wd bin fc modifier (Some mark) e reads = reads mark refl
 mark_by false wd bin fc modifier None e reads = tt
@@ -117,9 +118,9 @@ mark_by false wd bin fc modifier (Some mark) e reads = absurd (cc (e))
 -- what is at the CP of an item is the item's
 record HasAtCp (s : Save) (cp : ℕ) (item : Item) : Type 0 where
   slot : slice_get (the_whole s) cp ≡ Some (shown item)
-  section : entry_at (sections_of s.document.main) cp ≡ item.sect
-  field : entry_at (the_fields s) cp ≡ item.fld
-  note : entry_at (collected (λ item. item.note) 0 s.document.main) cp ≡ item.note
+  section : entry_at_cp (sections_of s.document.main) cp ≡ item.sect
+  field : entry_at_cp (the_fields s) cp ≡ item.fld
+  note : entry_at_cp (collected (λ item. item.note) 0 s.document.main) cp ≡ item.note
 
 item_at : (s : Save) (cp : ℕ) (item : Item) → IsSavedItem item → HasAtCp s cp item → IsItemAt (the_parts s) cp item
 item_at s cp item saved has =
@@ -136,13 +137,13 @@ item_at s cp item saved has =
           read.characters;
       section = sym (section_found s cp ∙ has.section);
       mark =
-          subst (λ bin. IsMarkAt (is_paragraph_end item.unit (is_some item.sect)) stream.wd bin place.at
+          subst (λ bin. IsDirectMarkAt (is_paragraph_end item.unit (is_some item.sect)) stream.wd bin place.at
           place.modifier item.mark)
           (sym (paragraphs_part s))
           (mark_by (is_paragraph_end item.unit (is_some item.sect)) stream.wd stream.paragraphs place.at place.modifier
           item.mark saved.ends read.mark);
-      field = sym (ap (λ l. entry_at l cp) (fields_are s) ∙ has.field);
-      note = sym (ap (λ l. entry_at l cp) (kinds_from s.document.main) ∙ has.note);
+      field = sym (ap (λ l. entry_at_cp l cp) (fields_are s) ∙ has.field);
+      note = sym (ap (λ l. entry_at_cp l cp) (kinds_from s.document.main) ∙ has.note);
     }
 
 main_item : (s : Save) (i : ℕ) (item : Item) → slice_get s.document.main i ≡ Some item →

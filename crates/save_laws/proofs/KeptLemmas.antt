@@ -23,7 +23,7 @@ use Rattle.direct_props.specs.Stretches.{HasValidList}
 use Rattle.direct_props.specs.RightLists.{HasValidListAt}
 use Rattle.piece_table.specs.Piece.{unit_bytes}
 use Rattle.doc_parts.specs.Sections.{HasSepx}
-use Rattle.text_codes.specs.Compressed.{unit_of}
+use Rattle.text_codes.specs.Compressed.{compressed_unit}
 use Rattle.file_rules.specs.Units.{unit_at}
 use Rattle.file_rules.specs.SectionRules.{sepx_list}
 use Rattle.doc_read.specs.Sections.{IsSectionProperties}
@@ -115,7 +115,7 @@ unit_kept : (old new : List ℕ) (at : ℕ) (wide : Bool) → KeepsBytes old new
     ≡ unit_at new (record { at = at; wide = wide; modifier = no_modifier })
 unit_kept old new at true keeps low within = sym (number_kept old new at 2 keeps low within)
 unit_kept old new at false keeps low within =
-    ap unit_of (sym (keeps.bytes at low (omega (arith, within))))
+    ap compressed_unit (sym (keeps.bytes at low (omega (arith, within))))
 
 place_inside : (old new : PagedStream) (before at : ℕ) (wide : Bool) → KeepsPages old new before →
     StandsInside old at wide → (at < before) × StandsInside new at wide

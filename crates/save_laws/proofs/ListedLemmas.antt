@@ -13,16 +13,18 @@ use Rattle.doc_parts.specs.declared.lists.NoteRef.{NoteRef}
 use Rattle.doc_parts.specs.Cps.{AreCpsInOrder}
 use Rattle.doc_parts.specs.Table.{plc_part, IsEmptyOrWhole}
 use Rattle.doc_parts.specs.Sections.{sed_cps, section_rules, AreSections, printed_sections, ArePrintableSections}
-use Rattle.doc_parts.specs.Fields.{is_field_unit, fld_cps, field_rules, AreFields, printed_fields, ArePrintableFields}
-use Rattle.doc_parts.specs.Stories.{ref_cps, ref_rules, AreRefs, printed_refs, text_rules, AreCuts, printed_texts}
+use Rattle.doc_parts.specs.Fields.{is_field_unit, fld_cps, field_rules, AreFieldCharacters, printed_fields}
+use Rattle.doc_parts.specs.Fields.{ArePrintableFields}
+use Rattle.doc_parts.specs.Stories.{ref_cps, ref_rules, AreRefs, printed_refs, cut_rules, AreCuts, printed_texts}
 use Rattle.doc_parts.proofs.Public.{sections_back, fields_back, refs_back, texts_back, Rise, rise_in_order}
 use Rattle.doc_parts.proofs.Public.{rise_from_zero}
-use Rattle.plain_doc.specs.declared.item.Item.{Item}
-use Rattle.plain_doc.specs.declared.item.NoteKind.{NoteKind}
-use Rattle.plain_doc.specs.Collected.{joined_texts, collected, field_of, fields_of, refs_of, sections_of, is_auto}
-use Rattle.plain_doc.specs.TextLists.{cuts_of, starts_from}
+use Rattle.doc_model.specs.declared.item.Item.{Item}
+use Rattle.doc_model.specs.declared.item.NoteKind.{NoteKind}
+use Rattle.doc_model.specs.Collected.{joined_texts, collected, field_character, fields_of, refs_of, sections_of}
+use Rattle.doc_model.specs.Collected.{is_auto}
+use Rattle.doc_model.specs.TextLists.{cuts_of, starts_from}
 use Rattle.save_laws.specs.Saves.{HasPropertiesAt, AreSavedSections}
-use Rattle.plain_doc.proofs.Public.{collected_rise, collected_from, starts_rise, first_start, cuts_in_order}
+use Rattle.doc_model.proofs.Public.{collected_rise, collected_from, starts_rise, first_start, cuts_in_order}
 use Rattle.save_laws.proofs.ItemRules.{IsSavedItem}
 
 -- ---- what a printed part holds, wherever it is
@@ -33,14 +35,14 @@ pub record AreSectionsHeld (bytes : List ℕ) (len : ℕ) (list : List Sed) : Ty
 
 pub record AreFieldsHeld (bytes : List ℕ) (len : ℕ) (list : List Fld) : Type 0 where
   pub rules : (at : ℕ) → Hold (field_rules bytes at len)
-  pub has : AreFields bytes len list
+  pub has : AreFieldCharacters bytes len list
 
 pub record AreRefsHeld (bytes : List ℕ) (len : ℕ) (list : List NoteRef) : Type 0 where
   pub rules : (at : ℕ) → Hold (ref_rules bytes at len)
   pub has : AreRefs bytes len list
 
 pub record AreCutsHeld (number : ℕ) (bytes : List ℕ) (len : ℕ) (list : List ℕ) : Type 0 where
-  pub rules : (at : ℕ) → Hold (text_rules number bytes at len)
+  pub rules : (at : ℕ) → Hold (cut_rules number bytes at len)
   pub has : AreCuts bytes len list
 
 -- what is said of the printed bytes and of a length is said of those that are equal
@@ -64,7 +66,7 @@ field_by unit (Some byte) value here =
     let same : first ≡ value = same_Some first value here in
     (ap (λ (p : ℕ × ℕ). p.0) (sym same), ap (λ (p : ℕ × ℕ). Some p.1) same)
 
-pub field_is : (item : Item) (value : ℕ × ℕ) → field_of item ≡ Some value → HasFieldOf item value
+pub field_is : (item : Item) (value : ℕ × ℕ) → field_character item ≡ Some value → HasFieldOf item value
 field_is item value here =
     let found = field_by item.unit item.fld value here in record { unit = found.0; byte = found.1 }
 
@@ -79,8 +81,8 @@ pub field_from : (items : List Item) (k : ℕ) (fld : Fld) → slice_get (fields
     IsFieldOf items fld
 field_from items k fld here =
     let make : ℕ × (ℕ × ℕ) → Fld = λ e. record { cp = e.0; unit = e.1.0; byte = e.1.1 } in
-    let found = from_map make (collected field_of 0 items) k fld here in
-    let from = collected_from field_of 0 items k found.0 found.1.0 in
+    let found = from_map make (collected field_character 0 items) k fld here in
+    let from = collected_from field_character 0 items k found.0 found.1.0 in
     let is = field_is from.item found.0.1 from.has in
     let cp : from.index ≡ fld.cp =
     (let e : from.index ≡ found.0.0 = omega (arith, from.at) in e ∙ ap (λ (f : Fld). f.cp) found.1.1) in
@@ -96,13 +98,13 @@ fields_printable : (items : List Item) (len : ℕ) → length items ≤ len → 
 fields_printable items len within saved =
     let make : ℕ × (ℕ × ℕ) → Fld = λ e. record { cp = e.0; unit = e.1.0; byte = e.1.1 } in
     let cps : map (λ (fld : Fld). fld.cp) (fields_of items) ≡ map (λ (e : ℕ × (ℕ × ℕ)). e.0)
-    (collected field_of 0 items) =
-    map-map (λ (fld : Fld). fld.cp) make (collected field_of 0 items) in
+    (collected field_character 0 items) =
+    map-map (λ (fld : Fld). fld.cp) make (collected field_character 0 items) in
     record {
       in_order =
           subst (AreCpsInOrder (fld_cps len)) (sym cps)
-          (rise_in_order len (map (λ (e : ℕ × (ℕ × ℕ)). e.0) (collected field_of 0 items))
-          (collected_rise field_of 0 len items (omega arith)));
+          (rise_in_order len (map (λ (e : ℕ × (ℕ × ℕ)). e.0) (collected field_character 0 items))
+          (collected_rise field_character 0 len items (omega arith)));
       kinds =
           All-from_slice_get (λ (fld : Fld). IsTrue (is_field_unit fld.unit)) (fields_of items) (λ k fld here.
           let from = field_from items k fld here in

@@ -10,14 +10,14 @@ use Rattle.std.proofs.lemmas.List.Sums.{sum_by-cons}
 use Rattle.prop_map.specs.Settings.{Properties}
 use Rattle.fkp_pages.specs.declared.kind.PageKind.TheVariants.{Papx}
 use Rattle.fkp_pages.specs.declared.lists.Run.{Run}
-use Rattle.plain_doc.specs.declared.item.Mark.{Mark}
-use Rattle.plain_doc.specs.declared.item.Item.{Item}
-use Rattle.plain_doc.specs.Settings.{is_inside}
-use Rattle.plain_doc.specs.Stretches.{stretch_from, stretches}
+use Rattle.doc_model.specs.declared.item.Mark.{Mark}
+use Rattle.doc_model.specs.declared.item.Item.{Item}
+use Rattle.doc_model.specs.Settings.{is_inside}
+use Rattle.doc_model.specs.Stretches.{stretch_from, stretches}
 use Rattle.full_save.specs.Runs.{mark_properties, item_properties, runs_from, text_runs}
 use Rattle.edit_ops.specs.Runs.{paragraph_count}
-use Rattle.save_laws.specs.SharedPages.{marks_of}
-use Rattle.plain_doc.proofs.Public.{Leads, leads}
+use Rattle.save_laws.specs.SharedPages.{item_marks}
+use Rattle.doc_model.proofs.Public.{Leads, leads}
 
 -- ---- the marks
 
@@ -25,17 +25,17 @@ count_one : (o : Option Mark) (rest : List Mark) → length (cons_option o rest)
 count_one None rest = omega arith
 count_one (Some mark) rest = omega arith
 
-pub length-marks : (text : List Item) → length (marks_of text) ≡ paragraph_count text
+pub length-marks : (text : List Item) → length (item_marks text) ≡ paragraph_count text
 length-marks [] = refl
 length-marks (item ∷ text) =
     omega (
       arith,
       length-marks text,
-      count_one item.mark (marks_of text),
+      count_one item.mark (item_marks text),
       sum_by-cons (λ (x : Item). cond (is_some x.mark) 1 0) item text,
     )
 
-pub both_marks : (one other : List Item) → marks_of (one ++ other) ≡ marks_of one ++ marks_of other
+pub both_marks : (one other : List Item) → item_marks (one ++ other) ≡ item_marks one ++ item_marks other
 both_marks one other = filter_map-append (λ (item : Item). item.mark) one other
 
 -- ---- runs of paragraphs
@@ -60,7 +60,7 @@ run_marks at (part ∷ parts) =
 pub record LastMarks (items : List Item) : Type 0 where
   pub tail : List Mark
   pub few : length tail ≤ 1
-  pub is : map last_mark (stretches is_inside items) ≡ marks_of items ++ tail
+  pub is : map last_mark (stretches is_inside items) ≡ item_marks items ++ tail
 
 -- an item in front does not change the last one
 last_kept : (x y : Item) (front : List Item) → last_mark (x ∷ (y ∷ front)) ≡ last_mark (y ∷ front)
@@ -96,8 +96,8 @@ item_before x y ys None none rest =
     ap (stretch_from is_inside x) lead.is
     ∙ cond-true (is_inside x y) ((x ∷ (y ∷ lead.front)) ∷ lead.more)
     ((x ∷ []) ∷ ((y ∷ lead.front) ∷ lead.more)) inside in
-    let marks : marks_of (x ∷ (y ∷ ys)) ≡ marks_of (y ∷ ys) =
-    ap (λ (o : Option Mark). cons_option o (marks_of (y ∷ ys))) none in
+    let marks : item_marks (x ∷ (y ∷ ys)) ≡ item_marks (y ∷ ys) =
+    ap (λ (o : Option Mark). cons_option o (item_marks (y ∷ ys))) none in
     record {
       tail = rest.tail;
       few = rest.few;
@@ -117,8 +117,8 @@ item_before x y ys (Some mark) some rest =
     ((x ∷ []) ∷ ((y ∷ lead.front) ∷ lead.more)) apart
     ∙ ap (λ (p : List (List Item)). (x ∷ []) ∷ p) (sym lead.is)) in
     let first : last_mark (x ∷ []) ≡ mark = ap (λ (o : Option Mark). mark_of_properties (mark_properties o)) some in
-    let marks : marks_of (x ∷ (y ∷ ys)) ≡ mark ∷ marks_of (y ∷ ys) =
-    ap (λ (o : Option Mark). cons_option o (marks_of (y ∷ ys))) some in
+    let marks : item_marks (x ∷ (y ∷ ys)) ≡ mark ∷ item_marks (y ∷ ys) =
+    ap (λ (o : Option Mark). cons_option o (item_marks (y ∷ ys))) some in
     record {
       tail = rest.tail;
       few = rest.few;
@@ -136,5 +136,5 @@ last_marks (x ∷ (y ∷ ys)) = item_before x y ys x.mark refl (last_marks (y �
 
 -- the runs of paragraphs have the marks of the text, and perhaps one of their own behind the last of these
 pub text_marks : (at : ℕ) (items : List Item) →
-    map mark_of_run (text_runs Papx at items) ≡ marks_of items ++ (last_marks items).tail
+    map mark_of_run (text_runs Papx at items) ≡ item_marks items ++ (last_marks items).tail
 text_marks at items = run_marks at (stretches is_inside items) ∙ (last_marks items).is

@@ -3,7 +3,7 @@ use Rattle.std.specs.Prelude.{slice_get}
 use Rattle.std.proofs.Common.{◌≡◌, ◌∙◌, refl, sym, ap, subst, inl, inr, ℕ, List, [], ◌∷◌, length, Some, arith}
 use Rattle.doc_bits.specs.Rules.{Hold, Nowhere}
 use Rattle.fib_form.specs.TableEntries.{entry}
-use Rattle.fib_form.specs.TableParts.{pair_of}
+use Rattle.fib_form.specs.TableParts.{pair_number}
 use Rattle.fib_form.specs.declared.table_parts.TablePart.{TablePart}
 use Rattle.fib_form.specs.declared.table_parts.TablePart.TheVariants.{SttbfBkmk, PlcfBkf, PlcfBkl}
 use Rattle.doc_parts.specs.BookmarkParts.{BookmarkParts, parts_at, bookmarks_of, bookmark_rules}
@@ -37,10 +37,10 @@ marks_are s =
 
 -- no part leaves the table stream
 stays : (s : Save) (k : ℕ) (part : TablePart) (bytes : List ℕ) (place : ℕ) →
-    slice_get (saved_entries s.document s.saved) k ≡ Some (entry (pair_of part) bytes) →
+    slice_get (saved_entries s.document s.saved) k ≡ Some (entry (pair_number part) bytes) →
     ¬ (IsLeavingPair (the_source s) part place)
 stays s k part bytes place here leaves =
-    let within = (s.is.parts k (entry (pair_of part) bytes) here).within in
+    let within = (s.is.parts k (entry (pair_number part) bytes) here).within in
     let beyond = leaves.1 in
     omega (arith, within, beyond)
 

@@ -6,16 +6,16 @@ use Rattle.std.proofs.lemmas.List.Elements.{All-head, All-tail}
 use Rattle.fkp_pages.specs.declared.kind.PageKind.{PageKind}
 use Rattle.fkp_pages.specs.declared.kind.PageKind.TheVariants.{Chpx, Papx}
 use Rattle.fkp_pages.specs.declared.lists.Run.{Run}
-use Rattle.fkp_pages.specs.Written.{is_bare}
+use Rattle.fkp_pages.specs.Written.{is_bare_run}
 use Rattle.fkp_pages.specs.Pages.{first_fc}
 use Rattle.fkp_pages.specs.Packed.{fits_page, packed_from, packed}
-use Rattle.plain_doc.specs.declared.item.Mark.{Mark}
-use Rattle.plain_doc.specs.declared.item.Item.{Item}
-use Rattle.plain_doc.specs.Settings.{is_alike}
-use Rattle.plain_doc.specs.Stretches.{stretches}
+use Rattle.doc_model.specs.declared.item.Mark.{Mark}
+use Rattle.doc_model.specs.declared.item.Item.{Item}
+use Rattle.doc_model.specs.Settings.{is_alike}
+use Rattle.doc_model.specs.Stretches.{stretches}
 use Rattle.full_save.specs.Runs.{text_runs}
 use Rattle.full_save.proofs.Public.{length-runs_from}
-use Rattle.save_laws.specs.SharedPages.{pages_begun, pages_taken, marks_of, is_bare_mark}
+use Rattle.save_laws.specs.SharedPages.{pages_begun, pages_taken, item_marks, is_bare_mark}
 use Rattle.save_laws.specs.SharedPages.{PageBoundsAreFewer, PageBoundsAdd, TextPagesAreFew, BareMarksShare}
 use Rattle.save_laws.proofs.RunLemmas.{joined_stretches}
 use Rattle.save_laws.proofs.MarkRunLemmas.{length-marks, both_marks, mark_of_run, last_marks, text_marks}
@@ -107,7 +107,7 @@ begun_by_upto marks =
     omega (arith, begun_upto 0 (map is_bare_mark marks), length-map marks is_bare_mark)
 
 pub page_bounds_are_fewer : PageBoundsAreFewer
-page_bounds_are_fewer text = omega (arith, begun_by_upto (marks_of text), length-marks text)
+page_bounds_are_fewer text = omega (arith, begun_by_upto (item_marks text), length-marks text)
 
 pub page_bounds_add : PageBoundsAdd
 page_bounds_add one other =
@@ -115,18 +115,18 @@ page_bounds_add one other =
       arith,
       joined_stretches is_alike one other,
       ap begun_by (both_marks one other),
-      begun_by-append (marks_of one) (marks_of other),
+      begun_by-append (item_marks one) (item_marks other),
     )
 
 -- ---- its runs
 
-bare_runs : (runs : List Run) → map (is_bare Papx) runs ≡ map is_bare_mark (map mark_of_run runs)
+bare_runs : (runs : List Run) → map (is_bare_run Papx) runs ≡ map is_bare_mark (map mark_of_run runs)
 bare_runs [] = refl
-bare_runs (run ∷ runs) = ap (λ bare. is_bare Papx run ∷ bare) (bare_runs runs)
+bare_runs (run ∷ runs) = ap (λ bare. is_bare_run Papx run ∷ bare) (bare_runs runs)
 
 -- the runs of paragraphs begin no more pages than the marks, but for one behind the last mark
 pub paragraphs_begin : (at : ℕ) (items : List Item) →
-    pages_begun 0 (map (is_bare Papx) (text_runs Papx at items)) ≤ begun_by (marks_of items) + 1
+    pages_begun 0 (map (is_bare_run Papx) (text_runs Papx at items)) ≤ begun_by (item_marks items) + 1
 paragraphs_begin at items =
     let lasts = last_marks items in
     let few = lasts.few in
@@ -134,7 +134,7 @@ paragraphs_begin at items =
       arith,
       ap (pages_begun 0) (bare_runs (text_runs Papx at items)),
       ap begun_by (text_marks at items),
-      begun_by-append (marks_of items) lasts.tail,
+      begun_by-append (item_marks items) lasts.tail,
       begun_by_upto lasts.tail,
       few,
     )

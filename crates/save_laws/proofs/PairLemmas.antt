@@ -17,7 +17,7 @@ use Rattle.doc_parts.specs.Sections.{printed_sections}
 use Rattle.style_sheet.specs.Sheet.{Sheet}
 use Rattle.style_sheet.specs.Written.{word, written_front, written_slots, written_sheet}
 use Rattle.style_sheet.specs.Counted.{written_counted}
-use Rattle.file_rules.specs.Source.{part_bytes}
+use Rattle.file_rules.specs.Source.{table_part_bytes}
 use Rattle.file_rules.specs.PairRules.{read_pairs, IsNeeded, BreaksPairs}
 use Rattle.fib_form.specs.TableEntries.{TableEntry}
 use Rattle.save_laws.specs.Saves.{saved_entries}
@@ -102,7 +102,7 @@ sections_some s =
     let all = (sections_part s).has.all in
     let some = some_sections s in
     let len = s.is.sections.properties.len in
-    let counted : 0 < (length (part_bytes (the_source s) PlcfSed) - 4) / 16 = omega (arith, all, some, len) in
+    let counted : 0 < (length (table_part_bytes (the_source s) PlcfSed) - 4) / 16 = omega (arith, all, some, len) in
     omega (arith, counted, ap length bytes)
 
 tight : (s : Save) → AreTight (saved_entries s.document s.saved) read_pairs

@@ -8,7 +8,7 @@ use Rattle.doc_bits.specs.Number.{u16_at}
 use Rattle.doc_bits.specs.declared.places.Where.TheVariants.{Table}
 use Rattle.doc_bits.specs.Rules.{Hold}
 use Rattle.fib_form.specs.Fib.{fib_pair}
-use Rattle.fib_form.specs.TableParts.{pair_of}
+use Rattle.fib_form.specs.TableParts.{pair_number}
 use Rattle.fib_form.specs.declared.table_parts.TablePart.TheVariants.{Stshf, PlcffndRef, PlcffndTxt, PlcfSed, PlcfHdd}
 use Rattle.fib_form.specs.declared.table_parts.TablePart.TheVariants.{PlcfFldMom, PlcfFldHdr, PlcfFldFtn, PlfLst}
 use Rattle.fib_form.specs.declared.stories.StoryKind.TheVariants.{Main, Notes, Heads}
@@ -17,14 +17,15 @@ use Rattle.doc_parts.proofs.Public.{levels_inside, levels_hold}
 use Rattle.doc_parts.specs.Sections.{printed_sections}
 use Rattle.doc_parts.specs.Fields.{printed_fields}
 use Rattle.doc_parts.specs.Stories.{printed_refs, printed_texts}
-use Rattle.style_sheet.specs.Written.{IsReadAs, written_sheet}
+use Rattle.style_sheet.specs.Written.{IsValidStsh, written_sheet}
 use Rattle.style_sheet.proofs.Public.{sheet_back}
-use Rattle.plain_doc.specs.declared.item.Item.{Item}
-use Rattle.plain_doc.specs.Collected.{joined_texts, fields_of, refs_of, sections_of}
-use Rattle.plain_doc.proofs.Public.{main_ends, ends_main, some_collected}
-use Rattle.file_rules.specs.Source.{part_bytes, part_place, story_length}
+use Rattle.doc_model.specs.declared.item.Item.{Item}
+use Rattle.doc_model.specs.Collected.{joined_texts, fields_of, refs_of, sections_of}
+use Rattle.plain_doc.proofs.Public.{main_ends, ends_main}
+use Rattle.doc_model.proofs.Public.{some_collected}
+use Rattle.file_rules.specs.Source.{table_part_bytes, part_place, story_length}
 use Rattle.file_rules.specs.ListRules.{rules_of_lists, HasLevels}
-use Rattle.plain_doc.specs.TextLists.{cuts_of}
+use Rattle.doc_model.specs.TextLists.{cuts_of}
 use Rattle.fib_form.specs.TableEntries.{TableEntry, IsPartAt}
 use Rattle.save_laws.proofs.SlotLemmas.{length-story_slots}
 use Rattle.save_laws.proofs.SavedLemmas.{Save, the_source, the_notes, the_heads, main_len, note_len, head_len}
@@ -56,11 +57,11 @@ some_sections s =
     some_collected (λ (item : Item). item.sect) 0 s.document.main (length s.document.main - 1) last.item here some
 
 pub sections_part : (s : Save) →
-    AreSectionsHeld (part_bytes (the_source s) PlcfSed) (story_length (the_source s) Main) s.saved.seds
+    AreSectionsHeld (table_part_bytes (the_source s) PlcfSed) (story_length (the_source s) Main) s.saved.seds
 sections_part s =
     let len = length s.document.main in
     let few = (few_units s).few in
-    said_of (λ bytes n. AreSectionsHeld bytes n s.saved.seds) (part_bytes (the_source s) PlcfSed)
+    said_of (λ bytes n. AreSectionsHeld bytes n s.saved.seds) (table_part_bytes (the_source s) PlcfSed)
     (printed_sections s.saved.seds len) (story_length (the_source s) Main) len
     (part_is s 3 PlcfSed (printed_sections s.saved.seds len) refl) (main_len s)
     (sections_held s.saved.stream.wd s.document.main s.saved.seds s.is.wd_small (omega (arith, few)) (some_sections s)
@@ -68,42 +69,45 @@ sections_part s =
 
 -- ---- styles
 
-pub sheet_part : (s : Save) → IsReadAs s.document.sheet (part_bytes (the_source s) Stshf)
+pub sheet_part : (s : Save) → IsValidStsh s.document.sheet (table_part_bytes (the_source s) Stshf)
 sheet_part s =
-    subst (IsReadAs s.document.sheet) (sym (part_is s 0 Stshf (written_sheet s.document.sheet) refl))
+    subst (IsValidStsh s.document.sheet) (sym (part_is s 0 Stshf (written_sheet s.document.sheet) refl))
     (sheet_back s.document.sheet s.formed.sheet s.right.writable)
 
 -- ---- field characters
 
 pub main_fields_part : (s : Save) →
-    AreFieldsHeld (part_bytes (the_source s) PlcfFldMom) (story_length (the_source s) Main) (fields_of s.document.main)
+    AreFieldsHeld (table_part_bytes (the_source s) PlcfFldMom) (story_length (the_source s) Main) (fields_of
+    s.document.main)
 main_fields_part s =
     let items = s.document.main in
     let len = length items in
     let few = (few_units s).few in
-    said_of (λ bytes n. AreFieldsHeld bytes n (fields_of items)) (part_bytes (the_source s) PlcfFldMom)
+    said_of (λ bytes n. AreFieldsHeld bytes n (fields_of items)) (table_part_bytes (the_source s) PlcfFldMom)
     (printed_fields (fields_of items) len) (story_length (the_source s) Main) len
     (part_is s 8 PlcfFldMom (printed_fields (fields_of items) len) refl) (main_len s)
     (fields_held items len (omega (arith, few)) (omega arith) (main_saved s.document s.right))
 
 pub note_fields_part : (s : Save) →
-    AreFieldsHeld (part_bytes (the_source s) PlcfFldFtn) (story_length (the_source s) Notes) (fields_of (note_items s))
+    AreFieldsHeld (table_part_bytes (the_source s) PlcfFldFtn) (story_length (the_source s) Notes) (fields_of
+    (note_items s))
 note_fields_part s =
     let items = note_items s in
     let len = length (the_notes s) in
     let few = (few_units s).few in
-    said_of (λ bytes n. AreFieldsHeld bytes n (fields_of items)) (part_bytes (the_source s) PlcfFldFtn)
+    said_of (λ bytes n. AreFieldsHeld bytes n (fields_of items)) (table_part_bytes (the_source s) PlcfFldFtn)
     (printed_fields (fields_of items) len) (story_length (the_source s) Notes) len
     (part_is s 10 PlcfFldFtn (printed_fields (fields_of items) len) refl) (note_len s)
     (fields_held items len (omega (arith, few)) (note_items_within s) (notes_saved s.document s.right))
 
 pub head_fields_part : (s : Save) →
-    AreFieldsHeld (part_bytes (the_source s) PlcfFldHdr) (story_length (the_source s) Heads) (fields_of (head_items s))
+    AreFieldsHeld (table_part_bytes (the_source s) PlcfFldHdr) (story_length (the_source s) Heads) (fields_of
+    (head_items s))
 head_fields_part s =
     let items = head_items s in
     let len = length (the_heads s) in
     let few = (few_units s).few in
-    said_of (λ bytes n. AreFieldsHeld bytes n (fields_of items)) (part_bytes (the_source s) PlcfFldHdr)
+    said_of (λ bytes n. AreFieldsHeld bytes n (fields_of items)) (table_part_bytes (the_source s) PlcfFldHdr)
     (printed_fields (fields_of items) len) (story_length (the_source s) Heads) len
     (part_is s 9 PlcfFldHdr (printed_fields (fields_of items) len) refl) (head_len s)
     (fields_held items len (omega (arith, few)) (head_items_within s) (heads_saved s.document s.right))
@@ -111,12 +115,13 @@ head_fields_part s =
 -- ---- references and cuts
 
 pub refs_part : (s : Save) →
-    AreRefsHeld (part_bytes (the_source s) PlcffndRef) (story_length (the_source s) Main) (refs_of s.document.main)
+    AreRefsHeld (table_part_bytes (the_source s) PlcffndRef) (story_length (the_source s) Main) (refs_of
+    s.document.main)
 refs_part s =
     let main = s.document.main in
     let len = length main in
     let few = (few_units s).few in
-    said_of (λ bytes n. AreRefsHeld bytes n (refs_of main)) (part_bytes (the_source s) PlcffndRef)
+    said_of (λ bytes n. AreRefsHeld bytes n (refs_of main)) (table_part_bytes (the_source s) PlcffndRef)
     (printed_refs (refs_of main) len) (story_length (the_source s) Main) len
     (part_is s 1 PlcffndRef (printed_refs (refs_of main) len) refl) (main_len s)
     (refs_held main len (omega (arith, few)) (omega arith))
@@ -129,21 +134,21 @@ abbrev pub head_cuts : Save → List ℕ
 head_cuts s = cuts_of (head_items s) s.document.heads
 
 pub note_cuts_part : (s : Save) →
-    AreCutsHeld 53 (part_bytes (the_source s) PlcffndTxt) (story_length (the_source s) Notes) (note_cuts s)
+    AreCutsHeld 53 (table_part_bytes (the_source s) PlcffndTxt) (story_length (the_source s) Notes) (note_cuts s)
 note_cuts_part s =
     let len = length (the_notes s) in
     let few = (few_units s).few in
-    said_of (λ bytes n. AreCutsHeld 53 bytes n (note_cuts s)) (part_bytes (the_source s) PlcffndTxt)
+    said_of (λ bytes n. AreCutsHeld 53 bytes n (note_cuts s)) (table_part_bytes (the_source s) PlcffndTxt)
     (printed_texts (note_cuts s) len) (story_length (the_source s) Notes) len
     (part_is s 2 PlcffndTxt (printed_texts (note_cuts s) len) refl) (note_len s)
     (cuts_held 53 (note_items s) s.document.notes len refl (note_items_within s) (omega (arith, few)))
 
 pub head_cuts_part : (s : Save) →
-    AreCutsHeld 54 (part_bytes (the_source s) PlcfHdd) (story_length (the_source s) Heads) (head_cuts s)
+    AreCutsHeld 54 (table_part_bytes (the_source s) PlcfHdd) (story_length (the_source s) Heads) (head_cuts s)
 head_cuts_part s =
     let len = length (the_heads s) in
     let few = (few_units s).few in
-    said_of (λ bytes n. AreCutsHeld 54 bytes n (head_cuts s)) (part_bytes (the_source s) PlcfHdd)
+    said_of (λ bytes n. AreCutsHeld 54 bytes n (head_cuts s)) (table_part_bytes (the_source s) PlcfHdd)
     (printed_texts (head_cuts s) len) (story_length (the_source s) Heads) len
     (part_is s 4 PlcfHdd (printed_texts (head_cuts s) len) refl) (head_len s)
     (cuts_held 54 (head_items s) s.document.heads len refl (head_items_within s) (omega (arith, few)))
@@ -165,12 +170,12 @@ levels_part s =
     let source = the_source s in
     let lst = s.document.carried.lst in
     let levels = s.document.carried.levels in
-    let part : TableEntry = record { number = pair_of PlfLst; bytes = lst; behind = levels } in
+    let part : TableEntry = record { number = pair_number PlfLst; bytes = lst; behind = levels } in
     let at = part_place source PlfLst in
-    let placed : IsPartAt s.table (fib_pair s.saved.stream.wd (pair_of PlfLst)) part = s.is.parts 17 part refl in
-    let bytes : part_bytes source PlfLst ≡ lst = placed.bytes in
-    let lcb : ℕ = length (part_bytes source PlfLst) in
-    let lcb_is : (fib_pair s.saved.stream.wd (pair_of PlfLst)).1 ≡ lcb = placed.len ∙ ap length (sym bytes) in
+    let placed : IsPartAt s.table (fib_pair s.saved.stream.wd (pair_number PlfLst)) part = s.is.parts 17 part refl in
+    let bytes : table_part_bytes source PlfLst ≡ lst = placed.bytes in
+    let lcb : ℕ = length (table_part_bytes source PlfLst) in
+    let lcb_is : (fib_pair s.saved.stream.wd (pair_number PlfLst)).1 ≡ lcb = placed.len ∙ ap length (sym bytes) in
     let within : at + lcb + length levels ≤ length s.table =
     subst (λ n. at + n + length levels ≤ length s.table) lcb_is placed.within in
     let behind : slice_range s.table (at + lcb) (at + lcb + length levels) ≡ levels =

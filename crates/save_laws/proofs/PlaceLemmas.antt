@@ -8,11 +8,11 @@ use Rattle.fkp_pages.specs.Properties.{HasListAt}
 use Rattle.direct_props.specs.Direct.{IsDirectCharacter, IsDirectMark}
 use Rattle.direct_props.specs.RightLists.{HasValidListAt}
 use Rattle.piece_table.specs.Piece.{UnitPlace}
-use Rattle.plain_doc.specs.declared.item.Mark.{Mark}
-use Rattle.plain_doc.specs.declared.item.Item.{Item}
+use Rattle.doc_model.specs.declared.item.Mark.{Mark}
+use Rattle.doc_model.specs.declared.item.Item.{Item}
 use Rattle.file_rules.specs.Units.{unit_at}
-use Rattle.save_laws.specs.Places.{PagedStream, Given, given_of, StandsInside, GivesAt, IsMarkedAfter}
-use Rattle.save_laws.specs.Slots.{Slot, shown, loose, last, ReadsAfter, IsPlaced}
+use Rattle.save_laws.specs.Places.{PagedStream, GivenUnit, given_of, StandsInside, GivesAt, IsMarkedAfter}
+use Rattle.save_laws.specs.Slots.{Slot, shown, loose, last, ReadsAfter, IsPlaceForSlot}
 use Rattle.save_laws.proofs.SlotLemmas.{slot_unit, IsJudgedSlot}
 
 -- a right list is a list
@@ -86,25 +86,25 @@ item_read stream place item read =
 
 -- a checked slot's place gives something
 pub record IsGivenThere (stream : PagedStream) (place : UnitPlace) : Type 0 where
-  pub given : Given
+  pub given : GivenUnit
   pub gives : GivesAt stream place.at place.wide given
 
 pub given_there : (stream : PagedStream) (place : UnitPlace) (slot : Slot) → IsJudgedSlot slot →
-    IsPlaced (StandsInside stream) (GivesAt stream) place slot → IsGivenThere stream place
+    IsPlaceForSlot (StandsInside stream) (GivesAt stream) place slot → IsGivenThere stream place
 given_there stream place (shown item) judged placed = record { given = placed.before; gives = placed.gives }
 given_there stream place loose judged placed = record { given = placed.given; gives = placed.gives }
 given_there stream place last judged placed = absurd judged
 
 -- its unit is that of the slot
 pub unit_placed : (stream : PagedStream) (place : UnitPlace) (slot : Slot) → IsJudgedSlot slot →
-    IsPlaced (StandsInside stream) (GivesAt stream) place slot → unit_at stream.wd place ≡ slot_unit slot
+    IsPlaceForSlot (StandsInside stream) (GivesAt stream) place slot → unit_at stream.wd place ≡ slot_unit slot
 unit_placed stream place (shown item) judged placed = sym (placed.after.unit ∙ placed.gives.unit)
 unit_placed stream place loose judged placed = sym placed.gives.unit ∙ placed.unit
 unit_placed stream place last judged placed = absurd judged
 
 -- any slot's place is in the stream
 pub stands_there : (stream : PagedStream) (place : UnitPlace) (slot : Slot) →
-    IsPlaced (StandsInside stream) (GivesAt stream) place slot → StandsInside stream place.at place.wide
+    IsPlaceForSlot (StandsInside stream) (GivesAt stream) place slot → StandsInside stream place.at place.wide
 stands_there stream place (shown item) placed = placed.gives.stands
 stands_there stream place loose placed = placed.gives.stands
 stands_there stream place last placed = placed

@@ -12,8 +12,8 @@ use Rattle.fkp_pages.specs.Runs.{run_groups, run_list, IsWritableRun}
 use Rattle.fkp_pages.specs.Found.{sprms_of}
 use Rattle.fkp_pages.proofs.Public.{lists_have_properties, row_run}
 use Rattle.direct_props.specs.Direct.{MakesProperties}
-use Rattle.plain_doc.specs.declared.item.Mark.{Mark}
-use Rattle.save_laws.specs.Places.{PagedStream, Given, GivesCharacters, GivesMark, GivesAt}
+use Rattle.doc_model.specs.declared.item.Mark.{Mark}
+use Rattle.save_laws.specs.Places.{PagedStream, GivenUnit, GivesCharacters, GivesMark, GivesAt}
 use Rattle.save_laws.specs.Plans.{Plan, IsWrittenPlan}
 use Rattle.save_laws.specs.Laws.{PlansGive}
 use Rattle.save_laws.proofs.RowLemmas.{row_gives}
@@ -29,7 +29,7 @@ makes kind run writable small =
 some_run : {A : Type 0} (xs : List A) (k : ℕ) (x : A) → slice_get xs k ≡ Some x → 0 < length xs
 some_run xs k x here = omega (arith, slice_get_within xs k x here)
 
-gives_characters : (plan : Plan) (written : PagedStream) (k : ℕ) (given : Given) → IsWrittenPlan plan written →
+gives_characters : (plan : Plan) (written : PagedStream) (k : ℕ) (given : GivenUnit) → IsWrittenPlan plan written →
     slice_get plan.added k ≡ Some given → GivesCharacters written (plan.base + 2 * k) given.chp
 gives_characters plan written k given is here =
     let found = is.runs.character k given here in
@@ -47,7 +47,8 @@ gives_characters plan written k given is here =
           (makes Chpx run right.0 right.1.istd);
     }
 
-gives_mark : (plan : Plan) (written : PagedStream) (k : ℕ) (given : Given) (mark : Mark) → IsWrittenPlan plan written →
+gives_mark : (plan : Plan) (written : PagedStream) (k : ℕ) (given : GivenUnit) (mark : Mark) → IsWrittenPlan plan
+    written →
     slice_get plan.added k ≡ Some given → given.mark ≡ Some mark → GivesMark written (plan.base + 2 * k) mark
 gives_mark plan written k given mark is here marked =
     let found = is.runs.paragraph k given mark here marked in

@@ -10,20 +10,21 @@ use Rattle.prop_map.specs.Settings.{Properties}
 use Rattle.doc_parts.specs.declared.lists.Sed.{Sed}
 use Rattle.doc_parts.specs.declared.lists.Fld.{Fld}
 use Rattle.doc_parts.specs.declared.lists.NoteRef.{NoteRef}
-use Rattle.plain_doc.specs.declared.item.Item.{Item}
-use Rattle.plain_doc.specs.declared.item.NoteKind.{NoteKind}
-use Rattle.plain_doc.specs.declared.item.NoteKind.TheVariants.{Auto, Custom}
-use Rattle.plain_doc.specs.Entries.{entry_at}
-use Rattle.plain_doc.specs.Collected.{entry_before, collected, field_of, fields_of, refs_of, sections_of, is_auto}
-use Rattle.plain_doc.proofs.Public.{entry_here, entry_later, none_below, entry_of_item, found_before}
+use Rattle.doc_model.specs.declared.item.Item.{Item}
+use Rattle.doc_model.specs.declared.item.NoteKind.{NoteKind}
+use Rattle.doc_model.specs.declared.item.NoteKind.TheVariants.{Auto, Custom}
+use Rattle.doc_model.specs.Entries.{entry_at_cp}
+use Rattle.doc_model.specs.Collected.{entry_before, collected, field_character, fields_of, refs_of, sections_of}
+use Rattle.doc_model.specs.Collected.{is_auto}
+use Rattle.doc_model.proofs.Public.{entry_here, entry_later, none_below, entry_of_item, found_before}
 use Rattle.doc_read.specs.Sections.{section_lasts}
-use Rattle.doc_read.specs.Marked.{story_bytes, note_kind, note_kinds}
-use Rattle.plain_doc.specs.TextLists.{starts_from}
+use Rattle.doc_read.specs.Marked.{story_bytes, note_kind, note_kind_entries}
+use Rattle.doc_model.specs.TextLists.{starts_from}
 
 -- ---- entries of joined lists
 
-pub entry_second : {A : Type 0} (xs ys : List (ℕ × A)) (cp : ℕ) → entry_at xs cp ≡ None →
-    entry_at (xs ++ ys) cp ≡ entry_at ys cp
+pub entry_second : {A : Type 0} (xs ys : List (ℕ × A)) (cp : ℕ) → entry_at_cp xs cp ≡ None →
+    entry_at_cp (xs ++ ys) cp ≡ entry_at_cp ys cp
 entry_second [] ys cp none = refl
 entry_second (x ∷ xs) ys cp none = elim (cases_eq x.0 cp) [
   | inl here ↦ absurd (none-some x.1 (sym none ∙ entry_here x.0 cp x.1 xs here))
@@ -31,8 +32,8 @@ entry_second (x ∷ xs) ys cp none = elim (cases_eq x.0 cp) [
       entry_later x.0 cp x.1 (xs ++ ys) other ∙ entry_second xs ys cp (sym (entry_later x.0 cp x.1 xs other) ∙ none)
 ]
 
-pub entry_first : {A : Type 0} (xs ys : List (ℕ × A)) (cp : ℕ) (o : Option A) → entry_at xs cp ≡ o →
-    entry_at ys cp ≡ None → entry_at (xs ++ ys) cp ≡ o
+pub entry_first : {A : Type 0} (xs ys : List (ℕ × A)) (cp : ℕ) (o : Option A) → entry_at_cp xs cp ≡ o →
+    entry_at_cp ys cp ≡ None → entry_at_cp (xs ++ ys) cp ≡ o
 entry_first [] ys cp o first none = none ∙ first
 entry_first (x ∷ xs) ys cp o first none = elim (cases_eq x.0 cp) [
   | inl here ↦ entry_here x.0 cp x.1 (xs ++ ys) here ∙ (sym (entry_here x.0 cp x.1 xs here) ∙ first)
@@ -51,13 +52,13 @@ pub record AreStoriesRead {A : Type 0} (what : Item → Option A) (main notes he
     Type 0 where
   pub main_is :
       (i : ℕ) (item : Item) → slice_get main i ≡ Some item →
-      entry_at (story_entries what main notes heads a b) (0 + i) ≡ what item
+      entry_at_cp (story_entries what main notes heads a b) (0 + i) ≡ what item
   pub notes_are :
       (i : ℕ) (item : Item) → slice_get notes i ≡ Some item →
-      entry_at (story_entries what main notes heads a b) (a + i) ≡ what item
+      entry_at_cp (story_entries what main notes heads a b) (a + i) ≡ what item
   pub heads_are :
       (i : ℕ) (item : Item) → slice_get heads i ≡ Some item →
-      entry_at (story_entries what main notes heads a b) (b + i) ≡ what item
+      entry_at_cp (story_entries what main notes heads a b) (b + i) ≡ what item
 
 pub stories_read : {A : Type 0} (what : Item → Option A) (main notes heads : List Item) (a b : ℕ) →
     length main ≤ a → a + length notes ≤ b → AreStoriesRead what main notes heads a b
@@ -95,19 +96,19 @@ field_before (Some byte) unit begin cp at rest others e same =
     ap (λ n. (n, byte) ∷ map (λ (e : ℕ × (ℕ × ℕ)). (begin + e.0, e.1.1)) rest) (sym e) ∙ ap (λ l. (at, byte) ∷ l) same
 
 fields_from : (begin cp at : ℕ) (items : List Item) → at ≡ begin + cp →
-    map (λ (e : ℕ × (ℕ × ℕ)). (begin + e.0, e.1.1)) (collected field_of cp items)
+    map (λ (e : ℕ × (ℕ × ℕ)). (begin + e.0, e.1.1)) (collected field_character cp items)
     ≡ collected (λ item. item.fld) at items
 unfolding collected
 fields_from begin cp at [] e = refl
 fields_from begin cp at (item ∷ items) e =
-    field_before item.fld item.unit begin cp at (collected field_of (cp + 1) items)
+    field_before item.fld item.unit begin cp at (collected field_character (cp + 1) items)
     (collected (λ item. item.fld) (at + 1) items) e (fields_from begin (cp + 1) (at + 1) items (omega (arith, e)))
 
 pub story_fields : (begin : ℕ) (items : List Item) →
     story_bytes begin (fields_of items) ≡ collected (λ item. item.fld) begin items
 story_fields begin items =
     let make : ℕ × (ℕ × ℕ) → Fld = λ e. record { cp = e.0; unit = e.1.0; byte = e.1.1 } in
-    map-map (λ (fld : Fld). (begin + fld.cp, fld.byte)) make (collected field_of 0 items)
+    map-map (λ (fld : Fld). (begin + fld.cp, fld.byte)) make (collected field_character 0 items)
     ∙ fields_from begin 0 begin items (omega arith)
 
 -- ---- kinds of notes
@@ -123,7 +124,7 @@ kinds_back (e ∷ entries) =
     ap (λ k. (e.0, k) ∷ map (λ (e : ℕ × NoteKind). (e.0, note_kind (is_auto e.1))) entries) (kind_back e.1)
     ∙ ap (λ l. e ∷ l) (kinds_back entries)
 
-pub kinds_from : (main : List Item) → note_kinds (refs_of main) ≡ collected (λ item. item.note) 0 main
+pub kinds_from : (main : List Item) → note_kind_entries (refs_of main) ≡ collected (λ item. item.note) 0 main
 kinds_from main =
     let note : Item → Option NoteKind = λ item. item.note in
     let make : ℕ × NoteKind → NoteRef = λ e. record { cp = e.0; auto = is_auto e.1 } in

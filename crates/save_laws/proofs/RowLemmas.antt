@@ -11,8 +11,8 @@ use Rattle.fkp_pages.specs.declared.lists.Run.{Run}
 use Rattle.fkp_pages.specs.Bin.{page_at}
 use Rattle.fkp_pages.specs.Fkp.{HasRunAnswer, least_list}
 use Rattle.fkp_pages.specs.Properties.{IsListAnswered}
-use Rattle.fkp_pages.specs.Runs.{run_groups, run_list, IsWritableRun, HasFileNumbers}
-use Rattle.fkp_pages.specs.Rows.{IsInRun, IsRow, NamesRow}
+use Rattle.fkp_pages.specs.Runs.{run_groups, run_list, IsWritableRun, HasRunNumbers}
+use Rattle.fkp_pages.specs.Rows.{IsInRun, IsPageRow, NamesRow}
 use Rattle.fkp_pages.proofs.Public.{run_list_accepted, row_low, table_of_row, row_list}
 use Rattle.direct_props.proofs.Public.{cut_rest}
 use Rattle.direct_props.specs.Stretches.{HasValidList}
@@ -41,13 +41,13 @@ right_answer kind page fc (Leaves entry) list answers answered accepted = absurd
 
 -- the list of a run, through a table that names the pages of the row
 pub row_gives : (kind : PageKind) (wd table : List ℕ) (runs : List Run) (first fc : ℕ) (run : Run)
-    (row : IsRow kind wd runs first) → NamesRow row table → IsInRun runs fc run →
+    (row : IsPageRow kind wd runs first) → NamesRow row table → IsInRun runs fc run →
     HasValidListAt kind wd table fc (run_list kind run)
 row_gives kind wd table runs first fc run row names in_run =
     let own = table_of_row kind wd runs first row in
     let has = row_list kind wd runs first fc run row in_run in
     let writable = All_at (IsWritableRun kind) runs in_run.number run row.right.writable in_run.there in
-    let numbers = All_at HasFileNumbers runs in_run.number run row.numbers in_run.there in
+    let numbers = All_at HasRunNumbers runs in_run.number run row.numbers in_run.there in
     record {
       number = has.number;
       named = names fc has.number has.named;

@@ -5,10 +5,10 @@ use Rattle.std.proofs.Common.{length, arith}
 use Rattle.std.proofs.lemmas.List.Sums.{sum_by-append, sum_by-cons}
 use Rattle.fkp_pages.specs.declared.kind.PageKind.TheVariants.{Chpx, Papx}
 use Rattle.fkp_pages.proofs.Public.{pages_are_whole}
-use Rattle.plain_doc.specs.declared.item.Item.{Item}
-use Rattle.plain_doc.specs.Settings.{is_alike, is_inside}
-use Rattle.plain_doc.specs.Stretches.{stretch_from, stretches}
-use Rattle.plain_doc.proofs.Public.{Leads, leads, one_more}
+use Rattle.doc_model.specs.declared.item.Item.{Item}
+use Rattle.doc_model.specs.Settings.{is_alike, is_inside}
+use Rattle.doc_model.specs.Stretches.{stretch_from, stretches}
+use Rattle.doc_model.proofs.Public.{Leads, leads, one_more}
 use Rattle.full_save.proofs.Public.{length-runs_from}
 use Rattle.edit_ops.specs.Runs.{paragraph_count}
 use Rattle.save_laws.specs.RunCounts.{TextRunsAreCounted, RunCountsAdd, PagesAreFew}

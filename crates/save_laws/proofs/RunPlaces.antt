@@ -13,20 +13,20 @@ use Rattle.fkp_pages.specs.declared.kind.RunAnswer.TheVariants.{Found, Empty, No
 use Rattle.fkp_pages.specs.declared.lists.Bin.{Bin}
 use Rattle.fkp_pages.specs.declared.lists.Run.{Run}
 use Rattle.fkp_pages.specs.Bin.{bin_count, page_at}
-use Rattle.fkp_pages.specs.Fkp.{HoldsFc, HasRunAnswer, page_count, page_fc}
+use Rattle.fkp_pages.specs.Fkp.{HoldsFc, HasRunAnswer, page_run_count, page_fc}
 use Rattle.fkp_pages.specs.Found.{ArePlaced, range_page}
-use Rattle.fkp_pages.specs.InARow.{row_of}
+use Rattle.fkp_pages.specs.InARow.{row_placement}
 use Rattle.fkp_pages.specs.Packing.{joined_pages, page_items}
 use Rattle.fkp_pages.specs.PageBytes.{last_fc, page_bytes}
 use Rattle.fkp_pages.specs.Properties.{IsListAnswered}
-use Rattle.fkp_pages.specs.Rows.{IsInRun, IsRow, row_bins, row_table}
-use Rattle.fkp_pages.specs.Runs.{HasFileNumbers, run_list}
+use Rattle.fkp_pages.specs.Rows.{IsInRun, IsPageRow, row_bins, row_table}
+use Rattle.fkp_pages.specs.Runs.{HasRunNumbers, run_list}
 use Rattle.fkp_pages.proofs.Public.{items_before, length-starts, page_between, page_of_bytes, AreInOrder, in_order}
 use Rattle.fkp_pages.proofs.Public.{inner_in_order, ends_upto, ends_upto_last, last_fc_is, SaysFcs, says_fcs}
 use Rattle.fkp_pages.proofs.Public.{printed_page, length-numbered_bins, pages_stand_in_a_row, IsRowTable, table_of_row}
 use Rattle.fkp_pages.proofs.Public.{row_list, row_low}
 use Rattle.save_laws.specs.Places.{PagedStream}
-use Rattle.save_laws.specs.ByRuns.{IsRunAt, ranges_end, BeginsRun, HasBegin, EndsRun, StaysInRun, IsBounded}
+use Rattle.save_laws.specs.ByRuns.{IsPageRunAt, ranges_end, BeginsRun, HasRunBegin, EndsRun, StaysInRun, IsBounded}
 
 -- ---- one run holds a place
 
@@ -59,7 +59,7 @@ runs_one runs fc one other order a b = elim (cases_lt a.number b.number) [
 
 record HoldsIn (page : List ℕ) (fc : ℕ) : Type 0 where
   run : ℕ
-  below : run < page_count page
+  below : run < page_run_count page
   holds : HoldsFc page run fc
 
 answered_run : (page list : List ℕ) (fc : ℕ) (answer : RunAnswer) → HasRunAnswer Papx page fc answer →
@@ -79,7 +79,7 @@ pub record IsRowRun (runs : List Run) (fc first lim : ℕ) : Type 0 where
   pub first_is : first ≡ run.from
   pub lim_is : lim ≡ run.to
 
-module _ (wd characters : List ℕ) (runs : List Run) (number : ℕ) (row : IsRow Papx wd runs number) where
+module _ (wd characters : List ℕ) (runs : List Run) (number : ℕ) (row : IsPageRow Papx wd runs number) where
   abbrev pub stream_of_row : PagedStream
   stream_of_row = record { wd = wd; characters = characters; paragraphs = row_table row }
 
@@ -100,7 +100,7 @@ module _ (wd characters : List ℕ) (runs : List Run) (number : ℕ) (row : IsRo
       table.table.count ∙ (length-numbered_bins number row.pages.starts ∙ length-starts row.pages parts
       row.pages_are.starts)
 
-  placed : ArePlaced runs row.pages (row_of runs row.pages number row.before row.behind)
+  placed : ArePlaced runs row.pages (row_placement runs row.pages number row.before row.behind)
   placed = pages_stand_in_a_row Papx runs row.pages number row.before row.behind row.right row.pages_are row.begins
 
   -- all ranges end with the last run
@@ -118,7 +118,7 @@ module _ (wd characters : List ℕ) (runs : List Run) (number : ℕ) (row : IsRo
   page_there k page below is =
       let within : k < length row.pages.starts =
       omega (arith, below, length-starts row.pages parts row.pages_are.starts) in
-      let at : page ≡ range_page (row_of runs row.pages number row.before row.behind) k =
+      let at : page ≡ range_page (row_placement runs row.pages number row.before row.behind) k =
       is ∙ ap (slice_index (map (λ (bin : Bin). bin.page) bins)) (omega arith) in
       ap (λ (w : List ℕ). page_at w page) row.there
       ∙ (ap (page_at (row.before ++ (row.pages.bytes ++ row.behind))) at
@@ -130,14 +130,14 @@ module _ (wd characters : List ℕ) (runs : List Run) (number : ℕ) (row : IsRo
       runs ≡ items_before parts k ++ (page_items parts k ++ joined_pages (drop (k + 1) parts))
   whole k below = row.pages_are.packed.joined ∙ page_between parts k below
 
-  part_numbers : (k : ℕ) → k < length parts → All HasFileNumbers (page_items parts k)
+  part_numbers : (k : ℕ) → k < length parts → All HasRunNumbers (page_items parts k)
   part_numbers k below =
       let front = items_before parts k in
       let part = page_items parts k in
       let back = joined_pages (drop (k + 1) parts) in
-      let all : All HasFileNumbers (front ++ (part ++ back)) =
-      subst (All HasFileNumbers) (whole k below) row.numbers in
-      All-from_slice_get HasFileNumbers part (λ i run here. All_at HasFileNumbers (front ++ (part ++ back))
+      let all : All HasRunNumbers (front ++ (part ++ back)) =
+      subst (All HasRunNumbers) (whole k below) row.numbers in
+      All-from_slice_get HasRunNumbers part (λ i run here. All_at HasRunNumbers (front ++ (part ++ back))
       (length front + i) run all (in_back front (part ++ back) i (length front + i) run (in_front part back i run here)
       refl))
 
@@ -148,7 +148,7 @@ module _ (wd characters : List ℕ) (runs : List Run) (number : ℕ) (row : IsRo
       (subst AreInOrder (whole k below) order)) (part_numbers k below)
 
   -- what the stream tells is a run of the row
-  pub told_run : (fc first lim : ℕ) → IsRunAt stream_of_row fc first lim → IsRowRun runs fc first lim
+  pub told_run : (fc first lim : ℕ) → IsPageRunAt stream_of_row fc first lim → IsRowRun runs fc first lim
   told_run fc first lim at =
       let k = at.named.entry in
       let below : k < length parts = omega (arith, at.named.range.below, counted) in
@@ -185,12 +185,12 @@ module _ (wd characters : List ℕ) (runs : List Run) (number : ℕ) (row : IsRo
       }
 
   -- and it tells each of them
-  pub run_told : (fc : ℕ) (run : Run) → IsInRun runs fc run → IsRunAt stream_of_row fc run.from run.to
+  pub run_told : (fc : ℕ) (run : Run) → IsInRun runs fc run → IsPageRunAt stream_of_row fc run.from run.to
   run_told fc run is =
       let list = row_list Papx wd runs number fc run row is in
       let has = answered_run (page_at wd list.number) (run_list Papx run) fc list.answer list.answers list.answered in
       let page = page_at wd list.number in
-      let at : IsRunAt stream_of_row fc (page_fc page has.run) (page_fc page (has.run + 1)) = record {
+      let at : IsPageRunAt stream_of_row fc (page_fc page has.run) (page_fc page (has.run + 1)) = record {
         number = list.number;
         named = list.named;
         low = row_low Papx wd runs number fc list.number row table.table table.printable list.named;
@@ -203,11 +203,12 @@ module _ (wd characters : List ℕ) (runs : List Run) (number : ℕ) (row : IsRo
       } in
       let told = told_run fc (page_fc page has.run) (page_fc page (has.run + 1)) at in
       let same = runs_one runs fc told.run run order told.is is in
-      subst (λ n. IsRunAt stream_of_row fc n run.to) (told.first_is ∙ ap (λ (r : Run). r.from) same)
-      (subst (λ n. IsRunAt stream_of_row fc (page_fc page has.run) n) (told.lim_is ∙ ap (λ (r : Run). r.to) same) at)
+      subst (λ n. IsPageRunAt stream_of_row fc n run.to) (told.first_is ∙ ap (λ (r : Run). r.from) same)
+      (subst (λ n. IsPageRunAt stream_of_row fc (page_fc page has.run) n) (told.lim_is ∙ ap (λ (r : Run). r.to) same)
+      at)
 
   -- a run that is named at a place of a run is that run
-  pub told_as : (fc first lim : ℕ) (run : Run) → IsInRun runs fc run → IsRunAt stream_of_row fc first lim →
+  pub told_as : (fc first lim : ℕ) (run : Run) → IsInRun runs fc run → IsPageRunAt stream_of_row fc first lim →
       (first ≡ run.from) × (lim ≡ run.to)
   told_as fc first lim run is at =
       let told = told_run fc first lim at in
@@ -216,7 +217,7 @@ module _ (wd characters : List ℕ) (runs : List Run) (number : ℕ) (row : IsRo
         told.lim_is ∙ ap (λ (r : Run). r.to) same,
       )
 
-  run_begins : (fc : ℕ) (run : Run) → IsInRun runs fc run → HasBegin stream_of_row fc
+  run_begins : (fc : ℕ) (run : Run) → IsInRun runs fc run → HasRunBegin stream_of_row fc
   run_begins fc run is = (run.from, inr (run.to, run_told fc run is))
 
   pub upto_last : (fc : ℕ) (run : Run) → IsInRun runs fc run → run.to ≤ last_fc runs
@@ -239,8 +240,8 @@ module _ (wd characters : List ℕ) (runs : List Run) (number : ℕ) (row : IsRo
       record {
         goes_on = λ first lim at.
             let told = told_as fc first lim run is at in
-            subst (λ n. IsRunAt stream_of_row end n lim) (sym told.0)
-            (subst (IsRunAt stream_of_row end run.from) (sym told.1) (run_told end run there));
+            subst (λ n. IsPageRunAt stream_of_row end n lim) (sym told.0)
+            (subst (IsPageRunAt stream_of_row end run.from) (sym told.1) (run_told end run there));
         began = λ first begins. began first begins there;
       }
     where
@@ -249,10 +250,10 @@ module _ (wd characters : List ℕ) (runs : List Run) (number : ℕ) (row : IsRo
           absurd (omega (arith, behind, inside, ends_with_runs, upto_last fc run is))
       began first (inr (lim, at)) there =
           let told = told_as end first lim run there at in
-          inr (run.to, subst (λ n. IsRunAt stream_of_row fc n run.to) (sym told.0) (run_told fc run is))
+          inr (run.to, subst (λ n. IsPageRunAt stream_of_row fc n run.to) (sym told.0) (run_told fc run is))
 
   -- where a run ends the next one begins, or all ranges end
-  next_begins : (fc end : ℕ) (run : Run) → IsInRun runs fc run → run.to ≡ end → HasBegin stream_of_row end
+  next_begins : (fc end : ℕ) (run : Run) → IsInRun runs fc run → run.to ≡ end → HasRunBegin stream_of_row end
   next_begins fc end run is to = elim (cases_lt (is.number + 1) (length runs)) [
     | inl more ↦
         let found = there_is runs (is.number + 1) more in

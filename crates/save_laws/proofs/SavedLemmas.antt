@@ -6,26 +6,26 @@ use Rattle.std.proofs.lemmas.List.{get_or-map}
 use Rattle.doc_bits.proofs.Public.{length-range, range_index, Beside, beside}
 use Rattle.cfb_streams.specs.Contents.{Contents}
 use Rattle.fib_form.specs.FibFields.{text_length}
-use Rattle.fib_form.specs.TableParts.{pair_of}
+use Rattle.fib_form.specs.TableParts.{pair_number}
 use Rattle.fib_form.proofs.Public.{sum-three}
 use Rattle.fib_form.specs.declared.table_parts.TablePart.{TablePart}
 use Rattle.fib_form.specs.declared.stories.StoryKind.{StoryKind}
 use Rattle.fib_form.specs.declared.stories.StoryKind.TheVariants.{Main, Notes, Heads}
 use Rattle.piece_table.specs.Piece.{UnitPlace, flat_pieces, total_length}
 use Rattle.piece_table.proofs.Public.{length-flat_pieces}
-use Rattle.plain_doc.specs.declared.item.Item.{Item}
-use Rattle.plain_doc.specs.declared.document.Document.{Document}
-use Rattle.plain_doc.specs.Formed.{IsFormed}
+use Rattle.doc_model.specs.declared.item.Item.{Item}
+use Rattle.doc_model.specs.declared.document.Document.{Document}
+use Rattle.doc_model.specs.Formed.{IsFormed}
 use Rattle.plain_doc.specs.RightDocument.{IsValidDocument}
 use Rattle.plain_doc.proofs.Public.{main_ends}
 use Rattle.file_rules.specs.Units.{unit_at}
 use Rattle.file_rules.proofs.Public.{length-text_units}
-use Rattle.file_rules.specs.Source.{DocSource, part_bytes, story_length, story_begin, story_units}
+use Rattle.file_rules.specs.Source.{DocSource, table_part_bytes, story_length, story_begin, story_units}
 use Rattle.file_rules.specs.FormatRules.{text_count}
-use Rattle.file_rules.specs.FileRules.{source_of}
+use Rattle.file_rules.specs.FileRules.{doc_source_of}
 use Rattle.fib_form.specs.TableEntries.{entry}
 use Rattle.save_laws.specs.Places.{StandsInside, GivesAt}
-use Rattle.save_laws.specs.Slots.{Slot, shown, note_slots, head_slots, IsPlaced, whole_text, story_counts}
+use Rattle.save_laws.specs.Slots.{Slot, shown, note_slots, head_slots, IsPlaceForSlot, document_slots, story_counts}
 use Rattle.save_laws.specs.Saves.{SavedText, IsSavedAs, saved_entries, file_text}
 use Rattle.save_laws.proofs.SlotLemmas.{slot_unit, IsJudgedSlot, length-whole, main_slot, note_slot, head_slot}
 use Rattle.save_laws.proofs.PlaceLemmas.{unit_placed}
@@ -42,10 +42,10 @@ pub record Save : Type 0 where
 
 -- what is read of it
 abbrev pub the_source : Save → DocSource
-the_source s = source_of (file_text s.saved s.table)
+the_source s = doc_source_of (file_text s.saved s.table)
 
 abbrev pub the_whole : Save → List Slot
-the_whole s = whole_text s.document s.saved.ends
+the_whole s = document_slots s.document s.saved.ends
 
 abbrev pub the_notes : Save → List Slot
 the_notes s = note_slots s.document s.saved.ends
@@ -100,9 +100,9 @@ few_units s =
 
 -- the place of a slot
 pub placed_at : (s : Save) (cp : ℕ) (slot : Slot) → slice_get (the_whole s) cp ≡ Some slot →
-    Beside (IsPlaced (StandsInside s.saved.stream) (GivesAt s.saved.stream)) (the_flat s) cp slot
+    Beside (IsPlaceForSlot (StandsInside s.saved.stream) (GivesAt s.saved.stream)) (the_flat s) cp slot
 placed_at s cp slot here =
-    beside (IsPlaced (StandsInside s.saved.stream) (GivesAt s.saved.stream)) (the_flat s)
+    beside (IsPlaceForSlot (StandsInside s.saved.stream) (GivesAt s.saved.stream)) (the_flat s)
     (the_whole s) cp slot s.is.text here
 
 -- the unit of a checked slot
@@ -172,6 +172,6 @@ head_unit s i slot here judged =
 -- ---- parts
 
 pub part_is : (s : Save) (k : ℕ) (part : TablePart) (bytes : List ℕ) →
-    slice_get (saved_entries s.document s.saved) k ≡ Some (entry (pair_of part) bytes) →
-    part_bytes (the_source s) part ≡ bytes
-part_is s k part bytes here = (s.is.parts k (entry (pair_of part) bytes) here).bytes
+    slice_get (saved_entries s.document s.saved) k ≡ Some (entry (pair_number part) bytes) →
+    table_part_bytes (the_source s) part ≡ bytes
+part_is s k part bytes here = (s.is.parts k (entry (pair_number part) bytes) here).bytes

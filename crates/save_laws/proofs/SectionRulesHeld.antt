@@ -14,9 +14,9 @@ use Rattle.fib_form.specs.declared.stories.StoryKind.TheVariants.{Main}
 use Rattle.doc_parts.specs.declared.lists.Sed.{Sed}
 use Rattle.doc_parts.specs.Sections.{section_rules, place_of_fc_sepx}
 use Rattle.text_codes.specs.Paragraph.{section_mark}
-use Rattle.plain_doc.specs.declared.item.Item.{Item}
-use Rattle.plain_doc.specs.Collected.{sections_of}
-use Rattle.file_rules.specs.Source.{part_bytes, part_place, story_length, story_units}
+use Rattle.doc_model.specs.declared.item.Item.{Item}
+use Rattle.doc_model.specs.Collected.{sections_of}
+use Rattle.file_rules.specs.Source.{table_part_bytes, part_place, story_length, story_units}
 use Rattle.file_rules.specs.SectionRules.{section_begin, section_fc, sepx_list, BeginsElsewhere, LacksSepx}
 use Rattle.file_rules.specs.SectionRules.{HasSepxFault, BreaksSectionMarks, BreaksSepxs, BreaksSepxLists}
 use Rattle.file_rules.specs.SectionRules.{rules_of_sections}
@@ -24,7 +24,7 @@ use Rattle.file_rules.specs.BinRules.{BreaksBinTable, rules_of_bins}
 use Rattle.file_rules.proofs.Public.{no_row, index_of_get}
 use Rattle.save_laws.specs.Saves.{HasPropertiesAt, HasRanges}
 use Rattle.doc_parts.proofs.Public.{Rise, rise_within, rise_step}
-use Rattle.plain_doc.proofs.Public.{collected_rise, collected_from, next_start}
+use Rattle.doc_model.proofs.Public.{collected_rise, collected_from, next_start}
 use Rattle.save_laws.proofs.SavedLemmas.{Save, the_source, main_unit, part_is}
 use Rattle.save_laws.proofs.PartsHeld.{sections_part}
 
@@ -106,7 +106,7 @@ sections_hold s =
     no_row (place_of_fc_sepx at (length seds)) (λ k. LacksSepx source.wd (section_fc seds k))
     (length seds) (none_lacks s) in
     let lists : Nowhere (BreaksSepxLists source.wd seds) = λ place w. none_faulty s w.entry place w.below w.broken in (
-      hold_in Table (section_rules (part_bytes source PlcfSed) at (story_length source Main)) (held.rules at),
+      hold_in Table (section_rules (table_part_bytes source PlcfSed) at (story_length source Main)) (held.rules at),
       (
         seds,
         (
@@ -130,17 +130,17 @@ bin_holds bin at has place w = elim w [
   | inr row ↦ let up = has.table.ascend row.entry row.below in let flat = row.broken.broken in omega (arith, up, flat)
 ]
 
-pub characters_part : (s : Save) → part_bytes (the_source s) PlcfBteChpx ≡ s.saved.stream.characters
+pub characters_part : (s : Save) → table_part_bytes (the_source s) PlcfBteChpx ≡ s.saved.stream.characters
 characters_part s = part_is s 5 PlcfBteChpx s.saved.stream.characters refl
 
-pub paragraphs_part : (s : Save) → part_bytes (the_source s) PlcfBtePapx ≡ s.saved.stream.paragraphs
+pub paragraphs_part : (s : Save) → table_part_bytes (the_source s) PlcfBtePapx ≡ s.saved.stream.paragraphs
 paragraphs_part s = part_is s 6 PlcfBtePapx s.saved.stream.paragraphs refl
 
 pub bins_hold : (s : Save) → Hold (rules_of_bins (the_source s))
 bins_hold s =
     let source = the_source s in
-    let characters = part_bytes source PlcfBteChpx in
-    let paragraphs = part_bytes source PlcfBtePapx in
+    let characters = table_part_bytes source PlcfBteChpx in
+    let paragraphs = table_part_bytes source PlcfBtePapx in
     let first : HasRanges characters = subst HasRanges (sym (characters_part s)) s.is.characters in
     let next : HasRanges paragraphs = subst HasRanges (sym (paragraphs_part s)) s.is.paragraphs in (
       hold_in Table (rule 37 (BreaksBinTable characters (part_place source PlcfBteChpx)))

@@ -13,19 +13,20 @@ use Rattle.prop_map.specs.declared.modifiers.Modifier.{Modifier}
 use Rattle.prop_map.proofs.Public.{acts_in_turn}
 use Rattle.piece_table.specs.Piece.{UnitPlace}
 use Rattle.piece_table.specs.Changes.{IsModifiedPlace}
-use Rattle.plain_doc.specs.declared.item.Item.{Item}
-use Rattle.plain_doc.specs.declared.item.Mark.{Mark}
-use Rattle.save_laws.specs.Slots.{shown, loose, last, Slot, note_slots, head_slots, last_slots, whole_text, IsPlaced}
+use Rattle.doc_model.specs.declared.item.Item.{Item}
+use Rattle.doc_model.specs.declared.item.Mark.{Mark}
+use Rattle.save_laws.specs.Slots.{shown, loose, last, Slot, note_slots, head_slots, last_slots, document_slots}
+use Rattle.save_laws.specs.Slots.{IsPlaceForSlot}
 use Rattle.save_laws.specs.FastSaves.{StandsInEither, IsGivenBy}
 use Rattle.doc_bits.specs.Together.{AreTogether}
-use Rattle.save_laws.specs.Places.{PagedStream, Given, given_of, IsMarkedAfter, IsGivenAfter}
+use Rattle.save_laws.specs.Places.{PagedStream, GivenUnit, given_of, IsMarkedAfter, IsGivenAfter}
 use Rattle.save_laws.specs.Sessions.{IsSlotAfter, SplicesStayTogether}
 use Rattle.save_laws.specs.Sessions.{ModifiedStayTogether, LongerPlansKeep, MainSplices}
 use Rattle.doc_bits.proofs.Public.{in_front, Beside, together_joined, together_take, together_drop}
 
 pub splices_stay_together : SplicesStayTogether
 splices_stay_together old plan places fresh slots fresh_slots from to order within together more =
-    let P : UnitPlace → Slot → Type 0 = IsPlaced (StandsInEither old plan) (IsGivenBy old plan) in
+    let P : UnitPlace → Slot → Type 0 = IsPlaceForSlot (StandsInEither old plan) (IsGivenBy old plan) in
     together_joined P (take from places) (take from slots) (fresh ++ drop to places) (fresh_slots ++ drop to slots)
     (together_take P from places slots together)
     (together_joined P fresh fresh_slots (drop to places) (drop to slots) more
@@ -46,7 +47,7 @@ mark_after first by made (Some before) (Some old) (Some new) composed one next =
       λ code. next.1 code ∙ (ap (mark_value by code) (one.1 code) ∙ sym (turn.marks code (get before.pap code))),
     )
 
-given_after : (first by made : Modifier) (before old new : Given) → IsComposed first by made →
+given_after : (first by made : Modifier) (before old new : GivenUnit) → IsComposed first by made →
     IsGivenAfter first before old → IsGivenAfter by old new → IsGivenAfter made before new
 given_after first by made before old new composed one next =
     let turn = acts_in_turn first by made composed in
@@ -58,9 +59,10 @@ given_after first by made before old new composed one next =
       mark = mark_after first by made before.mark old.mark new.mark composed one.mark next.mark;
     }
 
-slot_after : (Stands : ℕ → Bool → Type 0) (Gives : ℕ → Bool → Given → Type 0) (by : Modifier)
-    (place made : UnitPlace) (slot after : Slot) → IsPlaced Stands Gives place slot → IsModifiedPlace by place made →
-    IsSlotAfter by slot after → IsPlaced Stands Gives made after
+slot_after : (Stands : ℕ → Bool → Type 0) (Gives : ℕ → Bool → GivenUnit → Type 0) (by : Modifier)
+    (place made : UnitPlace) (slot after : Slot) → IsPlaceForSlot Stands Gives place slot → IsModifiedPlace by place
+    made →
+    IsSlotAfter by slot after → IsPlaceForSlot Stands Gives made after
 slot_after Stands Gives by place made (shown old) (shown new) placed is changed =
     let gives : Gives made.at made.wide placed.before =
     subst (λ at. Gives at made.wide placed.before) (sym is.at)
@@ -138,8 +140,8 @@ in_parts xs from to order =
 pub modified_stay_together : ModifiedStayTogether
 modified_stay_together old plan by from to places made slots after order within together modified changed =
     let Stands : ℕ → Bool → Type 0 = StandsInEither old plan in
-    let Gives : ℕ → Bool → Given → Type 0 = IsGivenBy old plan in
-    let P : UnitPlace → Slot → Type 0 = IsPlaced Stands Gives in
+    let Gives : ℕ → Bool → GivenUnit → Type 0 = IsGivenBy old plan in
+    let P : UnitPlace → Slot → Type 0 = IsPlaceForSlot Stands Gives in
     let middle : AreTogether P (slice_range places from to) (slice_range slots from to) =
     together_take P (to - from) (drop from places) (drop from slots) (together_drop P from places slots together) in
     let moved =
@@ -162,7 +164,7 @@ modified_stay_together old plan by from to places made slots after order within 
 
 -- ---- a longer plan
 
-longer_stands : (old : PagedStream) (base : ℕ) (added more : List Given) (at : ℕ) (wide : Bool) →
+longer_stands : (old : PagedStream) (base : ℕ) (added more : List GivenUnit) (at : ℕ) (wide : Bool) →
     StandsInEither old (record { base = base; added = added }) at wide →
     StandsInEither old (record { base = base; added = added ++ more }) at wide
 longer_stands old base added more at wide (inl stands) = inl stands
@@ -175,7 +177,7 @@ longer_stands old base added more at wide (inr planned) =
       two_bytes = planned.two_bytes;
     })
 
-longer_gives : (old : PagedStream) (base : ℕ) (added more : List Given) (at : ℕ) (wide : Bool) (given : Given) →
+longer_gives : (old : PagedStream) (base : ℕ) (added more : List GivenUnit) (at : ℕ) (wide : Bool) (given : GivenUnit) →
     IsGivenBy old (record { base = base; added = added }) at wide given →
     IsGivenBy old (record { base = base; added = added ++ more }) at wide given
 longer_gives old base added more at wide given (inl gives) = inl gives
@@ -187,10 +189,10 @@ longer_gives old base added more at wide given (inr planned) =
       two_bytes = planned.two_bytes;
     })
 
-longer_placed : (old : PagedStream) (base : ℕ) (added more : List Given) (place : UnitPlace) (slot : Slot) →
-    IsPlaced (StandsInEither old (record { base = base; added = added }))
+longer_placed : (old : PagedStream) (base : ℕ) (added more : List GivenUnit) (place : UnitPlace) (slot : Slot) →
+    IsPlaceForSlot (StandsInEither old (record { base = base; added = added }))
     (IsGivenBy old (record { base = base; added = added })) place slot →
-    IsPlaced (StandsInEither old (record { base = base; added = added ++ more }))
+    IsPlaceForSlot (StandsInEither old (record { base = base; added = added ++ more }))
     (IsGivenBy old (record { base = base; added = added ++ more })) place slot
 longer_placed old base added more place (shown item) placed = record {
   before = placed.before;
@@ -233,7 +235,7 @@ map_splice items fresh from to =
     ∙ ap (λ l. take from (map shown items) ++ (map shown fresh ++ l)) (sym (drop-map shown to items))))
 
 pub main_splices : MainSplices
-unfolding whole_text
+unfolding document_slots
 main_splices document ends from to fresh order within =
     let notes = note_slots document ends in
     let heads = head_slots document ends in

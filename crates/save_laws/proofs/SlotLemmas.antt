@@ -9,11 +9,11 @@ use Rattle.doc_bits.proofs.Public.{there_is, get-map, All_at, in_front, in_back}
 use Rattle.fib_form.specs.FibFields.{text_length}
 use Rattle.fib_form.proofs.Public.{sum-three}
 use Rattle.text_codes.specs.Paragraph.{paragraph_mark}
-use Rattle.plain_doc.specs.declared.item.Item.{Item}
-use Rattle.plain_doc.specs.declared.document.Document.{Document}
-use Rattle.plain_doc.specs.Collected.{joined_texts}
+use Rattle.doc_model.specs.declared.item.Item.{Item}
+use Rattle.doc_model.specs.declared.document.Document.{Document}
+use Rattle.doc_model.specs.Collected.{joined_texts}
 use Rattle.save_laws.specs.Slots.{Slot, shown, loose, last, StoryEnds, loose_if, story_slots, note_slots, head_slots}
-use Rattle.save_laws.specs.Slots.{last_slots, whole_text, story_counts}
+use Rattle.save_laws.specs.Slots.{last_slots, document_slots, story_counts}
 
 -- the unit of a slot; that of the last CP does not matter
 abbrev pub slot_unit : Slot → ℕ
@@ -50,8 +50,8 @@ length-last [] = omega arith
 length-last (slot ∷ slots) = omega arith
 
 pub length-whole : (document : Document) (ends : StoryEnds) →
-    length (whole_text document ends) ≡ text_length (story_counts document ends)
-unfolding whole_text
+    length (document_slots document ends) ≡ text_length (story_counts document ends)
+unfolding document_slots
 length-whole document ends =
     let main : List Slot = map shown document.main in
     let notes = note_slots document ends in
@@ -69,8 +69,8 @@ length-whole document ends =
 -- ---- where they are
 
 pub main_slot : (document : Document) (ends : StoryEnds) (i : ℕ) (item : Item) → slice_get document.main i ≡ Some item →
-    slice_get (whole_text document ends) i ≡ Some (shown item)
-unfolding whole_text
+    slice_get (document_slots document ends) i ≡ Some (shown item)
+unfolding document_slots
 main_slot document ends i item here =
     let notes = note_slots document ends in
     let heads = head_slots document ends in
@@ -79,8 +79,8 @@ main_slot document ends i item here =
 
 pub note_slot : (document : Document) (ends : StoryEnds) (i : ℕ) (slot : Slot) →
     slice_get (note_slots document ends) i ≡ Some slot →
-    slice_get (whole_text document ends) (length document.main + i) ≡ Some slot
-unfolding whole_text
+    slice_get (document_slots document ends) (length document.main + i) ≡ Some slot
+unfolding document_slots
 note_slot document ends i slot here =
     let notes = note_slots document ends in
     let heads = head_slots document ends in
@@ -91,8 +91,8 @@ note_slot document ends i slot here =
 
 pub head_slot : (document : Document) (ends : StoryEnds) (i : ℕ) (slot : Slot) →
     slice_get (head_slots document ends) i ≡ Some slot →
-    slice_get (whole_text document ends) (length document.main + length (note_slots document ends) + i) ≡ Some slot
-unfolding whole_text
+    slice_get (document_slots document ends) (length document.main + length (note_slots document ends) + i) ≡ Some slot
+unfolding document_slots
 head_slot document ends i slot here =
     let notes = note_slots document ends in
     let heads = head_slots document ends in
@@ -133,7 +133,7 @@ judged_story texts end =
 -- a CP of the three stories has a slot, and it is checked
 pub record IsFrontSlot (document : Document) (ends : StoryEnds) (cp : ℕ) : Type 0 where
   pub slot : Slot
-  pub here : slice_get (whole_text document ends) cp ≡ Some slot
+  pub here : slice_get (document_slots document ends) cp ≡ Some slot
   pub judged : IsJudgedSlot slot
 
 pub front_slot : (document : Document) (ends : StoryEnds) (cp : ℕ) →
@@ -154,7 +154,7 @@ front_slot document ends cp below =
             let at : main + i ≡ cp = omega arith in
             record {
               slot = found.0;
-              here = subst (λ n. slice_get (whole_text document ends) n ≡ Some found.0) at
+              here = subst (λ n. slice_get (document_slots document ends) n ≡ Some found.0) at
                   (note_slot document ends i found.0 found.1);
               judged = All_at IsJudgedSlot notes i found.0 (judged_story document.notes ends.notes) found.1;
             }
@@ -164,7 +164,7 @@ front_slot document ends cp below =
             let at : main + length notes + i ≡ cp = omega arith in
             record {
               slot = found.0;
-              here = subst (λ n. slice_get (whole_text document ends) n ≡ Some found.0) at
+              here = subst (λ n. slice_get (document_slots document ends) n ≡ Some found.0) at
                   (head_slot document ends i found.0 found.1);
               judged = All_at IsJudgedSlot heads i found.0 (judged_story document.heads ends.heads) found.1;
             }
@@ -188,8 +188,8 @@ shown_story P texts end all =
 -- what holds of each item of the document holds of each item that a slot shows
 pub all_shown : (P : Item → Type 0) (document : Document) (ends : StoryEnds) → All P document.main →
     All P (joined_texts document.notes) → All P (joined_texts document.heads) →
-    All (IsShownAs P) (whole_text document ends)
-unfolding whole_text
+    All (IsShownAs P) (document_slots document ends)
+unfolding document_slots
 all_shown P document ends main notes heads =
     let note_list = note_slots document ends in
     let head_list = head_slots document ends in

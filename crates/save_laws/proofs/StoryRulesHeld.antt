@@ -19,17 +19,17 @@ use Rattle.doc_parts.specs.Stories.{printed_texts}
 use Rattle.doc_parts.specs.declared.lists.NoteRef.{NoteRef}
 use Rattle.doc_parts.specs.declared.lists.Fld.{Fld}
 use Rattle.doc_parts.specs.Fields.{fld_form, fld_cps}
-use Rattle.plain_doc.specs.declared.item.NoteKind.{NoteKind}
+use Rattle.doc_model.specs.declared.item.NoteKind.{NoteKind}
 use Rattle.plain_doc.specs.RulesOfSheet.{section_count, heads_of_sections}
-use Rattle.plain_doc.specs.Collected.{is_auto, joined_texts, collected, fields_of, refs_of, cuts_from}
-use Rattle.plain_doc.specs.declared.item.Item.{Item}
-use Rattle.plain_doc.proofs.Public.{collected_count, length-cuts_from, cut_at}
-use Rattle.file_rules.specs.Source.{part_bytes, part_place, story_length, story_units}
+use Rattle.doc_model.specs.Collected.{is_auto, joined_texts, collected, fields_of, refs_of, cuts_from}
+use Rattle.doc_model.specs.declared.item.Item.{Item}
+use Rattle.doc_model.proofs.Public.{collected_count, length-cuts_from, cut_at}
+use Rattle.file_rules.specs.Source.{table_part_bytes, part_place, story_length, story_units}
 use Rattle.file_rules.specs.FieldRules.{BreaksFields, BreaksAllFields, rules_of_fields}
 use Rattle.file_rules.specs.NoteRules.{ref_count, HasEntries, BreaksRefs, BreaksNoteCuts, HasNoteCuts, rules_of_notes}
 use Rattle.file_rules.specs.HeadRules.{IsHeadTable, BreaksHeads, rules_of_heads}
-use Rattle.file_rules.specs.EndRules.{last_end, IsLooseUnit, BreaksEnds, rules_of_ends}
-use Rattle.plain_doc.specs.TextLists.{cuts_of}
+use Rattle.file_rules.specs.EndRules.{last_text_end, IsLooseUnit, BreaksEnds, rules_of_ends}
+use Rattle.doc_model.specs.TextLists.{cuts_of}
 use Rattle.save_laws.specs.Slots.{shown, loose, story_slots}
 use Rattle.save_laws.proofs.SavedLemmas.{part_is, Save, the_source, the_heads, note_len, head_len, length-story_units}
 use Rattle.save_laws.proofs.SavedLemmas.{main_unit, note_unit, head_unit}
@@ -90,15 +90,15 @@ fields_hold s =
     let source = the_source s in
     let none : Nowhere (BreaksAllFields source) = λ place w. elim w [
       | inl main ↦
-          fields_right (story_units source Main) (part_bytes source PlcfFldMom) (part_place source PlcfFldMom)
+          fields_right (story_units source Main) (table_part_bytes source PlcfFldMom) (part_place source PlcfFldMom)
           (story_length source Main) s.document.main (main_unit s) (length-story_units s Main)
           (main_fields_part s) place main
       | inr (inl notes) ↦
-          fields_right (story_units source Notes) (part_bytes source PlcfFldFtn) (part_place source PlcfFldFtn)
+          fields_right (story_units source Notes) (table_part_bytes source PlcfFldFtn) (part_place source PlcfFldFtn)
           (story_length source Notes) (note_items s) (note_units s) (length-story_units s Notes)
           (note_fields_part s) place notes
       | inr (inr heads) ↦
-          fields_right (story_units source Heads) (part_bytes source PlcfFldHdr) (part_place source PlcfFldHdr)
+          fields_right (story_units source Heads) (table_part_bytes source PlcfFldHdr) (part_place source PlcfFldHdr)
           (story_length source Heads) (head_items s) (head_units s) (length-story_units s Heads)
           (head_fields_part s) place heads
     ] in
@@ -135,9 +135,9 @@ length-refs s =
     ∙ (sym (collected_count note 0 s.document.main) ∙ sym s.right.notes)
 
 -- where there are notes, PlcffndRef has entries
-entries_there : (s : Save) → 0 < length s.document.notes → HasEntries (part_bytes (the_source s) PlcffndRef)
+entries_there : (s : Save) → 0 < length s.document.notes → HasEntries (table_part_bytes (the_source s) PlcffndRef)
 entries_there s some =
-    let bytes = part_bytes (the_source s) PlcffndRef in
+    let bytes = table_part_bytes (the_source s) PlcffndRef in
     let held = refs_part s in
     let all = held.has.all in
     let many = length-refs s in
@@ -147,7 +147,7 @@ entries_there s some =
       | inr whole ↦ (whole, count)
     ]
 
-no_entries : (s : Save) → length s.document.notes ≡ 0 → ¬ (HasEntries (part_bytes (the_source s) PlcffndRef))
+no_entries : (s : Save) → length s.document.notes ≡ 0 → ¬ (HasEntries (table_part_bytes (the_source s) PlcffndRef))
 no_entries s none entries =
     let all = (refs_part s).has.all in
     let many = length-refs s in
@@ -188,8 +188,8 @@ notes_counted s = elim (cases_lt 0 (length s.document.notes)) [
 pub notes_hold : (s : Save) → Hold (rules_of_notes (the_source s))
 notes_hold s =
     let source = the_source s in
-    let refs = part_bytes source PlcffndRef in
-    let cuts = part_bytes source PlcffndTxt in
+    let refs = table_part_bytes source PlcffndRef in
+    let cuts = table_part_bytes source PlcffndTxt in
     let held = note_cuts_part s in
     let none : Nowhere (λ place. BreaksRefs source place ⊎ BreaksNoteCuts source place) = λ place w. elim w [
       | inl broken ↦ (refs_part s).rules (part_place source PlcffndRef) place broken
@@ -217,12 +217,12 @@ length-heads s =
     let same : section_count s.document.main ≡ length s.saved.seds = count ∙ sym many in
     s.right.heads ∙ ap heads_of_sections same
 
-head_table : (s : Save) → IsHeadTable (length (part_bytes (the_source s) PlcfHdd)) (length s.saved.seds)
+head_table : (s : Save) → IsHeadTable (length (table_part_bytes (the_source s) PlcfHdd)) (length s.saved.seds)
 head_table s = elim (cases_lt 0 (length (head_items s))) [
   | inl some ↦
       let cut = length-cuts_of (head_items s) s.document.heads some in
       let long =
-      cuts_length 54 (part_bytes (the_source s) PlcfHdd) (story_length (the_source s) Heads) (head_cuts s)
+      cuts_length 54 (table_part_bytes (the_source s) PlcfHdd) (story_length (the_source s) Heads) (head_cuts s)
       (head_cuts_part s) (omega (arith, cut)) in
       let many = length-heads s in
       inr (record {
@@ -250,7 +250,7 @@ heads_hold s =
 
 -- the last cut is the number of items
 last_of_cuts : (joined : List Item) (texts : List (List Item)) → joined ≡ joined_texts texts →
-    last_end (cuts_of joined texts) ≡ length joined
+    last_text_end (cuts_of joined texts) ≡ length joined
 last_of_cuts [] texts same = refl
 last_of_cuts (item ∷ items) texts same =
     let many = length-cuts_from 0 texts in

@@ -4,11 +4,11 @@ use Rattle.std.specs.List.{flat_map}
 use Rattle.std.proofs.Common.{◌≡◌, ℕ, ◌+◌, ◌*◌, List, [], ◌∷◌, ◌++◌, length, map, refl, arith}
 use Rattle.std.proofs.Common.{length-append}
 use Rattle.std.proofs.lemmas.List.{length-map, length-replicate}
-use Rattle.doc_bits.specs.Number.{number_bytes, numbers}
+use Rattle.doc_bits.specs.Number.{number_bytes, u32_list_bytes}
 use Rattle.doc_bits.specs.Plc.{printed_plc}
 use Rattle.doc_bits.proofs.Public.{length-number_bytes, length-numbers}
 use Rattle.fib_form.specs.TableEntries.{TableEntry, entry}
-use Rattle.fib_form.specs.TableParts.{pair_of}
+use Rattle.fib_form.specs.TableParts.{pair_number}
 use Rattle.fib_form.specs.declared.table_parts.TablePart.TheVariants.{PlcffndRef, PlcffndTxt, PlcfSed, PlcfHdd}
 use Rattle.fib_form.specs.declared.table_parts.TablePart.TheVariants.{PlcfBteChpx}
 use Rattle.fib_form.specs.declared.table_parts.TablePart.TheVariants.{PlcfBtePapx, PlcfFldMom, PlcfFldHdr, PlcfFldFtn}
@@ -18,13 +18,13 @@ use Rattle.doc_parts.specs.Table.{EntryForm, printed_entries}
 use Rattle.doc_parts.specs.Sections.{sed_form, printed_sections}
 use Rattle.doc_parts.specs.Fields.{fld_form, printed_fields}
 use Rattle.doc_parts.specs.Stories.{ref_form, cut_form, printed_refs, printed_texts}
-use Rattle.doc_parts.specs.PrintedBookmarks.{ends_of, starts_of, start_form, printed_starts, printed_ends}
-use Rattle.plain_doc.specs.declared.document.Document.{Document}
-use Rattle.plain_doc.specs.Collected.{joined_texts, sections_of, fields_of, refs_of}
-use Rattle.plain_doc.specs.TextLists.{cuts_of}
+use Rattle.doc_parts.specs.PrintedBookmarks.{bookmark_ends, starts_of, start_form, printed_starts, printed_ends}
+use Rattle.doc_model.specs.declared.document.Document.{Document}
+use Rattle.doc_model.specs.Collected.{joined_texts, sections_of, fields_of, refs_of}
+use Rattle.doc_model.specs.TextLists.{cuts_of}
 use Rattle.full_save.specs.declared.table_text.TableText.{TableText}
 use Rattle.full_save.specs.TableText.{table_entries}
-use Rattle.full_save.specs.TableStream.{entry_bytes, entries_bytes}
+use Rattle.full_save.specs.TableStream.{table_entry_bytes, entries_bytes}
 use Rattle.full_save.specs.WordDocument.{full_text, pages_end, table_stream}
 use Rattle.full_save.proofs.Public.{length-seds as length-full_seds}
 use Rattle.save_laws.specs.TableLengths.{TablesDifferByOwnParts, TablesAreShort}
@@ -39,9 +39,9 @@ plc_ends (cp ∷ cps) one other parts =
     let rest = flat_map (λ (part : List ℕ). part) parts in
     omega (
       arith,
-      length-append (numbers (cp ∷ cps)) (number_bytes 4 one ++ rest),
+      length-append (u32_list_bytes (cp ∷ cps)) (number_bytes 4 one ++ rest),
       length-append (number_bytes 4 one) rest,
-      length-append (numbers (cp ∷ cps)) (number_bytes 4 other ++ rest),
+      length-append (u32_list_bytes (cp ∷ cps)) (number_bytes 4 other ++ rest),
       length-append (number_bytes 4 other) rest,
       length-number_bytes 4 one,
       length-number_bytes 4 other,
@@ -84,7 +84,7 @@ length-seds sed seds end =
     let rest = flat_map (λ (part : List ℕ). part) (map sed_form.bytes_of (sed ∷ seds)) in
     omega (
       arith,
-      length-append (numbers cps) (number_bytes 4 end ++ rest),
+      length-append (u32_list_bytes cps) (number_bytes 4 end ++ rest),
       length-append (number_bytes 4 end) rest,
       length-numbers cps,
       length-map (sed ∷ seds) sed_form.cp_of,
@@ -114,7 +114,7 @@ none : Differ [] [] 0 0
 none = record { by = refl }
 
 alike : {one other : List TableEntry} {a b : ℕ} (part next : TableEntry) →
-    length (entry_bytes part) ≡ length (entry_bytes next) → Differ one other a b →
+    length (table_entry_bytes part) ≡ length (table_entry_bytes next) → Differ one other a b →
     Differ (part ∷ one) (next ∷ other) a b
 alike {one = one} {other = other} part next same rest = record {
   by =
@@ -122,8 +122,8 @@ alike {one = one} {other = other} part next same rest = record {
         arith,
         same,
         rest.by,
-        length-append (entry_bytes part) (entries_bytes one),
-        length-append (entry_bytes next) (entries_bytes other),
+        length-append (table_entry_bytes part) (entries_bytes one),
+        length-append (table_entry_bytes next) (entries_bytes other),
       );
 }
 
@@ -168,31 +168,31 @@ parts_differ document one other same =
     let d1 = slice_index other.counts 1 in
     let d2 = slice_index other.counts 2 in
     alike _ _ refl
-    (shared (pair_of PlcffndRef) (printed_refs refs c0) (printed_refs refs d0)
+    (shared (pair_number PlcffndRef) (printed_refs refs c0) (printed_refs refs d0)
     (entries_end ref_form refs c0 d0)
-    (shared (pair_of PlcffndTxt) (printed_texts note_cuts c1) (printed_texts note_cuts d1)
+    (shared (pair_number PlcffndTxt) (printed_texts note_cuts c1) (printed_texts note_cuts d1)
     (entries_end cut_form note_cuts c1 d1)
-    (shared (pair_of PlcfSed) (printed_sections one.seds c0) (printed_sections other.seds d0)
+    (shared (pair_number PlcfSed) (printed_sections one.seds c0) (printed_sections other.seds d0)
     (sections_alike one.seds other.seds c0 d0 same)
-    (shared (pair_of PlcfHdd) (printed_texts head_cuts c2) (printed_texts head_cuts d2)
+    (shared (pair_number PlcfHdd) (printed_texts head_cuts c2) (printed_texts head_cuts d2)
     (entries_end cut_form head_cuts c2 d2)
-    (own (pair_of PlcfBteChpx) one.characters other.characters
-    (own (pair_of PlcfBtePapx) one.paragraphs other.paragraphs
+    (own (pair_number PlcfBteChpx) one.characters other.characters
+    (own (pair_number PlcfBtePapx) one.paragraphs other.paragraphs
     (alike _ _ refl
-    (shared (pair_of PlcfFldMom) (printed_fields (fields_of main) c0) (printed_fields (fields_of main) d0)
+    (shared (pair_number PlcfFldMom) (printed_fields (fields_of main) c0) (printed_fields (fields_of main) d0)
     (entries_end fld_form (fields_of main) c0 d0)
-    (shared (pair_of PlcfFldHdr) (printed_fields (fields_of heads) c2) (printed_fields (fields_of heads) d2)
+    (shared (pair_number PlcfFldHdr) (printed_fields (fields_of heads) c2) (printed_fields (fields_of heads) d2)
     (entries_end fld_form (fields_of heads) c2 d2)
-    (shared (pair_of PlcfFldFtn) (printed_fields (fields_of notes) c1) (printed_fields (fields_of notes) d1)
+    (shared (pair_number PlcfFldFtn) (printed_fields (fields_of notes) c1) (printed_fields (fields_of notes) d1)
     (entries_end fld_form (fields_of notes) c1 d1)
     (alike _ _ refl
-    (shared (pair_of PlcfBkf) (printed_starts marks c0) (printed_starts marks d0)
+    (shared (pair_number PlcfBkf) (printed_starts marks c0) (printed_starts marks d0)
     (entries_end start_form (starts_of marks [] marks) c0 d0)
-    (shared (pair_of PlcfBkl) (printed_ends marks c0) (printed_ends marks d0)
-    (entries_end cut_form (ends_of marks) c0 d0)
+    (shared (pair_number PlcfBkl) (printed_ends marks c0) (printed_ends marks d0)
+    (entries_end cut_form (bookmark_ends marks) c0 d0)
     (alike _ _ refl
     (alike _ _ refl
-    (own (pair_of Clx) one.clx other.clx
+    (own (pair_number Clx) one.clx other.clx
     (alike _ _ refl
     (alike _ _ refl none))))))))))))))))))
 

@@ -5,7 +5,7 @@ use Rattle.std.specs.Prelude.{true, false, Option, Some, None, is_some, slice_ge
 use Rattle.std.specs.List.{filter_map}
 use Rattle.doc_bits.specs.Plc.{plc_cp}
 use Rattle.fkp_pages.specs.Bin.{IsBinPage, bin_count, page_at}
-use Rattle.fkp_pages.specs.Fkp.{HoldsFc, page_count, page_fc}
+use Rattle.fkp_pages.specs.Fkp.{HoldsFc, page_run_count, page_fc}
 use Rattle.piece_table.specs.Piece.{TextPiece, UnitPlace, unit_bytes, flat_pieces, total_length, ArePieces}
 use Rattle.save_laws.specs.Places.{PagedStream}
 use Rattle.save_laws.specs.Slots.{Slot, shown, loose, last}
@@ -14,13 +14,13 @@ use Rattle.save_laws.specs.Slots.{Slot, shown, loose, last}
 
 -- [MS-DOC] rgfc[k] and rgfc[k + 1]: the fcs of a run that holds the place, in the page that the bin table names for
 -- it, which is in the stream and not over the FIB
-pub record IsRunAt (from : PagedStream) (fc first lim : ℕ) : Type 0 where
+pub record IsPageRunAt (from : PagedStream) (fc first lim : ℕ) : Type 0 where
   pub number : ℕ
   pub named : IsBinPage from.paragraphs fc number
   pub low : 2 ≤ number
   pub within : 512 * number + 512 ≤ length from.wd
   pub run : ℕ
-  pub below : run < page_count (page_at from.wd number)
+  pub below : run < page_run_count (page_at from.wd number)
   pub holds : HoldsFc (page_at from.wd number) run fc
   pub first_is : first ≡ page_fc (page_at from.wd number) run
   pub lim_is : lim ≡ page_fc (page_at from.wd number) (run + 1)
@@ -32,7 +32,7 @@ ranges_end from = plc_cp from.paragraphs (bin_count from.paragraphs)
 -- [MS-DOC] fcFirst: where the run of a place begins; behind all ranges, where they end
 abbrev pub BeginsRun : PagedStream → ℕ → ℕ → Type 0
 BeginsRun from fc first =
-    ((ranges_end from ≤ fc) × (first ≡ ranges_end from)) ⊎ ((lim : ℕ) × IsRunAt from fc first lim)
+    ((ranges_end from ≤ fc) × (first ≡ ranges_end from)) ⊎ ((lim : ℕ) × IsPageRunAt from fc first lim)
 
 -- ---- the first CP of a paragraph
 
@@ -62,7 +62,7 @@ abbrev pub IsLastFrom : PagedStream → Type 0 → TextPiece → ℕ → ℕ →
 IsLastFrom from Later piece begin units final =
     let fc = piece.at + units * unit_bytes piece.wide in
     let end = piece.at + piece.len * unit_bytes piece.wide in
-    ((first : ℕ) × ((lim : ℕ) × (IsRunAt from fc first lim
+    ((first : ℕ) × ((lim : ℕ) × (IsPageRunAt from fc first lim
     × (((lim ≤ end) × (final + 1 ≡ begin + (lim - piece.at) / unit_bytes piece.wide)) ⊎ ((end < lim) × Later)))))
     ⊎ ((ranges_end from ≤ fc) × Later)
 
@@ -78,18 +78,18 @@ IsLastByRuns from behind piece begin units final =
 
 -- ---- a unit that agrees with the runs
 
-abbrev pub HasBegin : PagedStream → ℕ → Type 0
-HasBegin from fc = (first : ℕ) × BeginsRun from fc first
+abbrev pub HasRunBegin : PagedStream → ℕ → Type 0
+HasRunBegin from fc = (first : ℕ) × BeginsRun from fc first
 
 -- the run of the place ends behind the unit, and another one begins there
 pub record EndsRun (from : PagedStream) (at end : ℕ) : Type 0 where
   pub held : at < ranges_end from
-  pub ends : (first lim : ℕ) → IsRunAt from at first lim → lim ≡ end
+  pub ends : (first lim : ℕ) → IsPageRunAt from at first lim → lim ≡ end
   pub begins : (first : ℕ) → BeginsRun from end first → first ≡ end
 
 -- the run of the place goes on behind the unit
 pub record StaysInRun (from : PagedStream) (at end : ℕ) : Type 0 where
-  pub goes_on : (first lim : ℕ) → IsRunAt from at first lim → IsRunAt from end first lim
+  pub goes_on : (first lim : ℕ) → IsPageRunAt from at first lim → IsPageRunAt from end first lim
   pub began : (first : ℕ) → BeginsRun from end first → BeginsRun from at first
 
 abbrev pub MeetsRuns : Bool → PagedStream → ℕ → ℕ → Type 0
@@ -100,8 +100,8 @@ MeetsRuns false from at end = StaysInRun from at end
 -- units
 pub record IsBounded (from : PagedStream) (at : ℕ) (wide ends : Bool) : Type 0 where
   pub inside : at + unit_bytes wide < length from.wd
-  pub here : HasBegin from at
-  pub there : HasBegin from (at + unit_bytes wide)
+  pub here : HasRunBegin from at
+  pub there : HasRunBegin from (at + unit_bytes wide)
   pub meets : MeetsRuns ends from at (at + unit_bytes wide)
 
 -- ---- the paragraphs of the marks

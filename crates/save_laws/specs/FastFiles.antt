@@ -4,10 +4,10 @@ use Rattle.cfb_sectors.specs.Header.{sector_count}
 use Rattle.cfb_streams.specs.Contents.{NamedBytes, Contents, AreStreams}
 use Rattle.cfb_layout.specs.Counts.{sectors_needed, most_sectors, Fits}
 use Rattle.cfb_layout.specs.Layout.{lengths_of, compound_file}
-use Rattle.cfb_layout.specs.Laws.{IsLayout}
-use Rattle.save_laws.specs.Saves.{IsFileOf}
+use Rattle.cfb_layout.specs.Laws.{AreLayoutStreams}
+use Rattle.save_laws.specs.Saves.{IsFileOfContents}
 use Rattle.save_laws.specs.SectorCounts.{TwoLengths, AreRenewed, AreAnew, lengths_of_two}
-use Rattle.save_laws.specs.FastSizes.{SaveCounts, WrittenLengths, AreCounted, AreAppended, reckoned_sectors}
+use Rattle.save_laws.specs.FastSizes.{SaveCounts, WrittenLengths, AreWithinCounts, AreAppended, reckoned_sectors}
 
 -- streams of these lengths need no more sectors than are reckoned, and so they fit where these are in a file
 pub record FitCounts (counts : SaveCounts) (lengths : List ℕ) : Type 0 where
@@ -18,7 +18,7 @@ pub record FitCounts (counts : SaveCounts) (lengths : List ℕ) : Type 0 where
 abbrev pub FastSavesFit : Type 0
 FastSavesFit =
     (counts : SaveCounts) (written : WrittenLengths) (before after : TwoLengths) (old new : List ℕ) →
-    AreCounted counts written → AreAppended counts written before after → AreRenewed old new before after →
+    AreWithinCounts counts written → AreAppended counts written before after → AreRenewed old new before after →
     sectors_needed old ≤ counts.sectors → FitCounts counts new
 
 -- the streams are those of a file that breaks no rule of a container, with two of them longer by what is counted; the
@@ -26,17 +26,17 @@ FastSavesFit =
 pub record AreFastStreams (file : List ℕ) (contents : Contents) (counts : SaveCounts) (streams : List NamedBytes) :
     Type 0 where
   pub written : WrittenLengths
-  pub file_of : IsFileOf file contents
+  pub file_of : IsFileOfContents file contents
   pub anew : AreAnew contents.streams streams
   pub few : sector_count file ≤ counts.sectors
-  pub counted : AreCounted counts written
+  pub counted : AreWithinCounts counts written
   pub appended : AreAppended counts written (lengths_of_two anew.before) (lengths_of_two anew.after)
 
 -- they fit where their counts say so, and their file has no more sectors than are reckoned
 pub record FitTheirFile (counts : SaveCounts) (streams : List NamedBytes) : Type 0 where
   pub fit : reckoned_sectors counts ≤ most_sectors → Fits (lengths_of streams)
   pub few :
-      (clsid : List ℕ) → AreStreams streams → IsLayout streams clsid →
+      (clsid : List ℕ) → AreStreams streams → AreLayoutStreams streams clsid →
       sector_count (compound_file streams clsid) ≤ reckoned_sectors counts
 
 abbrev pub FastStreamsFit : Type 0

@@ -8,17 +8,17 @@ use Rattle.fib_form.specs.FibFields.{fib_fields}
 use Rattle.fib_form.specs.FibRules.{fib_rules}
 use Rattle.piece_table.specs.Piece.{TextPiece, flat_pieces, ArePieces}
 use Rattle.piece_table.specs.Printing.{IsPrintable, IsPrintedClx}
-use Rattle.plain_doc.specs.declared.document.Document.{Document}
-use Rattle.plain_doc.specs.Collected.{sections_of}
+use Rattle.doc_model.specs.declared.document.Document.{Document}
+use Rattle.doc_model.specs.Collected.{sections_of}
 use Rattle.file_rules.specs.FileRules.{table_stream_name}
 use Rattle.doc_read.specs.CarriedParts.{carried_streams}
 use Rattle.doc_bits.specs.Together.{AreTogether}
-use Rattle.plain_doc.specs.TextLists.{starts_from}
+use Rattle.doc_model.specs.TextLists.{starts_from}
 use Rattle.fib_form.specs.TableEntries.{TableEntry, IsPartAt}
-use Rattle.save_laws.specs.Places.{PagedStream, Given, StandsInside, GivesAt}
-use Rattle.save_laws.specs.Slots.{StoryEnds, IsPlaced, whole_text, story_counts}
+use Rattle.save_laws.specs.Places.{PagedStream, GivenUnit, StandsInside, GivesAt}
+use Rattle.save_laws.specs.Slots.{StoryEnds, IsPlaceForSlot, document_slots, story_counts}
 use Rattle.save_laws.specs.Saves.{SavedText, saved_entries, HasPropertiesAt, HasRanges, KeepsFields}
-use Rattle.save_laws.specs.Plans.{Plan, StandsInPlan, IsPlanned, IsWrittenPlan}
+use Rattle.save_laws.specs.Plans.{Plan, StandsInPlan, IsPlannedUnit, IsWrittenPlan}
 use Rattle.save_laws.specs.KeptPages.{KeepsPages}
 
 -- the place is one of the old stream, or one of the added text
@@ -26,15 +26,15 @@ abbrev pub StandsInEither : PagedStream → Plan → ℕ → Bool → Type 0
 StandsInEither old plan at wide = StandsInside old at wide ⊎ StandsInPlan plan at wide
 
 -- the old stream gives this there, or it is planned
-abbrev pub IsGivenBy : PagedStream → Plan → ℕ → Bool → Given → Type 0
-IsGivenBy old plan at wide given = GivesAt old at wide given ⊎ IsPlanned plan at wide given
+abbrev pub IsGivenBy : PagedStream → Plan → ℕ → Bool → GivenUnit → Type 0
+IsGivenBy old plan at wide given = GivesAt old at wide given ⊎ IsPlannedUnit plan at wide given
 
 -- the places of pieces, CP by CP, represent the text of a document, in the old stream or in the added text: what a
 -- session keeps from edit to edit
 abbrev pub StandsInSession : PagedStream → Plan → List TextPiece → Document → StoryEnds → Type 0
 StandsInSession old plan pieces document ends =
-    AreTogether (IsPlaced (StandsInEither old plan) (IsGivenBy old plan)) (flat_pieces pieces)
-    (whole_text document ends)
+    AreTogether (IsPlaceForSlot (StandsInEither old plan) (IsGivenBy old plan)) (flat_pieces pieces)
+    (document_slots document ends)
 
 -- the document is saved behind an old stream, with added text
 pub record IsFastSaved

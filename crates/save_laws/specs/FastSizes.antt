@@ -43,7 +43,7 @@ pub record WrittenLengths : Type 0 where
 
 -- it is within what is counted, where units are whole pages: bytes that are left of those for runs may serve for units
 -- that are not counted, as those of the marks behind stories, or that are written again
-pub record AreCounted (counts : SaveCounts) (written : WrittenLengths) : Type 0 where
+pub record AreWithinCounts (counts : SaveCounts) (written : WrittenLengths) : Type 0 where
   pub text :
       512 * units_for 512 (2 * written.units) + 512 * written.pages ≤ 2 * counts.units + 512 * counts.runs + 1536
   pub sepxes : written.sepx_bytes ≤ 512 * counts.sections
@@ -77,7 +77,7 @@ pub record AreBounded (counts : SaveCounts) (written : WrittenLengths) (before a
 -- what is counted bounds the two streams
 abbrev pub CountsBoundStreams : Type 0
 CountsBoundStreams =
-    (counts : SaveCounts) (written : WrittenLengths) (before after : TwoLengths) → AreCounted counts written →
+    (counts : SaveCounts) (written : WrittenLengths) (before after : TwoLengths) → AreWithinCounts counts written →
     AreAppended counts written before after → AreBounded counts written before after
 
 -- the Sepx of properties that are printed in 500 bytes, with the zero behind it

@@ -3,13 +3,13 @@ use Rattle.std.specs.Prelude.{◌≡◌, ◌^◌, ◌<◌, List, [], ◌∷◌, 
 use Rattle.cfb_streams.specs.Contents.{Contents, HasNamed}
 use Rattle.cfb_streams.specs.Names.{wd_name, second_table_name}
 use Rattle.piece_table.specs.Piece.{one_piece}
-use Rattle.plain_doc.specs.declared.item.Item.{Item}
-use Rattle.plain_doc.specs.declared.document.Document.{Document}
-use Rattle.plain_doc.specs.Collected.{joined_texts}
-use Rattle.plain_doc.specs.Formed.{IsFormed}
+use Rattle.doc_model.specs.declared.item.Item.{Item}
+use Rattle.doc_model.specs.declared.document.Document.{Document}
+use Rattle.doc_model.specs.Collected.{joined_texts}
+use Rattle.doc_model.specs.Formed.{IsFormed}
 use Rattle.plain_doc.specs.Sound.{IsSound}
 use Rattle.full_save.specs.Text.{text_items}
-use Rattle.full_save.specs.WordDocument.{text_at, full_text, wd_stream, table_stream}
+use Rattle.full_save.specs.WordDocument.{text_offset, full_text, wd_stream, table_stream}
 use Rattle.doc_read.specs.CarriedParts.{carried_streams}
 use Rattle.save_laws.specs.Saves.{SavedText, IsSavedAs}
 
@@ -21,7 +21,7 @@ has_items (item ∷ items) = true
 -- one piece from the place of the text on, and a mark behind the notes and behind the header texts where there are some
 abbrev pub full_saved_text : Document → SavedText
 full_saved_text document = record {
-  pieces = one_piece text_at (length (text_items document));
+  pieces = one_piece text_offset (length (text_items document));
   clx = (full_text document).clx;
   stream = record {
     wd = wd_stream document;

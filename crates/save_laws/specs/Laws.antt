@@ -3,17 +3,17 @@ use Rattle.std.specs.Prelude.{◌≡◌, ℕ, List, Bool}
 use Rattle.doc_bits.specs.Number.{AreBytes}
 use Rattle.prop_map.specs.Settings.{Properties}
 use Rattle.cfb_streams.specs.Contents.{Contents}
-use Rattle.plain_doc.specs.declared.document.Document.{Document}
-use Rattle.plain_doc.specs.Collected.{sections_of}
-use Rattle.plain_doc.specs.Formed.{IsFormed}
+use Rattle.doc_model.specs.declared.document.Document.{Document}
+use Rattle.doc_model.specs.Collected.{sections_of}
+use Rattle.doc_model.specs.Formed.{IsFormed}
 use Rattle.plain_doc.specs.Sound.{IsSound}
 use Rattle.doc_read.specs.Holds.{HoldsDocument, IsAccepted}
-use Rattle.save_laws.specs.Places.{PagedStream, Given, GivesAt}
-use Rattle.save_laws.specs.Plans.{Plan, IsPlanned, IsWrittenPlan}
+use Rattle.save_laws.specs.Places.{PagedStream, GivenUnit, GivesAt}
+use Rattle.save_laws.specs.Plans.{Plan, IsPlannedUnit, IsWrittenPlan}
 use Rattle.save_laws.specs.KeptPages.{KeepsBytes, KeepsPages}
 use Rattle.save_laws.specs.FastSaves.{IsFastSaved}
 use Rattle.save_laws.specs.GivenFiles.{StandsTogether}
-use Rattle.save_laws.specs.Saves.{SavedText, HasPropertiesAt, AreSavedSections, IsSavedAs, IsHeldBy, IsFileOf}
+use Rattle.save_laws.specs.Saves.{SavedText, HasPropertiesAt, AreSavedSections, IsSavedAs, IsHeldBy, IsFileOfContents}
 use Rattle.save_laws.specs.Saves.{file_text}
 
 -- a well-formed sound document that is saved is held by the contents, which break none of the rules 15 to 57
@@ -33,14 +33,14 @@ pub record IsSavedIn (file : List ℕ) (document : Document) (saved : SavedText)
 abbrev pub SavedFilesHold : Type 0
 SavedFilesHold =
     (file : List ℕ) (document : Document) (saved : SavedText) (table : List ℕ) (contents : Contents) →
-    IsFormed document → IsSound document → IsSavedAs document saved table contents → IsFileOf file contents →
+    IsFormed document → IsSound document → IsSavedAs document saved table contents → IsFileOfContents file contents →
     IsSavedIn file document saved table contents
 
 -- added text whose units and pages are in the stream is given there as it was planned
 abbrev pub PlansGive : Type 0
 PlansGive =
-    (plan : Plan) (written : PagedStream) (at : ℕ) (wide : Bool) (given : Given) → IsWrittenPlan plan written →
-    IsPlanned plan at wide given → GivesAt written at wide given
+    (plan : Plan) (written : PagedStream) (at : ℕ) (wide : Bool) (given : GivenUnit) → IsWrittenPlan plan written →
+    IsPlannedUnit plan at wide given → GivesAt written at wide given
 
 -- what a session writes behind an old stream is a save of its document
 abbrev pub FastSavesAreSaves : Type 0
@@ -58,7 +58,7 @@ KeptPropertiesAreThere =
 -- what a stream gives at a place one gives that keeps its pages
 abbrev pub KeptPlacesGive : Type 0
 KeptPlacesGive =
-    (old new : PagedStream) (before at : ℕ) (wide : Bool) (given : Given) → KeepsPages old new before →
+    (old new : PagedStream) (before at : ℕ) (wide : Bool) (given : GivenUnit) → KeepsPages old new before →
     GivesAt old at wide given → GivesAt new at wide given
 
 -- the places of the text of a file that holds a document are together with the document's slots

@@ -12,8 +12,8 @@ use Rattle.fkp_pages.specs.declared.kind.PageKind.TheVariants.{Chpx, Papx}
 use Rattle.direct_props.specs.Direct.{MakesProperties}
 use Rattle.direct_props.specs.RightLists.{HasValidListAt}
 use Rattle.piece_table.specs.Piece.{unit_bytes}
-use Rattle.plain_doc.specs.declared.item.Mark.{Mark}
-use Rattle.plain_doc.specs.declared.item.Item.{Item}
+use Rattle.doc_model.specs.declared.item.Mark.{Mark}
+use Rattle.doc_model.specs.declared.item.Item.{Item}
 use Rattle.file_rules.specs.Units.{unit_at}
 
 -- WordDocument and its two bin tables
@@ -27,13 +27,13 @@ abbrev pub fib_end : List ℕ → ℕ
 fib_end wd = fib_size wd
 
 -- what a place gives: the unit, its properties, and those of its mark, if it has one
-pub record Given : Type 0 where
+pub record GivenUnit : Type 0 where
   pub unit : ℕ
   pub chp : Properties
   pub mark : Option Mark
 
 -- what an item needs a place to give it, where no modifier acts
-abbrev pub given_of : Item → Given
+abbrev pub given_of : Item → GivenUnit
 given_of item = record { unit = item.unit; chp = item.chp; mark = item.mark }
 
 -- the page of the place answers a right list of characters, which makes the properties
@@ -57,7 +57,7 @@ pub record StandsInside (from : PagedStream) (at : ℕ) (wide : Bool) : Type 0 w
   pub inside : at + unit_bytes wide ≤ length from.wd
 
 -- the stream gives this at the place
-pub record GivesAt (from : PagedStream) (at : ℕ) (wide : Bool) (given : Given) : Type 0 where
+pub record GivesAt (from : PagedStream) (at : ℕ) (wide : Bool) (given : GivenUnit) : Type 0 where
   pub stands : StandsInside from at wide
   pub unit : given.unit ≡ unit_at from.wd (record { at = at; wide = wide; modifier = no_modifier })
   pub characters : GivesCharacters from at given.chp
@@ -72,7 +72,7 @@ IsMarkedAfter modifier (Some old) (Some new) =
     (new.istd ≡ mark_style modifier old.istd) × IsMarkAfter modifier old.pap new.pap
 
 -- what was given, after the modifier of its piece
-pub record IsGivenAfter (modifier : Modifier) (old new : Given) : Type 0 where
+pub record IsGivenAfter (modifier : Modifier) (old new : GivenUnit) : Type 0 where
   pub unit : new.unit ≡ old.unit
   pub characters : IsCharacterAfter modifier old.chp new.chp
   pub mark : IsMarkedAfter modifier old.mark new.mark

@@ -15,20 +15,20 @@ use Rattle.piece_table.specs.Piece.{TextPiece, flat_pieces, ArePieces}
 use Rattle.piece_table.specs.Printing.{IsPrintable, IsPrintedClx}
 use Rattle.doc_parts.specs.declared.lists.Sed.{Sed}
 use Rattle.doc_parts.specs.Sections.{HasSepx}
-use Rattle.plain_doc.specs.declared.document.Document.{Document}
-use Rattle.plain_doc.specs.Collected.{sections_of}
+use Rattle.doc_model.specs.declared.document.Document.{Document}
+use Rattle.doc_model.specs.Collected.{sections_of}
 use Rattle.file_rules.specs.SectionRules.{sepx_list}
 use Rattle.file_rules.specs.PartRules.{PartLists, HasPartLists}
-use Rattle.file_rules.specs.FileRules.{FileText, HasText, table_stream_name, source_of, contents_rules}
+use Rattle.file_rules.specs.FileRules.{FileText, HasFileText, table_stream_name, doc_source_of, contents_rules}
 use Rattle.doc_read.specs.Sections.{IsSectionProperties}
 use Rattle.doc_read.specs.CarriedParts.{carried_streams}
 use Rattle.doc_read.specs.Holds.{IsDocumentFrom}
 use Rattle.doc_bits.specs.Together.{AreTogether}
-use Rattle.plain_doc.specs.TextLists.{starts_from}
+use Rattle.doc_model.specs.TextLists.{starts_from}
 use Rattle.fib_form.specs.TableEntries.{TableEntry, IsPartAt}
 use Rattle.full_save.specs.TableText.{table_entries}
 use Rattle.save_laws.specs.Places.{PagedStream, StandsInside, GivesAt}
-use Rattle.save_laws.specs.Slots.{StoryEnds, IsPlaced, whole_text, story_counts}
+use Rattle.save_laws.specs.Slots.{StoryEnds, IsPlaceForSlot, document_slots, story_counts}
 
 -- what a save may choose: the pieces, their Clx, WordDocument with its bin tables, the sections' places, and whether
 -- marks are behind the notes and behind the header texts
@@ -75,7 +75,8 @@ pub record KeepsFields (document : Document) (fib : FibFields) : Type 0 where
 -- the places of WordDocument, CP by CP, represent the text of the document
 abbrev pub StandsForText : PagedStream → List TextPiece → Document → StoryEnds → Type 0
 StandsForText stream pieces document ends =
-    AreTogether (IsPlaced (StandsInside stream) (GivesAt stream)) (flat_pieces pieces) (whole_text document ends)
+    AreTogether (IsPlaceForSlot (StandsInside stream) (GivesAt stream)) (flat_pieces pieces) (document_slots document
+    ends)
 
 -- the document is saved: the places of the pieces represent its text, their Clx is printed, sections have their Sepxes,
 -- the FIB breaks no rule and has the counts and what is kept, each part of the table stream is where its pair says,
@@ -107,12 +108,12 @@ file_text saved table = record { wd = saved.stream.wd; table = table; pieces = s
 -- the contents break no rule from 15 to 57 and hold the document, by this text
 pub record IsHeldBy (document : Document) (text : FileText) (contents : Contents) : Type 0 where
   pub rules : Hold (contents_rules contents)
-  pub has_text : HasText contents text
+  pub has_text : HasFileText contents text
   pub lists : PartLists
-  pub has_lists : HasPartLists (source_of text) lists
+  pub has_lists : HasPartLists (doc_source_of text) lists
   pub document_is : IsDocumentFrom contents text lists document
 
 -- the file is a container that breaks no rule, and has the contents
-pub record IsFileOf (file : List ℕ) (contents : Contents) : Type 0 where
+pub record IsFileOfContents (file : List ℕ) (contents : Contents) : Type 0 where
   pub rules : Hold (container_rules file)
   pub has_contents : HasContents file contents

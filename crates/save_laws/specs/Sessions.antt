@@ -4,11 +4,11 @@ use Rattle.std.specs.List.{AllZip, splice}
 use Rattle.prop_map.specs.declared.modifiers.Modifier.{Modifier}
 use Rattle.piece_table.specs.Piece.{UnitPlace}
 use Rattle.piece_table.specs.Changes.{AreModified}
-use Rattle.plain_doc.specs.declared.item.Item.{Item}
-use Rattle.plain_doc.specs.declared.document.Document.{Document}
+use Rattle.doc_model.specs.declared.item.Item.{Item}
+use Rattle.doc_model.specs.declared.document.Document.{Document}
 use Rattle.doc_bits.specs.Together.{AreTogether}
-use Rattle.save_laws.specs.Places.{PagedStream, Given, given_of, IsGivenAfter}
-use Rattle.save_laws.specs.Slots.{Slot, shown, loose, last, StoryEnds, IsPlaced, whole_text}
+use Rattle.save_laws.specs.Places.{PagedStream, GivenUnit, given_of, IsGivenAfter}
+use Rattle.save_laws.specs.Slots.{Slot, shown, loose, last, StoryEnds, IsPlaceForSlot, document_slots}
 use Rattle.save_laws.specs.Plans.{Plan}
 use Rattle.save_laws.specs.FastSaves.{StandsInEither, IsGivenBy}
 
@@ -33,7 +33,7 @@ pub record AreSlotsAfter (by : Modifier) (from to : ℕ) (old new : List Slot) :
 -- places represent slots, in an old stream or in added text
 abbrev pub StandInSession : PagedStream → Plan → List UnitPlace → List Slot → Type 0
 StandInSession old plan places slots =
-    AreTogether (IsPlaced (StandsInEither old plan) (IsGivenBy old plan)) places slots
+    AreTogether (IsPlaceForSlot (StandsInEither old plan) (IsGivenBy old plan)) places slots
 
 -- places and slots that are spliced alike are together as before
 abbrev pub SplicesStayTogether : Type 0
@@ -54,7 +54,7 @@ ModifiedStayTogether =
 -- what is in the old stream or in the added text is there where more text is added
 abbrev pub LongerPlansKeep : Type 0
 LongerPlansKeep =
-    (old : PagedStream) (base : ℕ) (added more : List Given) (places : List UnitPlace) (slots : List Slot) →
+    (old : PagedStream) (base : ℕ) (added more : List GivenUnit) (places : List UnitPlace) (slots : List Slot) →
     StandInSession old (record { base = base; added = added }) places slots →
     StandInSession old (record { base = base; added = added ++ more }) places slots
 
@@ -63,5 +63,5 @@ abbrev pub MainSplices : Type 0
 MainSplices =
     (document : Document) (ends : StoryEnds) (from to : ℕ) (fresh : List Item) → from ≤ to →
     to ≤ length document.main →
-    whole_text (record document { main = splice document.main from to fresh }) ends
-    ≡ splice (whole_text document ends) from to (map shown fresh)
+    document_slots (record document { main = splice document.main from to fresh }) ends
+    ≡ splice (document_slots document ends) from to (map shown fresh)

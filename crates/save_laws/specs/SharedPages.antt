@@ -7,12 +7,12 @@ use Rattle.std.specs.FinMap.{entries}
 use Rattle.fkp_pages.specs.declared.kind.PageKind.{PageKind}
 use Rattle.fkp_pages.specs.declared.kind.PageKind.TheVariants.{Chpx, Papx}
 use Rattle.fkp_pages.specs.declared.lists.Run.{Run}
-use Rattle.fkp_pages.specs.Written.{is_bare}
+use Rattle.fkp_pages.specs.Written.{is_bare_run}
 use Rattle.fkp_pages.specs.Packed.{pages_of}
-use Rattle.plain_doc.specs.declared.item.Mark.{Mark}
-use Rattle.plain_doc.specs.declared.item.Item.{Item}
-use Rattle.plain_doc.specs.Settings.{is_alike}
-use Rattle.plain_doc.specs.Stretches.{stretches}
+use Rattle.doc_model.specs.declared.item.Mark.{Mark}
+use Rattle.doc_model.specs.declared.item.Item.{Item}
+use Rattle.doc_model.specs.Settings.{is_alike}
+use Rattle.doc_model.specs.Stretches.{stretches}
 use Rattle.full_save.specs.Runs.{text_runs}
 use Rattle.edit_ops.specs.Runs.{run_count}
 
@@ -30,20 +30,20 @@ pages_taken kind runs = length (pages_of kind runs).starts
 
 -- the pages of runs of paragraphs are no more
 abbrev pub BareRunsShare : Type 0
-BareRunsShare = (runs : List Run) → pages_taken Papx runs ≤ pages_begun 0 (map (is_bare Papx) runs)
+BareRunsShare = (runs : List Run) → pages_taken Papx runs ≤ pages_begun 0 (map (is_bare_run Papx) runs)
 
 -- ---- of a text
 
 -- the marks of a text, and whether nothing is written for the run of one
-abbrev pub marks_of : List Item → List Mark
-marks_of text = filter_map (λ item. item.mark) text
+abbrev pub item_marks : List Item → List Mark
+item_marks text = filter_map (λ item. item.mark) text
 
 abbrev pub is_bare_mark : Mark → Bool
 is_bare_mark mark = (mark.istd == 0) && (length (entries mark.pap) == 0)
 
 -- a page for each run of characters, and those that the marks begin
 abbrev pub page_bound : List Item → ℕ
-page_bound text = length (stretches is_alike text) + pages_begun 0 (map is_bare_mark (marks_of text))
+page_bound text = length (stretches is_alike text) + pages_begun 0 (map is_bare_mark (item_marks text))
 
 -- it is no more than where each mark is a run with a page of its own
 abbrev pub PageBoundsAreFewer : Type 0

@@ -2,10 +2,10 @@
 use Rattle.std.specs.Prelude.{◌≡◌, ℕ, List, [], ◌∷◌, ◌++◌, length, map, Bool, if◌then◌else◌, IsSome}
 use Rattle.piece_table.specs.Piece.{UnitPlace}
 use Rattle.text_codes.specs.Paragraph.{paragraph_mark}
-use Rattle.plain_doc.specs.declared.item.Item.{Item}
-use Rattle.plain_doc.specs.declared.document.Document.{Document}
-use Rattle.plain_doc.specs.Collected.{joined_texts}
-use Rattle.save_laws.specs.Places.{Given, given_of, IsGivenAfter}
+use Rattle.doc_model.specs.declared.item.Item.{Item}
+use Rattle.doc_model.specs.declared.document.Document.{Document}
+use Rattle.doc_model.specs.Collected.{joined_texts}
+use Rattle.save_laws.specs.Places.{GivenUnit, given_of, IsGivenAfter}
 
 -- an item of the document; a paragraph mark behind a story's last text; and the last CP, which nobody looks at
 pub data Slot : Type 0 where
@@ -38,8 +38,8 @@ last_slots [] = []
 last_slots (slot ∷ slots) = last ∷ []
 
 -- the main text, the notes, the header texts, and the last CP
-unfoldable pub whole_text : Document → StoryEnds → List Slot
-whole_text document ends =
+unfoldable pub document_slots : Document → StoryEnds → List Slot
+document_slots document ends =
     let notes = note_slots document ends in
     let heads = head_slots document ends in
     map shown document.main ++ (notes ++ (heads ++ last_slots (notes ++ heads)))
@@ -50,20 +50,20 @@ story_counts document ends =
     length document.main ∷ length (note_slots document ends) ∷ length (head_slots document ends) ∷ []
 
 -- the place is given something of which its modifier makes this
-pub record ReadsAfter (Gives : ℕ → Bool → Given → Type 0) (place : UnitPlace) (given : Given) : Type 0 where
-  pub before : Given
+pub record ReadsAfter (Gives : ℕ → Bool → GivenUnit → Type 0) (place : UnitPlace) (given : GivenUnit) : Type 0 where
+  pub before : GivenUnit
   pub gives : Gives place.at place.wide before
   pub after : IsGivenAfter place.modifier before given
 
 -- the place is given a paragraph mark, of any style and with any properties
-pub record ReadsMark (Gives : ℕ → Bool → Given → Type 0) (place : UnitPlace) : Type 0 where
-  pub given : Given
+pub record ReadsMark (Gives : ℕ → Bool → GivenUnit → Type 0) (place : UnitPlace) : Type 0 where
+  pub given : GivenUnit
   pub unit : given.unit ≡ paragraph_mark
   pub marked : IsSome given.mark
   pub gives : Gives place.at place.wide given
 
 -- the place is one for the slot
-abbrev pub IsPlaced : (ℕ → Bool → Type 0) → (ℕ → Bool → Given → Type 0) → UnitPlace → Slot → Type 0
-IsPlaced Stands Gives place (shown item) = ReadsAfter Gives place (given_of item)
-IsPlaced Stands Gives place loose = ReadsMark Gives place
-IsPlaced Stands Gives place last = Stands place.at place.wide
+abbrev pub IsPlaceForSlot : (ℕ → Bool → Type 0) → (ℕ → Bool → GivenUnit → Type 0) → UnitPlace → Slot → Type 0
+IsPlaceForSlot Stands Gives place (shown item) = ReadsAfter Gives place (given_of item)
+IsPlaceForSlot Stands Gives place loose = ReadsMark Gives place
+IsPlaceForSlot Stands Gives place last = Stands place.at place.wide

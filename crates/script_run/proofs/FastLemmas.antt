@@ -5,7 +5,7 @@ use Rattle.std.specs.Prelude.{Result, IfErr}
 use Rattle.std.proofs.lemmas.Result.{IfErr-weaker}
 use Rattle.cfb_layout.specs.Counts.{most_sectors}
 use Rattle.edit_guards.specs.Policies.{Policy}
-use Rattle.plain_doc.specs.declared.document.Document.{Document}
+use Rattle.doc_model.specs.declared.document.Document.{Document}
 use Rattle.full_save.specs.WordDocument.{table_stream}
 use Rattle.doc_read.specs.Holds.{HoldsDocument}
 use Rattle.edit_script.specs.declared.commands.Command.{Command}
@@ -22,16 +22,16 @@ use Rattle.script_run.specs.declared.faults.RunFault.TheVariants.{Stopped, Memor
 use Rattle.script_run.specs.declared.faults.Stop.TheVariants.{Sixteenth, TooManyPieces, TooLarge}
 use Rattle.script_run.specs.States.{RunState, fast_sectors, saved_fast, state_by}
 use Rattle.script_run.specs.Saves.{save_mode}
-use Rattle.script_run.specs.Files.{HasGrownFrom, HasGrownBy, IsFileOf}
+use Rattle.script_run.specs.Files.{HasGrownFrom, HasGrownBySaves, IsFileOfState}
 use Rattle.script_run.specs.Ends.{StopsBy, Stops, StopsFastSave, PassesBy, HaltsBy}
-use Rattle.script_run.specs.Steps.{IsAt, Makes, Halts, HaltsFast, IsCountedAs}
+use Rattle.script_run.specs.Steps.{IsAtState, Makes, Halts, HaltsFast, IsCountedAs}
 use Rattle.script_run.proofs.GrownLemmas.{next_grown}
 
 -- the sectors that are reckoned, by the session
 abbrev sectors_in : Counts → Document → ℕ
 sectors_in counts document = sector_bound counts (length (table_stream document))
 
-sectors_at : (state : RunState) (session : SessionView) (policies : List Policy) → IsAt state session policies →
+sectors_at : (state : RunState) (session : SessionView) (policies : List Policy) → IsAtState state session policies →
     sectors_in session.counts session.document ≡ fast_sectors state
 unfolding fast_sectors
 sectors_at state session policies at =
@@ -56,8 +56,9 @@ step_grown session made save =
       in_place = save.in_place;
     }
 
-file_saved : (state : RunState) (session made : SessionView) (policies : List Policy) → IsAt state session policies →
-    IsSavedFast session made → IsFileOf (saved_fast state) made.bytes
+file_saved : (state : RunState) (session made : SessionView) (policies : List Policy) → IsAtState state session policies
+    →
+    IsSavedFast session made → IsFileOfState (saved_fast state) made.bytes
 file_saved state session made policies at save =
     let file = at.file in
     let within = file.within in
@@ -65,18 +66,18 @@ file_saved state session made policies at save =
     let count : made.quick_saves ≡ state.quick_saves + 1 = save.quick_saves ∙ ap (λ n. n + 1) at.quick_saves in
     let fast : suc state.since.fast_saves ≡ state.since.fast_saves + 1 = omega arith in
     let most = file.most + (2048 + bytes_added session.counts) in
-    let grown : HasGrownBy (suc state.since.fast_saves) state.file most made.quick_saves made.bytes =
+    let grown : HasGrownBySaves (suc state.since.fast_saves) state.file most made.quick_saves made.bytes =
     next_grown state.since.fast_saves state.file session.bytes made.bytes file.most (2048 + bytes_added session.counts)
     state.quick_saves made.quick_saves file.grown (step_grown session made save) in
     record {
       most = most;
       within = omega (arith, within, was);
-      grown = subst (λ n. HasGrownBy n state.file most (state.quick_saves + 1) made.bytes) fast
-          (subst (λ q. HasGrownBy (suc state.since.fast_saves) state.file most q made.bytes) count grown);
+      grown = subst (λ n. HasGrownBySaves n state.file most (state.quick_saves + 1) made.bytes) fast
+          (subst (λ q. HasGrownBySaves (suc state.since.fast_saves) state.file most q made.bytes) count grown);
     }
 
-fast_at : (state : RunState) (session made : SessionView) (policies : List Policy) → IsAt state session policies →
-    IsSavedFast session made → IsAt (saved_fast state) made policies
+fast_at : (state : RunState) (session made : SessionView) (policies : List Policy) → IsAtState state session policies →
+    IsSavedFast session made → IsAtState (saved_fast state) made policies
 fast_at state session made policies at save =
     let sectors = sectors_at state session policies at in
     let counts = at.counts in
@@ -102,7 +103,7 @@ fast_made command session made policies mode save state at =
         room = record { few = λ same. omega (arith, same, saves, quick); pieces = omega (arith, pieces, pieces_are) };
         fits = subst (λ n. n ≤ most_sectors) (sectors_at state session policies at) judged.sectors;
       });
-      leaves = subst (λ m. IsAt (state_by m state command) made policies) (sym mode) (fast_at state session made
+      leaves = subst (λ m. IsAtState (state_by m state command) made policies) (sym mode) (fast_at state session made
           policies at save);
     }
 

@@ -3,9 +3,9 @@ use Rattle.std.proofs.Common.{◌≡◌, sym, subst, ℕ, ◌+◌, ◌≤◌, le
 use Rattle.cfb_sectors.specs.Header.{sector_count}
 use Rattle.cfb_layout.specs.Layout.{lengths_of}
 use Rattle.cfb_layout.proofs.Public.{sectors-needed, length-compound_file}
-use Rattle.plain_doc.specs.declared.document.Document.{Document}
+use Rattle.doc_model.specs.declared.document.Document.{Document}
 use Rattle.full_save.specs.WordDocument.{full_fib, full_text, table_stream}
-use Rattle.full_save.specs.Layout.{layout_streams, full_save_image, sectors_of}
+use Rattle.full_save.specs.Layout.{layout_streams, full_save_image, full_save_sectors}
 use Rattle.fast_save.specs.Laws.{IsSavable}
 use Rattle.fast_save.specs.Session.{bin_length}
 use Rattle.fast_save.proofs.Public.{are_streams, is_layout}
@@ -15,13 +15,14 @@ use Rattle.edit_generator.proofs.Public.{small_saves, length-bins, document_soun
 
 -- the full save of the document is small, and so are the counts that a session begins with on it
 pub record HasSmallFile (document : Document) : Type 0 where
-  pub sectors : sectors_of document ≤ most_full_sectors
+  pub sectors : full_save_sectors document ≤ most_full_sectors
   pub file : sector_count (full_save_image document) ≤ most_full_sectors
   pub bins : bin_length (full_fib document) ≤ most_bin_bytes
   pub table : length (table_stream document) ≤ most_table_bytes
 
 -- a file has the sectors that are needed
-sectors_are : (document : Document) → IsSavable document → sector_count (full_save_image document) ≡ sectors_of document
+sectors_are : (document : Document) → IsSavable document → sector_count (full_save_image document) ≡ full_save_sectors
+    document
 unfolding full_save_image
 sectors_are document is =
     let streams = layout_streams document in

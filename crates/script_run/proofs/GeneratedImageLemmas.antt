@@ -3,8 +3,8 @@ use Rattle.std.proofs.Common.{◌≡◌, ◌∙◌, sym, ap, subst, ℕ, zero, s
 use Rattle.std.proofs.Common.{List, [], map, arith}
 use Rattle.std.proofs.lemmas.Option.{none-some}
 use Rattle.edit_guards.specs.Policies.{Policy}
-use Rattle.plain_doc.specs.declared.document.Document.{Document}
-use Rattle.plain_doc.specs.Blank.{blank_document}
+use Rattle.doc_model.specs.declared.document.Document.{Document}
+use Rattle.doc_model.specs.Blank.{blank_document}
 use Rattle.plain_doc.specs.RulesOfSheet.{item_count}
 use Rattle.full_save.specs.Layout.{full_save_image}
 use Rattle.doc_read.specs.Holds.{HoldsDocument, IsAccepted}
@@ -17,7 +17,7 @@ use Rattle.script_run.specs.declared.faults.RunFault.{RunFault}
 use Rattle.script_run.specs.declared.faults.RunFault.TheVariants.{Stopped}
 use Rattle.script_run.specs.declared.generating.Generated.{Generated}
 use Rattle.script_run.specs.Saves.{save_count}
-use Rattle.script_run.specs.States.{start_of, session_in_full}
+use Rattle.script_run.specs.States.{starting_state, session_in_full}
 use Rattle.script_run.specs.Ends.{StopsAt, IsRunFault, EndsInMode, IsLastSave}
 use Rattle.script_run.specs.Steps.{IsRunTo}
 use Rattle.script_run.specs.GeneratedRuns.{most_seed, generator_start, commands_run, mark_count}
@@ -60,23 +60,26 @@ none_mapped f xs none = ap (map f) none
 -- no command stops it
 pub never_stopped : (seed index : ℕ) (stop : Stop) (session : SessionView) (policies : List Policy) (fault : RunFault) →
     seed ≤ most_seed → session ≡ session_in_full blank_document → policies ≡ [] →
-    IsRunFault (start_of session policies) (generated seed) fault → fault ≡ Stopped index stop → ⊥
+    IsRunFault (starting_state session policies) (generated seed) fault → fault ≡ Stopped index stop → ⊥
 never_stopped seed index stop session policies fault few is none stops same =
-    let named = subst (λ f. IsRunFault (start_of session policies) (generated seed) f) same stops in
-    let begun = subst (λ s. StopsAt (start_of s policies) (generated seed) index stop) is named in
-    let at = subst (λ p. StopsAt (start_of (session_in_full blank_document) p) (generated seed) index stop) none begun
+    let named = subst (λ f. IsRunFault (starting_state session policies) (generated seed) f) same stops in
+    let begun = subst (λ s. StopsAt (starting_state s policies) (generated seed) index stop) is named in
+    let at = subst (λ p. StopsAt (starting_state (session_in_full blank_document) p) (generated seed) index stop) none
+    begun
     in
     ends_once.none generator_start (generated seed) index stop (generator_accepted seed few) at
 
 -- all of them are made
 pub run_of : (seed : ℕ) (session : SessionView) (policies : List Policy) (now : SessionView) (told : List Policy) →
     session ≡ session_in_full blank_document → policies ≡ [] →
-    IsRunTo (start_of session policies) (generated seed) (generated seed).count now told → IsGeneratedRun seed now
+    IsRunTo (starting_state session policies) (generated seed) (generated seed).count now told → IsGeneratedRun seed now
 run_of seed session policies now told is none run =
-    let begun = subst (λ s. IsRunTo (start_of s policies) (generated seed) (generated seed).count now told) is run in (
+    let begun = subst (λ s. IsRunTo (starting_state s policies) (generated seed) (generated seed).count now told) is run
+    in (
       told,
       subst
-          (λ p. IsRunTo (start_of (session_in_full blank_document) p) (generated seed) (generated seed).count now told)
+          (λ p. IsRunTo (starting_state (session_in_full blank_document) p) (generated seed) (generated seed).count now
+          told)
           none begun,
     )
 

@@ -4,7 +4,7 @@ use Rattle.std.proofs.Common.{◌≤◌, Bool, true, false, [], length}
 use Rattle.std.proofs.Common.{arith}
 use Rattle.std.specs.Prelude.{◌==◌, ◌||◌}
 use Rattle.std.proofs.lemmas.Bool.{eqb-true, eqb-false}
-use Rattle.plain_doc.specs.declared.document.Document.{Document}
+use Rattle.doc_model.specs.declared.document.Document.{Document}
 use Rattle.full_save.specs.WordDocument.{table_stream}
 use Rattle.edit_script.specs.declared.commands.Command.TheVariants.{Save}
 use Rattle.edit_ops.specs.EditFacts.{edit_facts}

@@ -9,7 +9,7 @@ use Rattle.std.proofs.lemmas.List.FromFn.{map-range_with_len_more}
 use Rattle.std.proofs.lemmas.List.Sums.{sum_by-append}
 use Rattle.edit_guards.specs.declared.facts.Facts.{Facts}
 use Rattle.edit_guards.specs.Policies.{Policy, Grants, AllGrant, policies_after}
-use Rattle.plain_doc.specs.Blank.{blank_document}
+use Rattle.doc_model.specs.Blank.{blank_document}
 use Rattle.edit_script.specs.declared.commands.Command.{Command}
 use Rattle.edit_script.specs.declared.commands.Command.TheVariants.{Save}
 use Rattle.edit_ops.specs.Causes.{IsAcceptedEdit}

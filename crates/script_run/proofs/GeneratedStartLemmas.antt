@@ -6,12 +6,12 @@ use Rattle.doc_bits.specs.declared.places.Where.{Where}
 use Rattle.doc_bits.specs.Places.{Upto, IsFirstPlace}
 use Rattle.doc_bits.proofs.Public.{hold_or_first}
 use Rattle.cfb_layout.specs.Counts.{most_sectors}
-use Rattle.plain_doc.specs.declared.document.Document.{Document}
-use Rattle.plain_doc.specs.Blank.{blank_document}
+use Rattle.doc_model.specs.declared.document.Document.{Document}
+use Rattle.doc_model.specs.Blank.{blank_document}
 use Rattle.plain_doc.specs.Sound.{IsSound}
 use Rattle.full_save.specs.declared.fault.SaveFault.{SaveFault}
 use Rattle.full_save.specs.declared.fault.SaveFault.TheVariants.{TooLarge}
-use Rattle.full_save.specs.Layout.{full_save_image, sectors_of, IsTooLarge}
+use Rattle.full_save.specs.Layout.{full_save_image, full_save_sectors, IsTooLarge}
 use Rattle.file_rules.specs.declared.fault.ReadFault.{ReadFault}
 use Rattle.file_rules.specs.declared.fault.ReadFault.TheVariants.{Refused}
 use Rattle.file_rules.specs.Faults.{IsReadFault}
@@ -27,7 +27,7 @@ use Rattle.script_run.specs.Commands.{command_at}
 use Rattle.edit_generator.specs.Generated.{generated_count, generated_command}
 use Rattle.script_run.specs.Generated.{generated}
 use Rattle.script_run.specs.Ends.{IsUnchanged}
-use Rattle.script_run.specs.Steps.{IsAt}
+use Rattle.script_run.specs.Steps.{IsAtState}
 use Rattle.edit_generator.proofs.Public.{document_sound, blank_generated}
 use Rattle.script_run.proofs.GeneratedFileLemmas.{document_savable}
 
@@ -42,7 +42,7 @@ blank_savable = document_savable 0 blank_document (omega arith) blank_generated
 blank_held : IsHeldInFull blank_document
 blank_held = full_saves_hold blank_document blank_savable
 
-pub blank_fits : most_sectors < sectors_of blank_document → ⊥
+pub blank_fits : most_sectors < full_save_sectors blank_document → ⊥
 blank_fits over = let fits = blank_savable.fits in absurd (omega (arith, fits, over))
 
 -- its full save breaks no rule
@@ -98,7 +98,7 @@ again_in_full session made started is =
 pub generated_there : (seed index main quick : ℕ) (command : Command) (session : SessionView)
     (policies : List Policy) → index < generated_count seed → main ≡ length session.document.main →
     quick ≡ session.quick_saves → command ≡ generated_command seed index main quick → (state : RunState) →
-    IsAt state session policies → command_at (generated seed) index state ≡ Some command
+    IsAtState state session policies → command_at (generated seed) index state ≡ Some command
 generated_there seed index main quick command session policies within is_main is_quick made state at =
     let len : main ≡ length state.document.main = is_main ∙ ap (λ (d : Document). length d.main) at.document in
     let saves : quick ≡ state.quick_saves = is_quick ∙ at.quick_saves in

@@ -9,7 +9,7 @@ use Rattle.doc_read.proofs.Public.{file_parts_one}
 use Rattle.save_laws.specs.KeptPages.{KeepsBytes}
 use Rattle.save_laws.specs.Places.{fib_end}
 use Rattle.fast_save.specs.Fast.{KeepsSectors}
-use Rattle.script_run.specs.Files.{IsWordDocumentOf, HasGrownFrom, HasGrownBy}
+use Rattle.script_run.specs.Files.{IsWordDocumentOf, HasGrownFrom, HasGrownBySaves}
 
 -- a file has one WordDocument
 one_stream : (file one other : List ℕ) → IsWordDocumentOf file one → IsWordDocumentOf file other → one ≡ other
@@ -83,8 +83,9 @@ grown_on file bytes made most more quick_saves then_saves first second =
     }
 
 -- one fast save more
-pub next_grown : (fast : ℕ) (file bytes made : List ℕ) (most more quick_saves then_saves : ℕ) → HasGrownBy fast file
-    most quick_saves bytes → HasGrownFrom bytes more then_saves made → HasGrownBy (suc fast) file (most + more)
+pub next_grown : (fast : ℕ) (file bytes made : List ℕ) (most more quick_saves then_saves : ℕ) → HasGrownBySaves fast
+    file
+    most quick_saves bytes → HasGrownFrom bytes more then_saves made → HasGrownBySaves (suc fast) file (most + more)
     then_saves made
 next_grown zero file bytes made most more quick_saves then_saves same second =
     grown_more file more (most + more) then_saves made (omega arith) (subst (λ f. HasGrownFrom f more then_saves made)
@@ -93,7 +94,8 @@ next_grown (suc fast) file bytes made most more quick_saves then_saves first sec
     grown_on file bytes made most more quick_saves then_saves first second
 
 -- there was a fast save
-pub some_fast : (fast : ℕ) (file : List ℕ) (most quick_saves : ℕ) (bytes : List ℕ) → 0 < fast → HasGrownBy fast file
+pub some_fast : (fast : ℕ) (file : List ℕ) (most quick_saves : ℕ) (bytes : List ℕ) → 0 < fast → HasGrownBySaves fast
+    file
     most quick_saves bytes → HasGrownFrom file most quick_saves bytes
 some_fast zero file most quick_saves bytes some grown = absurd (omega (arith, some))
 some_fast (suc more) file most quick_saves bytes some grown = grown

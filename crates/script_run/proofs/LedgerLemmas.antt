@@ -5,7 +5,7 @@ use Rattle.std.specs.Prelude.{if◌then◌else◌}
 use Rattle.std.proofs.Math.Nat.{min-le_left, mul-le-mul_right}
 use Rattle.cfb_layout.specs.Counts.{most_sectors}
 use Rattle.edit_script.specs.declared.commands.Command.{Command}
-use Rattle.edit_ops.specs.Runs.{most_runs}
+use Rattle.edit_ops.specs.Runs.{reckoned_runs}
 use Rattle.fast_save.specs.declared.ledgers.Counts.{Counts}
 use Rattle.fast_save.specs.Ledgers.{saturating_sum, after_edit, after_fast, sections_set, modifier_bytes}
 use Rattle.fast_save.specs.Ledgers.{bytes_reckoned}
@@ -29,7 +29,7 @@ edit_grows fast edits units counts command grown small =
     let pieces = raised-le counts.pieces 4 in
     let added = raised-le counts.units units in
     let sections = raised-le counts.sections (sections_set command) in
-    let runs = raised-le counts.runs (most_runs command) in
+    let runs = raised-le counts.runs (reckoned_runs command) in
     let pieces_were = grown.pieces in
     let units_were = grown.units in
     let sections_were = grown.sections in

@@ -8,7 +8,7 @@ use Rattle.doc_parts.proofs.Public.{sum_by-of_map}
 use Rattle.run_lists.specs.declared.runs.Run.{Run}
 use Rattle.run_lists.specs.Spread.{expanded, total_len}
 use Rattle.run_lists.proofs.Public.{spread-nil, spread_push, length-spread, extent-take}
-use Rattle.plain_doc.specs.declared.item.Item.{Item}
+use Rattle.doc_model.specs.declared.item.Item.{Item}
 use Rattle.doc_columns.specs.declared.attached.Attached.{Attached}
 use Rattle.doc_columns.specs.Attached.{attached_of}
 use Rattle.script_run.specs.GeneratedRuns.{mark_count, marks_beside}

@@ -11,23 +11,23 @@ use Rattle.edit_script.specs.declared.commands.Command.{Command}
 use Rattle.edit_script.specs.declared.commands.Command.TheVariants.{Save}
 use Rattle.edit_script.specs.Scripts.{EndsWithSave}
 use Rattle.fast_save.specs.Session.{SessionView}
-use Rattle.fast_save.specs.Edited.{bytes_added, HasRoom}
+use Rattle.fast_save.specs.Edited.{bytes_added, HasEditRoom}
 use Rattle.script_run.specs.declared.faults.RunFault.{RunFault}
 use Rattle.script_run.specs.declared.faults.RunFault.TheVariants.{Stopped, Memory}
-use Rattle.script_run.specs.States.{RunState, start_of, saved_fast, state_after, most_grown}
+use Rattle.script_run.specs.States.{RunState, starting_state, saved_fast, state_after, most_grown}
 use Rattle.script_run.specs.Commands.{Commands, listed, command_at, state_before}
 use Rattle.script_run.specs.Saves.{save_mode}
-use Rattle.script_run.specs.Files.{HasGrownFrom, IsFileOf}
+use Rattle.script_run.specs.Files.{HasGrownFrom, IsFileOfState}
 use Rattle.script_run.specs.Ends.{Stops, StopsAt, IsRunFault, AreToldUpTo, HaltsBy, EndsInMode, IsLastSave, IsUnchanged}
 use Rattle.script_run.specs.Ends.{end_state}
-use Rattle.script_run.specs.Steps.{IsAt, Makes, Halts, MakesNumber, HaltsNumber, StopsCommand, IsRunTo}
+use Rattle.script_run.specs.Steps.{IsAtState, Makes, Halts, MakesNumber, HaltsNumber, StopsCommand, IsRunTo}
 use Rattle.script_run.proofs.EndLemmas.{state_goes_on, passing_goes_on}
 use Rattle.script_run.proofs.GrownLemmas.{grown_more, some_fast}
 use Rattle.script_run.proofs.StepLemmas.{added_by}
 
 -- before the first command
 pub run_starts : (session : SessionView) (policies : List Policy) (commands : Commands) → IsUnchanged session →
-    IsRunTo (start_of session policies) commands 0 session policies
+    IsRunTo (starting_state session policies) commands 0 session policies
 unfolding state_before
 run_starts session policies commands unchanged =
     let none = unchanged.none in
@@ -46,7 +46,7 @@ run_starts session policies commands unchanged =
 
 -- 4,096 commands leave room for one more
 pub has_room : (start : RunState) (commands : Commands) (i : ℕ) (session : SessionView) (policies : List Policy) →
-    IsRunTo start commands i session policies → i ≤ 4096 → HasRoom session.counts
+    IsRunTo start commands i session policies → i ≤ 4096 → HasEditRoom session.counts
 has_room start commands i session policies run few = let room = run.room in omega (arith, room, few)
 
 -- all commands are made
@@ -68,7 +68,7 @@ module _ (start : RunState) (commands : Commands) (i : ℕ) (session : SessionVi
       let is = ap bytes_added m.makes.leaves.counts in
       let room = run.room in
       record {
-        at = subst (λ s. IsAt s made told) (sym (state_goes_on start commands i m.command m.there)) m.makes.leaves;
+        at = subst (λ s. IsAtState s made told) (sym (state_goes_on start commands i m.command m.there)) m.makes.leaves;
         passed = passing_goes_on start commands i run.passed (record {
           command = m.command;
           there = m.there;
@@ -103,7 +103,7 @@ module _ (start : RunState) (commands : Commands) (i : ℕ) (session : SessionVi
 
 -- ---- the last save
 
-fast_file : (state : RunState) (bytes : List ℕ) → IsFileOf (saved_fast state) bytes → HasGrownFrom state.file
+fast_file : (state : RunState) (bytes : List ℕ) → IsFileOfState (saved_fast state) bytes → HasGrownFrom state.file
     (most_grown (saved_fast state).since) (state.quick_saves + 1) bytes
 fast_file state bytes file =
     let within = file.within in
@@ -141,9 +141,9 @@ module _ (start : RunState) (commands : Commands) (session : SessionView) (polic
   last_bytes mode ends accepted = record {
     accepted = accepted;
     holds = subst (λ d. HoldsDocument session.bytes d) (held_is mode ends) run.at.holds;
-    full = λ at. subst (λ (s : RunState). IsFileOf s session.bytes → session.bytes ≡ full_save_image s.document)
+    full = λ at. subst (λ (s : RunState). IsFileOfState s session.bytes → session.bytes ≡ full_save_image s.document)
         (sym (last_is true at)) (λ f. f.grown) run.at.file;
-    fast = λ at. subst (λ (s : RunState). IsFileOf s session.bytes → HasGrownFrom s.file (most_grown s.since)
+    fast = λ at. subst (λ (s : RunState). IsFileOfState s session.bytes → HasGrownFrom s.file (most_grown s.since)
         s.quick_saves session.bytes)
         (sym (last_is false at)) (fast_file before_last session.bytes) run.at.file;
   }
@@ -170,7 +170,8 @@ told_at_end start commands session policies run =
 -- ---- a command that a source makes
 
 pub makes_number : (commands : Commands) (i : ℕ) (command : Command) (session made : SessionView) (policies told :
-    List Policy) → ((state : RunState) → IsAt state session policies → command_at commands i state ≡ Some command) →
+    List Policy) → ((state : RunState) → IsAtState state session policies → command_at commands i state ≡ Some command)
+    →
     Makes command session policies made told → MakesNumber commands i session policies made told
 makes_number commands i command session made policies told there makes state at =
     record { command = command; there = there state at; makes = makes state at }
@@ -183,7 +184,7 @@ halts_too commands i state command (Stopped j stop) at halts =
     (halts.0, record { command = command; there = at; stops = halts.1 })
 
 pub halts_number : {T : Type 0} (commands : Commands) (i : ℕ) (command : Command) (session : SessionView)
-    (policies : List Policy) (result : Result T RunFault) → ((state : RunState) → IsAt state session policies →
+    (policies : List Policy) (result : Result T RunFault) → ((state : RunState) → IsAtState state session policies →
     command_at commands i state ≡ Some command) → IfErr result (Halts command session policies i) →
     IfErr result (HaltsNumber commands i session policies)
 halts_number commands i command session policies result there stops =

@@ -6,14 +6,14 @@ use Rattle.std.proofs.Math.Nat.{min-le_left}
 use Rattle.std.proofs.lemmas.Result.{IfErr-weaker}
 use Rattle.edit_guards.specs.declared.facts.Facts.{Facts}
 use Rattle.edit_guards.specs.Policies.{Policy, AllGrant, IsFirstRefuser, policies_after}
-use Rattle.plain_doc.specs.declared.document.Document.{Document}
+use Rattle.doc_model.specs.declared.document.Document.{Document}
 use Rattle.full_save.specs.Layout.{full_save_image, FitsCompoundFile}
 use Rattle.doc_read.specs.Holds.{HoldsDocument}
 use Rattle.edit_script.specs.declared.commands.Command.{Command}
 use Rattle.edit_ops.specs.Edits.{document_after}
 use Rattle.edit_ops.specs.EditFacts.{edit_facts}
 use Rattle.edit_ops.specs.Causes.{IsAcceptedEdit}
-use Rattle.edit_ops.specs.Runs.{most_runs}
+use Rattle.edit_ops.specs.Runs.{reckoned_runs}
 use Rattle.fast_save.specs.declared.ledgers.Counts.{Counts}
 use Rattle.fast_save.specs.Ledgers.{after_edit, sections_set}
 use Rattle.fast_save.specs.Session.{SessionView}
@@ -24,32 +24,32 @@ use Rattle.script_run.specs.declared.faults.RunFault.TheVariants.{Stopped, Memor
 use Rattle.script_run.specs.declared.faults.Stop.TheVariants.{Guarded}
 use Rattle.script_run.specs.States.{RunState, counts_in_full, session_in_full, edited, saved_in_full, state_by}
 use Rattle.script_run.specs.Saves.{save_mode}
-use Rattle.script_run.specs.Files.{IsFileOf}
+use Rattle.script_run.specs.Files.{IsFileOfState}
 use Rattle.script_run.specs.Ends.{StopsBy, Stops, StopsEdit, StopsFullSave, PassesBy, HaltsBy}
-use Rattle.script_run.specs.Steps.{IsAt, Makes, Halts, HaltsFull, IsFullSave}
+use Rattle.script_run.specs.Steps.{IsAtState, Makes, Halts, HaltsFull, IsFullSave}
 
 -- ---- an edit
 
 -- the counts rise by no more than what the command adds
 added_more : (command : Command) (units : ℕ) (counts : Counts) → bytes_added (after_edit command units counts) ≤
-    bytes_added counts + (2 * units + 512 * most_runs command + 512 * sections_set command)
+    bytes_added counts + (2 * units + 512 * reckoned_runs command + 512 * sections_set command)
 added_more command units counts =
     let a = min-le_left (counts.units + units) (2 ^ 64 - 1) in
-    let b = min-le_left (counts.runs + most_runs command) (2 ^ 64 - 1) in
+    let b = min-le_left (counts.runs + reckoned_runs command) (2 ^ 64 - 1) in
     let c = min-le_left (counts.sections + sections_set command) (2 ^ 64 - 1) in
     omega (arith, a, b, c)
 
 -- the file stays
-file_edited : (state : RunState) (command : Command) (bytes : List ℕ) → IsFileOf state bytes →
-    IsFileOf (edited state command) bytes
+file_edited : (state : RunState) (command : Command) (bytes : List ℕ) → IsFileOfState state bytes →
+    IsFileOfState (edited state command) bytes
 file_edited state command bytes file =
     let within = file.within in
     let more = added_more command (edit_facts state.document command).units_in state.counts in
     record { most = file.most; within = omega (arith, within, more); grown = file.grown }
 
 edited_at : (state : RunState) (command : Command) (session : SessionView) (policies told : List Policy)
-    (facts : Facts) → IsAt state session policies → facts ≡ edit_facts session.document command →
-    told ≡ policies_after policies facts → IsAt (edited state command) (session_after command session) told
+    (facts : Facts) → IsAtState state session policies → facts ≡ edit_facts session.document command →
+    told ≡ policies_after policies facts → IsAtState (edited state command) (session_after command session) told
 edited_at state command session policies told facts at same noted =
     let documents = at.document in
     let counts = at.counts in
@@ -76,8 +76,9 @@ edit_made command session made policies told facts mode accepted same granted af
         granted = subst (λ p. AllGrant p (edit_facts state.document command)) at.policies_are
             (subst (λ f. AllGrant policies f) facts_are granted);
       });
-      leaves = subst (λ m. IsAt (state_by m state command) made told) (sym mode)
-          (subst (λ s. IsAt (edited state command) s told) (sym after) (edited_at state command session policies told
+      leaves = subst (λ m. IsAtState (state_by m state command) made told) (sym mode)
+          (subst (λ s. IsAtState (edited state command) s told) (sym after) (edited_at state command session policies
+          told
           facts at same noted));
     }
 
@@ -113,8 +114,8 @@ nothing_added : (document : Document) → bytes_added (counts_in_full document) 
 unfolding counts_in_full
 nothing_added document = refl
 
-full_at : (state : RunState) (session : SessionView) (policies : List Policy) → IsAt state session policies →
-    HoldsDocument (full_save_image session.document) session.document → IsAt (saved_in_full state) (session_in_full
+full_at : (state : RunState) (session : SessionView) (policies : List Policy) → IsAtState state session policies →
+    HoldsDocument (full_save_image session.document) session.document → IsAtState (saved_in_full state) (session_in_full
     session.document) policies
 full_at state session policies at held =
     let none = nothing_added state.document in
@@ -131,8 +132,8 @@ pub full_made : (command : Command) (session made : SessionView) (policies : Lis
     true → IsFullSave session made → Makes command session policies made policies
 full_made command session made policies mode save state at = record {
   passes = subst (λ m. PassesBy m state command) (sym mode) (subst FitsCompoundFile at.document save.fits);
-  leaves = subst (λ m. IsAt (state_by m state command) made policies) (sym mode)
-      (subst (λ s. IsAt (saved_in_full state) s policies) (sym save.is) (full_at state session policies at
+  leaves = subst (λ m. IsAtState (state_by m state command) made policies) (sym mode)
+      (subst (λ s. IsAtState (saved_in_full state) s policies) (sym save.is) (full_at state session policies at
       save.held.holds));
 }
 

@@ -1,7 +1,7 @@
 -- What a run goes over: commands in order. Each is read off the document so far and the fast saves that the file
 -- counts; those of a script are there from the first.
 use Rattle.std.specs.Prelude.{ℕ, zero, suc, List, length, slice_get, Option, Some, None}
-use Rattle.plain_doc.specs.declared.document.Document.{Document}
+use Rattle.doc_model.specs.declared.document.Document.{Document}
 use Rattle.edit_script.specs.declared.commands.Command.{Command}
 use Rattle.script_run.specs.States.{RunState, state_after}
 

@@ -2,13 +2,13 @@
 use Rattle.std.specs.Prelude.{◌≡◌, ◌≢◌, ℕ, ◌+◌, ◌-◌, ◌<◌, ◌≤◌, List, length, Bool, true, false, Option, Some, None, ⊤}
 use Rattle.edit_guards.specs.Policies.{Policy, AllGrant, IsFirstRefuser}
 use Rattle.cfb_layout.specs.Counts.{most_sectors}
-use Rattle.full_save.specs.Layout.{full_save_image, sectors_of, FitsCompoundFile}
+use Rattle.full_save.specs.Layout.{full_save_image, full_save_sectors, FitsCompoundFile}
 use Rattle.doc_read.specs.Holds.{HoldsDocument, IsAccepted}
 use Rattle.edit_script.specs.declared.commands.Command.{Command}
 use Rattle.edit_script.specs.declared.commands.Command.TheVariants.{Save}
 use Rattle.edit_ops.specs.Causes.{IsAcceptedEdit, IsEditFault}
 use Rattle.edit_ops.specs.EditFacts.{edit_facts}
-use Rattle.edit_ops.specs.Laws.{IsCause}
+use Rattle.edit_ops.specs.Laws.{IsEditCause}
 use Rattle.script_run.specs.declared.faults.Stop.{Stop}
 use Rattle.script_run.specs.declared.faults.Stop.TheVariants.{Refused, Guarded, Sixteenth, TooManyPieces, TooLarge}
 use Rattle.script_run.specs.declared.faults.RunFault.{RunFault}
@@ -35,7 +35,7 @@ pub record IsGuardedEdit (state : RunState) (command : Command) (guard : ℕ) : 
 
 -- an edit stops the run where it is refused, for another cause than memory; else where a guard does not allow it
 abbrev pub StopsEdit : RunState → Command → Stop → Type 0
-StopsEdit state command (Refused fault) = IsCause fault × IsEditFault state.document command fault
+StopsEdit state command (Refused fault) = IsEditCause fault × IsEditFault state.document command fault
 StopsEdit state command (Guarded guard) = IsGuardedEdit state command guard
 StopsEdit state command (Sixteenth count) = ⊥
 StopsEdit state command (TooManyPieces pieces) = ⊥
@@ -48,7 +48,7 @@ StopsFullSave state (Guarded guard) = ⊥
 StopsFullSave state (Sixteenth count) = ⊥
 StopsFullSave state (TooManyPieces pieces) = ⊥
 StopsFullSave state (TooLarge sectors) =
-    (most_sectors < sectors_of state.document) × (sectors ≡ sectors_of state.document)
+    (most_sectors < full_save_sectors state.document) × (sectors ≡ full_save_sectors state.document)
 
 -- a fast save has room for one more command's pieces, and is none too many in a row
 pub record HasRoomFast (state : RunState) : Type 0 where

@@ -28,12 +28,12 @@ pub record HasGrownFrom (file : List ℕ) (most quick_saves : ℕ) (bytes : List
   pub in_place : KeepsSectors file bytes old
 
 -- after so many fast saves
-abbrev pub HasGrownBy : ℕ → List ℕ → ℕ → ℕ → List ℕ → Type 0
-HasGrownBy zero file most quick_saves bytes = bytes ≡ file
-HasGrownBy (suc more) file most quick_saves bytes = HasGrownFrom file most quick_saves bytes
+abbrev pub HasGrownBySaves : ℕ → List ℕ → ℕ → ℕ → List ℕ → Type 0
+HasGrownBySaves zero file most quick_saves bytes = bytes ≡ file
+HasGrownBySaves (suc more) file most quick_saves bytes = HasGrownFrom file most quick_saves bytes
 
 -- the file now: together with what was added since the last save it is no longer than may be
-pub record IsFileOf (state : RunState) (bytes : List ℕ) : Type 0 where
+pub record IsFileOfState (state : RunState) (bytes : List ℕ) : Type 0 where
   pub most : ℕ
   pub within : most + bytes_added state.counts ≤ most_grown state.since
-  pub grown : HasGrownBy state.since.fast_saves state.file most state.quick_saves bytes
+  pub grown : HasGrownBySaves state.since.fast_saves state.file most state.quick_saves bytes

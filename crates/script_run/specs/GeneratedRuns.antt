@@ -1,9 +1,9 @@
 -- A run of the generator: it begins on the full save of the blank document, and no guard is asked.
 use Rattle.std.specs.Prelude.{◌≡◌, ℕ, ◌≤◌, true, false, List, [], map, is_some}
 use Rattle.std.specs.List.{count_by, filter_map, range_with_len}
-use Rattle.plain_doc.specs.declared.item.Item.{Item}
+use Rattle.doc_model.specs.declared.item.Item.{Item}
 use Rattle.doc_columns.specs.declared.attached.Attached.{Attached}
-use Rattle.plain_doc.specs.Blank.{blank_document}
+use Rattle.doc_model.specs.Blank.{blank_document}
 use Rattle.plain_doc.specs.RulesOfSheet.{item_count}
 use Rattle.full_save.specs.Layout.{full_save_image}
 use Rattle.edit_script.specs.declared.commands.Command.{Command}
@@ -11,7 +11,7 @@ use Rattle.edit_guards.specs.Policies.{Policy}
 use Rattle.fast_save.specs.Session.{SessionView}
 use Rattle.script_run.specs.declared.generating.Generated.{Generated}
 use Rattle.script_run.specs.Saves.{save_count}
-use Rattle.script_run.specs.States.{RunState, start_of, session_in_full}
+use Rattle.script_run.specs.States.{RunState, starting_state, session_in_full}
 use Rattle.script_run.specs.Commands.{Commands, command_at, state_before}
 use Rattle.script_run.specs.Generated.{generated}
 use Rattle.script_run.specs.Steps.{IsRunTo}
@@ -22,7 +22,7 @@ abbrev pub most_seed : ℕ
 most_seed = 4000
 
 abbrev pub generator_start : RunState
-generator_start = start_of (session_in_full blank_document) []
+generator_start = starting_state (session_in_full blank_document) []
 
 -- the commands of a run, each as it was read off what those before it had come to
 abbrev pub commands_run : RunState → Commands → List Command

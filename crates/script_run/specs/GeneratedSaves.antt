@@ -3,7 +3,7 @@
 use Rattle.std.specs.Prelude.{ℕ, zero, suc, ◌+◌, ◌*◌, ◌/◌, ◌≤◌}
 use Rattle.cfb_layout.specs.Counts.{most_sectors}
 use Rattle.edit_script.specs.declared.commands.Command.{Command}
-use Rattle.edit_ops.specs.Runs.{most_runs}
+use Rattle.edit_ops.specs.Runs.{reckoned_runs}
 use Rattle.edit_generator.specs.SmallSaves.{most_full_sectors, most_bin_bytes, most_table_bytes}
 use Rattle.fast_save.specs.declared.ledgers.Counts.{Counts}
 use Rattle.fast_save.specs.Ledgers.{after_edit, after_fast, sections_set, sector_bound, most_pieces_added}
@@ -33,7 +33,7 @@ pub record HasGrown (fast edits : ℕ) (counts : Counts) : Type 0 where
 pub record IsSmallEdit (command : Command) (added : ℕ) : Type 0 where
   pub units : added ≤ 24
   pub sections : sections_set command ≤ 0
-  pub runs : most_runs command ≤ 3
+  pub runs : reckoned_runs command ≤ 3
 
 -- a fast save of such ledgers is not refused
 pub record FitsFast (counts : Counts) (table_bytes : ℕ) : Type 0 where

@@ -2,13 +2,13 @@
 use Rattle.std.specs.Prelude.{ℕ, ◌+◌, ◌*◌, Bool, true, false, List, length, Option, Some, None}
 use Rattle.edit_guards.specs.Policies.{Policy, policies_after}
 use Rattle.cfb_sectors.specs.Header.{sector_count}
-use Rattle.plain_doc.specs.declared.document.Document.{Document}
+use Rattle.doc_model.specs.declared.document.Document.{Document}
 use Rattle.full_save.specs.WordDocument.{full_fib, table_stream}
 use Rattle.full_save.specs.Layout.{full_save_image}
 use Rattle.edit_script.specs.declared.commands.Command.{Command}
 use Rattle.edit_ops.specs.Edits.{document_after}
 use Rattle.edit_ops.specs.EditFacts.{edit_facts}
-use Rattle.edit_ops.specs.Runs.{most_runs}
+use Rattle.edit_ops.specs.Runs.{reckoned_runs}
 use Rattle.fast_save.specs.declared.ledgers.Counts.{Counts}
 use Rattle.fast_save.specs.Ledgers.{after_edit, after_fast, after_full, sections_set, sector_bound}
 use Rattle.fast_save.specs.Session.{SessionView, bin_length}
@@ -37,8 +37,8 @@ pub record RunState : Type 0 where
   pub since : Since
 
 -- before the first command, on a session to which nothing was added
-abbrev pub start_of : SessionView → List Policy → RunState
-start_of session policies = record {
+abbrev pub starting_state : SessionView → List Policy → RunState
+starting_state session policies = record {
   document = session.document;
   policies = policies;
   quick_saves = session.quick_saves;
@@ -70,7 +70,7 @@ abbrev pub since_edit : Command → ℕ → Since → Since
 since_edit command units since = record {
   fast_saves = since.fast_saves;
   units = since.units + units;
-  runs = since.runs + most_runs command;
+  runs = since.runs + reckoned_runs command;
   sections = since.sections + sections_set command;
 }
 
@@ -88,7 +88,7 @@ edited state command = record {
 
 -- after a full save: all is as at a start on it
 abbrev pub saved_in_full : RunState → RunState
-saved_in_full state = start_of (session_in_full state.document) state.policies
+saved_in_full state = starting_state (session_in_full state.document) state.policies
 
 -- after a fast save
 abbrev pub saved_fast : RunState → RunState

@@ -12,24 +12,24 @@ use Rattle.fast_save.specs.Edited.{bytes_added, most_added}
 use Rattle.script_run.specs.declared.faults.RunFault.{RunFault}
 use Rattle.script_run.specs.declared.faults.Stop.{Stop}
 use Rattle.script_run.specs.States.{RunState, fast_sectors, state_after, session_in_full}
-use Rattle.script_run.specs.Files.{IsFileOf}
+use Rattle.script_run.specs.Files.{IsFileOfState}
 use Rattle.script_run.specs.Commands.{Commands, command_at, state_before}
 use Rattle.script_run.specs.Ends.{Passes, Stops, StopsFullSave, StopsFastSave, PassesUpTo, HaltsBy}
 
 -- the session and the guards are where the commands so far have come to
-pub record IsAt (state : RunState) (session : SessionView) (policies : List Policy) : Type 0 where
+pub record IsAtState (state : RunState) (session : SessionView) (policies : List Policy) : Type 0 where
   pub document : session.document ≡ state.document
   pub counts : session.counts ≡ state.counts
   pub quick_saves : session.quick_saves ≡ state.quick_saves
   pub policies_are : policies ≡ state.policies
   pub holds : HoldsDocument session.bytes state.held
-  pub file : IsFileOf state session.bytes
+  pub file : IsFileOfState state session.bytes
 
 -- the command passes, and leaves this
 pub record MakesBy (command : Command) (state : RunState) (session : SessionView) (policies : List Policy) : Type 0
   where
     pub passes : Passes state command
-    pub leaves : IsAt (state_after state command) session policies
+    pub leaves : IsAtState (state_after state command) session policies
 
 -- the command of this number does
 pub record MakesCommand (commands : Commands) (i : ℕ) (state : RunState) (session : SessionView) (policies : List
@@ -48,27 +48,27 @@ pub record StopsCommand (commands : Commands) (i : ℕ) (state : RunState) (stop
 -- whatever has been so far: the command passes from one session and guards to others
 abbrev pub Makes : Command → SessionView → List Policy → SessionView → List Policy → Type 0
 Makes command session policies made told =
-    (state : RunState) → IsAt state session policies → MakesBy command state made told
+    (state : RunState) → IsAtState state session policies → MakesBy command state made told
 
 -- the command of this number stops the run there
 abbrev pub Halts : Command → SessionView → List Policy → ℕ → RunFault → Type 0
 Halts command session policies index fault =
-    (state : RunState) → IsAt state session policies → HaltsBy index (Stops state command) fault
+    (state : RunState) → IsAtState state session policies → HaltsBy index (Stops state command) fault
 
 -- the command of this number passes
 abbrev pub MakesNumber : Commands → ℕ → SessionView → List Policy → SessionView → List Policy → Type 0
 MakesNumber commands i session policies made told =
-    (state : RunState) → IsAt state session policies → MakesCommand commands i state made told
+    (state : RunState) → IsAtState state session policies → MakesCommand commands i state made told
 
 -- it stops the run
 abbrev pub HaltsNumber : Commands → ℕ → SessionView → List Policy → RunFault → Type 0
 HaltsNumber commands i session policies fault =
-    (state : RunState) → IsAt state session policies → HaltsBy i (StopsCommand commands i state) fault
+    (state : RunState) → IsAtState state session policies → HaltsBy i (StopsCommand commands i state) fault
 
 -- each command before this number passes, and they leave this; so little was added that one more may be made
 pub record IsRunTo (start : RunState) (commands : Commands) (i : ℕ) (session : SessionView) (policies : List Policy)
     : Type 0 where
-  pub at : IsAt (state_before start commands i) session policies
+  pub at : IsAtState (state_before start commands i) session policies
   pub passed : PassesUpTo start commands i
   pub room : bytes_added session.counts ≤ i * most_added
 

@@ -1,7 +1,7 @@
 // A run of the generator.
 ghost use Rattle.std.specs.Prelude.{◌≡◌, ◌^◌, ◌<◌, ◌≤◌, IfOk, OnOk, true, false, replicate};
 ghost use Rattle.run_lists.specs.Spread.{expanded, total_len};
-ghost use Rattle.plain_doc.specs.Blank.{blank_document};
+ghost use Rattle.doc_model.specs.Blank.{blank_document};
 ghost use Rattle.full_save.specs.Layout.{full_save_image};
 ghost use Rattle.fast_save.specs.Started.{IsStarted};
 ghost use Rattle.script_run.specs.States.{session_in_full};

@@ -4,12 +4,12 @@ ghost use Rattle.std.specs.Prelude.{OnOk, MatchResult};
 ghost use Rattle.edit_guards.specs.Policies.{AllGrant, IsFirstRefuser};
 ghost use Rattle.edit_script.specs.Scripts.{EndsWithSave, most_commands};
 ghost use Rattle.edit_ops.specs.Causes.{IsEditFault};
-ghost use Rattle.fast_save.specs.Edited.{HasRoom, IsPlanned};
+ghost use Rattle.fast_save.specs.Edited.{HasEditRoom, IsPlannedEdit};
 ghost use Rattle.fast_save.specs.Fast.{IsSavedFast};
 ghost use Rattle.script_run.specs.declared.faults.RunFault.TheVariants.{Stopped};
 ghost use Rattle.script_run.specs.declared.faults.Stop.TheVariants.{Guarded};
 ghost use Rattle.script_run.specs.Saves.{save_mode};
-ghost use Rattle.script_run.specs.States.{RunState, start_of};
+ghost use Rattle.script_run.specs.States.{RunState, starting_state};
 ghost use Rattle.script_run.specs.Commands.{listed};
 ghost use Rattle.script_run.specs.Steps.{Makes, Halts, HaltsFull, HaltsFast, IsRunTo, IsFullSave};
 ghost use Rattle.script_run.specs.Ends.{StopsEdit, HaltsBy, IsSavedBy, IsUnchanged, end_state};
@@ -46,14 +46,14 @@ pub fn run_script(
     requires few { length script.now ≤ most_commands }
     requires saved { EndsWithSave script.now }
     ensures ends { MatchResult result
-        (IsSavedBy (start_of session (map (λ b. policy b) guards.old)) script.now)
-        (IsRunFault (start_of session (map (λ b. policy b) guards.old)) (listed script.now)) }
+        (IsSavedBy (starting_state session (map (λ b. policy b) guards.old)) script.now)
+        (IsRunFault (starting_state session (map (λ b. policy b) guards.old)) (listed script.now)) }
 
     // What the guards were told of.
     ensures guards { MatchResult result
         (λ _. map (λ b. policy b) guards.new
-        ≡ (end_state (start_of session (map (λ b. policy b) guards.old)) (listed script.now)).policies)
-        (λ fault. AreToldUpTo (start_of session (map (λ b. policy b) guards.old)) (listed script.now) fault
+        ≡ (end_state (starting_state session (map (λ b. policy b) guards.old)) (listed script.now)).policies)
+        (λ fault. AreToldUpTo (starting_state session (map (λ b. policy b) guards.old)) (listed script.now) fault
         (map (λ b. policy b) guards.new)) }
 {
     let mut session = session;
@@ -73,12 +73,12 @@ fn run_on(
     requires few { length script.now ≤ most_commands }
     requires saved { EndsWithSave script.now }
     ensures ends { MatchResult result
-        (IsSavedBy (start_of session.old (map (λ b. policy b) guards.old)) script.now)
-        (IsRunFault (start_of session.old (map (λ b. policy b) guards.old)) (listed script.now)) }
+        (IsSavedBy (starting_state session.old (map (λ b. policy b) guards.old)) script.now)
+        (IsRunFault (starting_state session.old (map (λ b. policy b) guards.old)) (listed script.now)) }
     ensures guards { MatchResult result
         (λ _. map (λ b. policy b) guards.new
-        ≡ (end_state (start_of session.old (map (λ b. policy b) guards.old)) (listed script.now)).policies)
-        (λ fault. AreToldUpTo (start_of session.old (map (λ b. policy b) guards.old)) (listed script.now) fault
+        ≡ (end_state (starting_state session.old (map (λ b. policy b) guards.old)) (listed script.now)).policies)
+        (λ fault. AreToldUpTo (starting_state session.old (map (λ b. policy b) guards.old)) (listed script.now) fault
         (map (λ b. policy b) guards.new)) }
 {
     run_all(alloc, script, session, guards)?;
@@ -103,12 +103,13 @@ pub(crate) fn run_all<S: Source>(
     requires unchanged { IsUnchanged session.old }
     requires few { (S.commands source.now).count ≤ most_commands }
     ensures ok { OnOk result
-        (IsRunTo (start_of session.old (map (λ b. policy b) guards.old)) (S.commands source.now)
+        (IsRunTo (starting_state session.old (map (λ b. policy b) guards.old)) (S.commands source.now)
         (S.commands source.now).count session.new (map (λ b. policy b) guards.new)) }
     ensures err { IfErr result
-        (IsRunFault (start_of session.old (map (λ b. policy b) guards.old)) (S.commands source.now)) }
+        (IsRunFault (starting_state session.old (map (λ b. policy b) guards.old)) (S.commands source.now)) }
     ensures told { IfErr result
-        (λ fault. AreToldUpTo (start_of session.old (map (λ b. policy b) guards.old)) (S.commands source.now) fault
+        (λ fault. AreToldUpTo (starting_state session.old (map (λ b. policy b) guards.old)) (S.commands source.now)
+        fault
         (map (λ b. policy b) guards.new)) }
 {
     for index in 0..source.count() {
@@ -124,7 +125,7 @@ pub(crate) fn run_command(
     command: &Command,
     index: usize,
 ) -> Result<(), RunFault>
-    requires room { HasRoom session.old.counts }
+    requires room { HasEditRoom session.old.counts }
     ensures made { OnOk result
         (Makes command.now session.old (map (λ b. policy b) guards.old)
         session.new (map (λ b. policy b) guards.new)) }
@@ -145,7 +146,7 @@ fn edit(
     command: &Command,
     index: usize,
 ) -> Result<(), RunFault>
-    requires room { HasRoom session.old.counts }
+    requires room { HasEditRoom session.old.counts }
     requires edits { save_mode command.now ≡ None }
     ensures made { OnOk result
         (Makes command.now session.old (map (λ b. policy b) guards.old)
@@ -184,7 +185,7 @@ fn ask_guards<E: Drop>(
 
 /// The edit of this number, or the end of the run by it.
 fn plan(session: &Session, command: &Command, index: usize) -> Result<Edit, RunFault>
-    ensures { MatchResult result (IsPlanned session.now.document command.now)
+    ensures { MatchResult result (IsPlannedEdit session.now.document command.now)
         (λ fault. (state : RunState) → state.document ≡ session.now.document →
         HaltsBy index (StopsEdit state command.now) fault) }
 {

@@ -1,6 +1,6 @@
 // What commands come from: a script, or the generator.
 ghost use Rattle.std.specs.Prelude.{◌≡◌, ◌<◌, map, OnErr, IfErr, OnOk};
-ghost use Rattle.fast_save.specs.Edited.{HasRoom};
+ghost use Rattle.fast_save.specs.Edited.{HasEditRoom};
 ghost use Rattle.script_run.specs.Commands.{Commands, listed};
 ghost use Rattle.script_run.specs.Steps.{MakesNumber, HaltsNumber};
 
@@ -30,7 +30,7 @@ pub(crate) trait Source {
         guards: &mut [Box<dyn Guard>],
     ) -> Result<(), RunFault>
         requires within { index < (commands self.now).count }
-        requires room { HasRoom session.old.counts }
+        requires room { HasEditRoom session.old.counts }
         ensures made { OnOk result
             (MakesNumber (commands self.now) index session.old (map (λ b. policy b) guards.old)
             session.new (map (λ b. policy b) guards.new)) }

@@ -10,13 +10,13 @@ use Rattle.doc_bits.specs.Together.{AreTogether}
 use Rattle.std.specs.Prelude.{IsSome}
 use Rattle.doc_bits.proofs.Public.{there_is, get-map, in_front, in_back, together_joined}
 use Rattle.prop_map.specs.Modifiers.{no_modifier}
-use Rattle.piece_table.specs.Piece.{TextPiece, UnitPlace, unit_places}
+use Rattle.piece_table.specs.Piece.{TextPiece, UnitPlace, places_of_piece}
 use Rattle.piece_table.proofs.Public.{length-unit_places, get_or-unit_places}
-use Rattle.plain_doc.specs.declared.item.Item.{Item}
+use Rattle.doc_model.specs.declared.item.Item.{Item}
 use Rattle.full_save.specs.Text.{extra_mark}
 use Rattle.save_laws.specs.Places.{PagedStream, given_of, IsGivenAfter}
 use Rattle.save_laws.specs.Plans.{Plan}
-use Rattle.save_laws.specs.Slots.{Slot, shown, loose, last, IsPlaced}
+use Rattle.save_laws.specs.Slots.{Slot, shown, loose, last, IsPlaceForSlot}
 use Rattle.save_laws.specs.FastSaves.{StandsInEither, IsGivenBy}
 use Rattle.save_laws.specs.Sessions.{StandInSession}
 use Rattle.session_text.specs.declared.added.Added.{Added}
@@ -33,7 +33,7 @@ place_at at = record { at = at; wide = true; modifier = no_modifier }
 -- an added item's place is one for its slot
 placed : (old : PagedStream) (plan : Plan) (number : ℕ) (item : Item) (slot : Slot) →
     slice_get plan.added number ≡ Some (given_of item) → IsAddedFor item slot →
-    IsPlaced (StandsInEither old plan) (IsGivenBy old plan) (place_at (plan.base + 2 * number)) slot
+    IsPlaceForSlot (StandsInEither old plan) (IsGivenBy old plan) (place_at (plan.base + 2 * number)) slot
 placed old plan number item (shown other) there is = record {
   before = given_of item;
   gives = inr (record { number = number; there = there; here = refl; two_bytes = refl });
@@ -58,7 +58,7 @@ placed old plan number item last there is =
 piece_places : (old : PagedStream) (added : Added) (before block behind : List Item) (slots : List Slot) →
     added.items ≡ before ++ (block ++ behind) → AreTogether IsAddedFor block slots →
     StandInSession old (plan_of added)
-    (unit_places (record {
+    (places_of_piece (record {
       at = added.base + 2 * length before;
       wide = true;
       len = length block;
@@ -73,18 +73,18 @@ piece_places old added before block behind slots is together =
     record {
       len = omega (arith, count, together.len);
       each = λ k place slot here there.
-          let within = slice_get_within (unit_places piece) k place here in
+          let within = slice_get_within (places_of_piece piece) k place here in
           let below : k < length block = omega (arith, within, count) in
           let found = there_is block k below in
           let number : ℕ = length before + k in
           let e : begin + k * 2 ≡ added.base + 2 * number = omega arith in
           let where_is : place ≡ place_at (added.base + 2 * number) =
-          sym (get_or_from_slice_get (unit_places piece) k place place here)
+          sym (get_or_from_slice_get (places_of_piece piece) k place place here)
           ∙ (get_or-unit_places piece k place below ∙ ap place_at e) in
           let item : slice_get added.items number ≡ Some found.0 =
           ap (λ l. slice_get l number) is
           ∙ in_back before (block ++ behind) k number found.0 (in_front block behind k found.0 found.1) refl in
-          subst (λ p. IsPlaced (StandsInEither old plan) (IsGivenBy old plan) p slot) (sym where_is)
+          subst (λ p. IsPlaceForSlot (StandsInEither old plan) (IsGivenBy old plan) p slot) (sym where_is)
           (placed old plan number found.0 slot (get-map given_of added.items number found.0 item)
           (together.each k found.0 slot found.1 there));
     }

@@ -15,12 +15,13 @@ use Rattle.doc_bits.proofs.Public.{All_at, All-from_slice_get, get-map, slice_ge
 use Rattle.prop_map.specs.declared.modifiers.Modifier.{Modifier}
 use Rattle.prop_map.specs.Settings.{Properties}
 use Rattle.prop_map.specs.Modifiers.{no_modifier, IsFormedModifier}
-use Rattle.plain_doc.specs.declared.item.Item.{Item}
-use Rattle.plain_doc.specs.declared.document.Document.{Document}
-use Rattle.plain_doc.specs.Collected.{joined_texts}
+use Rattle.doc_model.specs.declared.item.Item.{Item}
+use Rattle.doc_model.specs.declared.document.Document.{Document}
+use Rattle.doc_model.specs.Collected.{joined_texts}
 use Rattle.plain_doc.specs.RightDocument.{IsValidDocument}
 use Rattle.plain_doc.specs.RulesOfItems.{HasShortProperties}
-use Rattle.plain_doc.proofs.Public.{length-splice, sound_is_valid}
+use Rattle.plain_doc.proofs.Public.{sound_is_valid}
+use Rattle.doc_model.proofs.Public.{length-splice}
 use Rattle.edit_script.specs.declared.commands.Command.{Command}
 use Rattle.edit_script.specs.declared.commands.Command.TheVariants.{Insert, Erase, Char, Plain, Para, Style, Field}
 use Rattle.edit_script.specs.declared.commands.Command.TheVariants.{Note, Split, Merge, Sect, Row, StyleChar}
@@ -36,11 +37,11 @@ use Rattle.edit_ops.specs.Edits.{clearing, naming_style}
 use Rattle.edit_ops.specs.Fresh.{inserted_items, field_items, base_properties, note_reference, note_items, split_item}
 use Rattle.edit_ops.specs.Fresh.{section_item, row_items}
 use Rattle.doc_patch.specs.Makes.{CanSplice, CanMakeAll}
-use Rattle.doc_patch.specs.Places.{text_at, items_at, mark_place, section_place, note_number, head_number}
+use Rattle.doc_patch.specs.Places.{story_text, items_at, mark_place, section_place, note_number, head_number}
 use Rattle.edit_ops.specs.Ranges.{HasText, HasRange}
 use Rattle.edit_ops.proofs.Public.{can_make, right_text}
 use Rattle.session_text.specs.EditSteps.{KeepsNamed, ArePutSteps, IsShortAfter, IsActStep, AreEditSteps}
-use Rattle.session_text.specs.EditSteps.{CommandsAreSteps, PiecesAreFew, items_put, block_pieces, cuts_of}
+use Rattle.session_text.specs.EditSteps.{CommandsAreSteps, PiecesAreFew, items_put, block_pieces, cut_count}
 use Rattle.session_text.specs.EditSteps.{pieces_added}
 use Rattle.session_text.proofs.MarkLemmas.{texts_splice}
 use Rattle.session_text.proofs.ModifyLemmas.{text_put, put_text}
@@ -56,14 +57,14 @@ set_there [] k x y there = absurd (none-some x there)
 set_there (a ∷ xs) zero x y there = refl
 set_there (a ∷ xs) (suc k) x y there = set_there xs k x y there
 
-put_there : (document : Document) (story : Story) (old new : List Item) → text_at document story ≡ Some old →
-    text_at (text_put document story new) story ≡ Some new
+put_there : (document : Document) (story : Story) (old new : List Item) → story_text document story ≡ Some old →
+    story_text (text_put document story new) story ≡ Some new
 put_there document Main old new there = refl
 put_there document (NoteText number) old new there = set_there document.notes number old new there
 put_there document (HeadText number) old new there = set_there document.heads number old new there
 
 short_text : (document : Document) (story : Story) (text : List Item) → IsValidDocument document →
-    text_at document story ≡ Some text → All HasShortProperties text
+    story_text document story ≡ Some text → All HasShortProperties text
 short_text document story text right there =
     All-from_slice_get HasShortProperties text (right_text document story text right there).short
 
@@ -78,23 +79,23 @@ all_middle P xs ys from to all =
 
 -- the text after a splice
 spliced_there : (document : Document) (story : Story) (from to : ℕ) (fresh text : List Item) →
-    text_at document story ≡ Some text →
-    text_at (changed (SpliceText story from to fresh) document) story ≡ Some (splice text from to fresh)
+    story_text document story ≡ Some text →
+    story_text (changed (SpliceText story from to fresh) document) story ≡ Some (splice text from to fresh)
 spliced_there document Main from to fresh text there = ap (option_map (λ t. splice t from to fresh)) there
 spliced_there document (NoteText number) from to fresh text there =
     let story = NoteText number in
-    ap (λ d. text_at d story) (put_text (λ t. splice t from to fresh) document story text there)
+    ap (λ d. story_text d story) (put_text (λ t. splice t from to fresh) document story text there)
     ∙ put_there document story text (splice text from to fresh) there
 spliced_there document (HeadText number) from to fresh text there =
     let story = HeadText number in
-    ap (λ d. text_at d story) (put_text (λ t. splice t from to fresh) document story text there)
+    ap (λ d. story_text d story) (put_text (λ t. splice t from to fresh) document story text there)
     ∙ put_there document story text (splice text from to fresh) there
 
 spliced_short : (document : Document) (story : Story) (from to : ℕ) (fresh : List Item) →
     HasText document story (CanSplice from to fresh) →
     IsValidDocument (changed (SpliceText story from to fresh) document) → All HasShortProperties fresh
 spliced_short document story from to fresh has right =
-    let found = is_there (text_at document story) (CanSplice from to fresh) has in
+    let found = is_there (story_text document story) (CanSplice from to fresh) has in
     let text = found.value in
     all_middle HasShortProperties text fresh from to
     (short_text (changed (SpliceText story from to fresh) document) story (splice text from to fresh) right
@@ -274,7 +275,7 @@ section_edit document at true set can after =
 -- each item of the range has a mark, or the modifier sets no marks
 abbrev IsMarkedRange : Document → Story → ℕ → ℕ → Modifier → Type 0
 IsMarkedRange document story from to by =
-    (text : List Item) (k : ℕ) (item : Item) → text_at document story ≡ Some text → from ≤ k → k < to →
+    (text : List Item) (k : ℕ) (item : Item) → story_text document story ≡ Some text → from ≤ k → k < to →
     slice_get text k ≡ Some item → (by.pap ≡ no_modifier.pap) ⊎ IsSome item.mark
 
 act_step : (document : Document) (story : Story) (from to : ℕ) (by : Modifier) →
@@ -282,7 +283,7 @@ act_step : (document : Document) (story : Story) (from to : ℕ) (by : Modifier)
     IsValidDocument (changed (ModifyItems story from to by) document) → IsMarkedRange document story from to by →
     IsActStep document story from to by
 act_step document story from to by has formed right marked =
-    let found = is_there (text_at document story) (HasRange from to) has in
+    let found = is_there (story_text document story) (HasRange from to) has in
     let text : List Item = found.value in
     let range : List Item = slice_range text from to in
     let made : List Item = map (modified_item by) range in
@@ -398,11 +399,11 @@ one_block : (items : List Item) → block_pieces items ≤ 1
 one_block [] = omega arith
 one_block (item ∷ items) = omega arith
 
-one_change : (change : Change) → cuts_of change ≤ 2 → sum_by pieces_added (change ∷ []) ≤ 4
+one_change : (change : Change) → cut_count change ≤ 2 → sum_by pieces_added (change ∷ []) ≤ 4
 one_change change cuts =
     omega (arith, sum_by-cons pieces_added change [], one_block (items_put change), cuts)
 
-two_changes : (change other : Change) → cuts_of change ≤ 1 → cuts_of other ≤ 1 →
+two_changes : (change other : Change) → cut_count change ≤ 1 → cut_count other ≤ 1 →
     sum_by pieces_added (change ∷ other ∷ []) ≤ 4
 two_changes change other cuts more =
     omega (

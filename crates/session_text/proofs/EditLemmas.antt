@@ -17,18 +17,18 @@ use Rattle.prop_map.specs.Modifiers.{no_modifier, printed_modifier}
 use Rattle.piece_table.specs.Piece.{PieceTable, TextPiece, UnitPlace, flat_pieces}
 use Rattle.piece_table.specs.Changes.{AreModified}
 use Rattle.piece_table.specs.ClxRules.{FitsPages}
-use Rattle.plain_doc.specs.declared.item.Item.{Item}
-use Rattle.plain_doc.specs.declared.document.Document.{Document}
-use Rattle.plain_doc.specs.Collected.{joined_texts}
+use Rattle.doc_model.specs.declared.item.Item.{Item}
+use Rattle.doc_model.specs.declared.document.Document.{Document}
+use Rattle.doc_model.specs.Collected.{joined_texts}
 use Rattle.plain_doc.specs.RulesOfItems.{HasShortProperties}
 use Rattle.doc_patch.specs.declared.changes.Change.{Change}
 use Rattle.doc_patch.specs.declared.changes.Change.TheVariants.{SpliceText, ModifyItems, SetSection, SpliceNotes}
 use Rattle.doc_patch.specs.declared.changes.Change.TheVariants.{SpliceHeads, SetStyleCharacters, SetStyleParagraphs}
 use Rattle.doc_patch.specs.declared.changes.Change.TheVariants.{SetBookmarks}
 use Rattle.doc_patch.specs.Changes.{changed, all_changed, modified_item}
-use Rattle.save_laws.specs.Places.{PagedStream, Given, given_of}
+use Rattle.save_laws.specs.Places.{PagedStream, GivenUnit, given_of}
 use Rattle.save_laws.specs.Plans.{Plan}
-use Rattle.save_laws.specs.Slots.{Slot, shown, whole_text, IsPlaced}
+use Rattle.save_laws.specs.Slots.{Slot, shown, document_slots, IsPlaceForSlot}
 use Rattle.save_laws.specs.Ends.{ends_of}
 use Rattle.save_laws.specs.declared.ends.Ends.{Ends}
 use Rattle.save_laws.specs.FastSaves.{StandsInEither, IsGivenBy}
@@ -40,7 +40,7 @@ use Rattle.session_text.specs.declared.session_text.TextSplice.{TextSplice}
 use Rattle.session_text.specs.AddedText.{plan_of}
 use Rattle.session_text.specs.SessionText.{IsSessionText, HaveFitModifiers, HaveNoModifiers, HaveModifiersWithin}
 use Rattle.session_text.specs.SessionChanges.{text_begin}
-use Rattle.session_text.specs.EditSteps.{ActsOnNone, AreEditSteps, ArePutSteps, IsActStep, IsBlockOf, HasGrownBy}
+use Rattle.session_text.specs.EditSteps.{ActsOnNone, AreEditSteps, ArePutSteps, IsActStep, IsBlockOf, HasGrownByBlocks}
 use Rattle.session_text.specs.EditSteps.{items_put, pieces_added, growth_of}
 use Rattle.session_text.specs.OldUnits.{IsOldBounded, OldUnitsAreBounded}
 use Rattle.session_text.specs.TextEdits.{IsTextEdit}
@@ -61,8 +61,8 @@ pub grown_stands : (stream : PagedStream) (old new : Added) (more : List Item) (
     (slots : List Slot) → new.base ≡ old.base → new.items ≡ old.items ++ more →
     StandInSession stream (plan_of old) places slots → StandInSession stream (plan_of new) places slots
 grown_stands stream old new more places slots base items stands =
-    let front : List Given = map given_of old.items in
-    let back : List Given = map given_of more in
+    let front : List GivenUnit = map given_of old.items in
+    let back : List GivenUnit = map given_of more in
     let all : map given_of new.items ≡ front ++ back = ap (map given_of) items ∙ map-append given_of old.items more in
     let one : Plan = record { base = old.base; added = front ++ back } in
     let is : one ≡ plan_of new =
@@ -80,34 +80,35 @@ puts_text : (stream : PagedStream) (document : Document) (changes : List Change)
 puts_text stream document changes old new splices have base places ends before =
     let puts = have.puts in
     let flat : List UnitPlace = flat_pieces old.pieces.pieces in
-    let stands : StandInSession stream (plan_of new.added) flat (whole_text document (ends_of old.ends)) =
+    let stands : StandInSession stream (plan_of new.added) flat (document_slots document (ends_of old.ends)) =
     grown_stands stream old.added new.added (joined_texts (blocks_of_puts puts)) flat
-    (whole_text document (ends_of old.ends)) base have.items before.places in
+    (document_slots document (ends_of old.ends)) base have.items before.places in
     let each : ArePuts document new.added.base old.added.items document old.ends puts =
     subst (λ n. ArePuts document n old.added.items document old.ends puts) (sym base) have.each in
     let after =
     puts_stand document stream new.added old.added.items document old.ends puts flat each have.items stands in
     let by_splices : StandInSession stream (plan_of new.added) (all_places_after flat splices)
-    (whole_text (all_changed (changes_of_puts puts) document) (ends_of (ends_after_all old.ends splices))) =
+    (document_slots (all_changed (changes_of_puts puts) document) (ends_of (ends_after_all old.ends splices))) =
     subst
     (λ l. StandInSession stream (plan_of new.added) (all_places_after flat l)
-    (whole_text (all_changed (changes_of_puts puts) document) (ends_of (ends_after_all old.ends l))))
+    (document_slots (all_changed (changes_of_puts puts) document) (ends_of (ends_after_all old.ends l))))
     have.splices_are after in
     let by_changes : StandInSession stream (plan_of new.added) (all_places_after flat splices)
-    (whole_text (all_changed changes document) (ends_of (ends_after_all old.ends splices))) =
+    (document_slots (all_changed changes document) (ends_of (ends_after_all old.ends splices))) =
     subst
     (λ l. StandInSession stream (plan_of new.added) (all_places_after flat splices)
-    (whole_text (all_changed l document) (ends_of (ends_after_all old.ends splices)))) have.changes_are by_splices in
+    (document_slots (all_changed l document) (ends_of (ends_after_all old.ends splices)))) have.changes_are by_splices
+    in
     let behind = before.base in
     record {
       places =
           subst
           (λ l. StandInSession stream (plan_of new.added) l
-          (whole_text (all_changed changes document) (ends_of new.ends)))
+          (document_slots (all_changed changes document) (ends_of new.ends)))
           (sym places)
           (subst
           (λ e. StandInSession stream (plan_of new.added) (all_places_after flat splices)
-          (whole_text (all_changed changes document) (ends_of e))) (sym ends) by_changes);
+          (document_slots (all_changed changes document) (ends_of e))) (sym ends) by_changes);
       short = have.short before.short;
       base = omega (arith, behind, base);
     }
@@ -125,23 +126,24 @@ puts_bounded stream document changes old new splices have base places ends befor
     let after =
     puts_old stream old.added.base document old.added.items document old.ends puts flat have.each before in
     let by_splices : AreTogether P (all_places_after flat splices)
-    (whole_text (all_changed (changes_of_puts puts) document) (ends_of (ends_after_all old.ends splices))) =
+    (document_slots (all_changed (changes_of_puts puts) document) (ends_of (ends_after_all old.ends splices))) =
     subst
     (λ l. AreTogether P (all_places_after flat l)
-    (whole_text (all_changed (changes_of_puts puts) document) (ends_of (ends_after_all old.ends l))))
+    (document_slots (all_changed (changes_of_puts puts) document) (ends_of (ends_after_all old.ends l))))
     have.splices_are after in
     let by_changes : AreTogether P (all_places_after flat splices)
-    (whole_text (all_changed changes document) (ends_of (ends_after_all old.ends splices))) =
+    (document_slots (all_changed changes document) (ends_of (ends_after_all old.ends splices))) =
     subst
     (λ l. AreTogether P (all_places_after flat splices)
-    (whole_text (all_changed l document) (ends_of (ends_after_all old.ends splices)))) have.changes_are by_splices in
+    (document_slots (all_changed l document) (ends_of (ends_after_all old.ends splices)))) have.changes_are by_splices
+    in
     subst
     (λ n. AreTogether (IsOldBounded stream n) (flat_pieces new.pieces.pieces)
-    (whole_text (all_changed changes document) (ends_of new.ends))) (sym base)
+    (document_slots (all_changed changes document) (ends_of new.ends))) (sym base)
     (subst
-    (λ l. AreTogether P l (whole_text (all_changed changes document) (ends_of new.ends))) (sym places)
+    (λ l. AreTogether P l (document_slots (all_changed changes document) (ends_of new.ends))) (sym places)
     (subst
-    (λ e. AreTogether P (all_places_after flat splices) (whole_text (all_changed changes document) (ends_of e)))
+    (λ e. AreTogether P (all_places_after flat splices) (document_slots (all_changed changes document) (ends_of e)))
     (sym ends) by_changes))
 
 pub puts_edit : (document : Document) (changes : List Change) (old new : SessionText) (splices : List TextSplice) →
@@ -226,15 +228,16 @@ act_text stream document story from to begin end by old new act first last modif
     subst (λ n. AreModified by n b flat made) first (subst (λ n. AreModified by begin n flat made) last modified) in
     let range = acted_range document e story from to by act.text act.there some act.range.1 in
     let inside : b ≤ length flat = omega (arith, range.within, before.places.len) in
-    let stands : StandInSession stream (plan_of old.added) made (whole_text after e) =
-    modified_stay_together stream (plan_of old.added) by a b flat made (whole_text document e) (whole_text after e)
+    let stands : StandInSession stream (plan_of old.added) made (document_slots after e) =
+    modified_stay_together stream (plan_of old.added) by a b flat made (document_slots document e) (document_slots after
+    e)
     (omega (arith, some)) inside before.places at
     (modifiers_act document e story from to by act.text act.there some act.range.1) in
     let behind = before.base in
     record {
       places =
-          subst (λ p. StandInSession stream (plan_of p) made (whole_text after (ends_of new.ends))) (sym added)
-          (subst (λ n. StandInSession stream (plan_of old.added) made (whole_text after (ends_of n))) (sym ends)
+          subst (λ p. StandInSession stream (plan_of p) made (document_slots after (ends_of new.ends))) (sym added)
+          (subst (λ n. StandInSession stream (plan_of old.added) made (document_slots after (ends_of n))) (sym ends)
           stands);
       short = subst (λ (p : Added). All HasShortProperties p.items) (sym added) before.short;
       base = omega (arith, behind, ap (λ (p : Added). p.base) added);
@@ -257,13 +260,13 @@ act_bounded stream document story from to begin end by old new act first last mo
     let after : Document = changed (ModifyItems story from to by) document in
     let at : AreModified by a b flat made =
     subst (λ n. AreModified by n b flat made) first (subst (λ n. AreModified by begin n flat made) last modified) in
-    let stay : AreTogether (IsOldBounded stream old.added.base) made (whole_text after e) =
-    modified_old stream old.added.base by a b flat made (whole_text document e) (whole_text after e)
+    let stay : AreTogether (IsOldBounded stream old.added.base) made (document_slots after e) =
+    modified_old stream old.added.base by a b flat made (document_slots document e) (document_slots after e)
     (omega (arith, some)) before at (modifiers_act document e story from to by act.text act.there some act.range.1) in
     subst
-    (λ (p : Added). AreTogether (IsOldBounded stream p.base) made (whole_text after (ends_of new.ends))) (sym added)
+    (λ (p : Added). AreTogether (IsOldBounded stream p.base) made (document_slots after (ends_of new.ends))) (sym added)
     (subst
-    (λ n. AreTogether (IsOldBounded stream old.added.base) made (whole_text after (ends_of n))) (sym ends) stay)
+    (λ n. AreTogether (IsOldBounded stream old.added.base) made (document_slots after (ends_of n))) (sym ends) stay)
 
 act_fit : (stream : PagedStream) (document : Document) (story : Story) (from to begin end : ℕ) (by : Modifier)
     (old new : SessionText) → IsActStep document story from to by →
@@ -280,17 +283,17 @@ act_fit stream document story from to begin end by old new act first last modifi
     let flat : List UnitPlace = flat_pieces old.pieces.pieces in
     let made : List UnitPlace = flat_pieces new.pieces.pieces in
     let plan : Plan = plan_of new.added in
-    let whole : List Slot = whole_text (changed (ModifyItems story from to by) document) e in
+    let whole : List Slot = document_slots (changed (ModifyItems story from to by) document) e in
     let Stands : ℕ → Bool → Type 0 = StandsInEither stream plan in
-    let Gives : ℕ → Bool → Given → Type 0 = IsGivenBy stream plan in
-    let P : UnitPlace → Slot → Type 0 = IsPlaced Stands Gives in
+    let Gives : ℕ → Bool → GivenUnit → Type 0 = IsGivenBy stream plan in
+    let P : UnitPlace → Slot → Type 0 = IsPlaceForSlot Stands Gives in
     let F : UnitPlace → Type 0 = λ place. FitsPages place.modifier in
     let at : AreModified by a b flat made =
     subst (λ n. AreModified by n b flat made) first (subst (λ n. AreModified by begin n flat made) last modified) in
     let range = acted_range document e story from to by act.text act.there some act.range.1 in
     let items : List Item = slice_range act.text from to in
     let stands : AreTogether P made whole =
-    subst (λ n. AreTogether P made (whole_text (changed (ModifyItems story from to by) document) (ends_of n))) ends
+    subst (λ n. AreTogether P made (document_slots (changed (ModifyItems story from to by) document) (ends_of n))) ends
     after.places in
     let middle : AreTogether P (slice_range made a b) (slice_range whole a b) =
     together_take P (b - a) (drop a made) (drop a whole) (together_drop P a made whole stands) in
@@ -369,13 +372,13 @@ session_same stream document old new pieces added ends is =
       places =
           subst
           (λ (p : PieceTable). StandInSession stream (plan_of new.added) (flat_pieces p.pieces)
-          (whole_text document (ends_of new.ends))) (sym pieces)
+          (document_slots document (ends_of new.ends))) (sym pieces)
           (subst
           (λ a. StandInSession stream (plan_of a) (flat_pieces old.pieces.pieces)
-          (whole_text document (ends_of new.ends))) (sym added)
+          (document_slots document (ends_of new.ends))) (sym added)
           (subst
           (λ e. StandInSession stream (plan_of old.added) (flat_pieces old.pieces.pieces)
-          (whole_text document (ends_of e))) (sym ends) is.places));
+          (document_slots document (ends_of e))) (sym ends) is.places));
       short = subst (λ (p : Added). All HasShortProperties p.items) (sym added) is.short;
       base = omega (arith, behind, ap (λ (p : Added). p.base) added);
     }
@@ -386,13 +389,13 @@ bounded_same : (stream : PagedStream) (document : Document) (old new : SessionTe
 bounded_same stream document old new pieces added ends is =
     subst
     (λ (p : PieceTable). AreTogether (IsOldBounded stream new.added.base) (flat_pieces p.pieces)
-    (whole_text document (ends_of new.ends))) (sym pieces)
+    (document_slots document (ends_of new.ends))) (sym pieces)
     (subst
     (λ (a : Added). AreTogether (IsOldBounded stream a.base) (flat_pieces old.pieces.pieces)
-    (whole_text document (ends_of new.ends))) (sym added)
+    (document_slots document (ends_of new.ends))) (sym added)
     (subst
     (λ e. AreTogether (IsOldBounded stream old.added.base) (flat_pieces old.pieces.pieces)
-    (whole_text document (ends_of e))) (sym ends) is))
+    (document_slots document (ends_of e))) (sym ends) is))
 
 pub beside_sections : (document : Document) (changes : List Change) (old made new : SessionText) →
     new.pieces ≡ made.pieces → new.added ≡ made.added → new.ends ≡ made.ends → IsTextEdit document changes old made →
@@ -412,7 +415,7 @@ beside_sections document changes old made new pieces added ends is = record {
   printed = λ most before.
       subst (λ (p : PieceTable). HaveModifiersWithin (most + sum_by growth_of changes) p.pieces) (sym pieces)
       (is.printed most before);
-  added = subst (λ (p : Added). HasGrownBy document changes old.added.items p.items) (sym added) is.added;
+  added = subst (λ (p : Added). HasGrownByBlocks document changes old.added.items p.items) (sym added) is.added;
   base = ap (λ (p : Added). p.base) added ∙ is.base;
 }
 
@@ -420,7 +423,7 @@ beside_sections document changes old made new pieces added ends is = record {
 
 pub can_put_have : (document : Document) (ends : Ends) (changes : List Change) (old new : Added)
     (splices : List TextSplice) (total : ℕ) → HavePuts document ends changes old new splices →
-    total ≡ length (whole_text document (ends_of ends)) → CanPutAll total splices
+    total ≡ length (document_slots document (ends_of ends)) → CanPutAll total splices
 can_put_have document ends changes old new splices total have is =
     subst (CanPutAll total) have.splices_are
     (can_put_all document old.base old.items document ends have.puts total have.each is)

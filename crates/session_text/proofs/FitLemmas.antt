@@ -18,12 +18,12 @@ use Rattle.prop_map.proofs.Public.{made_is_not_longer}
 use Rattle.piece_table.specs.Piece.{UnitPlace}
 use Rattle.piece_table.specs.Changes.{IsModifiedPlace, AreModified}
 use Rattle.piece_table.specs.ClxRules.{FitsPages}
-use Rattle.plain_doc.specs.declared.item.Item.{Item}
-use Rattle.plain_doc.specs.declared.item.Mark.{Mark}
+use Rattle.doc_model.specs.declared.item.Item.{Item}
+use Rattle.doc_model.specs.declared.item.Mark.{Mark}
 use Rattle.plain_doc.specs.RulesOfItems.{IsShortPap}
 use Rattle.doc_patch.specs.Changes.{modified_item, modified_mark}
-use Rattle.save_laws.specs.Places.{Given, IsMarkedAfter}
-use Rattle.save_laws.specs.Slots.{Slot, shown, IsPlaced}
+use Rattle.save_laws.specs.Places.{GivenUnit, IsMarkedAfter}
+use Rattle.save_laws.specs.Slots.{Slot, shown, IsPlaceForSlot}
 use Rattle.session_text.specs.EditSteps.{IsShortAfter}
 use Rattle.session_text.proofs.TextLemmas.{All-front, All-back}
 use Rattle.save_laws.proofs.Public.{zip_before, in_parts}
@@ -56,9 +56,10 @@ nothing_over over base new none is =
       none_printed,
     )
 
-marks_fit : (Stands : ℕ → Bool → Type 0) (Gives : ℕ → Bool → Given → Type 0) (by : Modifier) (place made : UnitPlace)
+marks_fit : (Stands : ℕ → Bool → Type 0) (Gives : ℕ → Bool → GivenUnit → Type 0) (by : Modifier) (place made :
+    UnitPlace)
     (item : Item) → FitsPages place.modifier → IsModifiedPlace by place made →
-    IsPlaced Stands Gives made (shown (modified_item by item)) → IsShortAfter by item →
+    IsPlaceForSlot Stands Gives made (shown (modified_item by item)) → IsShortAfter by item →
     (by.pap ≡ no_modifier.pap) ⊎ IsSome item.mark → length (printed_list made.modifier.pap) ≤ 480
 marks_fit Stands Gives by place made item fits is placed short (inl none) =
     let before = fits.pap in
@@ -67,9 +68,10 @@ marks_fit Stands Gives by place made item fits is placed short (inr some) =
     mark_fits made.modifier placed.before.mark (option_map (modified_mark by) item.mark) placed.after.mark
     (still_some by item.mark some) short.short.pap
 
-place_fits : (Stands : ℕ → Bool → Type 0) (Gives : ℕ → Bool → Given → Type 0) (by : Modifier) (place made : UnitPlace)
+place_fits : (Stands : ℕ → Bool → Type 0) (Gives : ℕ → Bool → GivenUnit → Type 0) (by : Modifier) (place made :
+    UnitPlace)
     (item : Item) → FitsPages place.modifier → IsModifiedPlace by place made →
-    IsPlaced Stands Gives made (shown (modified_item by item)) → IsShortAfter by item → FitsPages made.modifier
+    IsPlaceForSlot Stands Gives made (shown (modified_item by item)) → IsShortAfter by item → FitsPages made.modifier
 place_fits Stands Gives by place made item fits is placed short =
     let chp = short.short.chp in
     record {
@@ -85,10 +87,11 @@ place_fits Stands Gives by place made item fits is placed short =
 
 -- ---- places of a range
 
-pub range_fits : (Stands : ℕ → Bool → Type 0) (Gives : ℕ → Bool → Given → Type 0) (by : Modifier)
+pub range_fits : (Stands : ℕ → Bool → Type 0) (Gives : ℕ → Bool → GivenUnit → Type 0) (by : Modifier)
     (places made : List UnitPlace) (items : List Item) → All (λ place. FitsPages place.modifier) places →
     AllZip (IsModifiedPlace by) places made →
-    AreTogether (IsPlaced Stands Gives) made (map shown (map (modified_item by) items)) → All (IsShortAfter by) items →
+    AreTogether (IsPlaceForSlot Stands Gives) made (map shown (map (modified_item by) items)) → All (IsShortAfter by)
+    items →
     All (λ place. FitsPages place.modifier) made
 range_fits Stands Gives by places made items fit zipped together short =
     let after : Item → Item = modified_item by in
@@ -103,7 +106,7 @@ range_fits Stands Gives by places made items fit zipped together short =
     let is : shown (after item.0) ≡ slot.0 = ap shown item.1.1 ∙ one.1.1 in
     place_fits Stands Gives by old.other new item.0
     (All_at (λ (p : UnitPlace). FitsPages p.modifier) places k old.other fit old.here) old.is
-    (subst (IsPlaced Stands Gives new) (sym is) (together.each k new slot.0 here slot.1))
+    (subst (IsPlaceForSlot Stands Gives new) (sym is) (together.each k new slot.0 here slot.1))
     (All_at (IsShortAfter by) items k item.0 short item.1.0))
 
 pub all_weaker : (P Q : UnitPlace → Type 0) (places : List UnitPlace) → ((place : UnitPlace) → P place → Q place) →

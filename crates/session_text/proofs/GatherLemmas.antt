@@ -8,19 +8,19 @@ use Rattle.std.proofs.lemmas.List.Elements.{All-append}
 use Rattle.run_lists.specs.declared.runs.Run.{Run}
 use Rattle.run_lists.specs.Spread.{expanded}
 use Rattle.run_lists.proofs.Public.{spread_push}
-use Rattle.plain_doc.proofs.Public.{take_next}
+use Rattle.doc_model.proofs.Public.{take_next}
 use Rattle.prop_map.specs.Settings.{Properties}
-use Rattle.plain_doc.specs.declared.item.Item.{Item}
-use Rattle.plain_doc.specs.declared.document.Document.{Document}
-use Rattle.plain_doc.specs.Document.{IsFormedItem, IsFormedText}
-use Rattle.plain_doc.specs.Collected.{joined_texts}
+use Rattle.doc_model.specs.declared.item.Item.{Item}
+use Rattle.doc_model.specs.declared.document.Document.{Document}
+use Rattle.doc_model.specs.Document.{IsFormedItem, IsFormedText}
+use Rattle.doc_model.specs.Collected.{joined_texts}
 use Rattle.doc_columns.specs.declared.attached.Attached.{Attached}
 use Rattle.doc_columns.specs.Attached.{attached_of}
 use Rattle.doc_columns.specs.Columns.{items_of, AreColumns}
 use Rattle.doc_columns.proofs.Public.{items_of-append, items_of-maps, length-items_of}
 use Rattle.full_save.specs.Text.{extra_mark, with_mark}
 use Rattle.save_laws.specs.Slots.{Slot, shown, StoryEnds, loose_if, story_slots, note_slots, head_slots}
-use Rattle.save_laws.specs.Slots.{last_slots, whole_text}
+use Rattle.save_laws.specs.Slots.{last_slots, document_slots}
 use Rattle.session_text.specs.WrittenAgain.{slot_item}
 
 -- ---- a text behind columns
@@ -135,8 +135,8 @@ last_items (slot ∷ slots) = refl
 -- what is behind the main text
 pub whole_behind : (document : Document) (ends : StoryEnds) →
     document.main ++ with_mark (map slot_item (note_slots document ends) ++ map slot_item (head_slots document ends))
-    ≡ map slot_item (whole_text document ends)
-unfolding whole_text
+    ≡ map slot_item (document_slots document ends)
+unfolding document_slots
 whole_behind document ends =
     let main : List Slot = map shown document.main in
     let notes : List Slot = note_slots document ends in
@@ -152,8 +152,8 @@ whole_behind document ends =
 
 -- and how long it is
 pub behind_long : (document : Document) (ends : StoryEnds) →
-    length (note_slots document ends) + length (head_slots document ends) ≤ length (whole_text document ends)
-unfolding whole_text
+    length (note_slots document ends) + length (head_slots document ends) ≤ length (document_slots document ends)
+unfolding document_slots
 behind_long document ends =
     let main : List Slot = map shown document.main in
     let notes : List Slot = note_slots document ends in

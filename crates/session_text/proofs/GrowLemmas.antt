@@ -17,13 +17,14 @@ use Rattle.prop_map.specs.Printing.{printed_list}
 use Rattle.prop_map.proofs.Public.{entries-empty}
 use Rattle.piece_table.specs.declared.pieces.Piece.{Piece}
 use Rattle.piece_table.specs.Piece.{IsPiece}
-use Rattle.plain_doc.specs.declared.item.Item.{Item}
-use Rattle.plain_doc.specs.declared.item.Mark.{Mark}
-use Rattle.plain_doc.specs.declared.document.Document.{Document}
-use Rattle.plain_doc.specs.Collected.{joined_texts}
+use Rattle.doc_model.specs.declared.item.Item.{Item}
+use Rattle.doc_model.specs.declared.item.Mark.{Mark}
+use Rattle.doc_model.specs.declared.document.Document.{Document}
+use Rattle.doc_model.specs.Collected.{joined_texts}
 use Rattle.plain_doc.specs.RulesOfItems.{HasShortProperties}
 use Rattle.plain_doc.specs.RulesOfSheet.{item_count}
-use Rattle.plain_doc.proofs.Public.{length-splice, sound_is_valid, take_next}
+use Rattle.plain_doc.proofs.Public.{sound_is_valid}
+use Rattle.doc_model.proofs.Public.{length-splice, take_next}
 use Rattle.plain_doc.specs.Sound.{IsSound}
 use Rattle.doc_patch.specs.declared.changes.Change.{Change}
 use Rattle.doc_patch.specs.declared.changes.Change.TheVariants.{SpliceText, ModifyItems, SetSection, SpliceNotes}
@@ -32,7 +33,7 @@ use Rattle.doc_patch.specs.declared.changes.Change.TheVariants.{SetBookmarks}
 use Rattle.doc_patch.specs.Changes.{changed, all_changed}
 use Rattle.doc_patch.specs.Makes.{CanSplice}
 use Rattle.full_save.specs.Text.{extra_mark}
-use Rattle.save_laws.specs.Slots.{Slot, shown, StoryEnds, loose_if, note_slots, head_slots, last_slots, whole_text}
+use Rattle.save_laws.specs.Slots.{Slot, shown, StoryEnds, loose_if, note_slots, head_slots, last_slots, document_slots}
 use Rattle.save_laws.specs.Ends.{ends_of}
 use Rattle.save_laws.specs.declared.ends.Ends.{Ends}
 use Rattle.save_laws.proofs.Public.{length-story_slots, length-loose_if}
@@ -146,8 +147,8 @@ last_few [] = omega arith
 last_few (slot ∷ slots) = omega arith
 
 pub whole_length : (document : Document) (ends : StoryEnds) →
-    length (whole_text document ends) ≤ item_count document + 3
-unfolding whole_text
+    length (document_slots document ends) ≤ item_count document + 3
+unfolding document_slots
 whole_length document ends =
     let notes = note_slots document ends in
     let heads = head_slots document ends in

@@ -6,13 +6,13 @@ use Rattle.std.proofs.Common.{false}
 use Rattle.std.proofs.Common.{length, map, take, drop, arith}
 use Rattle.std.proofs.lemmas.List.{length-map, length-append, length-take, length-drop, take-append-drop}
 use Rattle.std.proofs.lemmas.List.{take-append-le, append_assoc, append-nil}
-use Rattle.plain_doc.specs.declared.item.Item.{Item}
-use Rattle.plain_doc.specs.Collected.{joined_texts}
+use Rattle.doc_model.specs.declared.item.Item.{Item}
+use Rattle.doc_model.specs.Collected.{joined_texts}
 use Rattle.save_laws.specs.Slots.{Slot, shown, loose, last, loose_if, note_slots, head_slots, last_slots}
-use Rattle.save_laws.specs.Slots.{whole_text}
+use Rattle.save_laws.specs.Slots.{document_slots}
 use Rattle.session_text.specs.StoryMarks.{end_after, lone_last, marks_come, marks_go}
 use Rattle.session_text.specs.StoryMarks.{NotesSplice, HeadsSplice}
-use Rattle.session_text.specs.StoryMarks.{begin_of, TextsSplice, OneTextSplices}
+use Rattle.session_text.specs.StoryMarks.{nth_text_begin, TextsSplice, OneTextSplices}
 use Rattle.std.proofs.Math.Seq.{take-append_seam, drop-append_seam, split_at}
 use Rattle.std.proofs.lemmas.List.{set_split}
 use Rattle.std.proofs.lemmas.List.Concat.{flat_map-cons}
@@ -191,7 +191,7 @@ go_within (x ∷ xs) [] end other behind to within =
     omega (arith, within, a, b, c, d, e, length-lone other)
 
 pub notes_splice : NotesSplice
-unfolding whole_text
+unfolding document_slots
 notes_splice document ends notes from to fresh spliced =
     let main : List Slot = map shown document.main in
     let items : List Item = joined_texts document.notes in
@@ -218,7 +218,7 @@ notes_splice document ends notes from to fresh spliced =
     }
 
 pub heads_splice : HeadsSplice
-unfolding whole_text
+unfolding document_slots
 heads_splice document ends heads from to fresh spliced =
     let main : List Slot = map shown document.main in
     let notes : List Slot = note_slots document ends in
@@ -265,19 +265,19 @@ joined_at texts number =
     ap joined_texts (sym (take-append-drop number texts)) ∙ joined-append (take number texts) (drop number texts)
 
 taken : (texts : List (List Item)) (number : ℕ) →
-    take (begin_of texts number) (joined_texts texts) ≡ joined_texts (take number texts)
+    take (nth_text_begin texts number) (joined_texts texts) ≡ joined_texts (take number texts)
 taken texts number =
-    ap (take (begin_of texts number)) (joined_at texts number)
+    ap (take (nth_text_begin texts number)) (joined_at texts number)
     ∙ take-append_seam (joined_texts (take number texts)) (joined_texts (drop number texts))
 
 dropped : (texts : List (List Item)) (number : ℕ) →
-    drop (begin_of texts number) (joined_texts texts) ≡ joined_texts (drop number texts)
+    drop (nth_text_begin texts number) (joined_texts texts) ≡ joined_texts (drop number texts)
 dropped texts number =
-    ap (drop (begin_of texts number)) (joined_at texts number)
+    ap (drop (nth_text_begin texts number)) (joined_at texts number)
     ∙ drop-append_seam (joined_texts (take number texts)) (joined_texts (drop number texts))
 
 begins_rise : (texts : List (List Item)) (from to : ℕ) → from ≤ to → to ≤ length texts →
-    begin_of texts from ≤ begin_of texts to
+    nth_text_begin texts from ≤ nth_text_begin texts to
 begins_rise texts from to order within =
     let parts : joined_texts (take to texts)
     ≡ joined_texts (take from (take to texts)) ++ joined_texts (drop from (take to texts)) =
@@ -293,7 +293,7 @@ begins_rise texts from to order within =
       length-append (joined_texts (take from (take to texts))) (joined_texts (drop from (take to texts))),
     )
 
-begin_within : (texts : List (List Item)) (number : ℕ) → begin_of texts number ≤ length (joined_texts texts)
+begin_within : (texts : List (List Item)) (number : ℕ) → nth_text_begin texts number ≤ length (joined_texts texts)
 begin_within texts number =
     let a = joined_texts (take number texts) in
     let b = joined_texts (drop number texts) in
@@ -307,7 +307,7 @@ texts_splice texts fresh from to order within = record {
       joined-append (take from texts) (fresh ++ drop to texts)
       ∙ (ap (λ l. joined_texts (take from texts) ++ l) (joined-append fresh (drop to texts))
       ∙ (ap (λ l. l ++ (joined_texts fresh ++ joined_texts (drop to texts))) (sym (taken texts from))
-      ∙ ap (λ l. take (begin_of texts from) (joined_texts texts) ++ (joined_texts fresh ++ l))
+      ∙ ap (λ l. take (nth_text_begin texts from) (joined_texts texts) ++ (joined_texts fresh ++ l))
       (sym (dropped texts to))));
 }
 

@@ -12,20 +12,20 @@ use Rattle.doc_bits.specs.declared.places.Story.{Story}
 use Rattle.doc_bits.specs.declared.places.Story.TheVariants.{Main, Note, Head}
 use Rattle.prop_map.specs.declared.modifiers.Modifier.{Modifier}
 use Rattle.prop_map.proofs.Public.{is_modified_characters, is_modified_paragraph}
-use Rattle.plain_doc.specs.declared.item.Item.{Item}
-use Rattle.plain_doc.specs.declared.item.Mark.{Mark}
-use Rattle.plain_doc.specs.declared.document.Document.{Document}
-use Rattle.plain_doc.specs.Collected.{joined_texts}
-use Rattle.doc_patch.specs.Places.{text_at}
-use Rattle.doc_patch.specs.Changes.{with_text, put_changed, map_range, modified_item, modified_mark}
+use Rattle.doc_model.specs.declared.item.Item.{Item}
+use Rattle.doc_model.specs.declared.item.Mark.{Mark}
+use Rattle.doc_model.specs.declared.document.Document.{Document}
+use Rattle.doc_model.specs.Collected.{joined_texts}
+use Rattle.doc_patch.specs.Places.{story_text}
+use Rattle.doc_patch.specs.Changes.{text_changed, put_changed, map_range, modified_item, modified_mark}
 use Rattle.doc_patch.specs.Changes.{changed}
 use Rattle.doc_patch.specs.declared.changes.Change.TheVariants.{ModifyItems}
 use Rattle.save_laws.specs.Places.{IsMarkedAfter}
-use Rattle.save_laws.specs.Slots.{Slot, shown, StoryEnds, note_slots, head_slots, whole_text}
+use Rattle.save_laws.specs.Slots.{Slot, shown, StoryEnds, note_slots, head_slots, document_slots}
 use Rattle.save_laws.specs.Sessions.{IsSlotAfter, AreSlotsAfter}
 use Rattle.save_laws.proofs.Public.{main_splices}
 use Rattle.doc_bits.proofs.Public.{range_mid}
-use Rattle.session_text.specs.StoryMarks.{end_after, marks_come, marks_go, IsSplicedWhole, begin_of}
+use Rattle.session_text.specs.StoryMarks.{end_after, marks_come, marks_go, IsSplicedWhole, nth_text_begin}
 use Rattle.session_text.specs.StoryMarks.{ends_with_notes, ends_with_heads}
 use Rattle.session_text.specs.SessionChanges.{text_begin, ModifiersAct}
 use Rattle.session_text.proofs.MarkLemmas.{notes_splice, heads_splice, one_text_splices}
@@ -40,7 +40,7 @@ text_put document (Head number) text = record document { heads = slice_set docum
 
 -- a text that is there, changed
 pub put_text : (change : List Item → List Item) (document : Document) (story : Story) (text : List Item) →
-    text_at document story ≡ Some text → with_text change story document ≡ text_put document story (change text)
+    story_text document story ≡ Some text → text_changed change story document ≡ text_put document story (change text)
 put_text change document Main text there =
     ap (λ t. record document { main = change t }) (same_Some document.main text there)
 put_text change document (Note number) text there =
@@ -52,7 +52,7 @@ set_same : {A : Type 0} (xs : List A) (k : ℕ) (x : A) → slice_get xs k ≡ S
 set_same xs k x there =
     ap (λ y. set xs k y) (sym (get_or_from_slice_get xs k x x there)) ∙ set-get_or xs k x
 
-put_same : (document : Document) (story : Story) (text : List Item) → text_at document story ≡ Some text →
+put_same : (document : Document) (story : Story) (text : List Item) → story_text document story ≡ Some text →
     text_put document story text ≡ document
 put_same document Main text there = ap (λ t. record document { main = t }) (sym (same_Some document.main text there))
 put_same document (Note number) text there =
@@ -91,11 +91,11 @@ length-splice xs ys from to order within same =
 
 whole_by : (old : Document) (new : Document) (ends made : StoryEnds) (begin from to go : ℕ) (fresh come : List Slot) →
     IsSplicedWhole old ends new made (begin + from) (begin + (to + go)) (fresh ++ come) → made ≡ ends → go ≡ 0 →
-    come ≡ [] → whole_text new ends ≡ splice (whole_text old ends) (begin + from) (begin + to) fresh
+    come ≡ [] → document_slots new ends ≡ splice (document_slots old ends) (begin + from) (begin + to) fresh
 whole_by old new ends made begin from to go fresh come spliced same none empty =
     let n : begin + (to + go) ≡ begin + to = omega (arith, none) in
-    let w = whole_text old ends in
-    ap (whole_text new) (sym same)
+    let w = document_slots old ends in
+    ap (document_slots new) (sym same)
     ∙ (spliced.whole
     ∙ (ap (λ k. splice w (begin + from) k (fresh ++ come)) n
     ∙ (ap (λ l. splice w (begin + from) (begin + to) (fresh ++ l)) empty
@@ -103,23 +103,24 @@ whole_by old new ends made begin from to go fresh come spliced same none empty =
 
 -- as many items in a text, in place of a range
 pub text_splices : (document : Document) (ends : StoryEnds) (story : Story) (from to : ℕ) (text fresh : List Item) →
-    text_at document story ≡ Some text → from ≤ to → to ≤ length text → length fresh ≡ to - from →
-    whole_text (text_put document story (splice text from to fresh)) ends
-    ≡ splice (whole_text document ends) (text_begin document ends story + from) (text_begin document ends story + to)
+    story_text document story ≡ Some text → from ≤ to → to ≤ length text → length fresh ≡ to - from →
+    document_slots (text_put document story (splice text from to fresh)) ends
+    ≡ splice (document_slots document ends) (text_begin document ends story + from) (text_begin document ends story +
+    to)
     (map shown fresh)
 text_splices document ends Main from to text fresh there order within same =
     let is : document.main ≡ text = same_Some document.main text there in
     let inside : to ≤ length document.main = omega (arith, within, ap length is) in
     let a : 0 + from ≡ from = omega arith in
     let b : 0 + to ≡ to = omega arith in
-    ap (λ t. whole_text (record document { main = splice t from to fresh }) ends) (sym is)
+    ap (λ t. document_slots (record document { main = splice t from to fresh }) ends) (sym is)
     ∙ (main_splices document ends from to fresh order inside
-    ∙ (ap (λ k. splice (whole_text document ends) k to (map shown fresh)) (sym a)
-    ∙ ap (λ k. splice (whole_text document ends) (0 + from) k (map shown fresh)) (sym b)))
+    ∙ (ap (λ k. splice (document_slots document ends) k to (map shown fresh)) (sym a)
+    ∙ ap (λ k. splice (document_slots document ends) (0 + from) k (map shown fresh)) (sym b)))
 text_splices document ends (Note number) from to text fresh there order within same =
     let texts = slice_set document.notes number (splice text from to fresh) in
     let one = one_text_splices document.notes number text fresh from to there order within in
-    let begin : ℕ = begin_of document.notes number in
+    let begin : ℕ = nth_text_begin document.notes number in
     let len : length (joined_texts texts) ≡ length (joined_texts document.notes) =
     ap length one.items
     ∙ length-splice (joined_texts document.notes) fresh (begin + from) (begin + to) one.order one.within
@@ -136,12 +137,12 @@ text_splices document ends (Note number) from to text fresh there order within s
     (marks_come ends.notes (joined_texts document.notes) (joined_texts texts) (head_slots document ends))
     (notes_splice document ends texts (begin + from) (begin + to) fresh one)
     (ap (λ e. record { notes = e; heads = ends.heads }) kept.end_is) kept.go kept.come
-    ∙ (ap (λ k. splice (whole_text document ends) k (main + (begin + to)) (map shown fresh)) a
-    ∙ ap (λ k. splice (whole_text document ends) (main + begin + from) k (map shown fresh)) b)
+    ∙ (ap (λ k. splice (document_slots document ends) k (main + (begin + to)) (map shown fresh)) a
+    ∙ ap (λ k. splice (document_slots document ends) (main + begin + from) k (map shown fresh)) b)
 text_splices document ends (Head number) from to text fresh there order within same =
     let texts = slice_set document.heads number (splice text from to fresh) in
     let one = one_text_splices document.heads number text fresh from to there order within in
-    let begin : ℕ = begin_of document.heads number in
+    let begin : ℕ = nth_text_begin document.heads number in
     let len : length (joined_texts texts) ≡ length (joined_texts document.heads) =
     ap length one.items
     ∙ length-splice (joined_texts document.heads) fresh (begin + from) (begin + to) one.order one.within
@@ -158,8 +159,8 @@ text_splices document ends (Head number) from to text fresh there order within s
     (marks_come ends.heads (joined_texts document.heads) (joined_texts texts) (note_slots document ends))
     (heads_splice document ends texts (begin + from) (begin + to) fresh one)
     (ap (λ e. record { notes = ends.notes; heads = e }) kept.end_is) kept.go kept.come
-    ∙ (ap (λ k. splice (whole_text document ends) k (front + (begin + to)) (map shown fresh)) a
-    ∙ ap (λ k. splice (whole_text document ends) (front + begin + from) k (map shown fresh)) b)
+    ∙ (ap (λ k. splice (document_slots document ends) k (front + (begin + to)) (map shown fresh)) a
+    ∙ ap (λ k. splice (document_slots document ends) (front + begin + from) k (map shown fresh)) b)
 
 -- ---- a modifier on the items of a range
 
@@ -236,18 +237,20 @@ slots_after whole old new ys zs by from to order within one two first second zip
 record IsActedOn (document : Document) (ends : StoryEnds) (story : Story) (from to : ℕ) (by : Modifier)
     (text : List Item) : Type 0 where
   old :
-      whole_text document ends
-      ≡ splice (whole_text document ends) (text_begin document ends story + from) (text_begin document ends story + to)
+      document_slots document ends
+      ≡ splice (document_slots document ends) (text_begin document ends story + from) (text_begin document ends story +
+      to)
       (map shown (slice_range text from to))
   new :
-      whole_text (changed (ModifyItems story from to by) document) ends
-      ≡ splice (whole_text document ends) (text_begin document ends story + from) (text_begin document ends story + to)
+      document_slots (changed (ModifyItems story from to by) document) ends
+      ≡ splice (document_slots document ends) (text_begin document ends story + from) (text_begin document ends story +
+      to)
       (map shown (map (modified_item by) (slice_range text from to)))
   count : length (slice_range text from to) ≡ to - from
-  inside : text_begin document ends story + to ≤ length (whole_text document ends)
+  inside : text_begin document ends story + to ≤ length (document_slots document ends)
 
 acted_on : (document : Document) (ends : StoryEnds) (story : Story) (from to : ℕ) (by : Modifier) (text : List Item) →
-    text_at document story ≡ Some text → from < to → to ≤ length text →
+    story_text document story ≡ Some text → from < to → to ≤ length text →
     IsActedOn document ends story from to by text
 acted_on document ends story from to by text there some within =
     let order : from ≤ to = omega (arith, some) in
@@ -258,14 +261,14 @@ acted_on document ends story from to by text there some within =
     length-take (to - from) (drop from text) ∙ omega (arith, length-drop from text, order, within) in
     let many : length made ≡ to - from = length-map range (modified_item by) ∙ count in
     let back : splice text from to range ≡ text = own_range text from to order in
-    let whole = whole_text document ends in
+    let whole = document_slots document ends in
     let old : whole ≡ splice whole (begin + from) (begin + to) (map shown range) =
-    ap (λ d. whole_text d ends)
+    ap (λ d. document_slots d ends)
     (sym (ap (text_put document story) back ∙ put_same document story text there))
     ∙ text_splices document ends story from to text range there order within count in
-    let new : whole_text (changed (ModifyItems story from to by) document) ends
+    let new : document_slots (changed (ModifyItems story from to by) document) ends
     ≡ splice whole (begin + from) (begin + to) (map shown made) =
-    ap (λ d. whole_text d ends)
+    ap (λ d. document_slots d ends)
     (put_text (λ t. map_range (modified_item by) t from to) document story text there)
     ∙ text_splices document ends story from to text made there order within many in
     record {
@@ -284,8 +287,8 @@ modifiers_act document ends story from to by text there some within =
     let range : List Item = slice_range text from to in
     let made : List Item = map (modified_item by) range in
     let count = acted.count in
-    let whole = whole_text document ends in
-    slots_after whole whole (whole_text (changed (ModifyItems story from to by) document) ends) (map shown range)
+    let whole = document_slots document ends in
+    slots_after whole whole (document_slots (changed (ModifyItems story from to by) document) ends) (map shown range)
     (map shown made) by (begin + from) (begin + to) (omega (arith, some)) acted.inside
     (omega (arith, length-map range shown, count, some))
     (omega (arith, length-map made shown, length-map range (modified_item by), count, some)) acted.old acted.new
@@ -294,28 +297,28 @@ modifiers_act document ends story from to by text there some within =
 -- the slots of the range after it, and where the range ends
 pub record IsActedRange (document : Document) (ends : StoryEnds) (story : Story) (from to : ℕ) (by : Modifier)
     (text : List Item) : Type 0 where
-  pub within : text_begin document ends story + to ≤ length (whole_text document ends)
+  pub within : text_begin document ends story + to ≤ length (document_slots document ends)
   pub slots :
-      slice_range (whole_text (changed (ModifyItems story from to by) document) ends)
+      slice_range (document_slots (changed (ModifyItems story from to by) document) ends)
       (text_begin document ends story + from) (text_begin document ends story + to)
       ≡ map shown (map (modified_item by) (slice_range text from to))
 
 pub acted_range : (document : Document) (ends : StoryEnds) (story : Story) (from to : ℕ) (by : Modifier)
-    (text : List Item) → text_at document story ≡ Some text → from < to → to ≤ length text →
+    (text : List Item) → story_text document story ≡ Some text → from < to → to ≤ length text →
     IsActedRange document ends story from to by text
 acted_range document ends story from to by text there some within =
     let acted = acted_on document ends story from to by text there some within in
     let begin : ℕ = text_begin document ends story in
     let range : List Item = slice_range text from to in
     let made : List Item = map (modified_item by) range in
-    let whole = whole_text document ends in
+    let whole = document_slots document ends in
     let front = take (begin + from) whole in
     let inside = acted.inside in
     let len : length front ≡ begin + from = omega (arith, length-take (begin + from) whole, inside, some) in
     record {
       within = inside;
       slots =
-          range_mid (whole_text (changed (ModifyItems story from to by) document) ends) front (map shown made)
+          range_mid (document_slots (changed (ModifyItems story from to by) document) ends) front (map shown made)
           (drop (begin + to) whole) (begin + from) (begin + to) acted.new (sym len)
           (omega (arith, len, length-map made shown, length-map range (modified_item by), acted.count, some));
     }

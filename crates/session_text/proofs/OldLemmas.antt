@@ -8,10 +8,10 @@ use Rattle.doc_bits.specs.Together.{AreTogether}
 use Rattle.doc_bits.proofs.Public.{there_is, get-map, together_joined, together_take, together_drop}
 use Rattle.prop_map.specs.declared.modifiers.Modifier.{Modifier}
 use Rattle.prop_map.specs.Modifiers.{no_modifier}
-use Rattle.piece_table.specs.Piece.{TextPiece, UnitPlace, unit_places, unit_bytes}
+use Rattle.piece_table.specs.Piece.{TextPiece, UnitPlace, places_of_piece, unit_bytes}
 use Rattle.piece_table.specs.Changes.{fresh_places, IsModifiedPlace, AreModified}
 use Rattle.piece_table.proofs.Public.{length-unit_places, get_or-unit_places}
-use Rattle.plain_doc.specs.declared.item.Mark.{Mark}
+use Rattle.doc_model.specs.declared.item.Mark.{Mark}
 use Rattle.save_laws.specs.Places.{PagedStream, IsMarkedAfter}
 use Rattle.save_laws.specs.Sessions.{IsSlotAfter, AreSlotsAfter}
 use Rattle.save_laws.specs.Slots.{Slot, shown, loose, last}
@@ -24,15 +24,16 @@ use Rattle.session_text.specs.OldUnits.{IsOldBounded}
 
 -- the units of a piece in added text
 pub new_units : (stream : PagedStream) (base : ℕ) (piece : TextPiece) (slots : List Slot) → base ≤ piece.at →
-    piece.len ≡ length slots → AreTogether (IsOldBounded stream base) (unit_places piece) slots
+    piece.len ≡ length slots → AreTogether (IsOldBounded stream base) (places_of_piece piece) slots
 new_units stream base piece slots above len = record {
   len = length-unit_places piece ∙ len;
   each = λ k place slot here there before end is.
       let below : k < piece.len =
-      omega (arith, slice_get_within (unit_places piece) k place here, length-unit_places piece) in
+      omega (arith, slice_get_within (places_of_piece piece) k place here, length-unit_places piece) in
       let at : place.at ≡ piece.at + k * unit_bytes piece.wide =
       ap (λ (p : UnitPlace). p.at)
-      (sym (get_or_from_slice_get (unit_places piece) k place place here) ∙ get_or-unit_places piece k place below) in
+      (sym (get_or_from_slice_get (places_of_piece piece) k place place here) ∙ get_or-unit_places piece k place below)
+      in
       absurd (not_low piece.wide k place.at at before);
 }
   where

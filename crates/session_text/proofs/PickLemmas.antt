@@ -14,9 +14,9 @@ use Rattle.prop_map.specs.Settings.{Properties}
 use Rattle.chunked_list.proofs.Public.{range-append, range_clamped}
 use Rattle.piece_table.specs.declared.pieces.Piece.{Piece}
 use Rattle.piece_table.specs.Piece.{TextPiece, bare_piece, total_length}
-use Rattle.plain_doc.specs.declared.item.Item.{Item}
-use Rattle.plain_doc.specs.Document.{HasPropertyMaps, IsFormedItem, IsFormedText}
-use Rattle.plain_doc.proofs.Public.{take_next}
+use Rattle.doc_model.specs.declared.item.Item.{Item}
+use Rattle.doc_model.specs.Document.{HasPropertyMaps, IsFormedItem, IsFormedText}
+use Rattle.doc_model.proofs.Public.{take_next}
 use Rattle.doc_columns.specs.declared.attached.Attached.{Attached}
 use Rattle.doc_columns.specs.Attached.{attached_of}
 use Rattle.doc_columns.specs.Columns.{items_of}

@@ -16,17 +16,17 @@ use Rattle.piece_table.specs.declared.pieces.Piece.{Piece}
 use Rattle.piece_table.specs.Piece.{TextPiece, UnitPlace, flat_pieces, total_length}
 use Rattle.piece_table.specs.Changes.{fresh_places, fresh_units}
 use Rattle.piece_table.proofs.Public.{length-flat_pieces, length-fresh_places}
-use Rattle.plain_doc.specs.declared.item.Item.{Item}
-use Rattle.plain_doc.specs.declared.document.Document.{Document}
-use Rattle.plain_doc.specs.Collected.{joined_texts}
-use Rattle.plain_doc.proofs.Public.{length-splice}
+use Rattle.doc_model.specs.declared.item.Item.{Item}
+use Rattle.doc_model.specs.declared.document.Document.{Document}
+use Rattle.doc_model.specs.Collected.{joined_texts}
+use Rattle.doc_model.proofs.Public.{length-splice}
 use Rattle.doc_patch.specs.declared.changes.Change.{Change}
 use Rattle.doc_patch.specs.declared.changes.Change.TheVariants as change
 use Rattle.doc_patch.specs.Changes.{changed, all_changed}
 use Rattle.edit_ops.proofs.Public.{sum_more}
 use Rattle.full_save.specs.Text.{extra_mark}
 use Rattle.save_laws.specs.Places.{PagedStream}
-use Rattle.save_laws.specs.Slots.{whole_text}
+use Rattle.save_laws.specs.Slots.{document_slots}
 use Rattle.save_laws.specs.Ends.{ends_of}
 use Rattle.save_laws.specs.declared.ends.Ends.{Ends}
 use Rattle.save_laws.specs.Sessions.{StandInSession}
@@ -34,7 +34,7 @@ use Rattle.save_laws.proofs.Public.{splices_stay_together}
 use Rattle.session_text.specs.declared.added.Added.{Added}
 use Rattle.session_text.specs.declared.session_text.TextSplice.{TextSplice}
 use Rattle.session_text.specs.AddedText.{plan_of, added_piece, marked_block}
-use Rattle.session_text.specs.EditSteps.{IsBlockOf, block_pieces, cuts_of, pieces_added, items_put}
+use Rattle.session_text.specs.EditSteps.{IsBlockOf, block_pieces, cut_count, pieces_added, items_put}
 use Rattle.session_text.specs.Puts.{CanPut, CanPutAll, places_after, all_places_after, ends_after_all, pieces_cut, Put}
 use Rattle.session_text.specs.Puts.{IsPut, ArePuts}
 use Rattle.session_text.specs.OldUnits.{IsOldBounded}
@@ -65,11 +65,11 @@ blocks_behind before put more = ap (λ l. before ++ l) (flat_map-cons (λ t. t) 
 -- the length after a put
 put_length : (document : Document) (base : ℕ) (before : List Item) (now : Document) (ends : Ends) (put : Put) →
     IsPut document base before now ends put →
-    length (whole_text (changed put.change now) (ends_of put.splice.ends)) + (put.splice.to - put.splice.from)
-    ≡ length (whole_text now (ends_of ends)) + length put.block
+    length (document_slots (changed put.change now) (ends_of put.splice.ends)) + (put.splice.to - put.splice.from)
+    ≡ length (document_slots now (ends_of ends)) + length put.block
 put_length document base before now ends put is =
     let whole = is.whole.whole in
-    let w = whole_text now (ends_of ends) in
+    let w = document_slots now (ends_of ends) in
     omega (
       arith,
       is.whole.alike.len,
@@ -84,9 +84,9 @@ put_stands : (document : Document) (old : PagedStream) (added : Added) (before b
     (now : Document) (ends : Ends) (put : Put) (places : List UnitPlace) →
     IsPut document added.base before now ends put →
     added.items ≡ before ++ (put.block ++ behind) →
-    StandInSession old (plan_of added) places (whole_text now (ends_of ends)) →
+    StandInSession old (plan_of added) places (document_slots now (ends_of ends)) →
     StandInSession old (plan_of added) (places_after places put.splice)
-    (whole_text (changed put.change now) (ends_of put.splice.ends))
+    (document_slots (changed put.change now) (ends_of put.splice.ends))
 put_stands document old added before behind now ends put places is items stands =
     let whole = is.whole.whole in
     let inside : put.splice.to ≤ length places = omega (arith, whole.within, stands.len) in
@@ -95,16 +95,17 @@ put_stands document old added before behind now ends put places is items stands 
     (blocks_stand old added before put.block behind is.slots items is.added) in
     is.whole.alike.stand old (plan_of added) (places_after places put.splice)
     (subst (StandInSession old (plan_of added) (places_after places put.splice)) (sym whole.whole)
-    (splices_stay_together old (plan_of added) places (fresh_places put.splice.block) (whole_text now (ends_of ends))
+    (splices_stay_together old (plan_of added) places (fresh_places put.splice.block) (document_slots now (ends_of
+    ends))
     is.slots put.splice.from put.splice.to whole.order inside stands fresh))
 
 pub puts_stand : (document : Document) (old : PagedStream) (added : Added) (before : List Item)
     (now : Document) (ends : Ends) (puts : List Put) (places : List UnitPlace) →
     ArePuts document added.base before now ends puts →
     added.items ≡ before ++ joined_texts (blocks_of_puts puts) →
-    StandInSession old (plan_of added) places (whole_text now (ends_of ends)) →
+    StandInSession old (plan_of added) places (document_slots now (ends_of ends)) →
     StandInSession old (plan_of added) (all_places_after places (splices_of_puts puts))
-    (whole_text (all_changed (changes_of_puts puts) now) (ends_of (ends_after_all ends (splices_of_puts puts))))
+    (document_slots (all_changed (changes_of_puts puts) now) (ends_of (ends_after_all ends (splices_of_puts puts))))
 puts_stand document old added before now ends [] places are items stands = stands
 puts_stand document old added before now ends (put ∷ more) places are items stands =
     let behind : List Item = joined_texts (blocks_of_puts more) in
@@ -116,25 +117,25 @@ puts_stand document old added before now ends (put ∷ more) places are items st
 -- the units that are before added text stay bounded
 put_old : (stream : PagedStream) (base : ℕ) (document : Document) (before : List Item) (now : Document) (ends : Ends)
     (put : Put) (places : List UnitPlace) → IsPut document base before now ends put →
-    AreTogether (IsOldBounded stream base) places (whole_text now (ends_of ends)) →
+    AreTogether (IsOldBounded stream base) places (document_slots now (ends_of ends)) →
     AreTogether (IsOldBounded stream base) (places_after places put.splice)
-    (whole_text (changed put.change now) (ends_of put.splice.ends))
+    (document_slots (changed put.change now) (ends_of put.splice.ends))
 put_old stream base document before now ends put places is old =
     let whole = is.whole.whole in
     let fresh : AreTogether (IsOldBounded stream base) (fresh_places put.splice.block) is.slots =
     subst (λ o. AreTogether (IsOldBounded stream base) (fresh_places o) is.slots) (sym is.piece)
     (fresh_old stream base (base + 2 * length before) (length put.block) is.slots (omega arith) is.added.len) in
-    alike_old stream base (places_after places put.splice) (whole_text is.whole.made (ends_of put.splice.ends))
-    (whole_text (changed put.change now) (ends_of put.splice.ends)) is.whole.alike.marks
+    alike_old stream base (places_after places put.splice) (document_slots is.whole.made (ends_of put.splice.ends))
+    (document_slots (changed put.change now) (ends_of put.splice.ends)) is.whole.alike.marks
     (subst (AreTogether (IsOldBounded stream base) (places_after places put.splice)) (sym whole.whole)
-    (spliced_old stream base places (fresh_places put.splice.block) (whole_text now (ends_of ends)) is.slots
+    (spliced_old stream base places (fresh_places put.splice.block) (document_slots now (ends_of ends)) is.slots
     put.splice.from put.splice.to old fresh))
 
 pub puts_old : (stream : PagedStream) (base : ℕ) (document : Document) (before : List Item) (now : Document)
     (ends : Ends) (puts : List Put) (places : List UnitPlace) → ArePuts document base before now ends puts →
-    AreTogether (IsOldBounded stream base) places (whole_text now (ends_of ends)) →
+    AreTogether (IsOldBounded stream base) places (document_slots now (ends_of ends)) →
     AreTogether (IsOldBounded stream base) (all_places_after places (splices_of_puts puts))
-    (whole_text (all_changed (changes_of_puts puts) now) (ends_of (ends_after_all ends (splices_of_puts puts))))
+    (document_slots (all_changed (changes_of_puts puts) now) (ends_of (ends_after_all ends (splices_of_puts puts))))
 puts_old stream base document before now ends [] places are old = old
 puts_old stream base document before now ends (put ∷ more) places are old =
     puts_old stream base document (before ++ put.block) (changed put.change now) put.splice.ends more
@@ -147,7 +148,7 @@ units_of_piece at zero = refl
 units_of_piece at (suc n) = refl
 
 can_put : (document : Document) (base : ℕ) (before : List Item) (now : Document) (ends : Ends) (put : Put) →
-    IsPut document base before now ends put → CanPut (length (whole_text now (ends_of ends))) put.splice
+    IsPut document base before now ends put → CanPut (length (document_slots now (ends_of ends))) put.splice
 can_put document base before now ends put is =
     let units : fresh_units put.splice.block ≡ length put.block =
     ap fresh_units is.piece ∙ units_of_piece (base + 2 * length before) (length put.block) in
@@ -168,7 +169,7 @@ can_put document base before now ends put is =
 
 pub can_put_all : (document : Document) (base : ℕ) (before : List Item) (now : Document) (ends : Ends)
     (puts : List Put) (total : ℕ) →
-    ArePuts document base before now ends puts → total ≡ length (whole_text now (ends_of ends)) →
+    ArePuts document base before now ends puts → total ≡ length (document_slots now (ends_of ends)) →
     CanPutAll total (splices_of_puts puts)
 can_put_all document base before now ends [] total are is = tt
 can_put_all document base before now ends (put ∷ more) total are is =
@@ -204,7 +205,7 @@ pub length-marked : (items : List Item) (marks : ℕ) → length (marked_block i
 length-marked items marks =
     length-append items (replicate marks extra_mark) ∙ ap (λ n. length items + n) (length-replicate marks extra_mark)
 
-cuts_some : (change : Change) → 1 ≤ cuts_of change
+cuts_some : (change : Change) → 1 ≤ cut_count change
 cuts_some (change.SpliceText story from to fresh) = omega arith
 cuts_some (change.ModifyItems story from to by) = omega arith
 cuts_some (change.SetSection at set) = omega arith

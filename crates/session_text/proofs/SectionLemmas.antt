@@ -25,10 +25,10 @@ use Rattle.doc_bits.specs.Together.{AreTogether}
 use Rattle.prop_map.specs.Settings.{Properties}
 use Rattle.prop_map.specs.Overlay.{overlay}
 use Rattle.piece_table.specs.Piece.{UnitPlace, flat_pieces}
-use Rattle.plain_doc.specs.declared.item.Item.{Item}
+use Rattle.doc_model.specs.declared.item.Item.{Item}
 use Rattle.doc_patch.specs.Changes.{changed_at, put_changed, with_section}
-use Rattle.save_laws.specs.Places.{Given, given_of}
-use Rattle.save_laws.specs.Slots.{Slot, shown, note_slots, head_slots, last_slots, whole_text, IsPlaced}
+use Rattle.save_laws.specs.Places.{GivenUnit, given_of}
+use Rattle.save_laws.specs.Slots.{Slot, shown, note_slots, head_slots, last_slots, document_slots, IsPlaceForSlot}
 use Rattle.save_laws.specs.Slots.{ReadsAfter}
 use Rattle.save_laws.specs.FastSaves.{StandsInEither, IsGivenBy}
 use Rattle.edit_ops.proofs.Public.{count_upto}
@@ -132,7 +132,7 @@ pub length-put : (main : List Item) (at : ℕ) (set : Properties) →
 length-put main at set = length-put_set main at set (slice_get main at) refl
 
 -- the item that is given the same
-record HasGiven (main : List Item) (k : ℕ) (given : Given) : Type 0 where
+record HasGiven (main : List Item) (k : ℕ) (given : GivenUnit) : Type 0 where
   item : Item
   here : slice_get main k ≡ Some item
   is : given_of item ≡ given
@@ -145,12 +145,12 @@ has_given main new k item same here =
     let found = from_map given_of main k (given_of item) there in
     record { item = found.0; here = found.1.0; is = found.1.1 }
 
-pub given_stays : (Stands : ℕ → Bool → Type 0) (Gives : ℕ → Bool → Given → Type 0) (places : List UnitPlace)
+pub given_stays : (Stands : ℕ → Bool → Type 0) (Gives : ℕ → Bool → GivenUnit → Type 0) (places : List UnitPlace)
     (main new : List Item) (rest : List Slot) → map given_of new ≡ map given_of main →
-    AreTogether (IsPlaced Stands Gives) places (map shown main ++ rest) →
-    AreTogether (IsPlaced Stands Gives) places (map shown new ++ rest)
+    AreTogether (IsPlaceForSlot Stands Gives) places (map shown main ++ rest) →
+    AreTogether (IsPlaceForSlot Stands Gives) places (map shown new ++ rest)
 given_stays Stands Gives places main new rest same together =
-    let P : UnitPlace → Slot → Type 0 = IsPlaced Stands Gives in
+    let P : UnitPlace → Slot → Type 0 = IsPlaceForSlot Stands Gives in
     let count : length new ≡ length main =
     sym (length-map new given_of) ∙ (ap length same ∙ length-map main given_of) in
     let one : length (map shown main) ≡ length main = length-map main shown in
@@ -181,7 +181,7 @@ given_stays Stands Gives places main new rest same together =
     }
 
 pub sections_stay : SectionsStay
-unfolding whole_text
+unfolding document_slots
 sections_stay old plan pieces document ends at set stands =
     let notes = note_slots document ends in
     let heads = head_slots document ends in
@@ -209,14 +209,14 @@ section_below main at some = here (slice_get main at) refl some
         omega (arith, more, upto, whole)
 
 pub styles_stay : StylesStay
-unfolding whole_text
+unfolding document_slots
 styles_stay = record {
   characters = λ document ends istd set. refl;
   paragraphs = λ document ends istd set. refl;
 }
 
 pub bookmarks_stay : BookmarksStay
-unfolding whole_text
+unfolding document_slots
 bookmarks_stay document ends list = refl
 
 -- ---- where properties are

@@ -9,11 +9,11 @@ use Rattle.doc_bits.proofs.Public.{from_map}
 use Rattle.prop_map.specs.Settings.{Properties}
 use Rattle.doc_parts.specs.declared.lists.Sed.{Sed}
 use Rattle.piece_table.specs.Piece.{UnitPlace}
-use Rattle.plain_doc.specs.declared.item.Item.{Item}
-use Rattle.plain_doc.specs.Collected.{collected, entry_before, sections_of}
+use Rattle.doc_model.specs.declared.item.Item.{Item}
+use Rattle.doc_model.specs.Collected.{collected, entry_before, sections_of}
 use Rattle.save_laws.specs.Places.{PagedStream, StandsInside, GivesAt}
 use Rattle.save_laws.specs.Plans.{Plan}
-use Rattle.save_laws.specs.Slots.{Slot, shown, loose, last, IsPlaced}
+use Rattle.save_laws.specs.Slots.{Slot, shown, loose, last, IsPlaceForSlot}
 use Rattle.save_laws.specs.Saves.{HasPropertiesAt}
 use Rattle.save_laws.specs.FastSaves.{StandsInEither, IsGivenBy}
 use Rattle.piece_table.proofs.Public.{length-flat_pieces}
@@ -23,8 +23,8 @@ use Rattle.session_text.specs.Starts.{SavedTextsStand, PropertiesAreListed, Save
 -- ---- the text
 
 saved_placed : (stream : PagedStream) (plan : Plan) (place : UnitPlace) (slot : Slot) →
-    IsPlaced (StandsInside stream) (GivesAt stream) place slot →
-    IsPlaced (StandsInEither stream plan) (IsGivenBy stream plan) place slot
+    IsPlaceForSlot (StandsInside stream) (GivesAt stream) place slot →
+    IsPlaceForSlot (StandsInEither stream plan) (IsGivenBy stream plan) place slot
 saved_placed stream plan place (shown item) placed =
     record { before = placed.before; gives = inl placed.gives; after = placed.after }
 saved_placed stream plan place loose placed =

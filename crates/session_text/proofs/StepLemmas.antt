@@ -7,12 +7,12 @@ use Rattle.std.proofs.lemmas.List.{length-map, length-append, append-nil}
 use Rattle.std.proofs.lemmas.Bool.{lt-ltb}
 use Rattle.std.proofs.Math.Seq.{take-length}
 use Rattle.doc_bits.specs.Together.{AreTogether}
-use Rattle.plain_doc.specs.declared.item.Item.{Item}
-use Rattle.plain_doc.specs.declared.document.Document.{Document}
-use Rattle.plain_doc.specs.Collected.{joined_texts}
-use Rattle.plain_doc.specs.Marks.{main_spliced}
-use Rattle.plain_doc.proofs.Public.{length-splice}
-use Rattle.save_laws.specs.Slots.{Slot, shown, StoryEnds, loose_if, note_slots, head_slots, last_slots, whole_text}
+use Rattle.doc_model.specs.declared.item.Item.{Item}
+use Rattle.doc_model.specs.declared.document.Document.{Document}
+use Rattle.doc_model.specs.Collected.{joined_texts}
+use Rattle.doc_model.specs.Marks.{main_spliced}
+use Rattle.doc_model.proofs.Public.{length-splice}
+use Rattle.save_laws.specs.Slots.{Slot, shown, StoryEnds, loose_if, note_slots, head_slots, last_slots, document_slots}
 use Rattle.save_laws.specs.Ends.{ends_of}
 use Rattle.save_laws.specs.declared.ends.Ends.{Ends}
 use Rattle.save_laws.proofs.Public.{main_splices, length-story_slots}
@@ -20,7 +20,8 @@ use Rattle.session_text.specs.declared.stories.Stories.{Stories}
 use Rattle.session_text.specs.declared.stories.StoryPlace.{StoryPlace}
 use Rattle.session_text.specs.declared.stories.StoryCut.{StoryCut}
 use Rattle.session_text.specs.declared.steps.TextStep.{TextStep}
-use Rattle.session_text.specs.StoryMarks.{end_after, marks_come, marks_go, AreSplicedTexts, IsSplicedWhole, begin_of}
+use Rattle.session_text.specs.StoryMarks.{end_after, marks_come, marks_go, AreSplicedTexts, IsSplicedWhole}
+use Rattle.session_text.specs.StoryMarks.{nth_text_begin}
 use Rattle.session_text.specs.StoryMarks.{ends_with_notes, ends_with_heads}
 use Rattle.session_text.specs.AddedText.{IsAddedFor, marked_block}
 use Rattle.session_text.specs.TextSteps.{AreStories, HasNewStory, has_any, IsStoryCut, StandAlike, IsSplicedText}
@@ -117,7 +118,7 @@ pub main_text_step : (document : Document) (stories : Stories) (step : TextStep)
         ends = stories.ends;
       };
     } → IsTextStep document (main_spliced from to fresh document) stories.ends step
-unfolding whole_text
+unfolding document_slots
 main_text_step document stories step from to count fresh are order within many is =
     let ends = ends_of stories.ends in
     let notes = note_slots document ends in
@@ -167,7 +168,7 @@ spliced_count texts new from to fresh spliced =
     )
 
 -- all items of texts are before the end of the last one
-pub begin_of-all : (texts : List (List Item)) → begin_of texts (length texts) ≡ length (joined_texts texts)
+pub begin_of-all : (texts : List (List Item)) → nth_text_begin texts (length texts) ≡ length (joined_texts texts)
 begin_of-all texts = ap (λ l. length (joined_texts l)) (take-length texts)
 
 pub note_spliced : (document : Document) (stories : Stories) (step : TextStep) (place : StoryPlace) (cut : StoryCut)

@@ -5,27 +5,27 @@ use Rattle.std.proofs.Common.{◌≡◌, ◌∙◌, ◌+◌, ◌<◌, ◌≤◌,
 use Rattle.std.proofs.Common.{arith}
 use Rattle.std.proofs.lemmas.Option.{slice_get_within}
 use Rattle.doc_bits.specs.declared.places.Story.TheVariants.{Main, Note, Head}
-use Rattle.doc_parts.specs.declared.bookmark_order.Bookmark.{Bookmark}
+use Rattle.document_bookmarks.specs.declared.bookmark_order.Bookmark.{Bookmark}
 use Rattle.prop_map.specs.Settings.{Properties}
-use Rattle.plain_doc.specs.declared.item.Item.{Item}
-use Rattle.plain_doc.specs.declared.document.Document.{Document}
-use Rattle.plain_doc.specs.Collected.{joined_texts}
+use Rattle.doc_model.specs.declared.item.Item.{Item}
+use Rattle.doc_model.specs.declared.document.Document.{Document}
+use Rattle.doc_model.specs.Collected.{joined_texts}
 use Rattle.doc_patch.specs.declared.changes.Change.{Change}
 use Rattle.doc_patch.specs.declared.changes.Change.TheVariants.{SpliceText, ModifyItems, SetSection, SpliceNotes}
 use Rattle.doc_patch.specs.declared.changes.Change.TheVariants.{SpliceHeads, SetStyleCharacters, SetStyleParagraphs}
 use Rattle.doc_patch.specs.declared.changes.Change.TheVariants.{SetBookmarks}
 use Rattle.doc_patch.specs.Changes.{changed, changed_at, with_section}
 use Rattle.doc_patch.specs.Makes.{CanSplice}
-use Rattle.save_laws.specs.Places.{Given, given_of}
+use Rattle.save_laws.specs.Places.{GivenUnit, given_of}
 use Rattle.save_laws.specs.ByRuns.{slot_end}
-use Rattle.save_laws.specs.Slots.{Slot, StoryEnds, shown, note_slots, head_slots, last_slots, whole_text}
+use Rattle.save_laws.specs.Slots.{Slot, StoryEnds, shown, note_slots, head_slots, last_slots, document_slots}
 use Rattle.save_laws.specs.Ends.{ends_of}
 use Rattle.save_laws.specs.FastSaves.{StandsInEither, IsGivenBy}
 use Rattle.session_text.specs.declared.stories.Stories.{Stories}
 use Rattle.session_text.specs.declared.steps.TextStep.{TextStep}
-use Rattle.session_text.specs.StoryMarks.{AreSplicedTexts, begin_of}
+use Rattle.session_text.specs.StoryMarks.{AreSplicedTexts, nth_text_begin}
 use Rattle.session_text.specs.EditSteps.{KeepsNamed, IsPutStep}
-use Rattle.session_text.specs.TextSteps.{AreStories, StandAlike, IsTextStep, IsRangeOf, AreCounted, IsCountedText}
+use Rattle.session_text.specs.TextSteps.{AreStories, StandAlike, IsTextStep, IsRangeOf, IsCountedRange, HasCountedRange}
 use Rattle.session_text.specs.TextSteps.{CanStep}
 use Rattle.std.proofs.Common.{[], ◌++◌, map}
 use Rattle.std.proofs.lemmas.List.{length-map, length-append, map-append}
@@ -51,7 +51,7 @@ pub note_text_step : (texts : List (List Item)) (now : Document) (stories : Stor
     (fresh : List Item) (step : TextStep) →
     ((notes : List (List Item)) → AreSplicedTexts now.notes notes first last fresh →
     IsTextStep now (record now { notes = notes }) stories.ends step) → now.notes ≡ texts →
-    first ≡ begin_of texts number + from → last ≡ begin_of texts number + to →
+    first ≡ nth_text_begin texts number + from → last ≡ nth_text_begin texts number + to →
     MatchOption (slice_get texts number) ⊥ (IsRangeOf from to) →
     IsTextStep now (changed (SpliceText (Note number) from to fresh) now) stories.ends step
 note_text_step texts now stories number from to first last fresh step given same begin end has =
@@ -60,19 +60,20 @@ note_text_step texts now stories number from to first last fresh step given same
     let new : List (List Item) = slice_set now.notes number (splice found.value from to fresh) in
     let spliced =
     one_text_splices now.notes number found.value fresh from to there found.is.order found.is.within in
-    let a : first ≡ begin_of now.notes number + from = begin ∙ ap (λ l. begin_of l number + from) (sym same) in
-    let b : last ≡ begin_of now.notes number + to = end ∙ ap (λ l. begin_of l number + to) (sym same) in
+    let a : first ≡ nth_text_begin now.notes number + from = begin ∙ ap (λ l. nth_text_begin l number + from) (sym same)
+    in
+    let b : last ≡ nth_text_begin now.notes number + to = end ∙ ap (λ l. nth_text_begin l number + to) (sym same) in
     subst (λ d. IsTextStep now d stories.ends step)
     (sym (put_text (λ t. splice t from to fresh) now (Note number) found.value there))
     (given new
     (subst (λ n. AreSplicedTexts now.notes new n last fresh) (sym a)
-    (subst (λ n. AreSplicedTexts now.notes new (begin_of now.notes number + from) n fresh) (sym b) spliced)))
+    (subst (λ n. AreSplicedTexts now.notes new (nth_text_begin now.notes number + from) n fresh) (sym b) spliced)))
 
 pub head_text_step : (texts : List (List Item)) (now : Document) (stories : Stories) (number from to first last : ℕ)
     (fresh : List Item) (step : TextStep) →
     ((heads : List (List Item)) → AreSplicedTexts now.heads heads first last fresh →
     IsTextStep now (record now { heads = heads }) stories.ends step) → now.heads ≡ texts →
-    first ≡ begin_of texts number + from → last ≡ begin_of texts number + to →
+    first ≡ nth_text_begin texts number + from → last ≡ nth_text_begin texts number + to →
     MatchOption (slice_get texts number) ⊥ (IsRangeOf from to) →
     IsTextStep now (changed (SpliceText (Head number) from to fresh) now) stories.ends step
 head_text_step texts now stories number from to first last fresh step given same begin end has =
@@ -81,33 +82,34 @@ head_text_step texts now stories number from to first last fresh step given same
     let new : List (List Item) = slice_set now.heads number (splice found.value from to fresh) in
     let spliced =
     one_text_splices now.heads number found.value fresh from to there found.is.order found.is.within in
-    let a : first ≡ begin_of now.heads number + from = begin ∙ ap (λ l. begin_of l number + from) (sym same) in
-    let b : last ≡ begin_of now.heads number + to = end ∙ ap (λ l. begin_of l number + to) (sym same) in
+    let a : first ≡ nth_text_begin now.heads number + from = begin ∙ ap (λ l. nth_text_begin l number + from) (sym same)
+    in
+    let b : last ≡ nth_text_begin now.heads number + to = end ∙ ap (λ l. nth_text_begin l number + to) (sym same) in
     subst (λ d. IsTextStep now d stories.ends step)
     (sym (put_text (λ t. splice t from to fresh) now (Head number) found.value there))
     (given new
     (subst (λ n. AreSplicedTexts now.heads new n last fresh) (sym a)
-    (subst (λ n. AreSplicedTexts now.heads new (begin_of now.heads number + from) n fresh) (sym b) spliced)))
+    (subst (λ n. AreSplicedTexts now.heads new (nth_text_begin now.heads number + from) n fresh) (sym b) spliced)))
 
 -- ---- a splice of texts
 
 -- at numbers that are those of the range
 pub spliced_at : (texts other fresh : List (List Item)) (first last from to : ℕ) (items : List Item) → other ≡ texts →
-    first ≡ begin_of texts from → last ≡ begin_of texts to → items ≡ joined_texts fresh → from ≤ to →
+    first ≡ nth_text_begin texts from → last ≡ nth_text_begin texts to → items ≡ joined_texts fresh → from ≤ to →
     to ≤ length texts → AreSplicedTexts other (splice other from to fresh) first last items
 spliced_at texts other fresh first last from to items same begin end put order within =
     let inside : to ≤ length other = omega (arith, within, ap length same) in
     let new = splice other from to fresh in
-    let a : first ≡ begin_of other from = begin ∙ ap (λ l. begin_of l from) (sym same) in
-    let b : last ≡ begin_of other to = end ∙ ap (λ l. begin_of l to) (sym same) in
+    let a : first ≡ nth_text_begin other from = begin ∙ ap (λ l. nth_text_begin l from) (sym same) in
+    let b : last ≡ nth_text_begin other to = end ∙ ap (λ l. nth_text_begin l to) (sym same) in
     subst (λ n. AreSplicedTexts other new n last items) (sym a)
-    (subst (λ n. AreSplicedTexts other new (begin_of other from) n items) (sym b)
-    (subst (AreSplicedTexts other new (begin_of other from) (begin_of other to)) (sym put)
+    (subst (λ n. AreSplicedTexts other new (nth_text_begin other from) n items) (sym b)
+    (subst (AreSplicedTexts other new (nth_text_begin other from) (nth_text_begin other to)) (sym put)
     (texts_splice other fresh from to order inside)))
 
 -- the begins of texts
-pub texts_range : (texts : List (List Item)) (from to first last : ℕ) → first ≡ begin_of texts from →
-    last ≡ begin_of texts to → from ≤ to → to ≤ length texts →
+pub texts_range : (texts : List (List Item)) (from to first last : ℕ) → first ≡ nth_text_begin texts from →
+    last ≡ nth_text_begin texts to → from ≤ to → to ≤ length texts →
     (first ≤ last) × (last ≤ length (joined_texts texts))
 texts_range texts from to first last begin end order within =
     let whole = texts_splice texts [] from to order within in
@@ -119,7 +121,7 @@ texts_range texts from to first last begin end order within =
 marks_stay : (main new : List Item) (rest : List Slot) → map given_of new ≡ map given_of main →
     map slot_end (map shown new ++ rest) ≡ map slot_end (map shown main ++ rest)
 marks_stay main new rest same =
-    let ends : Given → Option Bool = λ given. Some (is_some given.mark) in
+    let ends : GivenUnit → Option Bool = λ given. Some (is_some given.mark) in
     let both : (items : List Item) → map slot_end (map shown items) ≡ map ends (map given_of items) = λ items.
     map-map slot_end shown items ∙ sym (map-map ends given_of items) in
     map-append slot_end (map shown new) rest
@@ -128,7 +130,7 @@ marks_stay main new rest same =
 
 pub section_alike : (document : Document) (ends : StoryEnds) (at : ℕ) (set : Properties) →
     StandAlike document (changed (SetSection at set) document) ends
-unfolding whole_text
+unfolding document_slots
 section_alike document ends at set =
     let notes = note_slots document ends in
     let heads = head_slots document ends in
@@ -160,7 +162,7 @@ section_step now stories step at set are is =
 pub characters_step : (now : Document) (stories : Stories) (step : TextStep) (istd : ℕ) (set : Properties) →
     AreStories now stories → step ≡ record { from = 0; to = 0; items = []; marks = 0; after = stories } →
     IsTextStep now (changed (SetStyleCharacters istd set) now) stories.ends step
-unfolding whole_text
+unfolding document_slots
 characters_step now stories step istd set are is =
     nothing_put now (changed (SetStyleCharacters istd set) now) stories step
     (record { len = refl; marks = refl; stand = λ old plan places stands. stands })
@@ -169,7 +171,7 @@ characters_step now stories step istd set are is =
 pub paragraphs_step : (now : Document) (stories : Stories) (step : TextStep) (istd : ℕ) (set : Properties) →
     AreStories now stories → step ≡ record { from = 0; to = 0; items = []; marks = 0; after = stories } →
     IsTextStep now (changed (SetStyleParagraphs istd set) now) stories.ends step
-unfolding whole_text
+unfolding document_slots
 paragraphs_step now stories step istd set are is =
     nothing_put now (changed (SetStyleParagraphs istd set) now) stories step
     (record { len = refl; marks = refl; stand = λ old plan places stands. stands })
@@ -178,7 +180,7 @@ paragraphs_step now stories step istd set are is =
 pub bookmarks_step : (now : Document) (stories : Stories) (step : TextStep) (list : List Bookmark) →
     AreStories now stories → step ≡ record { from = 0; to = 0; items = []; marks = 0; after = stories } →
     IsTextStep now (changed (SetBookmarks list) now) stories.ends step
-unfolding whole_text
+unfolding document_slots
 bookmarks_step now stories step list are is =
     nothing_put now (changed (SetBookmarks list) now) stories step
     (record { len = refl; marks = refl; stand = λ old plan places stands. stands })
@@ -194,7 +196,7 @@ range_there (Some text) from to fresh has = record { order = has.ordered; within
 
 counted_text : (count : ℕ) (texts other : List (List Item)) (number from to : ℕ) (fresh : List Item) →
     count ≡ length (joined_texts other) → other ≡ texts →
-    MatchOption (slice_get other number) ⊥ (CanSplice from to fresh) → IsCountedText count texts number from to
+    MatchOption (slice_get other number) ⊥ (CanSplice from to fresh) → HasCountedRange count texts number from to
 counted_text count texts other number from to fresh counted same has = record {
   many = counted ∙ ap (λ l. length (joined_texts l)) same;
   range =
@@ -204,7 +206,7 @@ counted_text count texts other number from to fresh counted same has = record {
 
 counted_texts : (count : ℕ) (texts other fresh : List (List Item)) (from to : ℕ) →
     count ≡ length (joined_texts other) → other ≡ texts → CanSplice from to fresh other →
-    AreCounted count texts from to
+    IsCountedRange count texts from to
 counted_texts count texts other fresh from to counted same can =
     let within = can.within in
     record {
@@ -236,7 +238,7 @@ can_step document now stories (SetBookmarks list) are put = tt
 -- a range of a text ends before the items of all do
 pub range_within : (texts : List (List Item)) (number from to : ℕ) →
     MatchOption (slice_get texts number) ⊥ (IsRangeOf from to) →
-    (number < length texts) × ((from ≤ to) × (begin_of texts number + to ≤ length (joined_texts texts)))
+    (number < length texts) × ((from ≤ to) × (nth_text_begin texts number + to ≤ length (joined_texts texts)))
 range_within texts number from to has =
     let found = is_there (slice_get texts number) (IsRangeOf from to) has in
     let spliced =
@@ -248,12 +250,12 @@ range_within texts number from to has =
 pub notes_change : (document now : Document) (stories : Stories) (change : Change) (from to first last : ℕ)
     (fresh : List (List Item)) (items : List Item) (step : TextStep) → change ≡ SpliceNotes from to fresh →
     CanStep document stories change → KeepsNamed document now change → items ≡ joined_texts fresh →
-    first ≡ begin_of document.notes from → last ≡ begin_of document.notes to →
+    first ≡ nth_text_begin document.notes from → last ≡ nth_text_begin document.notes to →
     ((notes : List (List Item)) → AreSplicedTexts now.notes notes first last items →
     IsTextStep now (record now { notes = notes }) stories.ends step) →
     IsTextStep now (changed change now) stories.ends step
 notes_change document now stories change from to first last fresh items step is can named put begin end given =
-    let counted : AreCounted stories.notes document.notes from to = subst (CanStep document stories) is can in
+    let counted : IsCountedRange stories.notes document.notes from to = subst (CanStep document stories) is can in
     let same : now.notes ≡ document.notes = subst (KeepsNamed document now) is named in
     subst (λ c. IsTextStep now (changed c now) stories.ends step) (sym is)
     (given (splice now.notes from to fresh)
@@ -263,12 +265,12 @@ notes_change document now stories change from to first last fresh items step is 
 pub heads_change : (document now : Document) (stories : Stories) (change : Change) (from to first last : ℕ)
     (fresh : List (List Item)) (items : List Item) (step : TextStep) → change ≡ SpliceHeads from to fresh →
     CanStep document stories change → KeepsNamed document now change → items ≡ joined_texts fresh →
-    first ≡ begin_of document.heads from → last ≡ begin_of document.heads to →
+    first ≡ nth_text_begin document.heads from → last ≡ nth_text_begin document.heads to →
     ((heads : List (List Item)) → AreSplicedTexts now.heads heads first last items →
     IsTextStep now (record now { heads = heads }) stories.ends step) →
     IsTextStep now (changed change now) stories.ends step
 heads_change document now stories change from to first last fresh items step is can named put begin end given =
-    let counted : AreCounted stories.heads document.heads from to = subst (CanStep document stories) is can in
+    let counted : IsCountedRange stories.heads document.heads from to = subst (CanStep document stories) is can in
     let same : now.heads ≡ document.heads = subst (KeepsNamed document now) is named in
     subst (λ c. IsTextStep now (changed c now) stories.ends step) (sym is)
     (given (splice now.heads from to fresh)

@@ -11,7 +11,7 @@ use Rattle.prop_map.proofs.Public.{entries-empty}
 use Rattle.prop_map.specs.declared.modifiers.Modifier.{Modifier}
 use Rattle.prop_map.specs.Modifiers.{no_modifier, printed_modifier}
 use Rattle.piece_table.specs.declared.pieces.Piece.{Piece}
-use Rattle.piece_table.specs.Piece.{TextPiece, UnitPlace, unit_places}
+use Rattle.piece_table.specs.Piece.{TextPiece, UnitPlace, places_of_piece}
 use Rattle.piece_table.specs.Changes.{fresh_piece, fresh_places}
 use Rattle.piece_table.proofs.Public.{length-unit_places, get_or-unit_places}
 
@@ -31,9 +31,9 @@ unit_plain : (piece : Piece) (k : ℕ) (place : UnitPlace) → slice_get (fresh_
 unit_plain piece k place here =
     let fresh : TextPiece = fresh_piece piece in
     let below : k < piece.len =
-    omega (arith, slice_get_within (unit_places fresh) k place here, length-unit_places fresh) in
+    omega (arith, slice_get_within (places_of_piece fresh) k place here, length-unit_places fresh) in
     ap (λ (p : UnitPlace). p.modifier)
-    (sym (get_or_from_slice_get (unit_places fresh) k place place here) ∙ get_or-unit_places fresh k place below)
+    (sym (get_or_from_slice_get (places_of_piece fresh) k place place here) ∙ get_or-unit_places fresh k place below)
 
 pub fresh_plain : (block : Option Piece) → All (λ place. place.modifier ≡ no_modifier) (fresh_places block)
 fresh_plain None = All-nil (λ (place : UnitPlace). place.modifier ≡ no_modifier)

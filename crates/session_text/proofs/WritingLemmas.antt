@@ -23,21 +23,23 @@ use Rattle.prop_map.specs.declared.modifiers.Modifier.{Modifier}
 use Rattle.prop_map.specs.Modifiers.{no_modifier, printed_modifier}
 use Rattle.piece_table.specs.ClxRules.{FitsPages}
 use Rattle.piece_table.specs.declared.pieces.Piece.{Piece}
-use Rattle.piece_table.specs.Piece.{TextPiece, UnitPlace, bare_piece, piece_end, unit_bytes, unit_places, flat_pieces}
+use Rattle.piece_table.specs.Piece.{TextPiece, UnitPlace, bare_piece, piece_end, unit_bytes, places_of_piece}
+use Rattle.piece_table.specs.Piece.{flat_pieces}
 use Rattle.piece_table.specs.Piece.{total_length}
 use Rattle.piece_table.specs.Changes.{fresh_places}
 use Rattle.piece_table.proofs.Public.{flat_pieces-append, flat_pieces-cons, flat_pieces-nil, length-unit_places}
 use Rattle.piece_table.proofs.Public.{length-flat_pieces, get_or-unit_places, flat_pieces-push, renewed_pieces-push}
 use Rattle.piece_table.proofs.Public.{length-renewed, modifiers_there, none_fits}
-use Rattle.plain_doc.specs.declared.item.Item.{Item}
-use Rattle.plain_doc.specs.declared.document.Document.{Document}
+use Rattle.doc_model.specs.declared.item.Item.{Item}
+use Rattle.doc_model.specs.declared.document.Document.{Document}
 use Rattle.plain_doc.specs.RulesOfItems.{HasShortProperties}
-use Rattle.plain_doc.specs.RulesOfTexts.{text_of}
+use Rattle.plain_doc.specs.RulesOfTexts.{text_of_place}
 use Rattle.plain_doc.specs.Sound.{IsSound}
-use Rattle.plain_doc.proofs.Public.{sound_is_valid, joined_all}
-use Rattle.save_laws.specs.Places.{PagedStream, Given}
+use Rattle.plain_doc.proofs.Public.{sound_is_valid}
+use Rattle.doc_model.proofs.Public.{joined_all}
+use Rattle.save_laws.specs.Places.{PagedStream, GivenUnit}
 use Rattle.save_laws.specs.Plans.{Plan}
-use Rattle.save_laws.specs.Slots.{Slot, shown, loose, last, IsPlaced, StoryEnds, whole_text}
+use Rattle.save_laws.specs.Slots.{Slot, shown, loose, last, IsPlaceForSlot, StoryEnds, document_slots}
 use Rattle.save_laws.specs.Ends.{ends_of}
 use Rattle.save_laws.specs.FastSaves.{StandsInEither, IsGivenBy}
 use Rattle.save_laws.specs.Sessions.{StandInSession}
@@ -48,7 +50,7 @@ use Rattle.session_text.specs.declared.old_pieces.OldPieces.{OldPieces}
 use Rattle.session_text.specs.AddedText.{plan_of, IsAddedFor, added_piece}
 use Rattle.piece_table.specs.Renewals.{renewed_piece, renewed_pieces, HasRoomAt}
 use Rattle.session_text.specs.WrittenAgain.{IsAmong, IsRewritten, IsChosen, renewed_units, slot_item}
-use Rattle.session_text.specs.WrittenAgain.{place_at, len_for, values_for}
+use Rattle.session_text.specs.WrittenAgain.{place_if_again, len_for, values_for}
 use Rattle.session_text.specs.WrittenAgain.{AreWritten, AreChosen, IsWrittenAgain, renewed_values}
 use Rattle.session_text.specs.SessionText.{HaveFitModifiers, HaveNoModifiers, HaveModifiersWithin}
 use Rattle.session_text.proofs.BlockLemmas.{blocks_stand}
@@ -63,7 +65,7 @@ use Rattle.direct_props.proofs.Public.{together_one}
 -- ---- old pieces
 
 -- what is before the base is not planned, so it is beside any added text
-given_before : (stream : PagedStream) (plan other : Plan) (at : ℕ) (wide : Bool) (given : Given) → at < plan.base →
+given_before : (stream : PagedStream) (plan other : Plan) (at : ℕ) (wide : Bool) (given : GivenUnit) → at < plan.base →
     IsGivenBy stream plan at wide given → IsGivenBy stream other at wide given
 given_before stream plan other at wide given before (inl gives) = inl gives
 given_before stream plan other at wide given before (inr planned) =
@@ -78,8 +80,8 @@ stands_before stream plan other at wide before (inr planned) =
     absurd (omega (arith, here, before))
 
 placed_before : (stream : PagedStream) (plan other : Plan) (place : UnitPlace) (slot : Slot) → place.at < plan.base →
-    IsPlaced (StandsInEither stream plan) (IsGivenBy stream plan) place slot →
-    IsPlaced (StandsInEither stream other) (IsGivenBy stream other) place slot
+    IsPlaceForSlot (StandsInEither stream plan) (IsGivenBy stream plan) place slot →
+    IsPlaceForSlot (StandsInEither stream other) (IsGivenBy stream other) place slot
 placed_before stream plan other place (shown item) before is = record {
   before = is.before;
   gives = given_before stream plan other place.at place.wide is.before before is.gives;
@@ -110,15 +112,15 @@ unit_below true at len base k end below = omega (arith, end, below)
 unit_below false at len base k end below = omega (arith, end, below)
 
 old_units : (piece : TextPiece) (base : ℕ) → piece_end (bare_piece piece) ≤ base →
-    All (λ place. place.at < base) (unit_places piece)
+    All (λ place. place.at < base) (places_of_piece piece)
 old_units piece base end =
-    All-from_slice_get (λ (p : UnitPlace). p.at < base) (unit_places piece)
+    All-from_slice_get (λ (p : UnitPlace). p.at < base) (places_of_piece piece)
     (λ k place here.
     let below : k < piece.len =
-    omega (arith, slice_get_within (unit_places piece) k place here, length-unit_places piece) in
+    omega (arith, slice_get_within (places_of_piece piece) k place here, length-unit_places piece) in
     let at : place.at ≡ piece.at + k * unit_bytes piece.wide =
     ap (λ (p : UnitPlace). p.at)
-    (sym (get_or_from_slice_get (unit_places piece) k place place here) ∙ get_or-unit_places piece k place below) in
+    (sym (get_or_from_slice_get (places_of_piece piece) k place place here) ∙ get_or-unit_places piece k place below) in
     let low = unit_below piece.wide piece.at piece.len base k end below in
     omega (arith, at, low))
 
@@ -141,14 +143,15 @@ items_written slots = record {
 
 -- the places of a piece in added text are those of its block
 fresh_units : (at len : ℕ) →
-    unit_places (record { at = at; wide = true; len = len; modifier = no_modifier }) ≡ fresh_places (added_piece at len)
+    places_of_piece (record { at = at; wide = true; len = len; modifier = no_modifier }) ≡ fresh_places (added_piece at
+    len)
 fresh_units at zero = refl
 fresh_units at (suc len) = refl
 
 fresh_stand : (stream : PagedStream) (base : ℕ) (items : List Item) (piece : TextPiece) (slots : List Slot) →
     length slots ≡ piece.len →
     StandInSession stream (plan_of (record { base = base; items = items ++ map slot_item slots }))
-    (unit_places (renewed_piece (Some (base + 2 * length items)) piece)) slots
+    (places_of_piece (renewed_piece (Some (base + 2 * length items)) piece)) slots
 fresh_stand stream base items piece slots len =
     let block : List Item = map slot_item slots in
     let new : Added = record { base = base; items = items ++ block } in
@@ -171,9 +174,10 @@ next_slots xs from to order within =
     ∙ ap (λ l. take from xs ++ l) (sym (between_is xs from to)))
 
 piece_in : (pieces before behind : List TextPiece) (piece : TextPiece) → pieces ≡ before ++ (piece ∷ behind) →
-    slice_range (flat_pieces pieces) (total_length before) (total_length before + piece.len) ≡ unit_places piece
+    slice_range (flat_pieces pieces) (total_length before) (total_length before + piece.len) ≡ places_of_piece piece
 piece_in pieces before behind piece is =
-    range_mid (flat_pieces pieces) (flat_pieces before) (unit_places piece) (flat_pieces behind) (total_length before)
+    range_mid (flat_pieces pieces) (flat_pieces before) (places_of_piece piece) (flat_pieces behind) (total_length
+    before)
     (total_length before + piece.len)
     (ap flat_pieces is ∙ (flat_pieces-append before (piece ∷ behind) ∙ ap (λ l. flat_pieces before ++ l)
     (flat_pieces-cons piece behind)))
@@ -207,18 +211,18 @@ units_few (Some at ∷ places) (piece ∷ pieces) =
 -- a piece that is written again has as many units at its new place, and no other has any
 units_for : (base number : ℕ) (again : Bool) (piece : TextPiece) (slots : List Slot) → length slots ≡ piece.len →
     length (values_for again (map slot_item slots))
-    ≡ renewed_units (place_at again (base + 2 * number) ∷ []) (piece ∷ [])
+    ≡ renewed_units (place_if_again again (base + 2 * number) ∷ []) (piece ∷ [])
 units_for base number true piece slots len = omega (arith, length-map slots slot_item, len)
 units_for base number false piece slots len = refl
 
 chosen_for : (base number : ℕ) (which : OldPieces) (again : Bool) (piece : TextPiece) →
-    IsTrue again ↔ IsRewritten base which piece → IsChosen base which (place_at again (base + 2 * number)) piece
+    IsTrue again ↔ IsRewritten base which piece → IsChosen base which (place_if_again again (base + 2 * number)) piece
 chosen_for base number which true piece is = (λ some. is.0 refl, λ rewritten. refl)
 chosen_for base number which false piece is =
     (λ some. absurd (grind (arith, some)), λ rewritten. absurd (grind (arith, is.1 rewritten)))
 
 room_for : (base number : ℕ) (again : Bool) (piece : TextPiece) → base + 2 * (number + piece.len) < 2 ^ 32 →
-    HasRoomAt (place_at again (base + 2 * number)) piece
+    HasRoomAt (place_if_again again (base + 2 * number)) piece
 room_for base number true piece room place is =
     let at : base + 2 * number ≡ place = same_Some (base + 2 * number) place is in
     omega (arith, at, room)
@@ -240,22 +244,22 @@ kept_end base which piece is = elim (cases_lt base (piece_end (bare_piece piece)
 -- what represents the slots of a piece before it is written again, or stays, represents them after
 piece_stands : (stream : PagedStream) (added : Added) (items : List Item) (which : OldPieces) (again : Bool)
     (piece : TextPiece) (slots : List Slot) → IsTrue again ↔ IsRewritten added.base which piece →
-    StandInSession stream (plan_of added) (unit_places piece) slots →
+    StandInSession stream (plan_of added) (places_of_piece piece) slots →
     StandInSession stream
     (plan_of (record { base = added.base; items = items ++ values_for again (map slot_item slots) }))
-    (unit_places (renewed_piece (place_at again (added.base + 2 * length items)) piece)) slots
+    (places_of_piece (renewed_piece (place_if_again again (added.base + 2 * length items)) piece)) slots
 piece_stands stream added items which true piece slots is stand =
     fresh_stand stream added.base items piece slots (omega (arith, stand.len, length-unit_places piece))
 piece_stands stream added items which false piece slots is stand =
     kept_stand stream (plan_of added)
     (plan_of (record { base = added.base; items = items ++ values_for false (map slot_item slots) }))
-    (unit_places piece) slots (old_units piece added.base (kept_end added.base which piece is)) stand
+    (places_of_piece piece) slots (old_units piece added.base (kept_end added.base which piece is)) stand
 
 -- the units of a piece, which are bounded where they are old, at its new place or where it was
 old_for : (stream : PagedStream) (base number : ℕ) (again : Bool) (piece : TextPiece) (slots : List Slot) →
-    piece.len ≡ length slots → AreTogether (IsOldBounded stream base) (unit_places piece) slots →
+    piece.len ≡ length slots → AreTogether (IsOldBounded stream base) (places_of_piece piece) slots →
     AreTogether (IsOldBounded stream base)
-    (unit_places (renewed_piece (place_at again (base + 2 * number)) piece)) slots
+    (places_of_piece (renewed_piece (place_if_again again (base + 2 * number)) piece)) slots
 old_for stream base number true piece slots len old =
     new_units stream base (renewed_piece (Some (base + 2 * number)) piece) slots (omega arith) len
 old_for stream base number false piece slots len old = old
@@ -274,12 +278,12 @@ pub written_more : (which : OldPieces) (again : Bool) (old : SessionText) (slots
     AreWritten which old slots (before ++ piece ∷ [])
     (items ++ values_for again (slice_range (map slot_item slots) (total_length before)
     (total_length before + piece.len)))
-    (places ++ place_at again (old.added.base + 2 * length items) ∷ [])
+    (places ++ place_if_again again (old.added.base + 2 * length items) ∷ [])
 written_more which again old slots before behind piece items places pieces_are counted room short is written =
     let base : ℕ = old.added.base in
     let cp : ℕ = total_length before in
     let end : ℕ = cp + piece.len in
-    let place : Option ℕ = place_at again (base + 2 * length items) in
+    let place : Option ℕ = place_if_again again (base + 2 * length items) in
     let range : List Slot = slice_range slots cp end in
     let one : Added = record { base = base; items = items } in
     let mapped : slice_range (map slot_item slots) cp end ≡ map slot_item range =
@@ -315,42 +319,46 @@ written_more which again old slots before behind piece items places pieces_are c
           (All-back HasShortProperties cp (map slot_item slots) short))));
       bounded = λ stream old_units.
           let P : UnitPlace → Slot → Type 0 = IsOldBounded stream base in
-          let here : AreTogether P (unit_places piece) range =
+          let here : AreTogether P (places_of_piece piece) range =
           subst (λ l. AreTogether P l range) (piece_in old.pieces.pieces before behind piece pieces_are)
           (together_range P (flat_pieces old.pieces.pieces) slots cp end old_units) in
           let both = together_joined P (flat_pieces (renewed_pieces places before)) (take cp slots)
-          (unit_places (renewed_piece place piece)) range (written.bounded stream old_units)
+          (places_of_piece (renewed_piece place piece)) range (written.bounded stream old_units)
           (old_for stream base (length items) again piece range (sym long) here) in
           subst (λ l. AreTogether P l (take (total_length (before ++ piece ∷ [])) slots))
           (sym (ap flat_pieces (renewed_pieces-push places before place piece len)
           ∙ flat_pieces-push (renewed_pieces places before) (renewed_piece place piece)))
-          (subst (λ l. AreTogether P (flat_pieces (renewed_pieces places before) ++ unit_places
+          (subst (λ l. AreTogether P (flat_pieces (renewed_pieces places before) ++ places_of_piece
           (renewed_piece place piece)) l) (sym (ap (λ n. take n slots) (total_more before piece)
           ∙ next_slots slots cp end (omega arith) within)) both);
       stands = λ stream below stand.
           let all : Added = record { base = base; items = items ++ values_for again (map slot_item range) } in
-          let here : StandInSession stream (plan_of old.added) (unit_places piece) range =
+          let here : StandInSession stream (plan_of old.added) (places_of_piece piece) range =
           subst (λ l. StandInSession stream (plan_of old.added) l range)
           (piece_in old.pieces.pieces before behind piece pieces_are)
-          (together_range (IsPlaced (StandsInEither stream (plan_of old.added)) (IsGivenBy stream (plan_of old.added)))
+          (together_range (IsPlaceForSlot (StandsInEither stream (plan_of old.added)) (IsGivenBy stream (plan_of
+          old.added)))
           (flat_pieces old.pieces.pieces) slots cp end stand) in
           let front : StandInSession stream (plan_of all) (flat_pieces (renewed_pieces places before)) (take cp slots) =
           grown_stands stream one all (values_for again (map slot_item range)) (flat_pieces (renewed_pieces places
           before)) (take cp slots) refl refl (written.stands stream below stand) in
-          let back : StandInSession stream (plan_of all) (unit_places (renewed_piece place piece)) range =
+          let back : StandInSession stream (plan_of all) (places_of_piece (renewed_piece place piece)) range =
           piece_stands stream old.added items which again piece range is here in
-          let both = together_joined (IsPlaced (StandsInEither stream (plan_of all)) (IsGivenBy stream (plan_of all)))
-          (flat_pieces (renewed_pieces places before)) (take cp slots) (unit_places (renewed_piece place piece)) range
+          let both = together_joined (IsPlaceForSlot (StandsInEither stream (plan_of all)) (IsGivenBy stream (plan_of
+          all)))
+          (flat_pieces (renewed_pieces places before)) (take cp slots) (places_of_piece (renewed_piece place piece))
+          range
           front back in
           let places_are : flat_pieces (renewed_pieces (places ++ place ∷ []) (before ++ piece ∷ [])) ≡ flat_pieces
-          (renewed_pieces places before) ++ unit_places (renewed_piece place piece) =
+          (renewed_pieces places before) ++ places_of_piece (renewed_piece place piece) =
           ap flat_pieces (renewed_pieces-push places before place piece len) ∙ flat_pieces-push (renewed_pieces places
           before) (renewed_piece place piece) in
           let slots_are : take (total_length (before ++ piece ∷ [])) slots ≡ take cp slots ++ range =
           ap (λ n. take n slots) (total_more before piece) ∙ next_slots slots cp end (omega arith) within in
           subst (λ l. StandInSession stream (plan_of all) l (take (total_length (before ++ piece ∷ [])) slots))
           (sym places_are)
-          (subst (λ l. StandInSession stream (plan_of all) (flat_pieces (renewed_pieces places before) ++ unit_places
+          (subst (λ l. StandInSession stream (plan_of all) (flat_pieces (renewed_pieces places before) ++
+          places_of_piece
           (renewed_piece place piece)) l) (sym slots_are) both);
     })
 
@@ -380,12 +388,12 @@ judged_piece (Some piece) base which among bare modifier is has end told =
 
 -- a piece more has its units behind the others
 pub units_more : (places : List (Option ℕ)) (pieces : List TextPiece) (again : Bool) (at : ℕ) (piece : TextPiece) →
-    length places ≡ length pieces → renewed_units (places ++ place_at again at ∷ []) (pieces ++ piece ∷ []) ≡
+    length places ≡ length pieces → renewed_units (places ++ place_if_again again at ∷ []) (pieces ++ piece ∷ []) ≡
     renewed_units places pieces + len_for again piece.len
 units_more places pieces true at piece len = omega (arith, renewed_units-push places pieces (Some at) piece len)
 units_more places pieces false at piece len = omega (arith, renewed_units-push places pieces None piece len)
 
-some_place : (again : Bool) (at : ℕ) → is_some (place_at again at) ≡ again
+some_place : (again : Bool) (at : ℕ) → is_some (place_if_again again at) ≡ again
 some_place true at = refl
 some_place false at = refl
 
@@ -395,7 +403,7 @@ pub chosen_more : (which : OldPieces) (again : Bool) (old : SessionText) (before
     old.added.base + 2 * total_length old.pieces.pieces < 2 ^ 32 →
     IsTrue again ↔ IsRewritten old.added.base which piece → at ≡ old.added.base + 2 * renewed_units places before →
     length places ≡ length before → AreChosen which old before places →
-    AreChosen which old (before ++ piece ∷ []) (places ++ place_at again at ∷ [])
+    AreChosen which old (before ++ piece ∷ []) (places ++ place_if_again again at ∷ [])
 chosen_more which again old before behind piece places at pieces_are room is at_is len chosen slots counted short =
     let all : List Item = map slot_item slots in
     let items : List Item = renewed_values places before all in
@@ -404,15 +412,16 @@ chosen_more which again old before behind piece places at pieces_are room is at_
     let begin : ℕ = old.added.base + 2 * length items in
     let same : begin ≡ at = omega (arith, at_is, units) in
     let end : ℕ = total_length before + piece.len in
-    let values : renewed_values (places ++ place_at again at ∷ []) (before ++ piece ∷ []) all
+    let values : renewed_values (places ++ place_if_again again at ∷ []) (before ++ piece ∷ []) all
     ≡ items ++ values_for again (slice_range all (total_length before) end) =
-    renewed_values-push places before (place_at again at) piece all len
+    renewed_values-push places before (place_if_again again at) piece all len
     ∙ ap (λ b. items ++ values_for b (slice_range all (total_length before) end)) (some_place again at) in
     let more = written_more which again old slots before behind piece items places pieces_are counted room short is
     written in
-    subst (λ l. AreWritten which old slots (before ++ piece ∷ []) l (places ++ place_at again at ∷ [])) (sym values)
+    subst (λ l. AreWritten which old slots (before ++ piece ∷ []) l (places ++ place_if_again again at ∷ [])) (sym
+    values)
     (subst (λ n. AreWritten which old slots (before ++ piece ∷ []) (items ++ values_for again (slice_range all
-    (total_length before) end)) (places ++ place_at again n ∷ [])) same more)
+    (total_length before) end)) (places ++ place_if_again again n ∷ [])) same more)
 
 pub nothing_written : (which : OldPieces) (old : SessionText) → AreChosen which old [] []
 nothing_written which old slots counted short = record {
@@ -437,13 +446,13 @@ nothing_written which old slots counted short = record {
 
 -- a text that was written again
 pub written_text : (document : Document) (which : OldPieces) (old new : SessionText) (places : List (Option ℕ)) →
-    total_length old.pieces.pieces ≡ length (whole_text document (ends_of old.ends)) →
-    AreWritten which old (whole_text document (ends_of old.ends)) old.pieces.pieces new.added.items places →
+    total_length old.pieces.pieces ≡ length (document_slots document (ends_of old.ends)) →
+    AreWritten which old (document_slots document (ends_of old.ends)) old.pieces.pieces new.added.items places →
     new.pieces.pieces ≡ renewed_pieces places old.pieces.pieces → new.ends ≡ old.ends →
     new.added.base ≡ old.added.base → new.sections.items ≡ old.sections.items →
     IsWrittenAgain document which old new
 written_text document which old new places counted written pieces ends base sections =
-    let slots : List Slot = whole_text document (ends_of old.ends) in
+    let slots : List Slot = document_slots document (ends_of old.ends) in
     let units = written.units in
     let all : take (total_length old.pieces.pieces) slots ≡ slots =
     take_all (total_length old.pieces.pieces) slots (omega (arith, counted)) in
@@ -455,7 +464,7 @@ written_text document which old new places counted written pieces ends base sect
           let below = before.base in
           record {
             places =
-                subst (λ e. StandInSession stream (plan_of new.added) (flat_pieces new.pieces.pieces) (whole_text
+                subst (λ e. StandInSession stream (plan_of new.added) (flat_pieces new.pieces.pieces) (document_slots
                 document (ends_of e))) (sym ends)
                 (subst (λ a. StandInSession stream (plan_of a) (flat_pieces new.pieces.pieces) slots) (sym added)
                 (subst (λ l. StandInSession stream (plan_of (record {
@@ -472,9 +481,9 @@ written_text document which old new places counted written pieces ends base sect
       bounded = λ stream before.
           let P : UnitPlace → Slot → Type 0 = IsOldBounded stream old.added.base in
           let stay = written.bounded stream before in
-          subst (λ n. AreTogether (IsOldBounded stream n) (flat_pieces new.pieces.pieces) (whole_text document
+          subst (λ n. AreTogether (IsOldBounded stream n) (flat_pieces new.pieces.pieces) (document_slots document
           (ends_of new.ends))) (sym base)
-          (subst (λ e. AreTogether P (flat_pieces new.pieces.pieces) (whole_text document (ends_of e))) (sym ends)
+          (subst (λ e. AreTogether P (flat_pieces new.pieces.pieces) (document_slots document (ends_of e))) (sym ends)
           (subst (λ l. AreTogether P (flat_pieces l) slots) (sym pieces)
           (subst (λ l. AreTogether P (flat_pieces (renewed_pieces places old.pieces.pieces)) l) all stay)));
       fit = λ fit.
@@ -500,13 +509,14 @@ judged_short loose short = mark_short
 judged_short last short = mark_short
 
 pub whole_short : (document : Document) (ends : StoryEnds) → IsSound document →
-    All HasShortProperties (map slot_item (whole_text document ends))
+    All HasShortProperties (map slot_item (document_slots document ends))
 whole_short document ends sound =
     let right = sound_is_valid document sound in
-    let text : (part : Where) (items : List Item) → text_of document part ≡ Some items → All HasShortProperties items =
+    let text : (part : Where) (items : List Item) → text_of_place document part ≡ Some items → All HasShortProperties
+    items =
     λ part items there. All-from_slice_get HasShortProperties items (right.texts part items there).short in
     let all = all_shown HasShortProperties document ends (text Main document.main refl)
     (joined_all HasShortProperties document.notes (λ k items there. text (Note k) items there))
     (joined_all HasShortProperties document.heads (λ k items there. text (Head k) items there)) in
-    All-map HasShortProperties slot_item (whole_text document ends)
-    (λ k d below. judged_short (get_or (whole_text document ends) k d) (all k d below))
+    All-map HasShortProperties slot_item (document_slots document ends)
+    (λ k d below. judged_short (get_or (document_slots document ends) k d) (all k d below))

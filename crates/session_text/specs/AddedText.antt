@@ -2,7 +2,7 @@
 -- grows at its end alone, so what is in it stays.
 use Rattle.std.specs.Prelude.{◌≡◌, ℕ, zero, suc, List, ◌++◌, map, replicate, true, Option, Some, None, ⊤}
 use Rattle.piece_table.specs.declared.pieces.Piece.{Piece}
-use Rattle.plain_doc.specs.declared.item.Item.{Item}
+use Rattle.doc_model.specs.declared.item.Item.{Item}
 use Rattle.full_save.specs.Text.{extra_mark}
 use Rattle.save_laws.specs.Places.{given_of}
 use Rattle.save_laws.specs.Plans.{Plan}

@@ -1,6 +1,6 @@
 -- Blocks of added text: the items of one command, with the marks behind a story that come with them.
 use Rattle.std.specs.Prelude.{◌≡◌, ◌+◌, ◌*◌, List, ◌++◌, length}
-use Rattle.plain_doc.specs.declared.item.Item.{Item}
+use Rattle.doc_model.specs.declared.item.Item.{Item}
 use Rattle.piece_table.specs.Changes.{fresh_places}
 use Rattle.doc_bits.specs.Together.{AreTogether}
 use Rattle.save_laws.specs.Places.{PagedStream}

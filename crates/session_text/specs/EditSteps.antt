@@ -8,9 +8,9 @@ use Rattle.doc_bits.specs.declared.places.Story.TheVariants.{Main, Note, Head}
 use Rattle.doc_bits.specs.Together.{AreTogether}
 use Rattle.prop_map.specs.declared.modifiers.Modifier.{Modifier}
 use Rattle.prop_map.specs.Modifiers.{no_modifier, IsFormedModifier, printed_modifier}
-use Rattle.plain_doc.specs.declared.item.Item.{Item}
-use Rattle.plain_doc.specs.declared.document.Document.{Document}
-use Rattle.plain_doc.specs.Collected.{joined_texts}
+use Rattle.doc_model.specs.declared.item.Item.{Item}
+use Rattle.doc_model.specs.declared.document.Document.{Document}
+use Rattle.doc_model.specs.Collected.{joined_texts}
 use Rattle.plain_doc.specs.RulesOfItems.{HasShortProperties}
 use Rattle.plain_doc.specs.RulesOfSheet.{item_count, most_items}
 use Rattle.plain_doc.specs.Sound.{IsSound}
@@ -19,7 +19,7 @@ use Rattle.doc_patch.specs.declared.changes.Change.{Change}
 use Rattle.doc_patch.specs.declared.changes.Change.TheVariants.{SpliceText, ModifyItems, SetSection, SpliceNotes}
 use Rattle.doc_patch.specs.declared.changes.Change.TheVariants.{SpliceHeads, SetStyleCharacters, SetStyleParagraphs}
 use Rattle.doc_patch.specs.declared.changes.Change.TheVariants.{SetBookmarks}
-use Rattle.doc_patch.specs.Places.{text_at}
+use Rattle.doc_patch.specs.Places.{story_text}
 use Rattle.edit_ops.specs.Ranges.{HasRange}
 use Rattle.doc_patch.specs.Changes.{changed, modified_item}
 use Rattle.doc_patch.specs.Makes.{CanMake}
@@ -84,7 +84,7 @@ pub record IsShortAfter (by : Modifier) (item : Item) : Type 0 where
 -- the modifier acts on a range of a text
 pub record IsActStep (document : Document) (story : Story) (from to : ℕ) (by : Modifier) : Type 0 where
   pub text : List Item
-  pub there : text_at document story ≡ Some text
+  pub there : story_text document story ≡ Some text
   pub range : HasRange from to text
   pub formed : IsFormedModifier by
   pub short : All (IsShortAfter by) (slice_range text from to)
@@ -141,7 +141,7 @@ pub record IsBlockOf (document : Document) (change : Change) (block : List Item)
   pub is : block ≡ marked_block (items_put change) marks
 
 -- the added text has grown by a block a change
-pub record HasGrownBy (document : Document) (changes : List Change) (old new : List Item) : Type 0 where
+pub record HasGrownByBlocks (document : Document) (changes : List Change) (old new : List Item) : Type 0 where
   pub blocks : List (List Item)
   pub each : AreTogether (IsBlockOf document) changes blocks
   pub items : new ≡ old ++ joined_texts blocks
@@ -151,18 +151,18 @@ abbrev pub block_pieces : List Item → ℕ
 block_pieces [] = 0
 block_pieces (item ∷ items) = 1
 
-abbrev pub cuts_of : Change → ℕ
-cuts_of (SpliceText story from to fresh) = 1
-cuts_of (ModifyItems story from to by) = 2
-cuts_of (SetSection at set) = 1
-cuts_of (SpliceNotes from to fresh) = 1
-cuts_of (SpliceHeads from to fresh) = 1
-cuts_of (SetStyleCharacters istd set) = 1
-cuts_of (SetStyleParagraphs istd set) = 1
-cuts_of (SetBookmarks list) = 1
+abbrev pub cut_count : Change → ℕ
+cut_count (SpliceText story from to fresh) = 1
+cut_count (ModifyItems story from to by) = 2
+cut_count (SetSection at set) = 1
+cut_count (SpliceNotes from to fresh) = 1
+cut_count (SpliceHeads from to fresh) = 1
+cut_count (SetStyleCharacters istd set) = 1
+cut_count (SetStyleParagraphs istd set) = 1
+cut_count (SetBookmarks list) = 1
 
 abbrev pub pieces_added : Change → ℕ
-pieces_added change = cuts_of change + block_pieces (items_put change)
+pieces_added change = cut_count change + block_pieces (items_put change)
 
 -- the bytes by which a printed modifier grows
 abbrev pub growth_of : Change → ℕ

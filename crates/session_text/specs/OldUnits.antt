@@ -2,9 +2,9 @@
 use Rattle.std.specs.Prelude.{◌≡◌, ℕ, ◌<◌, Bool, Some}
 use Rattle.doc_bits.specs.Together.{AreTogether}
 use Rattle.piece_table.specs.Piece.{UnitPlace, flat_pieces}
-use Rattle.plain_doc.specs.declared.document.Document.{Document}
+use Rattle.doc_model.specs.declared.document.Document.{Document}
 use Rattle.save_laws.specs.Places.{PagedStream}
-use Rattle.save_laws.specs.Slots.{Slot, whole_text}
+use Rattle.save_laws.specs.Slots.{Slot, document_slots}
 use Rattle.save_laws.specs.Ends.{ends_of}
 use Rattle.save_laws.specs.ByRuns.{IsBounded, slot_end}
 use Rattle.session_text.specs.declared.session_text.SessionText.{SessionText}
@@ -18,4 +18,4 @@ IsOldBounded stream base place slot =
 abbrev pub OldUnitsAreBounded : PagedStream → Document → SessionText → Type 0
 OldUnitsAreBounded stream document text =
     AreTogether (IsOldBounded stream text.added.base) (flat_pieces text.pieces.pieces)
-    (whole_text document (ends_of text.ends))
+    (document_slots document (ends_of text.ends))

@@ -1,9 +1,9 @@
 -- A whole text of which some pieces are picked: two texts, one behind the other, that are read once.
 use Rattle.std.specs.Prelude.{◌≡◌, ℕ, ◌+◌, ◌-◌, ◌≤◌, List, ◌++◌, Option, Some, is_some, slice_get}
 use Rattle.run_lists.specs.Spread.{expanded, total_len}
-use Rattle.run_lists.specs.Places.{IsAt}
+use Rattle.run_lists.specs.Places.{IsAtRunBegin}
 use Rattle.piece_table.specs.Piece.{TextPiece}
-use Rattle.plain_doc.specs.declared.item.Item.{Item}
+use Rattle.doc_model.specs.declared.item.Item.{Item}
 use Rattle.session_text.specs.declared.picked.WholeText.{WholeText}
 use Rattle.session_text.specs.declared.picked.Stretch.{Stretch}
 use Rattle.session_text.specs.declared.picked.TwoLists.{TwoLists}
@@ -25,8 +25,8 @@ pub record IsNextStretch
   pub chosen : stretch.again ≡ is_some place
 
 -- the values of both lists
-abbrev pub values_in : {T : Type 0} → TwoLists T → List T
-values_in lists = expanded lists.first.now ++ expanded lists.second.now
+abbrev pub values_of_both : {T : Type 0} → TwoLists T → List T
+values_of_both lists = expanded lists.first.now ++ expanded lists.second.now
 
 -- the first list has as many values as it says
 abbrev pub HasFirstLen : {T : Type 0} → TwoLists T → Type 0
@@ -34,7 +34,7 @@ HasFirstLen lists = total_len lists.first.now ≡ lists.first_len
 
 -- both are read as far as runs begin, and no further than a place of both
 pub record AreReadTo {T : Type 0} (lists : TwoLists T) (read : ReadTo) (place : ℕ) : Type 0 where
-  pub first : IsAt lists.first.now read.first
-  pub second : IsAt lists.second.now read.second
+  pub first : IsAtRunBegin lists.first.now read.first
+  pub second : IsAtRunBegin lists.second.now read.second
   pub first_ahead : read.first.begin ≤ place
   pub second_ahead : read.second.begin ≤ place - lists.first_len

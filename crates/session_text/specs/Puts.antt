@@ -6,13 +6,13 @@ use Rattle.std.specs.List.{splice, fold}
 use Rattle.doc_bits.specs.Together.{AreTogether}
 use Rattle.piece_table.specs.Piece.{UnitPlace, IsPiece}
 use Rattle.piece_table.specs.Changes.{fresh_places, fresh_units}
-use Rattle.plain_doc.specs.declared.item.Item.{Item}
-use Rattle.plain_doc.specs.declared.document.Document.{Document}
-use Rattle.plain_doc.specs.Collected.{joined_texts}
+use Rattle.doc_model.specs.declared.item.Item.{Item}
+use Rattle.doc_model.specs.declared.document.Document.{Document}
+use Rattle.doc_model.specs.Collected.{joined_texts}
 use Rattle.plain_doc.specs.RulesOfItems.{HasShortProperties}
 use Rattle.doc_patch.specs.declared.changes.Change.{Change}
 use Rattle.doc_patch.specs.Changes.{changed}
-use Rattle.save_laws.specs.Slots.{Slot, whole_text}
+use Rattle.save_laws.specs.Slots.{Slot, document_slots}
 use Rattle.save_laws.specs.Ends.{ends_of}
 use Rattle.save_laws.specs.declared.ends.Ends.{Ends}
 use Rattle.session_text.specs.AddedText.{IsAddedFor, added_piece}
@@ -69,7 +69,7 @@ pub record IsPut
   pub piece : put.splice.block ≡ added_piece (base + 2 * length before) (length put.block)
   pub is_piece : MatchOption put.splice.block ⊤ IsPiece
   pub block_is : IsBlockOf document put.change put.block
-  pub short : length (whole_text (changed put.change now) (ends_of put.splice.ends)) ≤ 500001
+  pub short : length (document_slots (changed put.change now) (ends_of put.splice.ends)) ≤ 500001
 
 -- such puts, one after another
 abbrev pub ArePuts : Document → ℕ → List Item → Document → Ends → List Put → Type 0

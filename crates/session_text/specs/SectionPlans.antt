@@ -4,7 +4,7 @@ use Rattle.std.specs.Prelude.{slice_set, ⊤}
 use Rattle.std.specs.Option.{option_and_then}
 use Rattle.doc_bits.specs.declared.places.Story.TheVariants.{Main, Note, Head}
 use Rattle.prop_map.specs.Settings.{Properties}
-use Rattle.plain_doc.specs.declared.item.Item.{Item}
+use Rattle.doc_model.specs.declared.item.Item.{Item}
 use Rattle.plain_doc.specs.RulesOfSheet.{section_count}
 use Rattle.doc_patch.specs.declared.changes.Change.{Change}
 use Rattle.doc_patch.specs.declared.changes.Change.TheVariants.{SpliceText, ModifyItems, SetSection, SpliceNotes}

@@ -3,40 +3,40 @@ use Rattle.std.specs.Prelude.{◌≡◌, ℕ, ◌+◌, ◌<◌, ◌≤◌, List,
 use Rattle.std.specs.List.{splice}
 use Rattle.doc_bits.specs.declared.places.Story.{Story}
 use Rattle.doc_bits.specs.declared.places.Story.TheVariants.{Main, Note, Head}
-use Rattle.doc_parts.specs.declared.bookmark_order.Bookmark.{Bookmark}
+use Rattle.document_bookmarks.specs.declared.bookmark_order.Bookmark.{Bookmark}
 use Rattle.prop_map.specs.declared.modifiers.Modifier.{Modifier}
 use Rattle.prop_map.specs.Settings.{Properties}
 use Rattle.prop_map.specs.Overlay.{overlay}
 use Rattle.piece_table.specs.Piece.{TextPiece}
-use Rattle.plain_doc.specs.declared.item.Item.{Item}
-use Rattle.plain_doc.specs.declared.document.Document.{Document}
+use Rattle.doc_model.specs.declared.item.Item.{Item}
+use Rattle.doc_model.specs.declared.document.Document.{Document}
 use Rattle.doc_patch.specs.declared.changes.Change.TheVariants.{ModifyItems, SetSection, SetStyleCharacters}
 use Rattle.doc_patch.specs.declared.changes.Change.TheVariants.{SetStyleParagraphs, SetBookmarks}
-use Rattle.doc_patch.specs.Places.{text_at}
+use Rattle.doc_patch.specs.Places.{story_text}
 use Rattle.doc_patch.specs.Changes.{changed, changed_at, with_section}
 use Rattle.save_laws.specs.Places.{PagedStream}
 use Rattle.save_laws.specs.Plans.{Plan}
-use Rattle.save_laws.specs.Slots.{StoryEnds, note_slots, whole_text}
+use Rattle.save_laws.specs.Slots.{StoryEnds, note_slots, document_slots}
 use Rattle.save_laws.specs.FastSaves.{StandsInSession}
 use Rattle.save_laws.specs.Sessions.{AreSlotsAfter}
-use Rattle.session_text.specs.StoryMarks.{begin_of}
+use Rattle.session_text.specs.StoryMarks.{nth_text_begin}
 use Rattle.session_text.specs.SessionText.{section_properties}
 
 -- the place of the first item of a text in the whole text
 abbrev pub text_begin : Document → StoryEnds → Story → ℕ
 text_begin document ends Main = 0
-text_begin document ends (Note number) = length document.main + begin_of document.notes number
+text_begin document ends (Note number) = length document.main + nth_text_begin document.notes number
 text_begin document ends (Head number) =
-    length document.main + length (note_slots document ends) + begin_of document.heads number
+    length document.main + length (note_slots document ends) + nth_text_begin document.heads number
 
 -- a modifier on the items of a range acts on their slots
 abbrev pub ModifiersAct : Type 0
 ModifiersAct =
     (document : Document) (ends : StoryEnds) (story : Story) (from to : ℕ) (by : Modifier) (text : List Item) →
-    text_at document story ≡ Some text → from < to → to ≤ length text →
+    story_text document story ≡ Some text → from < to → to ≤ length text →
     let begin = text_begin document ends story in
-    AreSlotsAfter by (begin + from) (begin + to) (whole_text document ends)
-    (whole_text (changed (ModifyItems story from to by) document) ends)
+    AreSlotsAfter by (begin + from) (begin + to) (document_slots document ends)
+    (document_slots (changed (ModifyItems story from to by) document) ends)
 
 -- how many sections end before a place
 abbrev pub sections_before : List Item → ℕ → ℕ
@@ -59,16 +59,16 @@ SectionsStay =
 pub record StylesStay : Type 0 where
   pub characters :
       (document : Document) (ends : StoryEnds) (istd : ℕ) (set : Properties) →
-      whole_text (changed (SetStyleCharacters istd set) document) ends ≡ whole_text document ends
+      document_slots (changed (SetStyleCharacters istd set) document) ends ≡ document_slots document ends
   pub paragraphs :
       (document : Document) (ends : StoryEnds) (istd : ℕ) (set : Properties) →
-      whole_text (changed (SetStyleParagraphs istd set) document) ends ≡ whole_text document ends
+      document_slots (changed (SetStyleParagraphs istd set) document) ends ≡ document_slots document ends
 
 -- and where bookmarks are set
 abbrev pub BookmarksStay : Type 0
 BookmarksStay =
     (document : Document) (ends : StoryEnds) (list : List Bookmark) →
-    whole_text (changed (SetBookmarks list) document) ends ≡ whole_text document ends
+    document_slots (changed (SetBookmarks list) document) ends ≡ document_slots document ends
 
 -- no other section is set but the one that ends at the item
 abbrev pub OneSectionIsSet : Type 0

@@ -7,12 +7,12 @@ use Rattle.prop_map.specs.Settings.{Properties}
 use Rattle.prop_map.specs.Modifiers.{no_modifier, printed_modifier}
 use Rattle.piece_table.specs.Piece.{TextPiece, flat_pieces, total_length}
 use Rattle.piece_table.specs.ClxRules.{FitsPages}
-use Rattle.plain_doc.specs.declared.item.Item.{Item}
-use Rattle.plain_doc.specs.declared.document.Document.{Document}
+use Rattle.doc_model.specs.declared.item.Item.{Item}
+use Rattle.doc_model.specs.declared.document.Document.{Document}
 use Rattle.plain_doc.specs.RulesOfItems.{HasShortProperties}
 use Rattle.doc_bits.specs.Together.{AreTogether}
 use Rattle.save_laws.specs.Places.{PagedStream}
-use Rattle.save_laws.specs.Slots.{whole_text}
+use Rattle.save_laws.specs.Slots.{document_slots}
 use Rattle.save_laws.specs.Ends.{ends_of}
 use Rattle.save_laws.specs.Saves.{HasPropertiesAt}
 use Rattle.save_laws.specs.FastSaves.{StandsInSession}
@@ -65,4 +65,4 @@ unwritten_count places = count_by (λ place. not (is_some place)) places
 abbrev pub TextCounted : Type 0
 TextCounted =
     (old : PagedStream) (document : Document) (text : SessionText) → IsSessionText old document text →
-    total_length text.pieces.pieces ≡ length (whole_text document (ends_of text.ends))
+    total_length text.pieces.pieces ≡ length (document_slots document (ends_of text.ends))

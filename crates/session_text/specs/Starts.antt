@@ -3,9 +3,9 @@
 use Rattle.std.specs.Prelude.{◌≡◌, ℕ, List, map, Some}
 use Rattle.doc_parts.specs.declared.lists.Sed.{Sed}
 use Rattle.piece_table.specs.Piece.{TextPiece}
-use Rattle.plain_doc.specs.declared.item.Item.{Item}
-use Rattle.plain_doc.specs.declared.document.Document.{Document}
-use Rattle.plain_doc.specs.Collected.{sections_of}
+use Rattle.doc_model.specs.declared.item.Item.{Item}
+use Rattle.doc_model.specs.declared.document.Document.{Document}
+use Rattle.doc_model.specs.Collected.{sections_of}
 use Rattle.save_laws.specs.Places.{PagedStream}
 use Rattle.save_laws.specs.Plans.{Plan}
 use Rattle.save_laws.specs.Slots.{StoryEnds}

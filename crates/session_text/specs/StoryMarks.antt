@@ -3,10 +3,10 @@
 use Rattle.std.specs.Prelude.{◌≡◌, ℕ, ◌+◌, ◌≤◌, List, [], ◌∷◌, ◌++◌, length, take, map, Bool, true, false}
 use Rattle.std.specs.Prelude.{if◌then◌else◌, Some, slice_get, slice_set}
 use Rattle.std.specs.List.{splice}
-use Rattle.plain_doc.specs.declared.item.Item.{Item}
-use Rattle.plain_doc.specs.declared.document.Document.{Document}
-use Rattle.plain_doc.specs.Collected.{joined_texts}
-use Rattle.save_laws.specs.Slots.{Slot, shown, last, StoryEnds, loose_if, note_slots, head_slots, whole_text}
+use Rattle.doc_model.specs.declared.item.Item.{Item}
+use Rattle.doc_model.specs.declared.document.Document.{Document}
+use Rattle.doc_model.specs.Collected.{joined_texts}
+use Rattle.save_laws.specs.Slots.{Slot, shown, last, StoryEnds, loose_if, note_slots, head_slots, document_slots}
 
 -- whether a mark is behind a story, once its items have changed
 abbrev pub end_after : Bool → List Item → List Item → Bool
@@ -60,8 +60,8 @@ pub record IsSplicedWhole
     (old : Document) (old_ends : StoryEnds) (new : Document) (new_ends : StoryEnds) (from to : ℕ) (fresh : List Slot) :
     Type 0 where
   pub order : from ≤ to
-  pub within : to ≤ length (whole_text old old_ends)
-  pub whole : whole_text new new_ends ≡ splice (whole_text old old_ends) from to fresh
+  pub within : to ≤ length (document_slots old old_ends)
+  pub whole : document_slots new new_ends ≡ splice (document_slots old old_ends) from to fresh
 
 -- a splice of the notes is one of the whole text, with the marks that come or go
 abbrev pub NotesSplice : Type 0
@@ -86,18 +86,19 @@ HeadsSplice =
     (map shown fresh ++ marks_come ends.heads items (joined_texts heads) (note_slots document ends))
 
 -- a splice of some of the texts is one of their items, from the begin of the first text to that of the next one
-abbrev pub begin_of : List (List Item) → ℕ → ℕ
-begin_of texts number = length (joined_texts (take number texts))
+abbrev pub nth_text_begin : List (List Item) → ℕ → ℕ
+nth_text_begin texts number = length (joined_texts (take number texts))
 
 abbrev pub TextsSplice : Type 0
 TextsSplice =
     (texts fresh : List (List Item)) (from to : ℕ) → from ≤ to → to ≤ length texts →
-    AreSplicedTexts texts (splice texts from to fresh) (begin_of texts from) (begin_of texts to) (joined_texts fresh)
+    AreSplicedTexts texts (splice texts from to fresh) (nth_text_begin texts from) (nth_text_begin texts to)
+    (joined_texts fresh)
 
 -- and so is a splice within one text
 abbrev pub OneTextSplices : Type 0
 OneTextSplices =
     (texts : List (List Item)) (number : ℕ) (text fresh : List Item) (from to : ℕ) →
     slice_get texts number ≡ Some text → from ≤ to → to ≤ length text →
-    AreSplicedTexts texts (slice_set texts number (splice text from to fresh)) (begin_of texts number + from)
-    (begin_of texts number + to) fresh
+    AreSplicedTexts texts (slice_set texts number (splice text from to fresh)) (nth_text_begin texts number + from)
+    (nth_text_begin texts number + to) fresh

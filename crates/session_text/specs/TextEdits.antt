@@ -2,14 +2,14 @@
 -- of it has grown by no more than the changes say.
 use Rattle.std.specs.Prelude.{◌≡◌, ℕ, ◌+◌, ◌≤◌, List, length, All, Option}
 use Rattle.std.specs.List.{sum_by}
-use Rattle.plain_doc.specs.declared.document.Document.{Document}
+use Rattle.doc_model.specs.declared.document.Document.{Document}
 use Rattle.doc_patch.specs.declared.changes.Change.{Change}
 use Rattle.doc_patch.specs.Changes.{all_changed}
 use Rattle.save_laws.specs.Places.{PagedStream}
 use Rattle.session_text.specs.SessionText.{IsSessionText, HaveFitModifiers, HaveNoModifiers, HaveModifiersWithin}
 use Rattle.session_text.specs.SessionText.{ArePlannedSections, unwritten_count}
 use Rattle.session_text.specs.OldUnits.{OldUnitsAreBounded}
-use Rattle.session_text.specs.EditSteps.{ActsOnNone, HasGrownBy, pieces_added, growth_of, sections_put}
+use Rattle.session_text.specs.EditSteps.{ActsOnNone, HasGrownByBlocks, pieces_added, growth_of, sections_put}
 use Rattle.session_text.specs.declared.session_text.SessionText.{SessionText}
 
 pub record IsTextEdit (document : Document) (changes : List Change) (old new : SessionText) : Type 0 where
@@ -27,7 +27,7 @@ pub record IsTextEdit (document : Document) (changes : List Change) (old new : S
   pub printed :
       (most : ℕ) → HaveModifiersWithin most old.pieces.pieces →
       HaveModifiersWithin (most + sum_by growth_of changes) new.pieces.pieces
-  pub added : HasGrownBy document changes old.added.items new.added.items
+  pub added : HasGrownByBlocks document changes old.added.items new.added.items
   pub base : new.added.base ≡ old.added.base
 
 -- the properties of the changed document's sections are in the stream or are still to be written

@@ -5,9 +5,9 @@ use Rattle.std.specs.Prelude.{MatchOption, ⊤}
 use Rattle.doc_bits.specs.declared.places.Story.{Story}
 use Rattle.doc_bits.specs.declared.places.Story.TheVariants.{Main, Note, Head}
 use Rattle.doc_bits.specs.Together.{AreTogether}
-use Rattle.plain_doc.specs.declared.item.Item.{Item}
-use Rattle.plain_doc.specs.declared.document.Document.{Document}
-use Rattle.plain_doc.specs.Collected.{joined_texts}
+use Rattle.doc_model.specs.declared.item.Item.{Item}
+use Rattle.doc_model.specs.declared.document.Document.{Document}
+use Rattle.doc_model.specs.Collected.{joined_texts}
 use Rattle.doc_patch.specs.declared.changes.Change.{Change}
 use Rattle.doc_patch.specs.declared.changes.Change.TheVariants.{SpliceText, ModifyItems, SetSection, SpliceNotes}
 use Rattle.doc_patch.specs.declared.changes.Change.TheVariants.{SpliceHeads, SetStyleCharacters, SetStyleParagraphs}
@@ -17,7 +17,7 @@ use Rattle.piece_table.specs.Piece.{UnitPlace}
 use Rattle.save_laws.specs.Places.{PagedStream}
 use Rattle.save_laws.specs.Plans.{Plan}
 use Rattle.save_laws.specs.Sessions.{StandInSession}
-use Rattle.save_laws.specs.Slots.{Slot, StoryEnds, whole_text}
+use Rattle.save_laws.specs.Slots.{Slot, StoryEnds, document_slots}
 use Rattle.save_laws.specs.ByRuns.{slot_end}
 use Rattle.save_laws.specs.Ends.{ends_of}
 use Rattle.save_laws.specs.declared.ends.Ends.{Ends}
@@ -87,13 +87,13 @@ abbrev pub HasRangeOf : Document → Story → ℕ → ℕ → Type 0
 HasRangeOf document story from to = HasText document story (IsRangeOf from to)
 
 -- the story has as many items as the texts, of which this is a range
-pub record AreCounted (count : ℕ) (texts : List (List Item)) (from to : ℕ) : Type 0 where
+pub record IsCountedRange (count : ℕ) (texts : List (List Item)) (from to : ℕ) : Type 0 where
   pub many : count ≡ length (joined_texts texts)
   pub order : from ≤ to
   pub within : to ≤ length texts
 
 -- and so it has, and one of the texts has this range
-pub record IsCountedText (count : ℕ) (texts : List (List Item)) (number from to : ℕ) : Type 0 where
+pub record HasCountedRange (count : ℕ) (texts : List (List Item)) (number from to : ℕ) : Type 0 where
   pub many : count ≡ length (joined_texts texts)
   pub range : MatchOption (slice_get texts number) ⊥ (IsRangeOf from to)
 
@@ -102,13 +102,13 @@ abbrev pub CanStep : Document → Stories → Change → Type 0
 CanStep document stories (SpliceText Main from to fresh) =
     (stories.main ≡ length document.main) × IsRangeOf from to document.main
 CanStep document stories (SpliceText (Note number) from to fresh) =
-    IsCountedText stories.notes document.notes number from to
+    HasCountedRange stories.notes document.notes number from to
 CanStep document stories (SpliceText (Head number) from to fresh) =
-    IsCountedText stories.heads document.heads number from to
+    HasCountedRange stories.heads document.heads number from to
 CanStep document stories (ModifyItems story from to by) = ⊥
 CanStep document stories (SetSection at set) = ⊤
-CanStep document stories (SpliceNotes from to fresh) = AreCounted stories.notes document.notes from to
-CanStep document stories (SpliceHeads from to fresh) = AreCounted stories.heads document.heads from to
+CanStep document stories (SpliceNotes from to fresh) = IsCountedRange stories.notes document.notes from to
+CanStep document stories (SpliceHeads from to fresh) = IsCountedRange stories.heads document.heads from to
 CanStep document stories (SetStyleCharacters istd set) = ⊤
 CanStep document stories (SetStyleParagraphs istd set) = ⊤
 CanStep document stories (SetBookmarks list) = ⊤
@@ -117,11 +117,12 @@ CanStep document stories (SetBookmarks list) = ⊤
 
 -- places that represent the whole text of the one document represent that of the other, whose whole text is as long
 pub record StandAlike (one other : Document) (ends : StoryEnds) : Type 0 where
-  pub len : length (whole_text other ends) ≡ length (whole_text one ends)
-  pub marks : map slot_end (whole_text other ends) ≡ map slot_end (whole_text one ends)
+  pub len : length (document_slots other ends) ≡ length (document_slots one ends)
+  pub marks : map slot_end (document_slots other ends) ≡ map slot_end (document_slots one ends)
   pub stand :
       (old : PagedStream) (plan : Plan) (places : List UnitPlace) →
-      StandInSession old plan places (whole_text one ends) → StandInSession old plan places (whole_text other ends)
+      StandInSession old plan places (document_slots one ends) → StandInSession old plan places (document_slots other
+      ends)
 
 -- slots in place of a range make a whole text, and what represents it represents that of the changed document
 pub record IsSplicedText

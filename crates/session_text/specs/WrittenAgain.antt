@@ -9,8 +9,8 @@ use Rattle.prop_map.specs.declared.modifiers.Modifier.{Modifier}
 use Rattle.prop_map.specs.Modifiers.{no_modifier}
 use Rattle.piece_table.specs.Piece.{TextPiece, bare_piece, piece_end, flat_pieces, total_length}
 use Rattle.piece_table.specs.Renewals.{renewed_pieces, AreNewPlaces}
-use Rattle.plain_doc.specs.declared.item.Item.{Item}
-use Rattle.plain_doc.specs.declared.document.Document.{Document}
+use Rattle.doc_model.specs.declared.item.Item.{Item}
+use Rattle.doc_model.specs.declared.document.Document.{Document}
 use Rattle.plain_doc.specs.RulesOfItems.{HasShortProperties}
 use Rattle.full_save.specs.Text.{extra_mark}
 use Rattle.save_laws.specs.Places.{PagedStream}
@@ -85,8 +85,8 @@ slot_item loose = extra_mark
 slot_item last = extra_mark
 
 -- the place of a piece that may be written again at a byte, the units that it has there, and what is written of it
-abbrev pub place_at : Bool → ℕ → Option ℕ
-place_at again at = if again then Some at else None
+abbrev pub place_if_again : Bool → ℕ → Option ℕ
+place_if_again again at = if again then Some at else None
 
 abbrev pub len_for : Bool → ℕ → ℕ
 len_for again len = if again then len else 0

@@ -1,6 +1,6 @@
 // The text that a session has added since its last save.
 ghost use Rattle.std.specs.Prelude.{◌≡◌, ◌+◌, ◌*◌, ◌^◌, ◌<◌, ◌++◌, length, IfOk, OnOk};
-ghost use Rattle.plain_doc.specs.Document.{HasPropertyMaps};
+ghost use Rattle.doc_model.specs.Document.{HasPropertyMaps};
 ghost use Rattle.full_save.specs.Text.{extra_mark as mark_behind};
 ghost use Rattle.session_text.specs.AddedText.{marked_block, added_piece};
 

@@ -1,7 +1,7 @@
 // Columns that are gathered text by text.
 ghost use Rattle.std.specs.Prelude.{◌≡◌, ◌+◌, ◌^◌, ◌<◌, ◌++◌, ◌∷◌, [], length, map, IfOk, OnOk};
 ghost use Rattle.run_lists.specs.Spread.{expanded, total_len};
-ghost use Rattle.plain_doc.specs.Collected.{joined_texts};
+ghost use Rattle.doc_model.specs.Collected.{joined_texts};
 ghost use Rattle.full_save.specs.Text.{extra_mark as mark_behind, with_mark as marked_text};
 ghost use Rattle.save_laws.specs.Slots.{story_slots};
 ghost use Rattle.session_text.specs.WrittenAgain.{slot_item};
@@ -25,8 +25,8 @@ pub(crate) struct TextBuilder {
 impl Model for TextBuilder {
     ghost use Rattle.std.specs.Prelude.{List};
     ghost use Rattle.std.specs.Coded.{coded_list};
-    ghost use Rattle.plain_doc.specs.declared.item.Item.{Item};
-    ghost use Rattle.plain_doc.specs.contracts.item.Item as item;
+    ghost use Rattle.doc_model.specs.declared.item.Item.{Item};
+    ghost use Rattle.doc_model.specs.contracts.item.Item as item;
     ghost use Rattle.doc_columns.specs.Columns.{items_of, AreColumns};
 
     ghost Value = { List Item };

@@ -1,10 +1,10 @@
 // The text of the pieces that have new places, column by column, out of a whole text.
 ghost use Rattle.std.specs.Prelude.{◌≡◌, ◌+◌, ◌-◌, ◌^◌, ◌<◌, ◌≤◌, ◌++◌, length, slice_range, IfOk, OnOk};
 ghost use Rattle.run_lists.specs.Spread.{expanded, total_len};
-ghost use Rattle.run_lists.specs.Places.{IsAt};
+ghost use Rattle.run_lists.specs.Places.{IsAtRunBegin};
 ghost use Rattle.piece_table.specs.Piece.{total_length};
 ghost use Rattle.session_text.specs.WrittenAgain.{renewed_values, values_for};
-ghost use Rattle.session_text.specs.Picked.{whole_items, values_in, IsNextStretch, AreReadTo, HasFirstLen};
+ghost use Rattle.session_text.specs.Picked.{whole_items, values_of_both, IsNextStretch, AreReadTo, HasFirstLen};
 
 use crate::gathered::put_runs;
 use doc_bits::Memory;
@@ -150,10 +150,10 @@ fn picked_values<T: Shared>(
 ) -> Result<Runs<T>, Memory>
     requires lists { HasFirstLen lists.now }
     requires places { length placed.now.places.now ≡ length placed.now.pieces.now.pieces }
-    requires within { total_length placed.now.pieces.now.pieces ≤ length (values_in lists.now) }
-    requires few { length (values_in lists.now) < 2 ^ 32 }
+    requires within { total_length placed.now.pieces.now.pieces ≤ length (values_of_both lists.now) }
+    requires few { length (values_of_both lists.now) < 2 ^ 32 }
     ensures { IfOk result (λ values.
-        values ≡ renewed_values placed.now.places.now placed.now.pieces.now.pieces (values_in lists.now)) }
+        values ≡ renewed_values placed.now.places.now placed.now.pieces.now.pieces (values_of_both lists.now)) }
 {
     let mut values = Runs::new(alloc);
     let mut read = ReadTo {
@@ -182,12 +182,12 @@ impl<T: Shared> TwoLists<'_, T> {
         requires lists { HasFirstLen self.now }
         requires read { AreReadTo self.now read.old stretch.from }
         requires order { stretch.from ≤ stretch.to }
-        requires within { stretch.to ≤ length (values_in self.now) }
-        requires few { length (values_in self.now) < 2 ^ 32 }
+        requires within { stretch.to ≤ length (values_of_both self.now) }
+        requires few { length (values_of_both self.now) < 2 ^ 32 }
         requires room { length out.old + (stretch.to - stretch.from) < 2 ^ 32 }
         ensures read { OnOk result (AreReadTo self.now read.new stretch.to) }
         ensures values { OnOk result (out.new ≡ out.old
-            ++ values_for stretch.again (slice_range (values_in self.now) stretch.from stretch.to)) }
+            ++ values_for stretch.again (slice_range (values_of_both self.now) stretch.from stretch.to)) }
     {
         if !stretch.again {
             return Ok(());
@@ -209,13 +209,13 @@ fn put_range<T: Shared>(
     cursor: &mut Cursor,
     range: (usize, usize),
 ) -> Result<(), Memory>
-    requires at { IsAt runs.now cursor.old }
+    requires at { IsAtRunBegin runs.now cursor.old }
     requires ahead { cursor.old.begin ≤ range.0 }
     requires order { range.0 ≤ range.1 }
     requires within { range.1 ≤ total_len runs.now }
     requires few { total_len runs.now < 2 ^ 32 }
     requires room { length out.old + (range.1 - range.0) < 2 ^ 32 }
-    ensures at { IsAt runs.now cursor.new }
+    ensures at { IsAtRunBegin runs.now cursor.new }
     ensures ahead { cursor.new.begin ≤ range.0 }
     ensures values { OnOk result (out.new ≡ out.old ++ slice_range (expanded runs.now) range.0 range.1) }
 {

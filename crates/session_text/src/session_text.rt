@@ -6,7 +6,7 @@ ghost use Rattle.prop_map.specs.declared.modifiers.Modifier.{Modifier as Modifie
 ghost use Rattle.piece_table.specs.Piece.{flat_pieces, total_length};
 ghost use Rattle.plain_doc.specs.Sound.{IsSound};
 ghost use Rattle.doc_patch.specs.declared.changes.Change.TheVariants.{ModifyItems};
-ghost use Rattle.save_laws.specs.Slots.{whole_text};
+ghost use Rattle.save_laws.specs.Slots.{document_slots};
 ghost use Rattle.save_laws.specs.Ends.{ends_of};
 ghost use Rattle.session_text.specs.SessionText.{IsSameText, section_properties};
 ghost use Rattle.session_text.specs.EditSteps.{AreEditSteps, ArePutSteps, IsActStep};
@@ -83,7 +83,7 @@ impl SessionText {
         requires steps { AreEditSteps document.now changes.now }
         requires few { length changes.now ≤ 3 }
         requires count { total_length self.old.pieces.pieces
-            ≡ length (whole_text document.now (ends_of self.old.ends)) }
+            ≡ length (document_slots document.now (ends_of self.old.ends)) }
         requires sections { length self.old.sections.items ≡ length (section_properties document.now.main) }
         requires room { self.old.added.base + (2 * length self.old.added.items + 3000000) < 2 ^ 32 }
         ensures text { OnOk result (IsTextEdit document.now changes.now self.old self.new) }
@@ -108,7 +108,7 @@ impl SessionText {
         requires steps { AreEditSteps document.now changes.now }
         requires few { length changes.now ≤ 3 }
         requires count { total_length self.old.pieces.pieces
-            ≡ length (whole_text document.now (ends_of self.old.ends)) }
+            ≡ length (document_slots document.now (ends_of self.old.ends)) }
         requires room { self.old.added.base + (2 * length self.old.added.items + 3000000) < 2 ^ 32 }
         ensures text { OnOk result (IsTextEdit document.now changes.now self.old self.new) }
         ensures sections { self.new.sections ≡ self.old.sections }
@@ -131,7 +131,7 @@ impl SessionText {
         requires steps { ArePutSteps document.now document.now changes.now }
         requires few { length changes.now ≤ 3 }
         requires count { total_length self.old.pieces.pieces
-            ≡ length (whole_text document.now (ends_of self.old.ends)) }
+            ≡ length (document_slots document.now (ends_of self.old.ends)) }
         requires room { self.old.added.base + (2 * length self.old.added.items + 3000000) < 2 ^ 32 }
         ensures text { OnOk result (IsTextEdit document.now changes.now self.old self.new) }
         ensures sections { self.new.sections ≡ self.old.sections }
@@ -194,7 +194,7 @@ impl SessionText {
         requires sound { IsSound document.now }
         requires acts { IsActStep document.now story range.0 range.1 by.now }
         requires count { total_length self.old.pieces.pieces
-            ≡ length (whole_text document.now (ends_of self.old.ends)) }
+            ≡ length (document_slots document.now (ends_of self.old.ends)) }
         ensures text { OnOk result
             (IsTextEdit document.now (ModifyItems story range.0 range.1 by.now ∷ []) self.old self.new) }
         ensures sections { self.new.sections ≡ self.old.sections }

@@ -1,8 +1,8 @@
 // What a change of the document is for its whole text: a block of items in place of a range of CPs.
 ghost use Rattle.std.specs.Prelude.{◌≡◌, ◌+◌, ◌^◌, ◌<◌, ◌≤◌, List, [], length};
-ghost use Rattle.plain_doc.specs.declared.item.Item.{Item as TextItem};
-ghost use Rattle.plain_doc.specs.declared.document.Document.{Document as TheDocument};
-ghost use Rattle.plain_doc.specs.Marks.{main_spliced};
+ghost use Rattle.doc_model.specs.declared.item.Item.{Item as TextItem};
+ghost use Rattle.doc_model.specs.declared.document.Document.{Document as TheDocument};
+ghost use Rattle.doc_model.specs.Marks.{main_spliced};
 ghost use Rattle.session_text.specs.StoryMarks.{AreSplicedTexts};
 ghost use Rattle.session_text.specs.TextSteps.{AreStories, IsTextStep};
 

@@ -1,10 +1,10 @@
 // The three stories of a text that is edited, by their numbers of items, and how a range of a story's items is in
 // the whole text.
 ghost use Rattle.std.specs.Prelude.{◌≡◌, ◌+◌, ◌-◌, ◌^◌, ◌<◌, ◌≤◌, List, length};
-ghost use Rattle.plain_doc.specs.declared.item.Item.{Item as TextItem};
-ghost use Rattle.plain_doc.specs.Collected.{joined_texts};
+ghost use Rattle.doc_model.specs.declared.item.Item.{Item as TextItem};
+ghost use Rattle.doc_model.specs.Collected.{joined_texts};
 ghost use Rattle.save_laws.specs.Slots.{Slot, loose_if};
-ghost use Rattle.session_text.specs.StoryMarks.{begin_of};
+ghost use Rattle.session_text.specs.StoryMarks.{nth_text_begin};
 ghost use Rattle.session_text.specs.TextSteps.{AreStories, IsStoryPlace, IsStoryCut, coming, going, ending};
 
 use doc_columns::{ColumnDocument, ColumnTexts};
@@ -116,7 +116,7 @@ fn end_behind(before: bool, after: bool, end: bool) -> bool
 pub(crate) fn begin_of_text(texts: &ColumnTexts, number: usize) -> usize
     requires within { number ≤ length texts.now }
     requires few { length (joined_texts texts.now) < 2 ^ 32 }
-    ensures begin { result ≡ begin_of texts.now number }
+    ensures begin { result ≡ nth_text_begin texts.now number }
     ensures within { result ≤ length (joined_texts texts.now) }
 {
     let mut begin = 0;

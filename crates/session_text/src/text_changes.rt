@@ -1,11 +1,11 @@
 // The step of a text for each change of its document.
 ghost use Rattle.std.specs.Prelude.{◌≡◌, ◌+◌, ◌^◌, ◌<◌, ◌≤◌, length, slice_get, MatchOption, IfOk};
-ghost use Rattle.plain_doc.specs.declared.document.Document.{Document as TheDocument};
-ghost use Rattle.plain_doc.specs.Collected.{joined_texts};
+ghost use Rattle.doc_model.specs.declared.document.Document.{Document as TheDocument};
+ghost use Rattle.doc_model.specs.Collected.{joined_texts};
 ghost use Rattle.doc_patch.specs.declared.changes.Change.TheVariants.{SpliceText};
 ghost use Rattle.doc_patch.specs.Changes.{changed};
 ghost use Rattle.save_laws.specs.Ends.{ends_of};
-ghost use Rattle.session_text.specs.StoryMarks.{begin_of};
+ghost use Rattle.session_text.specs.StoryMarks.{nth_text_begin};
 ghost use Rattle.session_text.specs.SessionChanges.{text_begin as begin_in_whole};
 ghost use Rattle.session_text.specs.EditSteps.{KeepsNamed, items_put};
 ghost use Rattle.session_text.specs.TextSteps.{AreStories, IsTextStep, IsRangeOf, HasRangeOf, CanStep};
@@ -95,8 +95,8 @@ fn splice_text(
 fn range_of(texts: &ColumnTexts, number: usize, range: (usize, usize)) -> (usize, usize)
     requires text { MatchOption (slice_get texts.now number) ⊥ (IsRangeOf range.0 range.1) }
     requires few { length (joined_texts texts.now) < 2 ^ 32 }
-    ensures from { result.0 ≡ begin_of texts.now number + range.0 }
-    ensures to { result.1 ≡ begin_of texts.now number + range.1 }
+    ensures from { result.0 ≡ nth_text_begin texts.now number + range.0 }
+    ensures to { result.1 ≡ nth_text_begin texts.now number + range.1 }
     ensures within { result.1 ≤ length (joined_texts texts.now) }
 {
     let begin = begin_of_text(texts, number);
@@ -108,8 +108,8 @@ fn range_of_texts(texts: &ColumnTexts, from: usize, to: usize) -> (usize, usize)
     requires order { from ≤ to }
     requires within { to ≤ length texts.now }
     requires few { length (joined_texts texts.now) < 2 ^ 32 }
-    ensures from { result.0 ≡ begin_of texts.now from }
-    ensures to { result.1 ≡ begin_of texts.now to }
+    ensures from { result.0 ≡ nth_text_begin texts.now from }
+    ensures to { result.1 ≡ nth_text_begin texts.now to }
     ensures order { result.0 ≤ result.1 }
     ensures within { result.1 ≤ length (joined_texts texts.now) }
 {

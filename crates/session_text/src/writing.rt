@@ -3,10 +3,10 @@ ghost use Rattle.std.specs.Prelude.{◌≡◌, ◌↔◌, ◌+◌, ◌*◌, ◌^
 ghost use Rattle.std.specs.Prelude.{slice_get, IfOk};
 ghost use Rattle.piece_table.specs.Piece.{total_length};
 ghost use Rattle.plain_doc.specs.Sound.{IsSound};
-ghost use Rattle.save_laws.specs.Slots.{whole_text};
+ghost use Rattle.save_laws.specs.Slots.{document_slots};
 ghost use Rattle.save_laws.specs.Ends.{ends_of};
 ghost use Rattle.session_text.specs.WrittenAgain.{IsRewritten, IsWrittenAgain, AreChosen, slot_item};
-ghost use Rattle.session_text.specs.WrittenAgain.{place_at, len_for, renewed_values};
+ghost use Rattle.session_text.specs.WrittenAgain.{place_if_again, len_for, renewed_values};
 ghost use Rattle.session_text.specs.Picked.{whole_items};
 ghost use Rattle.piece_table.specs.Renewals.{renewed_pieces, AreNewPlaces};
 
@@ -23,9 +23,9 @@ use std::alloc::Global;
 
 /// The text behind the main text of a document: the notes and the header texts with the marks behind these.
 fn behind_main(alloc: Global, document: &ColumnDocument, ends: Ends) -> Result<Columns, Memory>
-    requires { length (whole_text document.now (ends_of ends)) < 2 ^ 31 }
+    requires { length (document_slots document.now (ends_of ends)) < 2 ^ 31 }
     ensures { IfOk result (λ behind.
-        document.now.main ++ behind ≡ map slot_item (whole_text document.now (ends_of ends))) }
+        document.now.main ++ behind ≡ map slot_item (document_slots document.now (ends_of ends))) }
 {
     let notes = TextBuilder::new(alloc).with_story(alloc, &document.notes, ends.notes)?;
     let both = notes.with_story(alloc, &document.heads, ends.heads)?;
@@ -70,7 +70,7 @@ fn new_places(
 /// The place of a piece at a byte, where it is written again, and the byte behind it.
 fn place_for(again: bool, at: u32, len: u32) -> (Option<u32>, u32)
     requires { at + 2 * len < 2 ^ 32 }
-    ensures place { result.0 ≡ place_at again at }
+    ensures place { result.0 ≡ place_if_again again at }
     ensures end { result.1 ≡ at + 2 * len_for again len }
 {
     if again {
@@ -91,7 +91,7 @@ impl SessionText {
     ) -> Result<SessionText, Memory>
         requires sound { IsSound document.now }
         requires count { total_length self.now.pieces.pieces
-            ≡ length (whole_text document.now (ends_of self.now.ends)) }
+            ≡ length (document_slots document.now (ends_of self.now.ends)) }
         requires room { self.now.added.base + 2 * total_length self.now.pieces.pieces < 2 ^ 32 }
         ensures { IfOk result (λ text. IsWrittenAgain document.now which self.now text) }
     {
@@ -111,10 +111,10 @@ impl SessionText {
     ) -> Result<SessionText, Memory>
         requires sound { IsSound document.now }
         requires count { total_length self.now.pieces.pieces
-            ≡ length (whole_text document.now (ends_of self.now.ends)) }
+            ≡ length (document_slots document.now (ends_of self.now.ends)) }
         requires room { self.now.added.base + 2 * total_length self.now.pieces.pieces < 2 ^ 32 }
         requires behind { document.now.main ++ behind.now
-            ≡ map slot_item (whole_text document.now (ends_of self.now.ends)) }
+            ≡ map slot_item (document_slots document.now (ends_of self.now.ends)) }
         ensures { IfOk result (λ text. IsWrittenAgain document.now which self.now text) }
     {
         let whole = WholeText {

@@ -8,7 +8,8 @@ use Rattle.std.proofs.lemmas.List.Concat.{flat_map-append}
 use Rattle.std.proofs.lemmas.List.Elements.{All-nil, All-head, All-tail, All-push}
 use Rattle.sprm_table.specs.Codes.{IsRefusedIn}
 use Rattle.sprm_table.specs.Cursor.{IsPrlAt}
-use Rattle.sprm_table.specs.Sprm.{Prl, IsPrl, spelling, EndsSprmList, SpellsUpTo, AfterEntries, IsShort, IsRefused}
+use Rattle.sprm_table.specs.Sprm.{Prl, IsPrl, spelling, EndsSprmList, SpellsUpTo, AfterEntries, IsShortPrl}
+use Rattle.sprm_table.specs.Sprm.{IsRefusedPrl}
 use Rattle.sprm_table.specs.Sprm.{HasSprmFaultAt, IsFirstSprmFault, IsAcceptedList, fault_place}
 use Rattle.sprm_table.specs.declared.faults.SprmFault.{SprmFault}
 use Rattle.sprm_table.specs.declared.faults.SprmFault.TheVariants.{Short, Refused}
@@ -20,7 +21,7 @@ IsAccepted groups prl = ¬ (IsRefusedIn groups prl.0)
 
 -- the bytes begin with a fault
 abbrev pub IsFaulty : ℕ → List ℕ → Type 0
-IsFaulty groups bytes = IsShort bytes ⊎ IsRefused groups bytes
+IsFaulty groups bytes = IsShortPrl bytes ⊎ IsRefusedPrl groups bytes
 
 -- whole entries without a fault come before the place
 pub record Passed (bytes : List ℕ) (groups at : ℕ) : Type 0 where
@@ -167,12 +168,12 @@ passed_end bytes groups at passed ends = record {
 
 -- after what was passed, a code whose operand leaves the list is the first fault
 pub short_first : (bytes rest : List ℕ) (groups at : ℕ) → rest ≡ drop at bytes → Passed bytes groups at →
-    IsShort rest → IsFirstSprmFault bytes groups (Short at)
+    IsShortPrl rest → IsFirstSprmFault bytes groups (Short at)
 short_first bytes rest groups at e passed short =
-    let there : AfterEntries IsShort bytes at = record {
+    let there : AfterEntries IsShortPrl bytes at = record {
       before = passed.before;
       front = passed.front;
-      here = subst IsShort e short;
+      here = subst IsShortPrl e short;
     } in
     record {
       there = there;
@@ -187,17 +188,17 @@ short_first bytes rest groups at e passed short =
 pub refused_first : (bytes rest : List ℕ) (groups at code from to : ℕ) → rest ≡ drop at bytes → Passed bytes groups
     at → IsPrlAt rest 0 code from to → IsRefusedIn groups code → IsFirstSprmFault bytes groups (Refused at)
 refused_first bytes rest groups at code from to e passed prl refused =
-    let here : IsRefused groups rest = record {
+    let here : IsRefusedPrl groups rest = record {
       prl = (code, slice_range rest from to);
       more = drop to rest;
       entry = prl.entry;
       spelt = prl.spelt;
       refused = refused;
     } in
-    let there : AfterEntries (IsRefused groups) bytes at = record {
+    let there : AfterEntries (IsRefusedPrl groups) bytes at = record {
       before = passed.before;
       front = passed.front;
-      here = subst (IsRefused groups) e here;
+      here = subst (IsRefusedPrl groups) e here;
     } in
     record {
       there = there;
@@ -215,8 +216,8 @@ fault_not_accepted bytes groups fault first accepted = accepted_no_fault bytes g
     first.least.broken
 
 -- no place has both faults
-one_kind : (bytes : List ℕ) (groups : ℕ) → IsShort bytes → IsRefused groups bytes → ⊥
-one_kind bytes groups short refused = entry_not_short refused.prl refused.more refused.entry (subst IsShort
+one_kind : (bytes : List ℕ) (groups : ℕ) → IsShortPrl bytes → IsRefusedPrl groups bytes → ⊥
+one_kind bytes groups short refused = entry_not_short refused.prl refused.more refused.entry (subst IsShortPrl
     refused.spelt short)
 
 -- two first faults are at one place
@@ -236,9 +237,9 @@ first_unique bytes groups (Refused at) (Refused to) one other = ap Refused (same
     (Refused to) one other)
 first_unique bytes groups (Short at) (Refused to) one other =
     let same = same_place bytes groups (Short at) (Refused to) one other in
-    absurd (one_kind (drop to bytes) groups (subst (λ (place : ℕ). IsShort (drop place bytes)) same one.there.here)
+    absurd (one_kind (drop to bytes) groups (subst (λ (place : ℕ). IsShortPrl (drop place bytes)) same one.there.here)
     other.there.here)
 first_unique bytes groups (Refused at) (Short to) one other =
     let same = same_place bytes groups (Refused at) (Short to) one other in
-    absurd (one_kind (drop to bytes) groups other.there.here (subst (λ (place : ℕ). IsRefused groups
+    absurd (one_kind (drop to bytes) groups other.there.here (subst (λ (place : ℕ). IsRefusedPrl groups
     (drop place bytes)) same one.there.here))

@@ -9,7 +9,8 @@ use Rattle.doc_bits.proofs.Public.{number_at-number_bytes, length-number_bytes}
 use Rattle.sprm_table.specs.declared.operands.OperandSize.{OperandSize}
 use Rattle.sprm_table.specs.declared.operands.OperandSize.TheVariants.{Fixed, CountedByByte, CountedByWord}
 use Rattle.sprm_table.proofs.CodeLemmas.{apart}
-use Rattle.sprm_table.specs.Operands.{size_of, fixed_len, counted, IsSizeOf, operand_bytes, IsOperandAt, HasNoOperand}
+use Rattle.sprm_table.specs.Operands.{size_of, fixed_operand_len, counted, IsSizeOf, operand_bytes, IsOperandAt}
+use Rattle.sprm_table.specs.Operands.{HasNoOperand}
 pub use Rattle.doc_bits.specs.Number.{AreBytes}
 pub use Rattle.doc_bits.proofs.Public.{same_front, three_parts, length-range}
 
@@ -153,8 +154,8 @@ range_moved bytes rest at from to e =
 not_counted : (code spra : ℕ) → code / 8192 ≡ spra → ¬ (spra ≡ 6) → (code == 0xD608) ≡ false
 not_counted code spra e other = apart code 0xD608 (λ same. other (omega arith))
 
-by_spra : (code spra : ℕ) → code / 8192 ≡ spra → spra < 8 → ¬ (fixed_len code ≡ 0) →
-    Fixed (fixed_len code) ≡ size_of code
+by_spra : (code spra : ℕ) → code / 8192 ≡ spra → spra < 8 → ¬ (fixed_operand_len code ≡ 0) →
+    Fixed (fixed_operand_len code) ≡ size_of code
 by_spra code zero e lt some = rw (not_counted code 0 e (λ s. omega arith), e) refl
 by_spra code (suc zero) e lt some = rw (not_counted code 1 e (λ s. omega arith), e) refl
 by_spra code (suc (suc zero)) e lt some = rw (not_counted code 2 e (λ s. omega arith), e) refl
@@ -167,10 +168,11 @@ by_spra code (suc (suc (suc (suc (suc (suc (suc zero))))))) e lt some =
 by_spra code (suc (suc (suc (suc (suc (suc (suc (suc n)))))))) e lt some = absurd (omega arith)
 
 -- an operand of some bytes has this size
-pub fixed_size : (code : ℕ) → code < 65536 → ¬ (fixed_len code ≡ 0) → Fixed (fixed_len code) ≡ size_of code
+pub fixed_size : (code : ℕ) → code < 65536 → ¬ (fixed_operand_len code ≡ 0) → Fixed (fixed_operand_len code) ≡ size_of
+    code
 fixed_size code word some = by_spra code (code / 8192) refl (omega arith) some
 
-by_count : (code spra : ℕ) → code / 8192 ≡ spra → spra < 8 → fixed_len code ≡ 0 → counted code ≡ size_of code
+by_count : (code spra : ℕ) → code / 8192 ≡ spra → spra < 8 → fixed_operand_len code ≡ 0 → counted code ≡ size_of code
 by_count code zero e lt none = absurd (let f : 1 ≡ 0 = rw e at none in omega arith)
 by_count code (suc zero) e lt none = absurd (let f : 1 ≡ 0 = rw e at none in omega arith)
 by_count code (suc (suc zero)) e lt none = absurd (let f : 2 ≡ 0 = rw e at none in omega arith)
@@ -183,5 +185,5 @@ by_count code (suc (suc (suc (suc (suc (suc (suc zero))))))) e lt none = absurd 
 by_count code (suc (suc (suc (suc (suc (suc (suc (suc n)))))))) e lt none = absurd (omega arith)
 
 -- where there are none, it is counted
-pub counted_size : (code : ℕ) → code < 65536 → fixed_len code ≡ 0 → counted code ≡ size_of code
+pub counted_size : (code : ℕ) → code < 65536 → fixed_operand_len code ≡ 0 → counted code ≡ size_of code
 counted_size code word none = by_count code (code / 8192) refl (omega arith) none

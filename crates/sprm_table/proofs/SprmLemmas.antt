@@ -8,8 +8,8 @@ use Rattle.std.proofs.lemmas.List.Elements.{All-nil, All-head, All-tail}
 use Rattle.doc_bits.specs.Number.{u16_at, number_bytes}
 use Rattle.doc_bits.proofs.Public.{number_at-number_bytes, length-number_bytes}
 use Rattle.sprm_table.specs.Operands.{size_of, IsSizeOf, operand_bytes, IsOperandAt}
-use Rattle.sprm_table.specs.Sprm.{Prl, IsPrl, spelling, EndsSprmList, SpellsSprmList, IsShort}
-use Rattle.sprm_table.specs.Cursor.{SprmCursor, left, IsPrlAt, Gives, Takes}
+use Rattle.sprm_table.specs.Sprm.{Prl, IsPrl, spelling, EndsSprmList, SpellsSprmList, IsShortPrl}
+use Rattle.sprm_table.specs.Cursor.{SprmCursor, left, IsPrlAt, GivesPrl, TakesFirstPrl}
 use Rattle.sprm_table.proofs.OperandLemmas.{AreBytes, operand_unique, number_bytes-u16_at, length-range, range_moved}
 
 -- the code and the operand apart
@@ -59,14 +59,14 @@ entry_goes_on prl more is ends = elim ends [
 ]
 
 -- an entry's operand doesn't leave its list
-pub entry_not_short : (prl : Prl) (more : List ℕ) → IsPrl prl → IsShort (spelling prl ++ more) → ⊥
+pub entry_not_short : (prl : Prl) (more : List ℕ) → IsPrl prl → IsShortPrl (spelling prl ++ more) → ⊥
 entry_not_short prl more is short =
     let code = u16_at-spelling prl more is in
     let leaves = short.leaves in
     (rw (code, drop-spelling prl more) at leaves) prl.1 more is.size refl
 
 -- where the list ends no operand leaves it
-pub end_not_short : (bytes : List ℕ) → EndsSprmList bytes → IsShort bytes → ⊥
+pub end_not_short : (bytes : List ℕ) → EndsSprmList bytes → IsShortPrl bytes → ⊥
 end_not_short bytes ends short = elim ends [
   | inl h ↦ let word = short.word in omega arith
   | inr none ↦ let some = short.some in omega arith
@@ -140,11 +140,11 @@ spells_entry bytes (q ∷ others) prl more is e spelt =
     }
 
 -- no list has an operand that leaves it
-pub spells_no_short : (bytes : List ℕ) (list : List Prl) → IsShort bytes → SpellsSprmList bytes list → ⊥
-spells_no_short bytes [] short spelt = end_not_short spelt.rest spelt.ends (subst IsShort spelt.spelt short)
+pub spells_no_short : (bytes : List ℕ) (list : List Prl) → IsShortPrl bytes → SpellsSprmList bytes list → ⊥
+spells_no_short bytes [] short spelt = end_not_short spelt.rest spelt.ends (subst IsShortPrl spelt.spelt short)
 spells_no_short bytes (q ∷ others) short spelt =
     entry_not_short q (flat_map spelling others ++ spelt.rest) (All-head IsPrl q others spelt.entries)
-    (subst IsShort (spelt.spelt ∙ append_assoc (spelling q) (flat_map spelling others) spelt.rest) short)
+    (subst IsShortPrl (spelt.spelt ∙ append_assoc (spelling q) (flat_map spelling others) spelt.rest) short)
 
 -- an entry from what is known of its parts
 prl_of_parts : (bytes value more : List ℕ) (at code from to : ℕ) → at + 2 ≤ from → from ≤ to → to ≤ length bytes →
@@ -196,8 +196,8 @@ prl_moved bytes rest at code from to e here =
     (range_moved bytes rest at from to e) end here.entry (sym e ∙ here.spelt)
 
 -- what is given is the first of the list that was left
-pub gives_takes : (old new : SprmCursor) (code from to : ℕ) (list : List Prl) → Gives old new code from to →
-    SpellsSprmList (left old) list → Takes old new list code from to
+pub gives_takes : (old new : SprmCursor) (code from to : ℕ) (list : List Prl) → GivesPrl old new code from to →
+    SpellsSprmList (left old) list → TakesFirstPrl old new list code from to
 gives_takes old new code from to list given spelt =
     let follows = spells_entry (left old) list (code, slice_range old.bytes from to) (drop to old.bytes)
     given.entry.entry given.entry.spelt spelt in
@@ -211,8 +211,9 @@ gives_takes old new code from to list given spelt =
 
 -- an entry at the front of what is left is given
 pub gives : (old : SprmCursor) (bytes rest : List ℕ) (at code from to : ℕ) → record { bytes = bytes; at = at } ≡ old →
-    rest ≡ drop at bytes → IsPrlAt rest 0 code from to → Gives old (record { bytes = bytes; at = at + to }) code
+    rest ≡ drop at bytes → IsPrlAt rest 0 code from to → GivesPrl old (record { bytes = bytes; at = at + to }) code
     (at + from) (at + to)
 gives old bytes rest at code from to is e here =
-    subst (λ (cursor : SprmCursor). Gives cursor (record { bytes = bytes; at = at + to }) code (at + from) (at + to)) is
+    subst (λ (cursor : SprmCursor). GivesPrl cursor (record { bytes = bytes; at = at + to }) code (at + from) (at + to))
+    is
     (record { entry = prl_moved bytes rest at code from to e here; bytes = refl; at = refl })

@@ -13,9 +13,9 @@ abbrev pub is_held : ℕ → ℕ → Bool
 is_held groups code = groups / 2 ^ sgc code % 2 == 1
 
 -- the code is one of these
-abbrev pub is_among : ℕ → List ℕ → Bool
-is_among code [] = false
-is_among code (other ∷ others) = code == other || is_among code others
+abbrev pub is_code_among : ℕ → List ℕ → Bool
+is_code_among code [] = false
+is_code_among code (other ∷ others) = code == other || is_code_among code others
 
 -- Profile: the toggles, sprmCFBold to sprmCFVanish, sprmCFImprint and sprmCFEmboss
 abbrev pub toggles : List ℕ
@@ -30,8 +30,8 @@ abbrev pub class_of : ℕ → Class
 class_of code =
     if code == 0x2A33 then Clear else
     if code == 0x4600 then Style else
-    if is_among code toggles then Toggle else
-    if is_among code refused_codes then Refused else Plain
+    if is_code_among code toggles then Toggle else
+    if is_code_among code refused_codes then Refused else Plain
 
 -- the sprm sets its code to its value
 abbrev pub is_property : Class → Bool

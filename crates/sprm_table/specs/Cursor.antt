@@ -1,6 +1,6 @@
 -- Going through a list of sprms.
 use Rattle.std.specs.Prelude.{◌≡◌, ◌⊎◌, ℕ, ◌+◌, ◌≤◌, List, ◌∷◌, ◌++◌, length, drop, slice_range}
-use Rattle.sprm_table.specs.Sprm.{Prl, IsPrl, spelling, EndsSprmList, SpellsSprmList, IsShort}
+use Rattle.sprm_table.specs.Sprm.{Prl, IsPrl, spelling, EndsSprmList, SpellsSprmList, IsShortPrl}
 
 -- the bytes of the list, and the place that was reached in them
 pub record SprmCursor : Type 0 where
@@ -22,16 +22,16 @@ pub record IsPrlAt (bytes : List ℕ) (at code from to : ℕ) : Type 0 where
 -- nothing is given: the list ends here, or the next code's operand leaves it
 pub record GivesNothing (old new : SprmCursor) : Type 0 where
   pub stays : new ≡ old
-  pub ended : EndsSprmList (left old) ⊎ IsShort (left old)
+  pub ended : EndsSprmList (left old) ⊎ IsShortPrl (left old)
 
 -- an entry is given, and the place is after it
-pub record Gives (old new : SprmCursor) (code from to : ℕ) : Type 0 where
+pub record GivesPrl (old new : SprmCursor) (code from to : ℕ) : Type 0 where
   pub entry : IsPrlAt old.bytes old.at code from to
   pub bytes : new.bytes ≡ old.bytes
   pub at : new.at ≡ to
 
 -- the entry is the first of the list that was left, and the others are left
-pub record Takes (old new : SprmCursor) (list : List Prl) (code from to : ℕ) : Type 0 where
+pub record TakesFirstPrl (old new : SprmCursor) (list : List Prl) (code from to : ℕ) : Type 0 where
   pub others : List Prl
   pub is : list ≡ (code, slice_range old.bytes from to) ∷ others
   pub left : SpellsSprmList (left new) others

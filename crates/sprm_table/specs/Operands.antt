@@ -15,8 +15,8 @@ size_of code =
     if code / 8192 == 0 || code / 8192 == 1 then Fixed 1 else Fixed 3
 
 -- how many bytes an operand has, 0 where they are counted
-abbrev pub fixed_len : ℕ → ℕ
-fixed_len code =
+abbrev pub fixed_operand_len : ℕ → ℕ
+fixed_operand_len code =
     if code / 8192 == 2 || (code / 8192 == 4 || code / 8192 == 5) then 2 else
     if code / 8192 == 3 then 4 else
     if code / 8192 == 6 then 0 else

@@ -54,13 +54,13 @@ pub record AfterEntries (such : List ℕ → Type 0) (bytes : List ℕ) (at : �
   pub here : such (drop at bytes)
 
 -- the bytes begin with a code whose operand leaves them
-pub record IsShort (bytes : List ℕ) : Type 0 where
+pub record IsShortPrl (bytes : List ℕ) : Type 0 where
   pub word : 2 ≤ length bytes
   pub some : 0 < u16_at bytes 0
   pub leaves : HasNoOperand (size_of (u16_at bytes 0)) (drop 2 bytes)
 
 -- the bytes begin with a whole entry whose code is not read, of a group that the place holds
-pub record IsRefused (groups : ℕ) (bytes : List ℕ) : Type 0 where
+pub record IsRefusedPrl (groups : ℕ) (bytes : List ℕ) : Type 0 where
   pub prl : Prl
   pub more : List ℕ
   pub entry : IsPrl prl
@@ -69,11 +69,11 @@ pub record IsRefused (groups : ℕ) (bytes : List ℕ) : Type 0 where
 
 -- the list is cut short at the place: the operand of the code there leaves it
 abbrev pub IsCutShortAt : List ℕ → ℕ → Type 0
-IsCutShortAt = AfterEntries IsShort
+IsCutShortAt = AfterEntries IsShortPrl
 
 -- the code at the place is not read, of a group that the place holds
 abbrev pub IsRefusedAt : List ℕ → ℕ → ℕ → Type 0
-IsRefusedAt bytes groups = AfterEntries (IsRefused groups) bytes
+IsRefusedAt bytes groups = AfterEntries (IsRefusedPrl groups) bytes
 
 -- a fault is at the place
 abbrev pub HasSprmFaultAt : List ℕ → ℕ → ℕ → Type 0

@@ -3,7 +3,7 @@ ghost use Rattle.std.specs.Prelude.{◌≡◌, ◌↔◌, List, [], MatchOption}
 ghost use Rattle.doc_bits.specs.Rules.{Nowhere};
 ghost use Rattle.sprm_table.specs.Sprm.{Prl, SpellsSprmList, HasSprmFaultAt};
 ghost use Rattle.sprm_table.specs.Sprm.{IsAcceptedList, IsFirstSprmFault};
-ghost use Rattle.sprm_table.specs.Cursor.{left, GivesNothing, Gives, Takes};
+ghost use Rattle.sprm_table.specs.Cursor.{left, GivesNothing, GivesPrl, TakesFirstPrl};
 ghost use Rattle.sprm_table.specs.Front.{IsStep};
 
 use crate::{Code, SprmFault, is_refused, operand};
@@ -65,10 +65,10 @@ impl<'a> SprmIter<'a> {
     pub fn next(&mut self) -> Option<(Code, usize, usize)>
         ensures given { MatchOption result
             (GivesNothing self.old self.new)
-            (λ prl. Gives self.old self.new prl.0.0 prl.1 prl.2) }
+            (λ prl. GivesPrl self.old self.new prl.0.0 prl.1 prl.2) }
         ensures taken { (list : List Prl) → SpellsSprmList (left self.old) list → MatchOption result
             (list ≡ [])
-            (λ prl. Takes self.old self.new list prl.0.0 prl.1 prl.2) }
+            (λ prl. TakesFirstPrl self.old self.new list prl.0.0 prl.1 prl.2) }
     {
         match head(&self.list[self.at..]) {
             Step::Prl(code, from, to) => {

@@ -1,5 +1,5 @@
 ghost use Rattle.std.specs.Prelude.{◌≡◌, MatchOption};
-ghost use Rattle.sprm_table.specs.Operands.{size_of, fixed_len, counted, IsOperandAt, HasNoOperand};
+ghost use Rattle.sprm_table.specs.Operands.{size_of, fixed_operand_len, counted, IsOperandAt, HasNoOperand};
 
 use crate::Code;
 use doc_bits::get16;
@@ -31,7 +31,7 @@ pub fn operand_size(code: Code) -> OperandSize
 
 /// By the spra of a code, how many bytes its operand has; 0 where they are counted.
 fn fixed_len(code: Code) -> u8
-    ensures { result ≡ fixed_len code.0 }
+    ensures { result ≡ fixed_operand_len code.0 }
 {
     match code.0 >> 13 {
         0 | 1 => 1,

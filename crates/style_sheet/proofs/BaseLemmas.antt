@@ -2,7 +2,7 @@
 use Rattle.std.proofs.Common.{◌≡◌, ◌⊎◌, inl, inr, ℕ, zero, suc, ◌+◌, ◌≤◌, List, length, Option, Some, None, refl, arith}
 use Rattle.std.proofs.lemmas.Bool.{cases_eq}
 use Rattle.style_sheet.specs.Sheet.{Sheet}
-use Rattle.style_sheet.specs.Chain.{kind_at, base_at, IsBaseChain, HasSoundBases, BreaksBases}
+use Rattle.style_sheet.specs.Chain.{style_kind_at, base_at, IsBaseChain, HasSoundBases, BreaksBases}
 use Rattle.style_sheet.proofs.ChainLemmas.{ups, IsClimbed, climbed_none, climbed_more, climbed_chain}
 use Rattle.style_sheet.proofs.OneChainLemmas.{climbed_below, next_kind, chain_short}
 
@@ -14,7 +14,7 @@ IsDecided sheet istd = ((chain : List ℕ) × IsBaseChain sheet istd chain) ⊎ 
 next_base : (sheet : Sheet) (istd n at : ℕ) → IsClimbed sheet istd n at → (base : Option ℕ) → base_at sheet at ≡ base →
     ((next : ℕ) → IsClimbed sheet istd (suc n) next → IsDecided sheet istd) → IsDecided sheet istd
 next_base sheet istd n at c None e more = inl (ups sheet istd n, climbed_chain sheet istd n at c e)
-next_base sheet istd n at c (Some next) e more = elim (cases_eq (kind_at sheet next) (kind_at sheet istd)) [
+next_base sheet istd n at c (Some next) e more = elim (cases_eq (style_kind_at sheet next) (style_kind_at sheet istd)) [
   | inl same ↦ more next (climbed_more sheet istd n at next c e same)
   | inr other ↦ inr (λ chain b. other (next_kind sheet istd n at next chain c e b))
 ]
@@ -31,7 +31,7 @@ climb sheet istd n at (suc left) c h =
 
 pub unbroken_bases : (sheet : Sheet) → ((istd : ℕ) → ¬ BreaksBases sheet istd) → HasSoundBases sheet
 unbroken_bases sheet none = record {
-  normal = elim (cases_eq (kind_at sheet 0) 1) [
+  normal = elim (cases_eq (style_kind_at sheet 0) 1) [
     | inl e ↦ e
     | inr other ↦ absurd (none 0 (inl (refl, other)))
   ];

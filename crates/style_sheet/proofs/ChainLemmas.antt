@@ -5,7 +5,7 @@ use Rattle.std.specs.Option.{unwrap_or}
 use Rattle.std.proofs.lemmas.Bool.{cases_lt}
 use Rattle.std.proofs.lemmas.List.{reverse-append, get_or-take, length-take-le}
 use Rattle.style_sheet.specs.Sheet.{Sheet}
-use Rattle.style_sheet.specs.Chain.{kind_at, base_at, IsBaseChain, AreOfOneKind}
+use Rattle.style_sheet.specs.Chain.{style_kind_at, base_at, IsBaseChain, AreOfOneKind}
 
 -- the style that is reached by so many bases
 abbrev pub up : Sheet → ℕ → ℕ → ℕ
@@ -19,12 +19,12 @@ ups sheet istd (suc n) = up sheet istd (suc n) ∷ ups sheet istd n
 
 -- so many bases follow each other, all of the style's kind
 pub record IsClimbed (sheet : Sheet) (istd n at : ℕ) : Type 0 where
-  pub properties : 0 < kind_at sheet istd
+  pub properties : 0 < style_kind_at sheet istd
   pub here : at ≡ up sheet istd n
   pub links : (k : ℕ) → k < n → base_at sheet (up sheet istd k) ≡ Some (up sheet istd (suc k))
-  pub kind : (k : ℕ) → k ≤ n → kind_at sheet (up sheet istd k) ≡ kind_at sheet istd
+  pub kind : (k : ℕ) → k ≤ n → style_kind_at sheet (up sheet istd k) ≡ style_kind_at sheet istd
 
-pub climbed_none : (sheet : Sheet) (istd : ℕ) → 0 < kind_at sheet istd → IsClimbed sheet istd 0 istd
+pub climbed_none : (sheet : Sheet) (istd : ℕ) → 0 < style_kind_at sheet istd → IsClimbed sheet istd 0 istd
 climbed_none sheet istd h = record {
   properties = h;
   here = refl;
@@ -38,7 +38,7 @@ pub up_more : (sheet : Sheet) (istd n at base : ℕ) → at ≡ up sheet istd n 
 up_more sheet istd n at base here e = ap (λ b. unwrap_or b (up sheet istd n)) (ap (base_at sheet) (sym here) ∙ e)
 
 pub climbed_more : (sheet : Sheet) (istd n at base : ℕ) → IsClimbed sheet istd n at → base_at sheet at ≡ Some base →
-    kind_at sheet base ≡ kind_at sheet istd → IsClimbed sheet istd (suc n) base
+    style_kind_at sheet base ≡ style_kind_at sheet istd → IsClimbed sheet istd (suc n) base
 climbed_more sheet istd n at base c e same =
     let next = up_more sheet istd n at base c.here e in
     record {
@@ -55,7 +55,8 @@ climbed_more sheet istd n at base c e same =
         | inl lo ↦ c.kind k (omega arith)
         | inr hi ↦
             let last : suc n ≡ k = omega arith in
-            subst (λ j. kind_at sheet (up sheet istd j) ≡ kind_at sheet istd) last (ap (kind_at sheet) next ∙ same)
+            subst (λ j. style_kind_at sheet (up sheet istd j) ≡ style_kind_at sheet istd) last (ap (style_kind_at sheet)
+            next ∙ same)
       ];
     }
 
@@ -112,7 +113,7 @@ climbed_chain sheet istd n at c root =
           ∙ ap Some (sym (ups_at sheet istd n i (omega arith) ∙ ap (up sheet istd) next)));
       kind = λ i h. record {
         properties = c.properties;
-        same = ap (kind_at sheet) (ups_at sheet istd n i (omega arith)) ∙ c.kind (n - i) (omega arith);
+        same = ap (style_kind_at sheet) (ups_at sheet istd n i (omega arith)) ∙ c.kind (n - i) (omega arith);
       };
       once = λ i j less below e.
           up_apart sheet istd n at (n - j) (n - i) c root (omega arith) (omega arith)

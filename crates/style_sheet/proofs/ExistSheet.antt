@@ -8,7 +8,7 @@ use Rattle.doc_bits.specs.Number.{u16_at, AreBytes}
 use Rattle.doc_bits.specs.Rules.{Hold}
 use Rattle.style_sheet.specs.declared.styles.Style.{Style}
 use Rattle.style_sheet.specs.Counted.{counted_end}
-use Rattle.style_sheet.specs.Stsh.{cstd, std_base, head_of, slot_place, std_of, IsSlot, table_offset, HasListFault}
+use Rattle.style_sheet.specs.Stsh.{cstd, std_base, stshi_words, slot_place, std_of, IsSlot, table_offset, HasUpxFault}
 use Rattle.style_sheet.specs.Stsh.{stsh_rules, SpellsSlot}
 use Rattle.style_sheet.specs.Written.{PartsHoldSheets}
 pub use Rattle.style_sheet.specs.Written.{HasFormedSheet}
@@ -25,7 +25,7 @@ record IsValidSlot (part : List ℕ) (istd : ℕ) (slot : Option Style) : Type 0
   formed : IsFormedSlot slot
 
 slot_there : (part : List ℕ) (istd : ℕ) → AreBytes part → IsSlot part istd → ((offset : ℕ) →
-    ¬ (HasListFault (std_of part istd) (std_base part) offset)) → (slot : Option Style) × IsValidSlot part istd slot
+    ¬ (HasUpxFault (std_of part istd) (std_base part) offset)) → (slot : Option Style) × IsValidSlot part istd slot
 slot_there part istd are is none = elim (cases_lt 0 (u16_at part (slot_place part istd))) [
   | inl some ↦
       let has = style_there (std_of part istd) (std_base part)
@@ -35,7 +35,7 @@ slot_there part istd are is none = elim (cases_lt 0 (u16_at part (slot_place par
   | inr empty_slot ↦ (None, record { is = omega arith; formed = tt })
 ]
 
-head_small : (part : List ℕ) → AreBytes part → All (λ number. number < 65536) (head_of part)
+head_small : (part : List ℕ) → AreBytes part → All (λ number. number < 65536) (stshi_words part)
 head_small part are =
     let P : ℕ → Type 0 = λ number. number < 65536 in
     let from18 : List ℕ = u16_at part 18 ∷ [] in
@@ -64,7 +64,7 @@ sheet_there part at are hold =
       below = below;
       broken = record { here = refl; wrong = no };
     })) in
-    let none : (istd : ℕ) → istd < cstd part → (offset : ℕ) → ¬ (HasListFault (std_of part istd) (std_base part)
+    let none : (istd : ℕ) → istd < cstd part → (offset : ℕ) → ¬ (HasUpxFault (std_of part istd) (std_base part)
     offset) = λ istd below offset fault.
     hold.1.1 (at + (slot_place part istd + 2) + offset) (record {
       entry = istd;
@@ -77,7 +77,7 @@ sheet_there part at are hold =
     let some = stshif.some in
     let few = stshif.few in
     record {
-      sheet = record { head = head_of part; styles = slots.list };
+      sheet = record { head = stshi_words part; styles = slots.list };
       has = record {
         head = refl;
         slots = len;

@@ -15,9 +15,9 @@ use Rattle.style_sheet.specs.declared.styles.Style.{Style}
 use Rattle.style_sheet.specs.declared.styles.Kind.{Kind}
 use Rattle.style_sheet.specs.declared.styles.Kind.TheVariants.{Para, Char, Other}
 use Rattle.style_sheet.specs.Counted.{counted_end}
-use Rattle.style_sheet.specs.StyleDefinition.{stk, cupx, name_len, upx_place, upx, IsStd, IsMapOf, paragraph_list}
-use Rattle.style_sheet.specs.StyleDefinition.{SpellsKind, SpellsStyle, base_of}
-use Rattle.style_sheet.specs.Stsh.{HasListFault}
+use Rattle.style_sheet.specs.StyleDefinition.{stk, cupx, style_name_len, upx_place, upx, IsStd, IsMapOf, paragraph_list}
+use Rattle.style_sheet.specs.StyleDefinition.{SpellsKind, SpellsStyle, istd_base}
+use Rattle.style_sheet.specs.Stsh.{HasUpxFault}
 use Rattle.style_sheet.specs.Formed.{IsFormedKind, IsFormedBase, IsFormedStyle}
 use Rattle.prop_map.proofs.Public.{IsPropertyMap-after, IsPropertyMap-empty, accepted_of, list_bytes, after_list}
 use Rattle.style_sheet.proofs.MadeLists.{list_of}
@@ -81,7 +81,7 @@ other_there std base are three =
       );
     }
 
-kind_there : (std : List ℕ) (base : ℕ) → AreBytes std → IsStd std base → Nowhere (HasListFault std base) →
+kind_there : (std : List ℕ) (base : ℕ) → AreBytes std → IsStd std base → Nowhere (HasUpxFault std base) →
     HasStyleKind std base
 kind_there std base are is none = elim (cases_eq (stk std) 1) [
   | inl para ↦
@@ -159,11 +159,11 @@ pub record HasStyle (std : List ℕ) (base : ℕ) : Type 0 where
   pub is : SpellsStyle std base style
   pub formed : IsFormedStyle style
 
-pub style_there : (std : List ℕ) (base : ℕ) → AreBytes std → IsStd std base → Nowhere (HasListFault std base) →
+pub style_there : (std : List ℕ) (base : ℕ) → AreBytes std → IsStd std base → Nowhere (HasUpxFault std base) →
     HasStyle std base
 style_there std base are is none =
     let kind = kind_there std base are is none in
-    let name = list_of (name_len std base) (λ (i : ℕ) (x : ℕ). x ≡ u16_at std (base + 2 + 2 * i))
+    let name = list_of (style_name_len std base) (λ (i : ℕ) (x : ℕ). x ≡ u16_at std (base + 2 + 2 * i))
     (λ i below. (u16_at std (base + 2 + 2 * i), refl)) in
     let w0 = word_small std 0 are in
     let w1 = word_small std 2 are in
@@ -172,7 +172,7 @@ style_there std base are is none =
       style = record {
         sti = u16_at std 0 % 4096;
         flags = u16_at std 0 / 4096;
-        base = base_of (u16_at std 2 / 16);
+        base = istd_base (u16_at std 2 / 16);
         next = u16_at std 4 / 16;
         grfstd = u16_at std 8;
         name = name.list;
@@ -187,7 +187,7 @@ style_there std base are is none =
         name = record {
           count = name.len;
           each = λ i below. name.each i (slice_index name.list i) (at_place name.list
-              i (name_len std base) 0 name.len below);
+              i (style_name_len std base) 0 name.len below);
         };
         kind = kind.is;
       };

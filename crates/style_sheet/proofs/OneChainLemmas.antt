@@ -5,7 +5,8 @@ use Rattle.std.proofs.lemmas.Bool.{cases_lt}
 use Rattle.std.proofs.lemmas.List.{ext_get_or, get_or_past}
 use Rattle.doc_bits.proofs.Public.{length_below}
 use Rattle.style_sheet.specs.Sheet.{Sheet}
-use Rattle.style_sheet.specs.Chain.{kind_at, kind_in, base_at, IsBaseChain, HasSoundBase, HasSoundBases, BreaksBases}
+use Rattle.style_sheet.specs.Chain.{style_kind_at, style_kind_in, base_at, IsBaseChain, HasSoundBase, HasSoundBases}
+use Rattle.style_sheet.specs.Chain.{BreaksBases}
 use Rattle.style_sheet.specs.Chain.{BaseChainIsOne}
 use Rattle.style_sheet.proofs.ChainLemmas.{up, IsClimbed, up_more}
 
@@ -40,9 +41,10 @@ chain_root sheet istd chain c =
     ∙ c.root
 
 pub chain_kind : (sheet : Sheet) (istd : ℕ) (chain : List ℕ) (n : ℕ) → IsBaseChain sheet istd chain →
-    n < length chain → kind_at sheet (up sheet istd n) ≡ kind_at sheet istd
+    n < length chain → style_kind_at sheet (up sheet istd n) ≡ style_kind_at sheet istd
 chain_kind sheet istd chain n c h =
-    ap (kind_at sheet) (sym (chain_at sheet istd chain n c h)) ∙ (c.kind (length chain - 1 - n) (omega arith)).same
+    ap (style_kind_at sheet) (sym (chain_at sheet istd chain n c h)) ∙ (c.kind (length chain - 1 - n) (omega
+    arith)).same
 
 -- a chain is longer than the bases that follow each other
 pub climbed_below : (sheet : Sheet) (istd n at : ℕ) (chain : List ℕ) → IsClimbed sheet istd n at → IsBaseChain sheet
@@ -68,18 +70,18 @@ climbed_next sheet istd n at base chain climbed e c = elim (cases_lt (n + 1) (le
 
 -- that base is of the style's kind
 pub next_kind : (sheet : Sheet) (istd n at base : ℕ) (chain : List ℕ) → IsClimbed sheet istd n at → base_at sheet at ≡
-    Some base → IsBaseChain sheet istd chain → kind_at sheet base ≡ kind_at sheet istd
+    Some base → IsBaseChain sheet istd chain → style_kind_at sheet base ≡ style_kind_at sheet istd
 next_kind sheet istd n at base chain climbed e c =
     let next = climbed_next sheet istd n at base chain climbed e c in
-    ap (kind_at sheet) (sym (up_more sheet istd n at base climbed.here e)) ∙ chain_kind sheet istd chain (suc n) c
+    ap (style_kind_at sheet) (sym (up_more sheet istd n at base climbed.here e)) ∙ chain_kind sheet istd chain (suc n) c
     (omega arith)
 
 -- a style of a kind with properties is there
-pub there : (sheet : Sheet) (istd : ℕ) → 0 < kind_at sheet istd → istd < length sheet.styles
+pub there : (sheet : Sheet) (istd : ℕ) → 0 < style_kind_at sheet istd → istd < length sheet.styles
 there sheet istd h = elim (cases_lt istd (length sheet.styles)) [
   | inl low ↦ low
   | inr high ↦
-      let none : kind_at sheet istd ≡ 0 = ap kind_in (get_or_past sheet.styles istd None high) in
+      let none : style_kind_at sheet istd ≡ 0 = ap style_kind_in (get_or_past sheet.styles istd None high) in
       absurd (omega arith)
 ]
 

@@ -12,7 +12,7 @@ use Rattle.sprm_table.specs.Operands.{operand_bytes, size_of}
 use Rattle.style_sheet.specs.declared.styles.Style.{Style}
 use Rattle.style_sheet.specs.Counted.{even_up, counted_end, counted_place, counted_bytes, IsCountedPart}
 use Rattle.style_sheet.specs.StyleDefinition.{upx_place, IsStd, HasAcceptedLists}
-use Rattle.style_sheet.specs.Stsh.{slot_place, HasListFault, IsWrongSlot, SpellsSlot}
+use Rattle.style_sheet.specs.Stsh.{slot_place, HasUpxFault, IsWrongSlot, SpellsSlot}
 
 -- later counts are later
 pub place_next : (bytes : List ℕ) (start k : ℕ) → counted_place bytes start k ≤ counted_place bytes start (suc k)
@@ -58,7 +58,7 @@ fault_within bytes groups at h =
     ]
 
 -- a fault of a list of properties is within the STD
-pub list_fault_within : (std : List ℕ) (base offset : ℕ) → IsStd std base → HasListFault std base offset →
+pub list_fault_within : (std : List ℕ) (base offset : ℕ) → IsStd std base → HasUpxFault std base offset →
     offset + 2 ≤ length std
 list_fault_within std base offset h fault = elim fault [
   | inl w ↦

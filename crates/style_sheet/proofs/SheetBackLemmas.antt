@@ -9,7 +9,7 @@ use Rattle.style_sheet.specs.Sheet.{Sheet, style_at}
 use Rattle.style_sheet.specs.Formed.{IsFormedSlot, IsFormedSheet}
 use Rattle.style_sheet.specs.Counted.{counted_place, counted_bytes, written_counted}
 use Rattle.style_sheet.specs.StyleDefinition.{IsStd, SpellsStyle}
-use Rattle.style_sheet.specs.Stsh.{slot_place, head_of, IsSlotAt, HasListFault, SpellsSlotAt}
+use Rattle.style_sheet.specs.Stsh.{slot_place, stshi_words, IsSlotAt, HasUpxFault, SpellsSlotAt}
 use Rattle.style_sheet.specs.Written.{word, written_slot, written_slots, written_front, written_sheet, SheetIsReadBack}
 use Rattle.style_sheet.proofs.WordLemmas.{length-word, length-words, word_front, word_after, words_at, IsItemAt}
 use Rattle.style_sheet.proofs.WordLemmas.{items_at}
@@ -38,7 +38,7 @@ record AreFrontWords (part : List ℕ) (sheet : Sheet) : Type 0 where
   pub stshi : u16_at part 0 ≡ 18
   pub count : u16_at part 2 ≡ length sheet.styles
   pub base : u16_at part 4 ≡ 10
-  pub head : sheet.head ≡ head_of part
+  pub head : sheet.head ≡ stshi_words part
 
 front_words : (sheet : Sheet) (more : List ℕ) → IsFormedSheet sheet →
     AreFrontWords (word 18 ++ (word (length sheet.styles) ++ (word 10 ++ (flat_map word sheet.head ++ more)))) sheet
@@ -96,7 +96,7 @@ slot_spelt part place istd (Some style) f short item =
     (omega arith, subst (λ b. SpellsStyle b 10 style) (sym item.bytes_are) (std_back istd style f short).spelt)
 
 slot_sound : (istd : ℕ) (slot : Option Style) (offset : ℕ) → IsFormedSlot slot → length (written_slot istd slot) ≤
-    32767 → HasListFault (written_slot istd slot) 10 offset → ⊥
+    32767 → HasUpxFault (written_slot istd slot) 10 offset → ⊥
 slot_sound istd None offset f short fault =
     let none = number_at-past [] 2 2 (omega arith) in
     elim fault [
@@ -158,7 +158,7 @@ sheet_back sheet f short =
               let fault = w.broken in
               let item = items w.entry (let low = w.below in omega arith) in
               slot_sound w.entry (style_at sheet w.entry) fault.offset (formed w.entry) (short w.entry)
-              (subst (λ b. HasListFault b 10 fault.offset) item.bytes_are (subst (λ b. HasListFault (counted_bytes
+              (subst (λ b. HasUpxFault b 10 fault.offset) item.bytes_are (subst (λ b. HasUpxFault (counted_bytes
               part (slot_place part w.entry)) b fault.offset) base fault.broken)),
         ),
       );

@@ -3,7 +3,8 @@ use Rattle.std.proofs.Common.{◌≡◌, ◌⊎◌, inl, inr, ℕ, ◌+◌, ◌*
 use Rattle.std.proofs.lemmas.Bool.{cases_eq}
 use Rattle.doc_bits.specs.Number.{u16_at}
 use Rattle.style_sheet.specs.Counted.{counted_bytes, counted_end}
-use Rattle.style_sheet.specs.StyleDefinition.{stk, cupx, name_len, upxes_start, upx_place, HasName, HasKind, HasUpxes}
+use Rattle.style_sheet.specs.StyleDefinition.{stk, cupx, style_name_len, upxes_start, upx_place, HasName, HasKind}
+use Rattle.style_sheet.specs.StyleDefinition.{HasUpxes}
 use Rattle.style_sheet.specs.StyleDefinition.{IsStd}
 use Rattle.style_sheet.specs.Stsh.{cstd, std_base, HasStshif, IsSlotAt}
 use Rattle.doc_bits.proofs.Public.{stable_le, stable_eq}
@@ -12,7 +13,7 @@ stable_name : (std : List ℕ) (base : ℕ) → ¬ ¬ (HasName std base) → Has
 stable_name std base twice = record {
   count = stable_le (base + 2) (length std) (λ no. twice (λ is. no is.count));
   units = stable_le (upxes_start std base) (length std) (λ no. twice (λ is. no is.units));
-  ended = stable_eq (u16_at std (base + 2 + 2 * name_len std base)) 0 (λ no. twice (λ is. no is.ended));
+  ended = stable_eq (u16_at std (base + 2 + 2 * style_name_len std base)) 0 (λ no. twice (λ is. no is.ended));
 }
 
 stable_kind : (std : List ℕ) → ¬ ¬ (HasKind std) → HasKind std

@@ -11,7 +11,7 @@ use Rattle.style_sheet.specs.declared.styles.Kind.{Kind}
 use Rattle.style_sheet.specs.declared.styles.Kind.TheVariants.{Para, Char, Other}
 use Rattle.style_sheet.specs.Formed.{IsFormedKind, IsFormedBase}
 use Rattle.style_sheet.specs.Counted.{written_counted}
-use Rattle.style_sheet.specs.StyleDefinition.{base_of}
+use Rattle.style_sheet.specs.StyleDefinition.{istd_base}
 use Rattle.style_sheet.specs.Written.{word, written_stk, written_base, written_upxes, written_rest, written_style}
 use Rattle.style_sheet.proofs.WordLemmas.{length-words, word_front, word_after, words_at}
 use Rattle.style_sheet.proofs.LengthLemmas.{rest_len, style_len}
@@ -38,7 +38,7 @@ base_small None f = omega arith
 base_small (Some base) f = omega arith
 
 -- the base is read back
-pub base_back : (base : Option ℕ) → IsFormedBase base → base_of (written_base base) ≡ base
+pub base_back : (base : Option ℕ) → IsFormedBase base → istd_base (written_base base) ≡ base
 base_back None f = refl
 base_back (Some base) f = let e = ne_eqb base 4095 (λ same. absurd (omega arith)) in rw e refl
 

@@ -17,8 +17,8 @@ use Rattle.style_sheet.specs.declared.styles.Kind.TheVariants.{Para, Char, Other
 use Rattle.style_sheet.specs.Formed.{IsFormedKind, IsFormedStyle}
 use Rattle.style_sheet.specs.Counted.{counted_place, written_counted}
 use Rattle.style_sheet.specs.StyleDefinition.{stk, cupx, upx, upxes_start, upx_place, paragraph_list, HasKind, IsStd}
-use Rattle.style_sheet.specs.StyleDefinition.{IsMapOf, SpellsKind, SpellsStyle, base_of}
-use Rattle.style_sheet.specs.Stsh.{HasListFault}
+use Rattle.style_sheet.specs.StyleDefinition.{IsMapOf, SpellsKind, SpellsStyle, istd_base}
+use Rattle.style_sheet.specs.Stsh.{HasUpxFault}
 use Rattle.style_sheet.specs.Written.{word, written_stk, written_base, written_upxes, written_rest, written_style}
 use Rattle.style_sheet.proofs.WordLemmas.{length-word, IsItemAt, items_at, items_end}
 use Rattle.style_sheet.proofs.LengthLemmas.{rest_len, style_len, items_short}
@@ -108,7 +108,7 @@ spells_kind std istd (Other n upxes) f s c items =
 
 -- no list of it has a fault
 pub no_list_fault : (std : List ℕ) (istd : ℕ) (kind : Kind) (offset : ℕ) → IsFormedKind kind → stk std ≡ written_stk
-    kind → AreItems std istd kind → HasListFault std 10 offset → ⊥
+    kind → AreItems std istd kind → HasUpxFault std 10 offset → ⊥
 no_list_fault std istd (Para pap chp) offset f s items fault = elim fault [
   | inl w ↦ elim w.1 [
     | inl p ↦ accepted_no_fault (paragraph_list std 10) paragraph_groups p.offset (subst (λ b. IsAcceptedList b
@@ -135,7 +135,7 @@ no_list_fault std istd (Other n upxes) offset f s items fault =
 pub record IsStdBack (istd : ℕ) (style : Style) : Type 0 where
   pub std : IsStd (written_style istd style) 10
   pub spelt : SpellsStyle (written_style istd style) 10 style
-  pub sound : (offset : ℕ) → HasListFault (written_style istd style) 10 offset → ⊥
+  pub sound : (offset : ℕ) → HasUpxFault (written_style istd style) 10 offset → ⊥
 
 pub std_back : (istd : ℕ) (style : Style) → IsFormedStyle style → length (written_style istd style) ≤ 32767 →
     IsStdBack istd style
@@ -190,7 +190,7 @@ std_back istd style f short =
         flags = omega arith;
         base =
             let number : written_base style.base ≡ u16_at std 2 / 16 = omega arith in
-            sym (base_back style.base f.base) ∙ ap base_of number;
+            sym (base_back style.base f.base) ∙ ap istd_base number;
         next = omega arith;
         grfstd = sym fields.five;
         name = record {

@@ -10,7 +10,7 @@ use Rattle.style_sheet.specs.declared.styles.Style.{Style}
 use Rattle.style_sheet.specs.declared.styles.Kind.{Kind}
 use Rattle.style_sheet.specs.declared.styles.Kind.TheVariants.{Para, Char, Other}
 use Rattle.style_sheet.specs.Sheet.{style_at}
-use Rattle.style_sheet.specs.StyleDefinition.{IsMapOf, IsNameOf, AreUpxes, SpellsKind, SpellsStyle}
+use Rattle.style_sheet.specs.StyleDefinition.{IsMapOf, IsStyleName, AreUpxes, SpellsKind, SpellsStyle}
 use Rattle.style_sheet.specs.Counted.{counted_bytes}
 use Rattle.style_sheet.specs.Stsh.{std_base, slot_place, SpellsSlotAt}
 use Rattle.style_sheet.specs.Written.{SheetIsOne}
@@ -27,7 +27,7 @@ upxes_one std base a b one other =
     ext_get_or [] a b (one.count ∙ sym other.count) (λ k h. one.each k _ (omega arith) ∙ sym (other.each k _
     (omega arith)))
 
-name_one : (std : List ℕ) (base : ℕ) (a b : List ℕ) → IsNameOf std base a → IsNameOf std base b → a ≡ b
+name_one : (std : List ℕ) (base : ℕ) (a b : List ℕ) → IsStyleName std base a → IsStyleName std base b → a ≡ b
 name_one std base a b one other =
     let x = one.count in
     ext_get_or 0 a b (one.count ∙ sym other.count) (λ k h. one.each k (omega arith) ∙ sym (other.each k (omega arith)))

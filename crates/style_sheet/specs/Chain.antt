@@ -11,13 +11,13 @@ properties_kind (Para pap chp) = 1
 properties_kind (Char chp) = 2
 properties_kind (Other stk upxes) = 0
 
-abbrev pub kind_in : Option Style → ℕ
-kind_in None = 0
-kind_in (Some style) = properties_kind style.kind
+abbrev pub style_kind_in : Option Style → ℕ
+style_kind_in None = 0
+style_kind_in (Some style) = properties_kind style.kind
 
 -- the number of the kind of the style there: 1 paragraph, 2 character; 0 of another kind, and where no style is
-abbrev pub kind_at : Sheet → ℕ → ℕ
-kind_at sheet istd = kind_in (style_at sheet istd)
+abbrev pub style_kind_at : Sheet → ℕ → ℕ
+style_kind_at sheet istd = style_kind_in (style_at sheet istd)
 
 abbrev pub base_in : Option Style → Option ℕ
 base_in None = None
@@ -29,8 +29,8 @@ base_at sheet istd = base_in (style_at sheet istd)
 
 -- two styles are there, both of paragraphs or both of characters
 pub record AreOfOneKind (sheet : Sheet) (istd other : ℕ) : Type 0 where
-  pub properties : 0 < kind_at sheet istd
-  pub same : kind_at sheet other ≡ kind_at sheet istd
+  pub properties : 0 < style_kind_at sheet istd
+  pub same : style_kind_at sheet other ≡ style_kind_at sheet istd
 
 -- the style numbers from the root to the style: the first has no base, each other's base is the one before it, all
 -- are of
@@ -45,22 +45,22 @@ pub record IsBaseChain (sheet : Sheet) (istd : ℕ) (chain : List ℕ) : Type 0 
 
 -- style 0 is of kind Para, and each style of kind Para or Char has a chain of bases
 pub record HasSoundBases (sheet : Sheet) : Type 0 where
-  pub normal : kind_at sheet 0 ≡ 1
-  pub chains : (istd : ℕ) → 0 < kind_at sheet istd → (chain : List ℕ) × IsBaseChain sheet istd chain
+  pub normal : style_kind_at sheet 0 ≡ 1
+  pub chains : (istd : ℕ) → 0 < style_kind_at sheet istd → (chain : List ℕ) × IsBaseChain sheet istd chain
 
 -- the style of kind Para or Char has no chain of bases
 pub record HasNoChain (sheet : Sheet) (istd : ℕ) : Type 0 where
-  pub properties : 0 < kind_at sheet istd
+  pub properties : 0 < style_kind_at sheet istd
   pub none : (chain : List ℕ) → ¬ IsBaseChain sheet istd chain
 
 -- the style breaks the rule of bases: it is style 0 and not of kind Para, or it has no chain
 abbrev pub BreaksBases : Sheet → ℕ → Type 0
-BreaksBases sheet istd = ((istd ≡ 0) × (kind_at sheet 0 ≢ 1)) ⊎ HasNoChain sheet istd
+BreaksBases sheet istd = ((istd ≡ 0) × (style_kind_at sheet 0 ≢ 1)) ⊎ HasNoChain sheet istd
 
 -- the style meets the rule of bases: style 0 is of kind Para, and one of kind Para or Char has a chain
 pub record HasSoundBase (sheet : Sheet) (istd : ℕ) : Type 0 where
-  pub normal : istd ≡ 0 → kind_at sheet 0 ≡ 1
-  pub chain : 0 < kind_at sheet istd → (chain : List ℕ) × IsBaseChain sheet istd chain
+  pub normal : istd ≡ 0 → style_kind_at sheet 0 ≡ 1
+  pub chain : 0 < style_kind_at sheet istd → (chain : List ℕ) × IsBaseChain sheet istd chain
 
 -- a style has one chain of bases at most
 abbrev pub BaseChainIsOne : Type 0

@@ -9,10 +9,10 @@ use Rattle.style_sheet.specs.declared.styles.Kind.TheVariants.{Para, Char, Other
 use Rattle.style_sheet.specs.Sheet.{Sheet, style_at}
 
 -- the character properties of a style, where its kind has them
-abbrev pub characters_of : Kind → Properties
-characters_of (Para pap chp) = chp
-characters_of (Char chp) = chp
-characters_of (Other stk upxes) = empty
+abbrev pub kind_characters : Kind → Properties
+kind_characters (Para pap chp) = chp
+kind_characters (Char chp) = chp
+kind_characters (Other stk upxes) = empty
 
 -- the kind with other character properties, where it has them
 abbrev pub with_characters : Kind → Properties → Kind
@@ -21,10 +21,10 @@ with_characters (Char chp) map = Char map
 with_characters (Other stk upxes) map = Other stk upxes
 
 -- the paragraph properties of a style, where its kind has them
-abbrev pub paragraphs_of : Kind → Properties
-paragraphs_of (Para pap chp) = pap
-paragraphs_of (Char chp) = empty
-paragraphs_of (Other stk upxes) = empty
+abbrev pub pap_of_style : Kind → Properties
+pap_of_style (Para pap chp) = pap
+pap_of_style (Char chp) = empty
+pap_of_style (Other stk upxes) = empty
 
 -- the kind with other paragraph properties, where it has them
 abbrev pub with_paragraphs : Kind → Properties → Kind
@@ -42,13 +42,13 @@ with_style sheet istd style = record { head = sheet.head; styles = slice_set she
 -- each code of the map has replaced the value that the character properties had there, and all else stays
 pub record HasCharactersOver (old : Kind) (set : Properties) (new : Kind) : Type 0 where
   pub map : Properties
-  pub over : IsOver false set (characters_of old) map
+  pub over : IsOver false set (kind_characters old) map
   pub kind : new ≡ with_characters old map
 
 -- the same of the paragraph properties
 pub record HasParagraphsOver (old : Kind) (set : Properties) (new : Kind) : Type 0 where
   pub map : Properties
-  pub over : IsOver false set (paragraphs_of old) map
+  pub over : IsOver false set (pap_of_style old) map
   pub kind : new ≡ with_paragraphs old map
 
 -- the properties of the style in the slot have changed, and all else stays

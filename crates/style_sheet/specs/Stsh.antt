@@ -1,7 +1,7 @@
 -- [MS-DOC] STSH: cbStshi, the Stshif of nine words, and the slots. The rules on it, 49 to 51.
 use Rattle.std.specs.Prelude.{◌≡◌, ◌⊎◌, ℕ, ◌+◌, ◌-◌, ◌^◌, ◌<◌, ◌≤◌, min, List, [], ◌∷◌, length, Option, Some, None}
 use Rattle.doc_bits.specs.Number.{u16_at}
-use Rattle.doc_bits.specs.Rules.{Rules, rule, ◌then◌, IsFirst, Among, From}
+use Rattle.doc_bits.specs.Rules.{Rules, rule, ◌then◌, IsFirstOffset, Among, From}
 use Rattle.sprm_table.specs.Sprm.{HasSprmFaultAt}
 use Rattle.prop_map.specs.Formed.{character_groups, paragraph_groups}
 use Rattle.style_sheet.specs.declared.styles.Style.{Style}
@@ -23,8 +23,8 @@ abbrev pub std_base : List ℕ → ℕ
 std_base part = u16_at part 4
 
 -- the seven words after it
-abbrev pub head_of : List ℕ → List ℕ
-head_of part = u16_at part 6 ∷ u16_at part 8 ∷ u16_at part 10 ∷ u16_at part 12 ∷ u16_at part 14 ∷ u16_at part 16 ∷
+abbrev pub stshi_words : List ℕ → List ℕ
+stshi_words part = u16_at part 6 ∷ u16_at part 8 ∷ u16_at part 10 ∷ u16_at part 12 ∷ u16_at part 14 ∷ u16_at part 16 ∷
     u16_at part 18 ∷ []
 
 -- the Stshif is there, with a number of slots and a base that are read
@@ -72,14 +72,14 @@ abbrev pub IsCharacterFault : List ℕ → ℕ → ℕ → Type 0
 IsCharacterFault std at offset = From (at + 2) (HasSprmFaultAt (counted_bytes std at) character_groups) offset
 
 -- a list of properties has a fault at this offset of the STD
-abbrev pub HasListFault : List ℕ → ℕ → ℕ → Type 0
-HasListFault std base offset =
+abbrev pub HasUpxFault : List ℕ → ℕ → ℕ → Type 0
+HasUpxFault std base offset =
     ((stk std ≡ 1) × (IsParagraphFault std base offset ⊎ IsCharacterFault std (upx_place std base 1) offset)) ⊎
     ((stk std ≡ 2) × IsCharacterFault std (upx_place std base 0) offset)
 
 -- the same of the STD in the slot at the place, at its offset in the table stream
 abbrev pub HasSlotFault : List ℕ → ℕ → ℕ → ℕ → ℕ → Type 0
-HasSlotFault part base place at offset = From (at + (place + 2)) (HasListFault (counted_bytes part place) base) offset
+HasSlotFault part base place at offset = From (at + (place + 2)) (HasUpxFault (counted_bytes part place) base) offset
 
 abbrev pub HasStyleFault : List ℕ → ℕ → ℕ → ℕ → Type 0
 HasStyleFault part at istd offset = HasSlotFault part (std_base part) (slot_place part istd) at offset
@@ -97,7 +97,7 @@ stsh_rules part at =
 
 -- the first broken rule; want of memory is free
 abbrev pub IsStyleFault : Rules ℕ → StyleFault → Type 0
-IsStyleFault rules (Rule r offset) = IsFirst rules r offset
+IsStyleFault rules (Rule r offset) = IsFirstOffset rules r offset
 IsStyleFault rules Memory = Unit {0}
 
 -- the slot at the place is empty, or spells the style
@@ -110,6 +110,6 @@ SpellsSlot part istd slot = SpellsSlotAt part (std_base part) (slot_place part i
 
 -- the part holds the sheet: slot i spells style i
 pub record HasStyleSheet (part : List ℕ) (sheet : Sheet) : Type 0 where
-  pub head : sheet.head ≡ head_of part
+  pub head : sheet.head ≡ stshi_words part
   pub slots : length sheet.styles ≡ cstd part
   pub styles : (istd : ℕ) → istd < cstd part → SpellsSlot part istd (style_at sheet istd)

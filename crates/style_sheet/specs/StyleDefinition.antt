@@ -23,12 +23,12 @@ abbrev pub cupx : List ℕ → ℕ
 cupx std = u16_at std 4 % 16
 
 -- the units of the name, after their count
-abbrev pub name_len : List ℕ → ℕ → ℕ
-name_len std base = u16_at std base
+abbrev pub style_name_len : List ℕ → ℕ → ℕ
+style_name_len std base = u16_at std base
 
 -- the upxes come after the name and a zero unit
 abbrev pub upxes_start : List ℕ → ℕ → ℕ
-upxes_start std base = base + 4 + 2 * name_len std base
+upxes_start std base = base + 4 + 2 * style_name_len std base
 
 abbrev pub upx_place : List ℕ → ℕ → ℕ → ℕ
 upx_place std base k = counted_place std (upxes_start std base) k
@@ -40,7 +40,7 @@ upx std base k = counted_bytes std (upx_place std base k)
 pub record HasName (std : List ℕ) (base : ℕ) : Type 0 where
   pub count : base + 2 ≤ length std
   pub units : upxes_start std base ≤ length std
-  pub ended : u16_at std (base + 2 + 2 * name_len std base) ≡ 0
+  pub ended : u16_at std (base + 2 + 2 * style_name_len std base) ≡ 0
 
 -- the kind is 1 to 4; a style of paragraphs has two upxes, one of characters has one
 pub record HasKind (std : List ℕ) : Type 0 where
@@ -87,9 +87,9 @@ pub record AreUpxes (std : List ℕ) (base : ℕ) (upxes : List (List ℕ)) : Ty
   pub each : (k : ℕ) (d : List ℕ) → k < cupx std → slice_index_or upxes k d ≡ upx std base k
 
 -- the units of the name are those after their count
-pub record IsNameOf (std : List ℕ) (base : ℕ) (name : List ℕ) : Type 0 where
-  pub count : length name ≡ name_len std base
-  pub each : (i : ℕ) → i < name_len std base → slice_index name i ≡ u16_at std (base + 2 + 2 * i)
+pub record IsStyleName (std : List ℕ) (base : ℕ) (name : List ℕ) : Type 0 where
+  pub count : length name ≡ style_name_len std base
+  pub each : (i : ℕ) → i < style_name_len std base → slice_index name i ≡ u16_at std (base + 2 + 2 * i)
 
 -- the kind with its properties, or with its upxes as they are
 abbrev pub SpellsKind : List ℕ → ℕ → Kind → Type 0
@@ -100,15 +100,15 @@ SpellsKind std base (Char chp) = (stk std ≡ 2) × IsMapOf (upx std base 0) cha
 SpellsKind std base (Other kind upxes) = (kind ≡ stk std) × ((3 ≤ stk std) × AreUpxes std base upxes)
 
 -- a number of 12 bits, of which 0xFFF is none
-abbrev pub base_of : ℕ → Option ℕ
-base_of number = if number == 0xFFF then None else Some number
+abbrev pub istd_base : ℕ → Option ℕ
+istd_base number = if number == 0xFFF then None else Some number
 
 -- the STD spells the style
 pub record SpellsStyle (std : List ℕ) (from : ℕ) (style : Style) : Type 0 where
   pub sti : style.sti ≡ u16_at std 0 % 4096
   pub flags : style.flags ≡ u16_at std 0 / 4096
-  pub base : style.base ≡ base_of (u16_at std 2 / 16)
+  pub base : style.base ≡ istd_base (u16_at std 2 / 16)
   pub next : style.next ≡ u16_at std 4 / 16
   pub grfstd : style.grfstd ≡ u16_at std 8
-  pub name : IsNameOf std from style.name
+  pub name : IsStyleName std from style.name
   pub kind : SpellsKind std from style.kind

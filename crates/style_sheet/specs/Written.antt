@@ -70,13 +70,13 @@ abbrev pub IsWritable : Sheet → Type 0
 IsWritable sheet = (istd : ℕ) → length (written_slot istd (style_at sheet istd)) ≤ 32767
 
 -- the bytes break no rule, wherever they are, and hold the sheet
-pub record IsReadAs (sheet : Sheet) (part : List ℕ) : Type 0 where
+pub record IsValidStsh (sheet : Sheet) (part : List ℕ) : Type 0 where
   pub rules : (at : ℕ) → Hold (stsh_rules part at)
   pub held : HasStyleSheet part sheet
 
 -- what is written is read back
 abbrev pub SheetIsReadBack : Type 0
-SheetIsReadBack = (sheet : Sheet) → IsFormedSheet sheet → IsWritable sheet → IsReadAs sheet (written_sheet sheet)
+SheetIsReadBack = (sheet : Sheet) → IsFormedSheet sheet → IsWritable sheet → IsValidStsh sheet (written_sheet sheet)
 
 -- a part holds one sheet at most
 abbrev pub SheetIsOne : Type 0

@@ -1,7 +1,8 @@
 // The bases of styles: the rule on them, and the chain that leads to a style.
 ghost use Rattle.std.specs.Prelude.{◌≡◌, ◌↔◌, ◌<◌, ℕ, List, IsTrue, false, IfOk, None};
 ghost use Rattle.doc_bits.specs.Rules.{LeastOrNone};
-ghost use Rattle.style_sheet.specs.Chain.{kind_at, base_at, IsBaseChain, HasSoundBase, HasSoundBases, BreaksBases};
+ghost use Rattle.style_sheet.specs.Chain.{style_kind_at, base_at, IsBaseChain, HasSoundBase, HasSoundBases};
+ghost use Rattle.style_sheet.specs.Chain.{BreaksBases};
 
 use crate::{Chain, Kind, StyleSheet};
 use doc_bits::Memory;
@@ -10,7 +11,7 @@ use std::alloc::Global;
 impl StyleSheet {
     /// 1 where a style of paragraphs is there, 2 where one of characters is, else 0.
     pub fn kind_number(&self, istd: u16) -> u8
-        ensures { result ≡ kind_at self.now istd }
+        ensures { result ≡ style_kind_at self.now istd }
     {
         match self.get(istd) {
             None => 0,
@@ -24,14 +25,14 @@ impl StyleSheet {
 
     /// Whether a style of kind Para or Char is there.
     pub fn has_properties(&self, istd: u16) -> bool
-        ensures { IsTrue result ↔ 0 < kind_at self.now istd }
+        ensures { IsTrue result ↔ 0 < style_kind_at self.now istd }
     {
         self.kind_number(istd) != 0
     }
 
     /// Whether a style of kind Para is there.
     pub fn is_para(&self, istd: u16) -> bool
-        ensures { IsTrue result ↔ kind_at self.now istd ≡ 1 }
+        ensures { IsTrue result ↔ style_kind_at self.now istd ≡ 1 }
     {
         self.kind_number(istd) == 1
     }
@@ -98,7 +99,7 @@ impl StyleSheet {
     /// The style numbers from the root of a style's bases to the style.
     pub fn chain(&self, alloc: Global, istd: u16) -> Result<Chain, Memory>
         requires sound { HasSoundBases self.now }
-        requires properties { 0 < kind_at self.now istd }
+        requires properties { 0 < style_kind_at self.now istd }
         ensures { IfOk result (IsBaseChain self.now istd) }
     {
         let mut items = Vec::new(alloc);

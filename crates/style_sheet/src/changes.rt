@@ -3,7 +3,7 @@ ghost use Rattle.std.specs.Prelude.{◌≡◌, ◌<◌, false, IfOk, OnOk, OnErr
 ghost use Rattle.prop_map.specs.Formed.{IsPropertyMap, character_groups, paragraph_groups};
 ghost use Rattle.prop_map.specs.Modifiers.{IsOver};
 ghost use Rattle.style_sheet.specs.declared.styles.Kind.TheVariants.{Para, Other};
-ghost use Rattle.style_sheet.specs.Chain.{kind_at};
+ghost use Rattle.style_sheet.specs.Chain.{style_kind_at};
 ghost use Rattle.style_sheet.specs.Changes.{with_kind, HasCharactersOver, HasParagraphsOver, SetsCharacters};
 ghost use Rattle.style_sheet.specs.Changes.{SetsParagraphs, as_root, base_dropped};
 
@@ -15,7 +15,7 @@ use std::alloc::Global;
 impl StyleSheet {
     /// Puts character properties into a style: each code of `set` replaces the style's value.
     pub fn set_char(&mut self, istd: u16, set: &PropMap) -> Result<(), Memory>
-        requires properties { 0 < kind_at self.old istd }
+        requires properties { 0 < style_kind_at self.old istd }
         requires formed { IsPropertyMap character_groups set.now }
         ensures ok { OnOk result (SetsCharacters istd set.now self.old self.new) }
         ensures err { OnErr result (self.new ≡ self.old) }
@@ -31,7 +31,7 @@ impl StyleSheet {
     /// Puts paragraph properties into a style of paragraphs: each code of `set` replaces the style's
     /// value.
     pub fn set_para(&mut self, istd: u16, set: &PropMap) -> Result<(), Memory>
-        requires properties { kind_at self.old istd ≡ 1 }
+        requires properties { style_kind_at self.old istd ≡ 1 }
         requires formed { IsPropertyMap paragraph_groups set.now }
         ensures ok { OnOk result (SetsParagraphs istd set.now self.old self.new) }
         ensures err { OnErr result (self.new ≡ self.old) }
@@ -46,7 +46,7 @@ impl StyleSheet {
 
     /// Takes the base of a style of paragraphs or of characters away.
     pub fn drop_base(&mut self, istd: u16) -> Result<(), Memory>
-        requires { 0 < kind_at self.old istd }
+        requires { 0 < style_kind_at self.old istd }
         ensures ok { OnOk result (self.new ≡ base_dropped self.old istd) }
         ensures err { OnErr result (self.new ≡ self.old) }
     {

@@ -5,7 +5,7 @@ ghost use Rattle.doc_bits.specs.Number.{AreBytes};
 ghost use Rattle.sprm_table.specs.Sprm.{IsAcceptedList};
 ghost use Rattle.prop_map.specs.Formed.{IsPropertyMap, character_groups};
 ghost use Rattle.style_sheet.specs.Formed.{IsFormedBase, IsFormedKind, IsFormedStyle};
-ghost use Rattle.style_sheet.specs.StyleDefinition.{base_of, IsStd, HasAcceptedLists, IsMapOf, AreUpxes, IsNameOf};
+ghost use Rattle.style_sheet.specs.StyleDefinition.{istd_base, IsStd, HasAcceptedLists, IsMapOf, AreUpxes, IsStyleName};
 ghost use Rattle.style_sheet.specs.StyleDefinition.{stk, upx, paragraph_list, HasParagraphLists};
 ghost use Rattle.style_sheet.specs.StyleDefinition.{SpellsKind, SpellsStyle};
 
@@ -39,7 +39,7 @@ pub(crate) fn read_style(alloc: Global, std: &[u8], base: usize) -> Result<Style
 /// The base that a number of 12 bits names; all bits set are none.
 fn base_of(number: u16) -> Option<u16>
     requires { number < 4096 }
-    ensures base { result ≡ base_of number }
+    ensures base { result ≡ istd_base number }
     ensures formed { IsFormedBase result }
 {
     if number == 0xFFF { None } else { Some(number) }
@@ -49,7 +49,7 @@ fn base_of(number: u16) -> Option<u16>
 fn read_name(alloc: Global, std: &[u8], base: usize) -> Result<Units, Memory>
     requires std { IsStd std.now base }
     requires base { (8 < base) × (base < 20) }
-    ensures { IfOk result (IsNameOf std.now base) }
+    ensures { IfOk result (IsStyleName std.now base) }
 {
     let mut name = Units::new(alloc);
     for i in 0..get16(std, base) as usize {

@@ -5,7 +5,7 @@ ghost use Rattle.doc_bits.specs.Rules.{LeastOrNone, From};
 ghost use Rattle.sprm_table.specs.Sprm.{HasSprmFaultAt, IsAcceptedList};
 ghost use Rattle.style_sheet.specs.StyleDefinition.{stk, cupx, upxes_start, upx_place, HasName, HasKind, HasUpxes};
 ghost use Rattle.style_sheet.specs.StyleDefinition.{IsStd, HasParagraphLists, HasAcceptedLists};
-ghost use Rattle.style_sheet.specs.Stsh.{IsParagraphFault, IsCharacterFault, HasListFault};
+ghost use Rattle.style_sheet.specs.Stsh.{IsParagraphFault, IsCharacterFault, HasUpxFault};
 
 use crate::counted::{counted_bytes, counted_end, even_up, next_place};
 use doc_bits::{get16, lesser};
@@ -102,7 +102,7 @@ pub(crate) fn std_fault(std: &[u8], base: usize) -> Option<u32>
     requires std { IsStd std.now base }
     requires base { (8 < base) × (base < 20) }
     requires short { length std.now < 65536 }
-    ensures first { LeastOrNone (HasListFault std.now base) result }
+    ensures first { LeastOrNone (HasUpxFault std.now base) result }
     ensures accepted { result ≡ None → HasAcceptedLists std.now base }
 {
     match kind_number(std) {

@@ -25,7 +25,7 @@ pub use laws::{
     base_chain_is_one, parts_hold_sheets, sheet_is_one, sheet_is_read_back,
     unbroken_bases_are_sound,
 };
-pub use reading::{first_slot, has_stshif, wrong_slot};
+pub use reading::{RULE_STYLE_LISTS, RULE_STYLES, first_slot, has_stshif, wrong_slot};
 pub use sheet::StyleSheet;
 pub use styles::{Kind, Style};
 pub use upxes::UpxList;

@@ -10,7 +10,7 @@ ghost use Rattle.style_sheet.specs.Sheet.{style_at};
 ghost use Rattle.style_sheet.specs.Formed.{IsFormedStyle, IsFormedKind};
 ghost use Rattle.style_sheet.specs.Counted.{written_counted};
 ghost use Rattle.style_sheet.specs.Written.{written_stk, written_upxes, written_style, written_slot, written_sheet};
-ghost use Rattle.style_sheet.specs.Written.{IsWritable, IsReadAs};
+ghost use Rattle.style_sheet.specs.Written.{IsWritable, IsValidStsh};
 
 use crate::{Kind, Style, StyleSheet};
 use doc_bits::{Bytes, Memory};
@@ -30,7 +30,7 @@ impl StyleSheet {
     pub fn print(&self, alloc: Global) -> Result<Bytes, Memory>
         requires { IsWritable self.now }
         ensures bytes { IfOk result (λ bytes. bytes ≡ written_sheet self.now) }
-        ensures back { IfOk result (IsReadAs self.now) }
+        ensures back { IfOk result (IsValidStsh self.now) }
     {
         let mut bytes = Bytes::new(alloc);
         bytes.push16(CB_STSHI)?;

@@ -5,7 +5,7 @@ ghost use Rattle.doc_bits.specs.Rules.{Hold, LeastOrNone, Among};
 ghost use Rattle.style_sheet.specs.Formed.{IsFormedSlot};
 ghost use Rattle.style_sheet.specs.StyleDefinition.{HasAcceptedLists};
 ghost use Rattle.style_sheet.specs.Counted.{counted_bytes};
-ghost use Rattle.style_sheet.specs.Stsh.{cstd, head_of, slot_place, table_offset, HasStshif, IsSlotAt, AreSlots};
+ghost use Rattle.style_sheet.specs.Stsh.{cstd, stshi_words, slot_place, table_offset, HasStshif, IsSlotAt, AreSlots};
 ghost use Rattle.style_sheet.specs.Stsh.{IsWrongSlot, HasSlotFault, HasStyleFault, HasSoundLists, SpellsSlotAt};
 ghost use Rattle.style_sheet.specs.Stsh.{HasStyleSheet, stsh_rules, IsStyleFault};
 
@@ -18,9 +18,9 @@ use std::alloc::Global;
 
 const RULE_STSHIF: u8 = 49;
 
-const RULE_STYLES: u8 = 50;
+pub const RULE_STYLES: u8 = 50;
 
-const RULE_STYLE_LISTS: u8 = 51;
+pub const RULE_STYLE_LISTS: u8 = 51;
 
 impl StyleSheet {
     /// The sheet that an STSH holds. `at` is its offset in the table stream.
@@ -166,7 +166,7 @@ fn read_slots(alloc: Global, part: &[u8]) -> Result<StyleSheet, Memory>
 /// The seven numbers after cbSTDBaseInFile.
 fn read_head(part: &[u8]) -> [u16; 7]
     requires { 20 ≤ length part.now }
-    ensures { result ≡ head_of part.now }
+    ensures { result ≡ stshi_words part.now }
 {
     [
         get16(part, 6),

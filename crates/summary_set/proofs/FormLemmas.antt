@@ -9,7 +9,7 @@ use Rattle.doc_bits.specs.Number.{u16_at, u32_at}
 use Rattle.doc_bits.specs.Rules.{Nowhere, IsLeast, Hold}
 use Rattle.doc_bits.proofs.Public.{first_among, none_among, stable_le, stable_eq}
 use Rattle.summary_set.specs.declared.fault.SetFault.TheVariants.{Form}
-use Rattle.summary_set.specs.PropertySet.{set_begin, set_size, pair_count, pair_place, pair_at}
+use Rattle.summary_set.specs.PropertySet.{first_set_begin, first_set_size, pair_count, pair_place, pair_at}
 use Rattle.summary_set.specs.Form.{HasHead, Unless, BeginsWithin, IsSized, IsValidPair, head_rules, pair_rules}
 use Rattle.summary_set.specs.Form.{IsFaultOf}
 
@@ -27,7 +27,7 @@ head_holds b h = (
     unless_hold 0 (u16_at b 0 ≡ 0xFFFE) h.mark,
     (
       unless_hold 24 (u32_at b 24 ≡ 1) h.one,
-      (unless_hold 44 (BeginsWithin b) h.begins, unless_hold (set_begin b) (IsSized b) h.sized),
+      (unless_hold 44 (BeginsWithin b) h.begins, unless_hold (first_set_begin b) (IsSized b) h.sized),
     ),
   ),
 )
@@ -39,12 +39,16 @@ head_of_rules b h = record {
   mark = stable_eq (u16_at b 0) 0xFFFE (λ none. h.1.0 0 (refl, none));
   one = stable_eq (u32_at b 24) 1 (λ none. h.1.1.0 24 (refl, none));
   begins = record {
-    behind_head = stable_le 48 (set_begin b) (λ none. h.1.1.1.0 44 (refl, λ x. none x.behind_head));
-    numbers = stable_le (set_begin b + 8) (length b) (λ none. h.1.1.1.0 44 (refl, λ x. none x.numbers));
+    behind_head = stable_le 48 (first_set_begin b) (λ none. h.1.1.1.0 44 (refl, λ x. none x.behind_head));
+    numbers = stable_le (first_set_begin b + 8) (length b) (λ none. h.1.1.1.0 44 (refl, λ x. none x.numbers));
   };
   sized = record {
-    pairs = stable_le (8 + 8 * pair_count b) (set_size b) (λ none. h.1.1.1.1 (set_begin b) (refl, λ x. none x.pairs));
-    within = stable_le (set_begin b + set_size b) (length b) (λ none. h.1.1.1.1 (set_begin b) (
+    pairs = stable_le (8 + 8 * pair_count b) (first_set_size b) (λ none. h.1.1.1.1 (first_set_begin b) (
+      refl,
+      λ x. none
+          x.pairs,
+    ));
+    within = stable_le (first_set_begin b + first_set_size b) (length b) (λ none. h.1.1.1.1 (first_set_begin b) (
       refl,
       λ x. none
           x.within,
@@ -88,7 +92,7 @@ other_begin b long mark one none = (
 )
 
 pub other_size : (b : List ℕ) → 56 ≤ length b → u16_at b 0 ≡ 0xFFFE → u32_at b 24 ≡ 1 → BeginsWithin b →
-    ¬ IsSized b → IsFaultOf (head_rules b) (Form (set_begin b))
+    ¬ IsSized b → IsFaultOf (head_rules b) (Form (first_set_begin b))
 other_size b long mark one begins none = (
   5,
   inr (
@@ -99,7 +103,7 @@ other_size b long mark one begins none = (
         unless_hold 24 (u32_at b 24 ≡ 1) one,
         inr (
           unless_hold 44 (BeginsWithin b) begins,
-          (refl, unless_first (set_begin b) (IsSized b) none),
+          (refl, unless_first (first_set_begin b) (IsSized b) none),
         ),
       ),
     ),
@@ -136,7 +140,7 @@ pair_of_rules b i h below =
     }) in
     record {
       behind_pairs = stable_le (8 + 8 * pair_count b) (pair_at b i).offset (λ none. twice (λ x. none x.behind_pairs));
-      within = stable_le ((pair_at b i).offset + 4) (set_size b) (λ none. twice (λ x. none x.within));
+      within = stable_le ((pair_at b i).offset + 4) (first_set_size b) (λ none. twice (λ x. none x.within));
       new_id = λ j low e. twice (λ x. x.new_id j low e);
       new_offset = λ j low e. twice (λ x. x.new_offset j low e);
     }
@@ -191,7 +195,7 @@ one_seen false false h = absurd (false≢true (sym h))
 -- a pair of which neither number was met is right
 pub new_pair : (b : List ℕ) (i : ℕ) (ids offsets : ℕ → Bool) → Knows ids (λ j. (pair_at b j).id) i →
     Knows offsets (λ j. (pair_at b j).offset) i → (not (ids (pair_at b i).id) && not (offsets (pair_at b i).offset)) ≡
-    true → 8 + 8 * pair_count b ≤ (pair_at b i).offset → (pair_at b i).offset + 4 ≤ set_size b → IsValidPair b i
+    true → 8 + 8 * pair_count b ≤ (pair_at b i).offset → (pair_at b i).offset + 4 ≤ first_set_size b → IsValidPair b i
 new_pair b i ids offsets known known_offsets h behind within =
     let new = both_new (ids (pair_at b i).id) (offsets (pair_at b i).offset) h in
     record {

@@ -8,7 +8,7 @@ use Rattle.std.proofs.lemmas.Option.{same_Some}
 use Rattle.doc_bits.specs.Number.{number_at, number_bytes}
 use Rattle.doc_bits.proofs.Public.{number_at-number_bytes, length-number_bytes}
 use Rattle.summary_set.specs.declared.values.Property.{Property}
-use Rattle.summary_set.specs.Written.{padded, padded_len, pair_bytes}
+use Rattle.summary_set.specs.Written.{padded_value, padded_len, pair_bytes}
 use Rattle.summary_set.specs.Written.{first_offset}
 use Rattle.summary_set.proofs.HeadLemmas.{skip, range_after, range_front}
 
@@ -109,18 +109,19 @@ sum_take-more f (y ∷ ys) (suc i) x here =
 
 -- the bytes of one value among all
 pub value_among : (xs : List Property) (i : ℕ) (x : Property) → slice_get xs i ≡ Some x → slice_range (flat_map (λ (p :
-    Property). padded p.value) xs) (sum_by padded_len (take i xs))
-    (sum_by padded_len (take i xs) + padded_len x) ≡ padded
+    Property). padded_value p.value) xs) (sum_by padded_len (take i xs))
+    (sum_by padded_len (take i xs) + padded_len x) ≡ padded_value
     x.value
 value_among [] i x here = absurd (cc (here))
 value_among (y ∷ ys) zero x here =
-    let more : List ℕ = flat_map (λ (p : Property). padded p.value) ys in
+    let more : List ℕ = flat_map (λ (p : Property). padded_value p.value) ys in
     let same : y ≡ x = same_Some y x here in
-    subst (λ (z : Property). slice_range (padded z.value ++ more) 0 (0 + padded_len x) ≡ padded x.value) (sym same)
-    (range_front (padded x.value) more (0 + padded_len x) (omega arith))
+    subst (λ (z : Property). slice_range (padded_value z.value ++ more) 0 (0 + padded_len x) ≡ padded_value x.value)
+    (sym same)
+    (range_front (padded_value x.value) more (0 + padded_len x) (omega arith))
 value_among (y ∷ ys) (suc i) x here =
-    let front : List ℕ = padded y.value in
-    let rest : List ℕ = flat_map (λ (p : Property). padded p.value) ys in
+    let front : List ℕ = padded_value y.value in
+    let rest : List ℕ = flat_map (λ (p : Property). padded_value p.value) ys in
     let sum = sum_by-cons padded_len y (take i ys) in
     let from : sum_by padded_len (take (suc i) (y ∷ ys)) ≡ padded_len y + sum_by padded_len (take i ys) = omega arith in
     let to : sum_by padded_len (take (suc i) (y ∷ ys)) + padded_len x ≡ padded_len y + (sum_by padded_len (take i ys) +

@@ -11,9 +11,9 @@ use Rattle.std.proofs.lemmas.Option.{slice_get_within, get_or_from_slice_get}
 use Rattle.doc_bits.specs.Number.{number_bytes}
 use Rattle.doc_bits.proofs.Public.{length-number_bytes, map-map, there_is, get-map}
 use Rattle.summary_set.specs.declared.values.Property.{Property}
-use Rattle.summary_set.specs.PropertySet.{set_begin, set_size, pair_count, pair_at, offsets_of}
-use Rattle.summary_set.specs.Values.{value_end, value_of, property_of, property_values}
-use Rattle.summary_set.specs.Written.{KeptBytes, padded, padded_len, padded_property, pair_bytes}
+use Rattle.summary_set.specs.PropertySet.{first_set_begin, first_set_size, pair_count, pair_at, offsets_of}
+use Rattle.summary_set.specs.Values.{value_end, pair_value_bytes, property_of, property_values}
+use Rattle.summary_set.specs.Written.{KeptBytes, padded_value, padded_len, padded_property, pair_bytes}
 use Rattle.summary_set.specs.Written.{first_offset, written_size, written_set}
 use Rattle.summary_set.specs.Laws.{AreWritable, HoldsSet}
 use Rattle.summary_set.proofs.FormLemmas.{head_holds, right_pairs}
@@ -52,20 +52,21 @@ not_before kept values k i w h low over = let le = sum_take-le padded_len values
 -- a value ends where the next one begins
 pub written-end : (kept : KeptBytes) (values : List Property) (i : ℕ) (x : Property) → AreWritable kept values →
     slice_get
-    values i ≡ Some x → value_end (offsets_of (written_set kept values)) (set_size (written_set kept values)) (pair_at
+    values i ≡ Some x → value_end (offsets_of (written_set kept values)) (first_set_size (written_set kept values))
+    (pair_at
     (written_set kept values) i).offset ≡ stands_at values i + padded_len x
 written-end kept values i x w here =
     let b : List ℕ = written_set kept values in
     let low = slice_get_within values i x here in
     let offset : ℕ = (pair_at b i).offset in
-    let end : ℕ = value_end (offsets_of b) (set_size b) offset in
+    let end : ℕ = value_end (offsets_of b) (first_set_size b) offset in
     let size = written-size kept values w in
     let count = written-count kept values w in
     let len = length-offsets b in
     let stands = written-offset kept values i w low in
     let least = padded_least x (w.some i x here) in
     let within = stands_within kept values i x w here in
-    let from : stands_at values i + padded_len x ≤ end = value_end-from (offsets_of b) (set_size b) offset
+    let from : stands_at values i + padded_len x ≤ end = value_end-from (offsets_of b) (first_set_size b) offset
     (stands_at values i
     + padded_len x) (omega arith) (λ k below over.
     let at = offset_at b k (omega arith) in
@@ -79,10 +80,10 @@ written-end kept values i x w here =
           let at = offset_at b (suc i) (omega arith) in
           let there = written-offset kept values (suc i) w more in
           let next = next_stands values i x here in
-          let le = value_end-upto (offsets_of b) (set_size b) offset (suc i) (omega arith) (omega arith) in
+          let le = value_end-upto (offsets_of b) (first_set_size b) offset (suc i) (omega arith) (omega arith) in
           omega arith
       | inr last ↦
-          let le = value_end-le (offsets_of b) (set_size b) offset in
+          let le = value_end-le (offsets_of b) (first_set_size b) offset in
           let all = last_stands values i x here (omega arith) in
           omega arith
     ] in
@@ -90,22 +91,25 @@ written-end kept values i x w here =
 
 pub written-value : (kept : KeptBytes) (values : List Property) (i : ℕ) (x : Property) → AreWritable kept values →
     slice_get
-    values i ≡ Some x → value_of (written_set kept values) (pair_at (written_set kept values) i) ≡ padded x.value
+    values i ≡ Some x → pair_value_bytes (written_set kept values) (pair_at (written_set kept values) i) ≡ padded_value
+    x.value
 unfolding stands_at body
 written-value kept values i x w here =
     let b : List ℕ = written_set kept values in
     let low = slice_get_within values i x here in
     let pairs : List ℕ = pair_bytes (first_offset values) values in
-    let all : List ℕ = flat_map (λ (p : Property). padded p.value) values in
+    let all : List ℕ = flat_map (λ (p : Property). padded_value p.value) values in
     let sum : ℕ = sum_by padded_len (take i values) in
     let n : ℕ = 8 * length values in
     let begin = written-begin kept values w in
     let stands = written-offset kept values i w low in
     let end = written-end kept values i x w here in
-    let from : set_begin b + (pair_at b i).offset ≡ 48 + (4 + (4 + (n + sum))) = omega arith in
-    let to : set_begin b + value_end (offsets_of b) (set_size b) (pair_at b i).offset ≡ 48 + (4 + (4 + (n + (sum +
+    let from : first_set_begin b + (pair_at b i).offset ≡ 48 + (4 + (4 + (n + sum))) = omega arith in
+    let to : first_set_begin b + value_end (offsets_of b) (first_set_size b) (pair_at b i).offset ≡ 48 + (4 + (4 + (n +
+    (sum +
     padded_len x)))) = omega arith in
-    ap (λ p. slice_range b p (set_begin b + value_end (offsets_of b) (set_size b) (pair_at b i).offset)) from
+    ap (λ p. slice_range b p (first_set_begin b + value_end (offsets_of b) (first_set_size b) (pair_at b i).offset))
+    from
     ∙ (ap (λ p. slice_range b (48 + (4 + (4 + (n + sum)))) p) to
     ∙ (ap (λ l. slice_range l (48 + (4 + (4 + (n + sum)))) (48 + (4 + (4 + (n + (sum + padded_len x))))))
     (written-flat kept
@@ -119,7 +123,7 @@ written-value kept values i x w here =
     ∙ (range_after pairs all n sum (sum + padded_len x) (length-pair_bytes (first_offset values) values)
     ∙ value_among values i x here))))))
 
-pub same_property : (id : ℕ) (value : List ℕ) (x : Property) → id ≡ x.id → value ≡ padded x.value → record {
+pub same_property : (id : ℕ) (value : List ℕ) (x : Property) → id ≡ x.id → value ≡ padded_value x.value → record {
   id = id;
   value =
       value;
@@ -143,7 +147,8 @@ written-values kept values w =
     get_or_from_slice_get (map padded_property values) k (padded_property x) (record { id = 0; value = [] }) (get-map
     padded_property values k x found.1)
     ∙ sym
-    (same_property (pair_at b k).id (value_of b (pair_at b k)) x (written-id kept values k x w found.1) (written-value
+    (same_property (pair_at b k).id (pair_value_bytes b (pair_at b k)) x (written-id kept values k x w found.1)
+    (written-value
     kept values k x w found.1))))
 
 pub same_kept : (system format : List ℕ) (kept : KeptBytes) → system ≡ kept.system → format ≡ kept.format → record {

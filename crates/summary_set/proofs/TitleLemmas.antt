@@ -12,11 +12,12 @@ use Rattle.doc_bits.specs.Number.{AreBytes}
 use Rattle.doc_bits.proofs.Public.{number_at-bound, map-map, there_is, from_map, length-range, slice_get_before}
 use Rattle.doc_bits.proofs.Public.{from_behind, neither}
 use Rattle.summary_set.specs.declared.values.Property.{Property}
-use Rattle.summary_set.specs.PropertySet.{set_begin, set_size, pair_count, pair_at, pairs_of, offsets_of}
+use Rattle.summary_set.specs.PropertySet.{first_set_begin, first_set_size, pair_count, pair_at, pairs_in_stream}
+use Rattle.summary_set.specs.PropertySet.{offsets_of}
 use Rattle.summary_set.specs.Form.{IsPropertySet}
-use Rattle.summary_set.specs.Values.{value_end, value_of, property_of, property_values}
+use Rattle.summary_set.specs.Values.{value_end, pair_value_bytes, property_of, property_values}
 use Rattle.summary_set.specs.Written.{kept_bytes}
-use Rattle.summary_set.specs.Written.{is_title, title_property, in_place, retitled}
+use Rattle.summary_set.specs.Written.{is_title_property, title_property, in_place, retitled}
 use Rattle.summary_set.specs.Written.{retitled_stream}
 use Rattle.summary_set.specs.Laws.{AreWritable, IsAsked, HasSameProperties}
 use Rattle.summary_set.proofs.FormLemmas.{head_of_rules, pair_of_rules}
@@ -37,7 +38,7 @@ of_pair : (b : List ℕ) (i : ℕ) (property : Property) → slice_get (property
 of_pair b i property here =
     let all = map-map (property_of b) (pair_at b) (range_with_len 0 (pair_count b)) in
     let within = slice_get_within (property_values b) i property here in
-    let len = length-map (pairs_of b) (property_of b) in
+    let len = length-map (pairs_in_stream b) (property_of b) in
     let read = length-map-range_with_len (pair_at b) 0 (pair_count b) in
     let low : i < pair_count b = omega arith in
     let there = subst (λ xs. slice_get xs i ≡ Some property) all here in
@@ -49,27 +50,28 @@ of_pair b i property here =
           property there;
     }
 
-value_some : (b : List ℕ) (i : ℕ) → IsPropertySet b → i < pair_count b → 1 ≤ length (value_of b (pair_at b i))
+value_some : (b : List ℕ) (i : ℕ) → IsPropertySet b → i < pair_count b → 1 ≤ length (pair_value_bytes b (pair_at b i))
 value_some b i formed low =
     let sized = (head_of_rules b formed.0).sized in
     let within = sized.within in
     let four = (pair_of_rules b i formed.1 low).within in
     let offset : ℕ = (pair_at b i).offset in
-    let end : ℕ = value_end (offsets_of b) (set_size b) offset in
-    let more = value_end-more (offsets_of b) (set_size b) offset (omega arith) in
-    let most = value_end-le (offsets_of b) (set_size b) offset in
-    let len = length-range b (set_begin b + offset) (set_begin b + end) (omega arith) in
+    let end : ℕ = value_end (offsets_of b) (first_set_size b) offset in
+    let more = value_end-more (offsets_of b) (first_set_size b) offset (omega arith) in
+    let most = value_end-le (offsets_of b) (first_set_size b) offset in
+    let len = length-range b (first_set_begin b + offset) (first_set_begin b + end) (omega arith) in
     omega arith
 
 -- ---- with another title
 
-one_id : (test : Bool) (title : List ℕ) (property : Property) → is_title property ≡ test → (if test then title_property
+one_id : (test : Bool) (title : List ℕ) (property : Property) → is_title_property property ≡ test → (if test then
+    title_property
     title else property).id ≡ property.id
 one_id true title property e = sym (eqb-true property.id 2 e)
 one_id false title property e = refl
 
 pub in_place-id : (title : List ℕ) (property : Property) → (in_place title property).id ≡ property.id
-in_place-id title property = one_id (is_title property) title property refl
+in_place-id title property = one_id (is_title_property property) title property refl
 
 one_some : (test : Bool) (title : List ℕ) (property : Property) → 1 ≤ length property.value → 1 ≤ length (if test then
     title_property title else property).value
@@ -78,13 +80,13 @@ one_some false title property some = some
 
 in_place-some : (title : List ℕ) (property : Property) → 1 ≤ length property.value → 1 ≤ length (in_place title
     property).value
-in_place-some title property some = one_some (is_title property) title property some
+in_place-some title property some = one_some (is_title_property property) title property some
 
 -- where a property of the set with another title comes from: a pair, or the title that is put last
 record ComesFrom (b title : List ℕ) (i : ℕ) (property : Property) : Type 0 where
   some : 1 ≤ length property.value
   from : ((i < pair_count b) × (property.id ≡ (pair_at b i).id)) ⊎ ((pair_count b ≤ i) × ((i ≤ pair_count b) ×
-      ((property.id ≡ 2) × (list_any is_title (property_values b) ≡ false))))
+      ((property.id ≡ 2) × (list_any is_title_property (property_values b) ≡ false))))
 
 last_from : (there : Bool) (title : List ℕ) (k : ℕ) (property : Property) → slice_get (if there then [] else
     title_property title ∷ []) k ≡ Some property → (there ≡ false) × ((k ≡ 0) × (title_property title ≡ property))
@@ -97,9 +99,10 @@ comes_from : (b title : List ℕ) (i : ℕ) (property : Property) → IsProperty
     title) i ≡ Some property → ComesFrom b title i property
 comes_from b title i property formed here =
     let old : List Property = map (in_place title) (property_values b) in
-    let last : List Property = if list_any is_title (property_values b) then [] else title_property title ∷ [] in
+    let last : List Property = if list_any is_title_property (property_values b) then [] else title_property title ∷ []
+    in
     let len = length-map (property_values b) (in_place title) in
-    let count = length-map (pairs_of b) (property_of b) in
+    let count = length-map (pairs_in_stream b) (property_of b) in
     let read = length-map-range_with_len (pair_at b) 0 (pair_count b) in
     elim (cases_lt i (length old)) [
       | inl low ↦
@@ -121,7 +124,7 @@ comes_from b title i property formed here =
           let k : ℕ = i - length old in
           let at : length old + k ≡ i = omega arith in
           let behind = sym (from_behind old last k) ∙ (ap (slice_get (old ++ last)) at ∙ here) in
-          let put = last_from (list_any is_title (property_values b)) title k property behind in
+          let put = last_from (list_any is_title_property (property_values b)) title k property behind in
           let first = put.1.0 in
           let long = length-title_value title in
           record {
@@ -134,16 +137,16 @@ comes_from b title i property formed here =
     ]
 
 -- where none is the title, no pair has its id
-none_titled : (values : List Property) (i : ℕ) (property : Property) → list_any is_title values ≡ false →
+none_titled : (values : List Property) (i : ℕ) (property : Property) → list_any is_title_property values ≡ false →
     slice_get values
     i ≡ Some property → property.id ≢ 2
 none_titled [] i property none here = absurd (cc (here))
 none_titled (x ∷ xs) zero property none here =
-    let w = neither (is_title x) (list_any is_title xs) none in
+    let w = neither (is_title_property x) (list_any is_title_property xs) none in
     let same = same_Some x property here in
     λ e. eqb-false x.id 2 w.0 (ap (λ (p : Property). p.id) same ∙ e)
 none_titled (x ∷ xs) (suc i) property none here =
-    let w = neither (is_title x) (list_any is_title xs) none in
+    let w = neither (is_title_property x) (list_any is_title_property xs) none in
     none_titled xs i property w.1 here
 
 small_id : (b title : List ℕ) (i : ℕ) (property : Property) → AreBytes b → ComesFrom b title i property →
@@ -151,7 +154,7 @@ small_id : (b title : List ℕ) (i : ℕ) (property : Property) → AreBytes b �
     32
 small_id b title i property bytes source = elim source.from [
   | inl pair ↦
-      let bound = number_at-bound b (set_begin b + 8 + 8 * i) 4 bytes in
+      let bound = number_at-bound b (first_set_begin b + 8 + 8 * i) 4 bytes in
       let same = pair.1 in
       omega arith
   | inr last ↦ let same = last.1.1.0 in omega arith
@@ -169,7 +172,7 @@ two_apart b title i j property later formed h one two = elim two.from [
         let at = there_is (property_values b) i (omega (
           arith,
           p.0,
-          length-map (pairs_of b) (property_of b),
+          length-map (pairs_in_stream b) (property_of b),
           length-map-range_with_len (pair_at b) 0 (pair_count b),
         )) in
         let pair = of_pair b i at.0 at.1 in

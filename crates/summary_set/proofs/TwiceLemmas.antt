@@ -11,8 +11,9 @@ use Rattle.doc_bits.specs.Number.{number_bytes, zeros}
 use Rattle.doc_bits.proofs.Public.{map-map, or_second}
 use Rattle.summary_set.specs.declared.values.Property.{Property}
 use Rattle.summary_set.specs.Values.{property_values}
-use Rattle.summary_set.specs.Written.{KeptBytes, kept_bytes, pad_len, padded, padded_len, padded_property, pair_bytes}
-use Rattle.summary_set.specs.Written.{is_title, title_property, in_place, retitled, first_offset, written_size}
+use Rattle.summary_set.specs.Written.{KeptBytes, kept_bytes, pad_len, padded_value, padded_len, padded_property}
+use Rattle.summary_set.specs.Written.{pair_bytes}
+use Rattle.summary_set.specs.Written.{is_title_property, title_property, in_place, retitled, first_offset, written_size}
 use Rattle.summary_set.specs.Written.{written_head, written_set, retitled_stream}
 use Rattle.summary_set.specs.Laws.{IsAsked}
 use Rattle.summary_set.proofs.WriteLemmas.{padded_len-is}
@@ -23,11 +24,11 @@ use Rattle.summary_set.proofs.TitleLemmas.{in_place-id, kept_with_title}
 no_pad : (len : ℕ) → pad_len (len + pad_len len) ≡ 0
 no_pad len = omega arith
 
-padded-padded : (value : List ℕ) → padded (padded value) ≡ padded value
+padded-padded : (value : List ℕ) → padded_value (padded_value value) ≡ padded_value value
 unfolding zeros
 padded-padded value =
-    let none : pad_len (length (padded value)) ≡ 0 = ap pad_len (padded_len-is value) ∙ no_pad (length value) in
-    ap (λ n. padded value ++ zeros n) none ∙ append-nil (padded value)
+    let none : pad_len (length (padded_value value)) ≡ 0 = ap pad_len (padded_len-is value) ∙ no_pad (length value) in
+    ap (λ n. padded_value value ++ zeros n) none ∙ append-nil (padded_value value)
 
 padded_property-again : (p : Property) → padded_property (padded_property p) ≡ padded_property p
 padded_property-again p = ap (λ v. record { id = p.id; value = v }) (padded-padded p.value)
@@ -51,12 +52,12 @@ pair_bytes-padded from (x ∷ xs) =
     ∙ ap (λ rest. number_bytes 4 x.id ++ (number_bytes 4 from ++ rest)) (pair_bytes-padded (from + padded_len x) xs)
 
 values-padded : (xs : List Property) →
-    flat_map (λ (p : Property). padded p.value) (map padded_property xs) ≡ flat_map (λ (p
-    : Property). padded p.value) xs
+    flat_map (λ (p : Property). padded_value p.value) (map padded_property xs) ≡ flat_map (λ (p
+    : Property). padded_value p.value) xs
 values-padded [] = refl
 values-padded (x ∷ xs) =
-    let rest : List ℕ = flat_map (λ (p : Property). padded p.value) (map padded_property xs) in
-    ap (λ v. v ++ rest) (padded-padded x.value) ∙ ap (λ r. padded x.value ++ r) (values-padded xs)
+    let rest : List ℕ = flat_map (λ (p : Property). padded_value p.value) (map padded_property xs) in
+    ap (λ v. v ++ rest) (padded-padded x.value) ∙ ap (λ r. padded_value x.value ++ r) (values-padded xs)
 
 assembled : KeptBytes → ℕ → ℕ → List ℕ → List ℕ → List ℕ
 assembled kept size count pairs values =
@@ -71,7 +72,7 @@ written-padded kept xs =
     let len : length ys ≡ length xs = length-map xs padded_property in
     let first : first_offset ys ≡ first_offset xs = omega arith in
     let size : written_size ys ≡ written_size xs = omega arith in
-    let values : List Property → List ℕ = flat_map (λ (p : Property). padded p.value) in
+    let values : List Property → List ℕ = flat_map (λ (p : Property). padded_value p.value) in
     ap (λ n. assembled kept n (length ys) (pair_bytes (first_offset ys) ys) (values ys)) size
     ∙ (ap (λ n. assembled kept (written_size xs) n (pair_bytes (first_offset ys) ys) (values ys)) len
     ∙ (ap (λ b. assembled kept (written_size xs) (length xs) b (values ys)) (ap (λ n. pair_bytes n ys) first
@@ -84,23 +85,25 @@ either_true : (a b d : Bool) → (a || b) ≡ true → (b ≡ true → d ≡ tru
 either_true true b d h more = refl
 either_true false b d h more = more h
 
-any_first : (title : List ℕ) (values rest : List Property) → list_any is_title values ≡ true → list_any is_title
+any_first : (title : List ℕ) (values rest : List Property) → list_any is_title_property values ≡ true → list_any
+    is_title_property
     (map padded_property (map (in_place title) values ++ rest)) ≡ true
 any_first title [] rest h = absurd (false≢true h)
 any_first title (x ∷ xs) rest h =
-    let later : Bool = list_any is_title (map padded_property (map (in_place title) xs ++ rest)) in
+    let later : Bool = list_any is_title_property (map padded_property (map (in_place title) xs ++ rest)) in
     ap (λ id. (id == 2) || later) (in_place-id title x)
-    ∙ either_true (is_title x) (list_any is_title xs) later h (any_first title xs rest)
+    ∙ either_true (is_title_property x) (list_any is_title_property xs) later h (any_first title xs rest)
 
 any_last : (title : List ℕ) (values : List Property) →
-    list_any is_title (map padded_property (values ++ title_property title
+    list_any is_title_property (map padded_property (values ++ title_property title
     ∷ [])) ≡ true
 any_last title [] = refl
-any_last title (x ∷ xs) = or_second (is_title (padded_property x)) (list_any is_title (map padded_property (xs ++
+any_last title (x ∷ xs) = or_second (is_title_property (padded_property x)) (list_any is_title_property (map
+    padded_property (xs ++
     title_property title ∷ []))) (any_last title xs)
 
-any_titled : (title : List ℕ) (values : List Property) (there : Bool) → list_any is_title values ≡ there →
-    list_any is_title
+any_titled : (title : List ℕ) (values : List Property) (there : Bool) → list_any is_title_property values ≡ there →
+    list_any is_title_property
     (map padded_property (map (in_place title) values ++ (if there then [] else title_property title ∷ []))) ≡ true
 any_titled title values true h = any_first title values [] h
 any_titled title values false h = any_last title (map (in_place title) values)
@@ -115,7 +118,7 @@ again_title : (title : List ℕ) → again title (title_property title) ≡ padd
 unfolding again
 again_title title = refl
 
-again_case : (test : Bool) (title : List ℕ) (p : Property) → is_title p ≡ test →
+again_case : (test : Bool) (title : List ℕ) (p : Property) → is_title_property p ≡ test →
     again title (if test then title_property
     title else p) ≡ padded_property (if test then title_property title else p)
 unfolding again
@@ -127,7 +130,7 @@ again_in_place : (title : List ℕ) (values : List Property) → map (again titl
     padded_property (map (in_place title) values)
 again_in_place title [] = refl
 again_in_place title (x ∷ xs) =
-    ap (λ p. p ∷ map (again title) (map (in_place title) xs)) (again_case (is_title x) title x refl)
+    ap (λ p. p ∷ map (again title) (map (in_place title) xs)) (again_case (is_title_property x) title x refl)
     ∙ ap (λ ps. padded_property (in_place title x) ∷ ps) (again_in_place title xs)
 
 again_last : (title : List ℕ) (there : Bool) → map (again title) (if there then [] else title_property title ∷ []) ≡ map
@@ -140,10 +143,10 @@ again_retitled : (title : List ℕ) (values : List Property) →
     (retitled values title)
 again_retitled title values =
     let old : List Property = map (in_place title) values in
-    let last : List Property = if list_any is_title values then [] else title_property title ∷ [] in
+    let last : List Property = if list_any is_title_property values then [] else title_property title ∷ [] in
     map-append (again title) old last
     ∙ (ap (λ xs. xs ++ map (again title) last) (again_in_place title values)
-    ∙ (ap (λ xs. map padded_property old ++ xs) (again_last title (list_any is_title values))
+    ∙ (ap (λ xs. map padded_property old ++ xs) (again_last title (list_any is_title_property values))
     ∙ sym (map-append padded_property old last)))
 
 retitled_again : (title : List ℕ) (values : List Property) →
@@ -152,7 +155,7 @@ retitled_again : (title : List ℕ) (values : List Property) →
 unfolding again
 retitled_again title values =
     let new : List Property = retitled values title in
-    let there = any_titled title values (list_any is_title values) refl in
+    let there = any_titled title values (list_any is_title_property values) refl in
     let in_places : List Property = map (in_place title) (map padded_property new) in
     ap (λ test. map padded_property (in_places ++ (if test then [] else title_property title ∷ []))) there
     ∙ (ap (map padded_property) (append-nil in_places)

@@ -8,7 +8,7 @@ use Rattle.std.proofs.lemmas.List.Elements.{All-from_get_or, All-map}
 use Rattle.std.proofs.lemmas.List.Sorted.{All-permutation, IsPermutation-sym}
 use Rattle.std.proofs.lemmas.List.FromFn.{length-map-range_with_len, get_or-map-range_with_len}
 use Rattle.summary_set.specs.declared.set.PropertyPair.{PropertyPair}
-use Rattle.summary_set.specs.PropertySet.{set_size, pair_count, pair_at, pairs_of, offsets_of}
+use Rattle.summary_set.specs.PropertySet.{first_set_size, pair_count, pair_at, pairs_in_stream, offsets_of}
 use Rattle.summary_set.specs.Form.{IsPropertySet}
 use Rattle.summary_set.specs.Values.{value_end}
 use Rattle.summary_set.proofs.FormLemmas.{pair_of_rules}
@@ -67,15 +67,16 @@ end_last offsets ascending size offset next same cut past =
     omega arith
 
 -- each pair of a set names four bytes of it
-pub pairs_within : (b : List ℕ) → IsPropertySet b → All (λ pair. pair.offset + 4 ≤ set_size b) (pairs_of b)
+pub pairs_within : (b : List ℕ) → IsPropertySet b → All (λ pair. pair.offset + 4 ≤ first_set_size b) (pairs_in_stream b)
 pairs_within b formed =
-    All-from_get_or (λ (pair : PropertyPair). pair.offset + 4 ≤ set_size b) (pairs_of b) (pair_at b 0) (λ i low.
+    All-from_get_or (λ (pair : PropertyPair). pair.offset + 4 ≤ first_set_size b) (pairs_in_stream b) (pair_at b 0) (λ i
+    low.
     let below : i < pair_count b = omega (arith, length-map-range_with_len (pair_at b) 0 (pair_count b)) in
-    subst (λ (pair : PropertyPair). pair.offset + 4 ≤ set_size b) (sym (get_or-map-range_with_len (pair_at b) 0
+    subst (λ (pair : PropertyPair). pair.offset + 4 ≤ first_set_size b) (sym (get_or-map-range_with_len (pair_at b) 0
     (pair_count b) i i (pair_at b 0) below (omega arith))) (pair_of_rules b i formed.1 below).within)
 
 -- so each offset is at most the size
-pub offsets_within : (b : List ℕ) → IsPropertySet b → All (λ x. x ≤ set_size b) (offsets_of b)
+pub offsets_within : (b : List ℕ) → IsPropertySet b → All (λ x. x ≤ first_set_size b) (offsets_of b)
 offsets_within b formed =
-    All-map (λ x. x ≤ set_size b) (λ (pair : PropertyPair). pair.offset) (pairs_of b) (λ k d low.
+    All-map (λ x. x ≤ first_set_size b) (λ (pair : PropertyPair). pair.offset) (pairs_in_stream b) (λ k d low.
     let h = pairs_within b formed k d low in omega arith)

@@ -12,10 +12,12 @@ use Rattle.doc_bits.specs.Number.{number_bytes, zeros}
 use Rattle.doc_bits.proofs.Public.{length-zeros, length-number_bytes, map-map}
 use Rattle.summary_set.specs.declared.set.PropertyPair.{PropertyPair}
 use Rattle.summary_set.specs.declared.values.Property.{Property}
-use Rattle.summary_set.specs.PropertySet.{set_begin, set_size, pair_count, pair_at, pairs_of, offsets_of}
+use Rattle.summary_set.specs.PropertySet.{first_set_begin, first_set_size, pair_count, pair_at, pairs_in_stream}
+use Rattle.summary_set.specs.PropertySet.{offsets_of}
 use Rattle.summary_set.specs.Form.{IsPropertySet}
-use Rattle.summary_set.specs.Values.{value_end, value_of, property_of, property_values}
-use Rattle.summary_set.specs.Written.{pad_len, padded, padded_len, pair_bytes, title_value, title_property, is_title}
+use Rattle.summary_set.specs.Values.{value_end, pair_value_bytes, property_of, property_values}
+use Rattle.summary_set.specs.Written.{pad_len, padded_value, padded_len, pair_bytes, title_value, title_property}
+use Rattle.summary_set.specs.Written.{is_title_property}
 use Rattle.summary_set.specs.Written.{in_place, retitled, written_size}
 use Rattle.summary_set.proofs.FormLemmas.{head_of_rules, pair_of_rules}
 use Rattle.summary_set.proofs.EndLemmas.{value_end-le, value_end-upto, AreSpans, all_spans}
@@ -44,11 +46,12 @@ pair_bytes-push from (y ∷ ys) x =
     ∙ sym (append_assoc (number_bytes 4 y.id) (number_bytes 4 from ++ pair_bytes next ys) tail))
 
 -- one value more
-pub values-push : (xs : List Property) (x : Property) → flat_map (λ (p : Property). padded p.value) (xs ++ x ∷ []) ≡
-    flat_map (λ (p : Property). padded p.value) xs ++ (x.value ++ zeros (pad_len (length x.value)))
+pub values-push : (xs : List Property) (x : Property) → flat_map (λ (p : Property). padded_value p.value) (xs ++ x ∷ [])
+    ≡
+    flat_map (λ (p : Property). padded_value p.value) xs ++ (x.value ++ zeros (pad_len (length x.value)))
 values-push xs x =
-    flat_map-append (λ (p : Property). padded p.value) xs (x ∷ [])
-    ∙ ap (λ rest. flat_map (λ (p : Property). padded p.value) xs ++ rest) (append-nil (padded x.value))
+    flat_map-append (λ (p : Property). padded_value p.value) xs (x ∷ [])
+    ∙ ap (λ rest. flat_map (λ (p : Property). padded_value p.value) xs ++ rest) (append-nil (padded_value x.value))
 
 pub joined_four : (a b x y : List ℕ) → ((a ++ b) ++ x) ++ y ≡ a ++ (b ++ (x ++ y))
 joined_four a b x y = append_assoc (a ++ b) x y ∙ append_assoc a b (x ++ y)
@@ -64,22 +67,22 @@ some_zeros (suc (suc (suc (suc n)))) few = absurd (omega arith)
 
 -- ---- the properties with another title
 
-any_title : (b : List ℕ) (pairs : List PropertyPair) (there : Bool) → pairs ≡ pairs_of b →
+any_title : (b : List ℕ) (pairs : List PropertyPair) (there : Bool) → pairs ≡ pairs_in_stream b →
     is_some (find (λ pair. pair.id
-    == 2) pairs) ≡ there → list_any is_title (property_values b) ≡ there
+    == 2) pairs) ≡ there → list_any is_title_property (property_values b) ≡ there
 any_title b pairs there same found =
-    is_some-find is_title (property_of b) (pairs_of b)
+    is_some-find is_title_property (property_of b) (pairs_in_stream b)
     ∙ (ap (λ xs. is_some (find (λ (pair : PropertyPair). pair.id == 2) xs)) (sym same) ∙ found)
 
-mapped : (b title : List ℕ) (pairs : List PropertyPair) → pairs ≡ pairs_of b →
+mapped : (b title : List ℕ) (pairs : List PropertyPair) → pairs ≡ pairs_in_stream b →
     map (λ pair. in_place title (property_of b
     pair)) pairs ≡ map (in_place title) (property_values b)
 mapped b title pairs same =
     ap (map (λ (pair : PropertyPair). in_place title (property_of b pair))) same
-    ∙ sym (map-map (in_place title) (property_of b) (pairs_of b))
+    ∙ sym (map-map (in_place title) (property_of b) (pairs_in_stream b))
 
 -- where there was a title
-pub retitled-there : (b title : List ℕ) (pairs : List PropertyPair) → pairs ≡ pairs_of b →
+pub retitled-there : (b title : List ℕ) (pairs : List PropertyPair) → pairs ≡ pairs_in_stream b →
     is_some (find (λ pair. pair.id
     == 2) pairs) ≡ true → map (λ pair. in_place title (property_of b pair)) pairs ≡ retitled (property_values b) title
 retitled-there b title pairs same found =
@@ -90,7 +93,8 @@ retitled-there b title pairs same found =
     (sym (any_title b pairs true same found)))
 
 -- where there was none
-pub retitled-last : (b title : List ℕ) (pairs : List PropertyPair) → pairs ≡ pairs_of b → is_some (find (λ pair. pair.id
+pub retitled-last : (b title : List ℕ) (pairs : List PropertyPair) → pairs ≡ pairs_in_stream b → is_some (find (λ pair.
+    pair.id
     == 2) pairs) ≡ false → map (λ pair. in_place title (property_of b pair)) pairs ++ title_property title ∷ [] ≡
     retitled (property_values b) title
 retitled-last b title pairs same found =
@@ -101,7 +105,7 @@ retitled-last b title pairs same found =
 
 -- ---- lengths
 
-pub padded_len-is : (value : List ℕ) → length (padded value) ≡ length value + pad_len (length value)
+pub padded_len-is : (value : List ℕ) → length (padded_value value) ≡ length value + pad_len (length value)
 padded_len-is value = omega (
   arith,
   length-append value (zeros (pad_len (length value))),
@@ -143,7 +147,7 @@ titled_sum : (title : List ℕ) (values : List Property) → length title ≤ 25
 titled_sum title [] short = omega arith
 titled_sum title (property ∷ rest) short =
     let ih = titled_sum title rest short in
-    let one = one_of (is_title property) (title_property title) property 0 (title_len title short) in
+    let one = one_of (is_title_property property) (title_property title) property 0 (title_len title short) in
     let a = sum_by-cons padded_len (in_place title property) (map (in_place title) rest) in
     let b = sum_by-cons (λ (p : Property). length p.value) property rest in
     omega arith
@@ -178,13 +182,13 @@ offset_at b i below =
 pub length-offsets : (b : List ℕ) → length (offsets_of b) ≡ pair_count b
 length-offsets b = omega (
   arith,
-  length-map (pairs_of b) (λ (p : PropertyPair). p.offset),
+  length-map (pairs_in_stream b) (λ (p : PropertyPair). p.offset),
   length-map-range_with_len
       (pair_at b) 0 (pair_count b),
 )
 
 set_spans : (b : List ℕ) → IsPropertySet b →
-    AreSpans (value_end (offsets_of b) (set_size b)) (set_size b) (offsets_of b)
+    AreSpans (value_end (offsets_of b) (first_set_size b)) (first_set_size b) (offsets_of b)
 set_spans b formed =
     let len = length-offsets b in
     record {
@@ -197,25 +201,27 @@ set_spans b formed =
           let low : k < pair_count b = omega arith in
           let at = offset_at b k low in
           let four = (pair_of_rules b k formed.1 low).within in
-          value_end-more (offsets_of b) (set_size b) (slice_index (offsets_of b) k) (omega arith);
-      within = λ k below. value_end-le (offsets_of b) (set_size b) (slice_index (offsets_of b) k);
-      gap = λ k j below low h. value_end-upto (offsets_of b) (set_size b) (slice_index (offsets_of b) k) j low h;
+          value_end-more (offsets_of b) (first_set_size b) (slice_index (offsets_of b) k) (omega arith);
+      within = λ k below. value_end-le (offsets_of b) (first_set_size b) (slice_index (offsets_of b) k);
+      gap = λ k j below low h. value_end-upto (offsets_of b) (first_set_size b) (slice_index (offsets_of b) k) j low h;
     }
 
-value_len : (b : List ℕ) (pair : PropertyPair) → length (value_of b pair) ≤ value_end (offsets_of b) (set_size b)
+value_len : (b : List ℕ) (pair : PropertyPair) → length (pair_value_bytes b pair) ≤ value_end (offsets_of b)
+    (first_set_size b)
     pair.offset - pair.offset
 value_len b pair =
-    let begin : ℕ = set_begin b in
-    let end : ℕ = value_end (offsets_of b) (set_size b) pair.offset in
+    let begin : ℕ = first_set_begin b in
+    let end : ℕ = value_end (offsets_of b) (first_set_size b) pair.offset in
     let took = length-take (begin + end - (begin + pair.offset)) (drop (begin + pair.offset) b) in
     omega arith
 
-values_sum : (b : List ℕ) → IsPropertySet b → sum_by (λ (p : Property). length p.value) (property_values b) ≤ set_size b
+values_sum : (b : List ℕ) → IsPropertySet b → sum_by (λ (p : Property). length p.value) (property_values b) ≤
+    first_set_size b
 values_sum b formed =
-    let end : ℕ → ℕ = value_end (offsets_of b) (set_size b) in
+    let end : ℕ → ℕ = value_end (offsets_of b) (first_set_size b) in
     let le = sum_maps-le (λ (p : Property). length p.value) (property_of b) (λ x. end x - x) (λ (p : PropertyPair).
-    p.offset) (pairs_of b) (value_len b) in
-    let all = all_spans end (set_size b) (offsets_of b) (set_spans b formed) in
+    p.offset) (pairs_in_stream b) (value_len b) in
+    let all = all_spans end (first_set_size b) (offsets_of b) (set_spans b formed) in
     omega arith
 
 -- the set with another title has 32 bits
@@ -223,17 +229,17 @@ pub retitled_fits : (b title : List ℕ) → IsPropertySet b → length b ≤ 71
     (retitled (property_values b) title) < 2 ^ 32
 retitled_fits b title formed short short_title =
     let values : List Property = property_values b in
-    let last : List Property = if list_any is_title values then [] else title_property title ∷ [] in
+    let last : List Property = if list_any is_title_property values then [] else title_property title ∷ [] in
     let sized = (head_of_rules b formed.0).sized in
     let pairs = sized.pairs in
     let within = sized.within in
     let sum = values_sum b formed in
     let titled = titled_sum title values short_title in
-    let more = last_sum (list_any is_title values) title short_title in
-    let one = last_len (list_any is_title values) title in
+    let more = last_sum (list_any is_title_property values) title short_title in
+    let one = last_len (list_any is_title_property values) title in
     let both = sum_by-append padded_len (map (in_place title) values) last in
     let len = length-append (map (in_place title) values) last in
     let same = length-map values (in_place title) in
-    let count = length-map (pairs_of b) (property_of b) in
+    let count = length-map (pairs_in_stream b) (property_of b) in
     let read = length-map-range_with_len (pair_at b) 0 (pair_count b) in
     omega arith

@@ -8,9 +8,9 @@ use Rattle.std.proofs.lemmas.List.Concat.{length-flat_map}
 use Rattle.doc_bits.specs.Number.{number_at, number_bytes}
 use Rattle.doc_bits.proofs.Public.{number_at-number_bytes, length-number_bytes, there_is}
 use Rattle.summary_set.specs.declared.values.Property.{Property}
-use Rattle.summary_set.specs.PropertySet.{set_begin, set_size, pair_count, pair_place, pair_at}
+use Rattle.summary_set.specs.PropertySet.{first_set_begin, first_set_size, pair_count, pair_place, pair_at}
 use Rattle.summary_set.specs.Form.{HasHead, IsValidPair}
-use Rattle.summary_set.specs.Written.{KeptBytes, padded, padded_len, pair_bytes}
+use Rattle.summary_set.specs.Written.{KeptBytes, padded_value, padded_len, pair_bytes}
 use Rattle.summary_set.specs.Written.{first_offset, written_size, written_head, written_set}
 use Rattle.summary_set.specs.Laws.{AreWritable}
 use Rattle.summary_set.proofs.WriteLemmas.{padded_len-is}
@@ -23,7 +23,7 @@ use Rattle.summary_set.proofs.PairLemmas.{sum_take-more}
 unfoldable pub body : List Property → List ℕ
 body values =
     number_bytes 4 (written_size values) ++ (number_bytes 4 (length values) ++ (pair_bytes (first_offset values) values
-    ++ flat_map (λ (p : Property). padded p.value) values))
+    ++ flat_map (λ (p : Property). padded_value p.value) values))
 
 pub is_kept : (kept : KeptBytes) (values : List Property) → AreWritable kept values → IsKept kept
 is_kept kept values w = record { system = w.system; format = w.format }
@@ -33,7 +33,7 @@ unfolding body
 written-flat kept values = flat-is kept (body values)
 
 pub written-begin : (kept : KeptBytes) (values : List Property) → AreWritable kept values →
-    set_begin (written_set kept values)
+    first_set_begin (written_set kept values)
     ≡ 48
 written-begin kept values w = ap (λ b. number_at b 44 4) (written-flat kept values) ∙ flat-begin kept (body values)
     (is_kept kept values w)
@@ -50,7 +50,7 @@ pub few_values : (kept : KeptBytes) (values : List Property) → AreWritable kep
 few_values kept values w = let fits = w.fits in omega arith
 
 pub written-size : (kept : KeptBytes) (values : List Property) → AreWritable kept values →
-    set_size (written_set kept values) ≡
+    first_set_size (written_set kept values) ≡
     written_size values
 unfolding body
 written-size kept values w =
@@ -58,14 +58,15 @@ written-size kept values w =
     ∙ (written-at kept values 0 w
     ∙ number_at-number_bytes 4 (written_size values)
     (number_bytes 4 (length values) ++ (pair_bytes (first_offset values)
-    values ++ flat_map (λ (p : Property). padded p.value) values)) w.fits)
+    values ++ flat_map (λ (p : Property). padded_value p.value) values)) w.fits)
 
 pub written-count : (kept : KeptBytes) (values : List Property) → AreWritable kept values →
     pair_count (written_set kept values)
     ≡ length values
 unfolding body
 written-count kept values w =
-    let rest : List ℕ = pair_bytes (first_offset values) values ++ flat_map (λ (p : Property). padded p.value) values in
+    let rest : List ℕ = pair_bytes (first_offset values) values ++ flat_map (λ (p : Property). padded_value p.value)
+    values in
     ap (λ p. number_at (written_set kept values) (p + 4) 4) (written-begin kept values w)
     ∙ (written-at kept values 4 w
     ∙ (skip (number_bytes 4 (written_size values)) (number_bytes 4 (length values) ++ rest) 4 0 4 (length-number_bytes 4
@@ -76,10 +77,11 @@ written-count kept values w =
 pub written-pair : (kept : KeptBytes) (values : List Property) (i at : ℕ) → AreWritable kept values →
     number_at (written_set
     kept values) (pair_place (written_set kept values) i + at) 4 ≡ number_at (pair_bytes (first_offset values) values ++
-    flat_map (λ (p : Property). padded p.value) values) (8 * i + at) 4
+    flat_map (λ (p : Property). padded_value p.value) values) (8 * i + at) 4
 unfolding body
 written-pair kept values i at w =
-    let rest : List ℕ = pair_bytes (first_offset values) values ++ flat_map (λ (p : Property). padded p.value) values in
+    let rest : List ℕ = pair_bytes (first_offset values) values ++ flat_map (λ (p : Property). padded_value p.value)
+    values in
     let begin = written-begin kept values w in
     let place : pair_place (written_set kept values) i + at ≡ 48 + (4 + (4 + (8 * i + at))) = omega arith in
     ap (λ p. number_at (written_set kept values) p 4) place
@@ -95,7 +97,7 @@ written-id kept values i x w here =
     let place : pair_place (written_set kept values) i ≡ pair_place (written_set kept values) i + 0 = omega arith in
     ap (λ p. number_at (written_set kept values) p 4) place
     ∙ (written-pair kept values i 0 w
-    ∙ pair_id (first_offset values) values (flat_map (λ (p : Property). padded p.value) values) i x here
+    ∙ pair_id (first_offset values) values (flat_map (λ (p : Property). padded_value p.value) values) i x here
     (w.ids i x here))
 
 pub written-offset : (kept : KeptBytes) (values : List Property) (i : ℕ) → AreWritable kept values → i < length values →
@@ -105,7 +107,8 @@ written-offset kept values i w low =
     let fits = w.fits in
     let le = sum_by-take-le padded_len values i in
     written-pair kept values i 4 w
-    ∙ pair_offset (first_offset values) values (flat_map (λ (p : Property). padded p.value) values) i low (omega arith)
+    ∙ pair_offset (first_offset values) values (flat_map (λ (p : Property). padded_value p.value) values) i low (omega
+    arith)
 
 pub length-written : (kept : KeptBytes) (values : List Property) → AreWritable kept values →
     length (written_set kept values) ≡
@@ -114,7 +117,7 @@ length-written kept values w =
     let size : List ℕ = number_bytes 4 (written_size values) in
     let count : List ℕ = number_bytes 4 (length values) in
     let pairs : List ℕ = pair_bytes (first_offset values) values in
-    let all : List ℕ = flat_map (λ (p : Property). padded p.value) values in
+    let all : List ℕ = flat_map (λ (p : Property). padded_value p.value) values in
     let head = head_len kept (is_kept kept values w) in
     let a = length-append (written_head kept) (size ++ (count ++ (pairs ++ all))) in
     let b = length-append size (count ++ (pairs ++ all)) in
@@ -123,7 +126,7 @@ length-written kept values w =
     let x = length-number_bytes 4 (written_size values) in
     let y = length-number_bytes 4 (length values) in
     let z = length-pair_bytes (first_offset values) values in
-    let sum = length-flat_map (λ (p : Property). padded p.value) values in
+    let sum = length-flat_map (λ (p : Property). padded_value p.value) values in
     omega arith
 
 pub written-head : (kept : KeptBytes) (values : List Property) → AreWritable kept values →

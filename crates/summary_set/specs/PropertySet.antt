@@ -7,31 +7,31 @@ use Rattle.summary_set.specs.declared.set.PropertyPair.{PropertyPair}
 use Rattle.summary_set.specs.declared.set.SetHead.{SetHead}
 
 -- Offset0: where the set begins in the stream
-abbrev pub set_begin : List ℕ → ℕ
-set_begin b = u32_at b 44
+abbrev pub first_set_begin : List ℕ → ℕ
+first_set_begin b = u32_at b 44
 
 -- [MS-OLEPS] PropertySet: Size
-abbrev pub set_size : List ℕ → ℕ
-set_size b = u32_at b (set_begin b)
+abbrev pub first_set_size : List ℕ → ℕ
+first_set_size b = u32_at b (first_set_begin b)
 
 -- [MS-OLEPS] PropertySet: NumProperties
 abbrev pub pair_count : List ℕ → ℕ
-pair_count b = u32_at b (set_begin b + 4)
+pair_count b = u32_at b (first_set_begin b + 4)
 
-abbrev pub head_of : List ℕ → SetHead
-head_of b = record { begin = set_begin b; size = set_size b; count = pair_count b }
+abbrev pub set_head_of : List ℕ → SetHead
+set_head_of b = record { begin = first_set_begin b; size = first_set_size b; count = pair_count b }
 
 -- where a pair is in the stream
 abbrev pub pair_place : List ℕ → ℕ → ℕ
-pair_place b i = set_begin b + 8 + 8 * i
+pair_place b i = first_set_begin b + 8 + 8 * i
 
 -- [MS-OLEPS] PropertyIdentifierAndOffset
 abbrev pub pair_at : List ℕ → ℕ → PropertyPair
 pair_at b i = record { id = u32_at b (pair_place b i); offset = u32_at b (pair_place b i + 4) }
 
 -- the pairs, in their order
-abbrev pub pairs_of : List ℕ → List PropertyPair
-pairs_of b = map (pair_at b) (range_with_len 0 (pair_count b))
+abbrev pub pairs_in_stream : List ℕ → List PropertyPair
+pairs_in_stream b = map (pair_at b) (range_with_len 0 (pair_count b))
 
 abbrev pub offsets_of : List ℕ → List ℕ
-offsets_of b = map (λ pair. pair.offset) (pairs_of b)
+offsets_of b = map (λ pair. pair.offset) (pairs_in_stream b)

@@ -20,14 +20,14 @@ abbrev pub pad_len : ℕ → ℕ
 pad_len len = (4 - len % 4) % 4
 
 -- a value with zeros up to a multiple of 4
-abbrev pub padded : List ℕ → List ℕ
-padded value = value ++ zeros (pad_len (length value))
+abbrev pub padded_value : List ℕ → List ℕ
+padded_value value = value ++ zeros (pad_len (length value))
 
 abbrev pub padded_property : Property → Property
-padded_property property = record { id = property.id; value = padded property.value }
+padded_property property = record { id = property.id; value = padded_value property.value }
 
 abbrev pub padded_len : Property → ℕ
-padded_len property = length (padded property.value)
+padded_len property = length (padded_value property.value)
 
 -- [MS-OLEPS] TypedPropertyValue with a CodePageString: type, padding, the count of the text and its zero
 abbrev pub title_value : List ℕ → List ℕ
@@ -39,20 +39,20 @@ pub record IsTitle (title : List ℕ) : Type 0 where
   pub short : length title ≤ 255
   pub plain : All (λ byte. (0x20 ≤ byte) × (byte ≤ 0x7E)) title
 
-abbrev pub is_title : Property → Bool
-is_title property = property.id == 2
+abbrev pub is_title_property : Property → Bool
+is_title_property property = property.id == 2
 
 abbrev pub title_property : List ℕ → Property
 title_property title = record { id = 2; value = title_value title }
 
 -- the title in the place of the old one
 abbrev pub in_place : List ℕ → Property → Property
-in_place title property = if is_title property then title_property title else property
+in_place title property = if is_title_property property then title_property title else property
 
 -- the properties with this title: in the place of the old one, or last where there was none
 abbrev pub retitled : List Property → List ℕ → List Property
 retitled values title =
-    map (in_place title) values ++ (if list_any is_title values then [] else title_property title ∷ [])
+    map (in_place title) values ++ (if list_any is_title_property values then [] else title_property title ∷ [])
 
 -- pairs of properties whose values are from an offset on, one behind the other
 abbrev pub pair_bytes : ℕ → List Property → List ℕ
@@ -77,7 +77,7 @@ written_head kept =
 abbrev pub written_set : KeptBytes → List Property → List ℕ
 written_set kept values =
     written_head kept ++ (number_bytes 4 (written_size values) ++ (number_bytes 4 (length values) ++ (pair_bytes
-    (first_offset values) values ++ flat_map (λ property. padded property.value) values)))
+    (first_offset values) values ++ flat_map (λ property. padded_value property.value) values)))
 
 -- the stream with this title
 abbrev pub retitled_stream : List ℕ → List ℕ → List ℕ

@@ -5,10 +5,10 @@ ghost use Rattle.std.specs.Prelude.{IfOk, OnOk, MatchResult, IsPermutation, IsSo
 ghost use Rattle.std.specs.Ordering.{nat_cmp};
 ghost use Rattle.std.specs.BTreeSet.{contains, Updates};
 ghost use Rattle.doc_bits.specs.Rules.{Hold};
-ghost use Rattle.summary_set.specs.PropertySet.{head_of, pair_at, pairs_of, set_begin};
+ghost use Rattle.summary_set.specs.PropertySet.{set_head_of, pair_at, pairs_in_stream, first_set_begin};
 ghost use Rattle.summary_set.specs.Form.{IsPropertySet, IsSetFault, IsFaultOf, head_rules, pair_rules};
 ghost use Rattle.summary_set.specs.Form.{BeginsWithin, IsSized, HasHead};
-ghost use Rattle.summary_set.specs.Values.{IsSetOf};
+ghost use Rattle.summary_set.specs.Values.{IsDecodedSet};
 
 use crate::SetFault;
 use crate::set::{PropertyPair, PropertySet, SetHead};
@@ -37,7 +37,7 @@ const NUMBERS_LEN: u32 = 8;
 pub(crate) fn check(alloc: Global, stream: &[u8]) -> Result<PropertySet, SetFault>
     requires short { length stream.now ≤ 7143936 }
     ensures { MatchResult result
-        (λ set. IsPropertySet stream.now × IsSetOf stream.now set)
+        (λ set. IsPropertySet stream.now × IsDecodedSet stream.now set)
         (IsSetFault stream.now) }
 {
     let head = read_head(stream)?;
@@ -61,7 +61,7 @@ fn wrong_at(at: u32) -> SetFault
 fn read_head(stream: &[u8]) -> Result<SetHead, SetFault>
     requires short { length stream.now ≤ 7143936 }
     ensures { MatchResult result
-        (λ head. HasHead stream.now × (head ≡ head_of stream.now))
+        (λ head. HasHead stream.now × (head ≡ set_head_of stream.now))
         (IsFaultOf (head_rules stream.now)) }
 {
     if stream.len() < MIN_LEN {
@@ -90,7 +90,7 @@ fn read_head(stream: &[u8]) -> Result<SetHead, SetFault>
 
 /// Whether the set begins behind the head of the stream, and its size and count are there.
 fn begins_within(stream: &[u8], begin: u32) -> bool
-    requires offset { begin ≡ set_begin stream.now }
+    requires offset { begin ≡ first_set_begin stream.now }
     requires long { 56 ≤ length stream.now }
     ensures { IsTrue result ↔ BeginsWithin stream.now }
 {
@@ -99,7 +99,7 @@ fn begins_within(stream: &[u8], begin: u32) -> bool
 
 /// Whether the set has its pairs, and the stream has the set.
 fn is_sized(stream: &[u8], head: SetHead) -> bool
-    requires head { head ≡ head_of stream.now }
+    requires head { head ≡ set_head_of stream.now }
     requires short { length stream.now ≤ 7143936 }
     ensures { IsTrue result ↔ IsSized stream.now }
 {
@@ -109,11 +109,11 @@ fn is_sized(stream: &[u8], head: SetHead) -> bool
 
 /// The pairs of the set, where none is wrong.
 fn read_pairs(alloc: Global, stream: &[u8], head: SetHead) -> Result<Vec<PropertyPair>, SetFault>
-    requires head { head ≡ head_of stream.now }
+    requires head { head ≡ set_head_of stream.now }
     requires short { length stream.now ≤ 7143936 }
     requires whole { HasHead stream.now }
     ensures { MatchResult result
-        (λ pairs. Hold (pair_rules stream.now) × (pairs.items ≡ pairs_of stream.now))
+        (λ pairs. Hold (pair_rules stream.now) × (pairs.items ≡ pairs_in_stream stream.now))
         (IsFaultOf (pair_rules stream.now)) }
 {
     let mut pairs = Vec::new(alloc);
@@ -148,7 +148,7 @@ fn pair_place(head: SetHead, i: u32) -> u32
 
 /// A pair of the set.
 fn read_pair(stream: &[u8], head: SetHead, i: u32) -> PropertyPair
-    requires head { head ≡ head_of stream.now }
+    requires head { head ≡ set_head_of stream.now }
     requires short { length stream.now ≤ 7143936 }
     requires within { head.begin + 16 + 8 * i ≤ length stream.now }
     ensures { result ≡ pair_at stream.now i }

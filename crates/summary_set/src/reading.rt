@@ -1,6 +1,6 @@
 ghost use Rattle.std.specs.Prelude.{◌≡◌, ◌≤◌, length, IfOk, MatchResult};
 ghost use Rattle.summary_set.specs.Form.{IsPropertySet, IsSetFault};
-ghost use Rattle.summary_set.specs.Values.{IsSetOf};
+ghost use Rattle.summary_set.specs.Values.{IsDecodedSet};
 ghost use Rattle.summary_set.specs.Texts.{AreFieldsOf, text_property, page_property};
 
 use crate::form::check;
@@ -44,7 +44,7 @@ pub fn code_page(alloc: Global, stream: &[u8]) -> Result<Option<u16>, SetFault>
 
 /// The code page of a set.
 fn page_of(stream: &[u8], set: &PropertySet) -> Option<u16>
-    requires set { IsSetOf stream.now set.now }
+    requires set { IsDecodedSet stream.now set.now }
     requires formed { IsPropertySet stream.now }
     ensures { result ≡ page_property stream.now }
 {
@@ -55,7 +55,7 @@ fn page_of(stream: &[u8], set: &PropertySet) -> Option<u16>
 }
 
 fn fields_of(alloc: Global, stream: &[u8], set: &PropertySet) -> Result<Fields, Memory>
-    requires set { IsSetOf stream.now set.now }
+    requires set { IsDecodedSet stream.now set.now }
     requires formed { IsPropertySet stream.now }
     ensures { IfOk result (AreFieldsOf stream.now) }
 {
@@ -73,7 +73,7 @@ fn text_property(
     set: &PropertySet,
     id: u32,
 ) -> Result<Option<Bytes>, Memory>
-    requires set { IsSetOf stream.now set.now }
+    requires set { IsDecodedSet stream.now set.now }
     requires formed { IsPropertySet stream.now }
     ensures { IfOk result (λ found. found ≡ text_property stream.now id) }
 {

@@ -1,8 +1,8 @@
 // The stream with another title.
 ghost use Rattle.std.specs.Prelude.{◌≡◌, ◌≤◌, ◌+◌, ◌↔◌, length, All, IfOk, IsTrue, MatchResult};
-ghost use Rattle.summary_set.specs.PropertySet.{set_size};
+ghost use Rattle.summary_set.specs.PropertySet.{first_set_size};
 ghost use Rattle.summary_set.specs.Form.{IsPropertySet, IsSetFault};
-ghost use Rattle.summary_set.specs.Values.{IsSetOf, property_of, property_values};
+ghost use Rattle.summary_set.specs.Values.{IsDecodedSet, property_of, property_values};
 ghost use Rattle.summary_set.specs.Written.{title_property, in_place, retitled, retitled_stream};
 ghost use Rattle.summary_set.specs.Written.{IsTitle};
 
@@ -62,7 +62,7 @@ fn set_title(
     set: &PropertySet,
     title: &[u8],
 ) -> Result<Vec<Property>, Memory>
-    requires set { IsSetOf stream.now set.now }
+    requires set { IsDecodedSet stream.now set.now }
     requires formed { IsPropertySet stream.now }
     requires short_title { length title.now ≤ 255 }
     ensures { IfOk result (λ values. values.items ≡ retitled (property_values stream.now) title.now) }
@@ -86,9 +86,9 @@ fn renew_property(
     pair: PropertyPair,
     title: &[u8],
 ) -> Result<Property, Memory>
-    requires set { IsSetOf stream.now set.now }
+    requires set { IsDecodedSet stream.now set.now }
     requires formed { IsPropertySet stream.now }
-    requires pair { pair.offset + 4 ≤ set_size stream.now }
+    requires pair { pair.offset + 4 ≤ first_set_size stream.now }
     requires short_title { length title.now ≤ 255 }
     ensures { IfOk result (λ property. property ≡ in_place title.now (property_of stream.now pair)) }
 {

@@ -1,8 +1,8 @@
 // The values that the pairs of a set name.
 ghost use Rattle.std.specs.Prelude.{◌≡◌, ◌≤◌, ◌+◌, ◌==◌, nat_le, IfOk, find};
-ghost use Rattle.summary_set.specs.PropertySet.{offsets_of, set_size};
+ghost use Rattle.summary_set.specs.PropertySet.{offsets_of, first_set_size};
 ghost use Rattle.summary_set.specs.Form.{IsPropertySet};
-ghost use Rattle.summary_set.specs.Values.{IsSetOf, value_end, value_of, property_of};
+ghost use Rattle.summary_set.specs.Values.{IsDecodedSet, value_end, pair_value_bytes, property_of};
 
 use crate::set::{PropertyPair, PropertySet};
 use doc_bits::{Bytes, Memory};
@@ -31,9 +31,9 @@ impl PropertySet {
 
     /// Where the value at an offset ends in the set.
     fn end_of_value(&self, stream: &[u8], offset: u32) -> u32
-        requires set { IsSetOf stream.now self.now }
+        requires set { IsDecodedSet stream.now self.now }
         requires formed { IsPropertySet stream.now }
-        ensures { result ≡ value_end (offsets_of stream.now) (set_size stream.now) offset }
+        ensures { result ≡ value_end (offsets_of stream.now) (first_set_size stream.now) offset }
     {
         let next = self.offsets.as_slice().partition_point(
             |other: &u32| -> bool
@@ -49,10 +49,10 @@ impl PropertySet {
 
     /// The value that a pair names.
     pub(crate) fn value<'a>(&self, stream: &'a [u8], pair: PropertyPair) -> &'a [u8]
-        requires set { IsSetOf stream.now self.now }
+        requires set { IsDecodedSet stream.now self.now }
         requires formed { IsPropertySet stream.now }
-        requires pair { pair.offset + 4 ≤ set_size stream.now }
-        ensures { result.now ≡ value_of stream.now pair }
+        requires pair { pair.offset + 4 ≤ first_set_size stream.now }
+        ensures { result.now ≡ pair_value_bytes stream.now pair }
     {
         let begin = self.begin as usize;
         let end = self.end_of_value(stream, pair.offset);
@@ -66,9 +66,9 @@ impl PropertySet {
         stream: &[u8],
         pair: PropertyPair,
     ) -> Result<Property, Memory>
-        requires set { IsSetOf stream.now self.now }
+        requires set { IsDecodedSet stream.now self.now }
         requires formed { IsPropertySet stream.now }
-        requires pair { pair.offset + 4 ≤ set_size stream.now }
+        requires pair { pair.offset + 4 ≤ first_set_size stream.now }
         ensures { IfOk result (λ property. property ≡ property_of stream.now pair) }
     {
         let value = Bytes::from_slice(alloc, self.value(stream, pair))?;

@@ -1,7 +1,7 @@
 // The bytes of a stream with one property set.
 ghost use Rattle.std.specs.Prelude.{◌≡◌, ◌≤◌, ◌<◌, ◌+◌, ◌^◌, ◌++◌, length, IfOk, OnOk, flat_map};
 ghost use Rattle.summary_set.specs.Written.{kept_bytes, written_set, written_size, written_head, pair_bytes};
-ghost use Rattle.summary_set.specs.Written.{first_offset, pad_len, padded};
+ghost use Rattle.summary_set.specs.Written.{first_offset, pad_len, padded_value};
 
 use crate::form::LITTLE_ENDIAN;
 use crate::values::Property;
@@ -55,7 +55,7 @@ fn pad_len(len: usize) -> usize
 
 /// How many bytes a value has with its zeros.
 fn padded_len(value: &Bytes) -> u64
-    ensures { result ≡ length (padded value.now) }
+    ensures { result ≡ length (padded_value value.now) }
 {
     let len = value.as_slice().len();
     len as u64 + pad_len(len) as u64
@@ -89,7 +89,7 @@ fn print_pairs(bytes: &mut Bytes, values: &[Property]) -> Result<(), Memory>
 
 /// The values, each with zeros up to a multiple of four bytes.
 fn print_values(bytes: &mut Bytes, values: &[Property]) -> Result<(), Memory>
-    ensures { OnOk result (bytes.new ≡ bytes.old ++ flat_map (λ property. padded property.value) values.now) }
+    ensures { OnOk result (bytes.new ≡ bytes.old ++ flat_map (λ property. padded_value property.value) values.now) }
 {
     for property in values {
         let value = property.value.as_slice();

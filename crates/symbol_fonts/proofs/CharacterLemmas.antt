@@ -7,7 +7,7 @@ use Rattle.std.proofs.lemmas.Bool.Decides.{nat_tests}
 use Rattle.symbol_fonts.specs.declared.characters.SymbolFont.{SymbolFont}
 use Rattle.symbol_fonts.specs.declared.characters.SymbolFont.TheVariants.{Symbol, Wingdings, Wingdings2}
 use Rattle.symbol_fonts.specs.declared.characters.SymbolFont.TheVariants.{Wingdings3, Webdings, Dingbats}
-use Rattle.symbol_fonts.specs.Characters.{IsShownAs, character_of, characters_of, is_sign, shown_in, shown_unit}
+use Rattle.symbol_fonts.specs.Characters.{IsShownAs, character_of, font_characters, is_sign, shown_in, shown_unit}
 use Rattle.symbol_fonts.specs.Laws.{IsCharacter, SignsAreCharacters, UnitsAreShown}
 use Rattle.doc_bits.proofs.Public.{not_true, not_zero}
 
@@ -15,8 +15,8 @@ use Rattle.doc_bits.proofs.Public.{not_true, not_zero}
 pub sign_none : (font : Option SymbolFont) (unit : ℕ) → is_sign unit ≡ false → shown_unit font unit ≡ unit
 sign_none None unit off = refl
 sign_none (Some font) unit off = λ i.
-    if (if off i then slice_index (characters_of font) (unit - 0xF020) else 0) == 0 then unit else
-    if off i then slice_index (characters_of font) (unit - 0xF020) else 0
+    if (if off i then slice_index (font_characters font) (unit - 0xF020) else 0) == 0 then unit else
+    if off i then slice_index (font_characters font) (unit - 0xF020) else 0
 
 -- ---- each of the tables has characters
 
@@ -29,7 +29,7 @@ abbrev are_valid : List ℕ → Bool
 are_valid [] = true
 are_valid (code ∷ codes) = is_valid code && are_valid codes
 
-tables_right : (font : SymbolFont) → are_valid (characters_of font) ≡ true
+tables_right : (font : SymbolFont) → are_valid (font_characters font) ≡ true
 tables_right Symbol = refl
 tables_right Wingdings = refl
 tables_right Wingdings2 = refl
@@ -45,8 +45,8 @@ right_at (code ∷ codes) (suc k) e = right_at codes k (and_parts (is_valid code
 character_right : (font : SymbolFont) (unit : ℕ) → is_valid (character_of font unit) ≡ true
 character_right font unit =
     elim (is_sign unit)
-    as (λ b. is_valid (if b then slice_index (characters_of font) (unit - 0xF020) else 0) ≡ true) [
-      | true ↦ right_at (characters_of font) (unit - 0xF020) (tables_right font)
+    as (λ b. is_valid (if b then slice_index (font_characters font) (unit - 0xF020) else 0) ≡ true) [
+      | true ↦ right_at (font_characters font) (unit - 0xF020) (tables_right font)
       | false ↦ refl
     ]
 

@@ -6,7 +6,7 @@ use Rattle.std.proofs.lemmas.Bool.{le-leb}
 use Rattle.std.proofs.lemmas.Bool.Decides.{nat_tests}
 use Rattle.std.proofs.lemmas.List.{drop-drop}
 use Rattle.doc_bits.specs.Number.{u16_at}
-use Rattle.symbol_fonts.specs.Fonts.{first_named, fonts_in, is_named, records}
+use Rattle.symbol_fonts.specs.Fonts.{first_named, fonts_in, is_font_named, records}
 
 -- what is looked for from a place on, where so many fonts are left
 abbrev pub named_from : List ℕ → List ℕ → ℕ → ℕ → ℕ → Option ℕ
@@ -72,14 +72,14 @@ none_cut name table number left at some within cut =
 
 named_more : (name : List ℕ) (number : ℕ) (font : List ℕ) (more : List (List ℕ)) →
     first_named name number (font ∷ more)
-    ≡ (if is_named name font then Some number else first_named name (number + 1) more)
+    ≡ (if is_font_named name font then Some number else first_named name (number + 1) more)
 unfolding first_named
 named_more name number font more = refl
 
 -- one that is whole
 named_whole : (name table : List ℕ) (number left at : ℕ) → 0 < left → at < length table →
     at + 1 + slice_index table at ≤ length table → named_from name table number left at
-    ≡ (if is_named name (slice_range table (at + 1) (at + 1 + slice_index table at)) then Some number else
+    ≡ (if is_font_named name (slice_range table (at + 1) (at + 1 + slice_index table at)) then Some number else
     named_from name table (number + 1) (left - 1) (at + 1 + slice_index table at))
 named_whole name table number left at some within whole =
     let len = slice_index table at in
@@ -90,7 +90,7 @@ named_whole name table number left at some within whole =
     ap (λ fonts. first_named name number fonts)
     (records_at table left (left - 1) at true (omega (arith, some)) within fits)
     ∙ (named_more name number (take len (drop (at + 1) table)) (records (left - 1) (drop len (drop (at + 1) table)))
-    ∙ (λ i. if is_named name (take (width i) (drop (at + 1) table)) then Some number else
+    ∙ (λ i. if is_font_named name (take (width i) (drop (at + 1) table)) then Some number else
     first_named name (number + 1) (records (left - 1) (behind i))))
 
 -- the font of a number, of so many, at a place, with the place behind it
@@ -102,21 +102,22 @@ none_whole name table count number at next more within is cut =
 
 pub named_here : (name table : List ℕ) (count number at next : ℕ) → number < count → at < length table →
     next ≡ at + 1 + slice_index table at → next ≤ length table →
-    is_named name (slice_range table (at + 1) next) ≡ true → Some number ≡ named_from name table number (count - number) at
+    is_font_named name (slice_range table (at + 1) next) ≡ true → Some number ≡ named_from name table number (count -
+    number) at
 named_here name table count number at next more within is whole named =
-    let same : is_named name (slice_range table (at + 1) (at + 1 + slice_index table at)) ≡ true =
-    subst (λ n. is_named name (slice_range table (at + 1) n) ≡ true) is named in
+    let same : is_font_named name (slice_range table (at + 1) (at + 1 + slice_index table at)) ≡ true =
+    subst (λ n. is_font_named name (slice_range table (at + 1) n) ≡ true) is named in
     sym (named_whole name table number (count - number) at (omega (arith, more)) within (omega (arith, is, whole))
     ∙ (λ i. if same i then Some number else
     named_from name table (number + 1) (count - number - 1) (at + 1 + slice_index table at)))
 
 pub named_later : (name table : List ℕ) (count number at next : ℕ) → number < count → at < length table →
     next ≡ at + 1 + slice_index table at → next ≤ length table →
-    is_named name (slice_range table (at + 1) next) ≡ false →
+    is_font_named name (slice_range table (at + 1) next) ≡ false →
     named_from name table number (count - number) at ≡ named_from name table (number + 1) (count - (number + 1)) next
 named_later name table count number at next more within is whole named =
-    let same : is_named name (slice_range table (at + 1) (at + 1 + slice_index table at)) ≡ false =
-    subst (λ n. is_named name (slice_range table (at + 1) n) ≡ false) is named in
+    let same : is_font_named name (slice_range table (at + 1) (at + 1 + slice_index table at)) ≡ false =
+    subst (λ n. is_font_named name (slice_range table (at + 1) n) ≡ false) is named in
     let left : count - number - 1 ≡ count - (number + 1) = omega (arith, more) in
     named_whole name table number (count - number) at (omega (arith, more)) within (omega (arith, is, whole))
     ∙ (λ i. if same i then Some number else

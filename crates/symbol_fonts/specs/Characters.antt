@@ -155,20 +155,20 @@ dingbats_characters =
     ∷ 0x27B1 ∷ 0x27B2 ∷ 0x27B3 ∷ 0x27B4 ∷ 0x27B5 ∷ 0x27B6 ∷ 0x27B7 ∷ 0x27B8 ∷ 0x27B9 ∷ 0x27BA ∷ 0x27BB
     ∷ 0x27BC ∷ 0x27BD ∷ 0x27BE ∷ 0x0000 ∷ []
 
-abbrev pub characters_of : SymbolFont → List ℕ
-characters_of Symbol = symbol_characters
-characters_of Wingdings = wingdings_characters
-characters_of Wingdings2 = wingdings_2_characters
-characters_of Wingdings3 = wingdings_3_characters
-characters_of Webdings = webdings_characters
-characters_of Dingbats = dingbats_characters
+abbrev pub font_characters : SymbolFont → List ℕ
+font_characters Symbol = symbol_characters
+font_characters Wingdings = wingdings_characters
+font_characters Wingdings2 = wingdings_2_characters
+font_characters Wingdings3 = wingdings_3_characters
+font_characters Webdings = webdings_characters
+font_characters Dingbats = dingbats_characters
 
 abbrev pub is_sign : ℕ → Bool
 is_sign unit = nat_le 0xF020 unit && nat_le unit 0xF0FF
 
 -- the character of a unit; 0 where there is none
 abbrev pub character_of : SymbolFont → ℕ → ℕ
-character_of font unit = if is_sign unit then slice_index (characters_of font) (unit - 0xF020) else 0
+character_of font unit = if is_sign unit then slice_index (font_characters font) (unit - 0xF020) else 0
 
 -- a unit in a symbol font is shown as this character
 pub record IsShownAs (font : SymbolFont) (unit character : ℕ) : Type 0 where

@@ -21,32 +21,33 @@ abbrev pub fonts_in : List ℕ → List (List ℕ)
 fonts_in table = records (u16_at table 0) (drop 4 table)
 
 -- [MS-DOC] FFN: xszFfn, in units of two bytes up to a zero
-abbrev pub name_place : ℕ
-name_place = 39
+abbrev pub font_name_place : ℕ
+font_name_place = 39
 
-abbrev pub is_named : List ℕ → List ℕ → Bool
-is_named name font =
-    nat_le (name_place + length name) (length font)
-    && bytes_eq (slice_range font name_place (name_place + length name)) name
+abbrev pub is_font_named : List ℕ → List ℕ → Bool
+is_font_named name font =
+    nat_le (font_name_place + length name) (length font)
+    && bytes_eq (slice_range font font_name_place (font_name_place + length name)) name
 
-abbrev pub name_bytes : List ℕ → List ℕ
-name_bytes name = flat_map (λ unit. unit ∷ 0 ∷ []) name ++ 0 ∷ 0 ∷ []
+abbrev pub font_name_bytes : List ℕ → List ℕ
+font_name_bytes name = flat_map (λ unit. unit ∷ 0 ∷ []) name ++ 0 ∷ 0 ∷ []
 
 -- the number of the first font of a name, where the first of all has this number
 unfoldable pub first_named : List ℕ → ℕ → List (List ℕ) → Option ℕ
 first_named name number [] = None
-first_named name number (font ∷ more) = if is_named name font then Some number else first_named name (number + 1) more
+first_named name number (font ∷ more) = if is_font_named name font then Some number else first_named name (number + 1)
+    more
 
 -- Profile: a font is a symbol font by its name, and the first of that name
 abbrev pub symbol_fonts : List ℕ → SymbolFonts
 symbol_fonts table = record {
-  symbol = first_named (name_bytes (codes "Symbol")) 0 (fonts_in table);
-  wingdings = first_named (name_bytes (codes "Wingdings")) 0 (fonts_in table);
-  wingdings_2 = first_named (name_bytes (codes "Wingdings 2")) 0 (fonts_in table);
-  wingdings_3 = first_named (name_bytes (codes "Wingdings 3")) 0 (fonts_in table);
-  webdings = first_named (name_bytes (codes "Webdings")) 0 (fonts_in table);
-  zapf_dingbats = first_named (name_bytes (codes "ZapfDingbats")) 0 (fonts_in table);
-  monotype_sorts = first_named (name_bytes (codes "Monotype Sorts")) 0 (fonts_in table);
+  symbol = first_named (font_name_bytes (codes "Symbol")) 0 (fonts_in table);
+  wingdings = first_named (font_name_bytes (codes "Wingdings")) 0 (fonts_in table);
+  wingdings_2 = first_named (font_name_bytes (codes "Wingdings 2")) 0 (fonts_in table);
+  wingdings_3 = first_named (font_name_bytes (codes "Wingdings 3")) 0 (fonts_in table);
+  webdings = first_named (font_name_bytes (codes "Webdings")) 0 (fonts_in table);
+  zapf_dingbats = first_named (font_name_bytes (codes "ZapfDingbats")) 0 (fonts_in table);
+  monotype_sorts = first_named (font_name_bytes (codes "Monotype Sorts")) 0 (fonts_in table);
 }
 
 abbrev pub is_number : Option ℕ → ℕ → Bool

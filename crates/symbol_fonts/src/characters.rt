@@ -1,6 +1,6 @@
 // The characters that the signs of symbol fonts are shown as.
 ghost use Rattle.std.specs.Prelude.{◌≡◌, ◌<◌, slice_index};
-ghost use Rattle.symbol_fonts.specs.Characters.{characters_of, is_sign, shown_unit};
+ghost use Rattle.symbol_fonts.specs.Characters.{font_characters, is_sign, shown_unit};
 
 /// A font whose signs are units of private use, from F020 to F0FF.
 #[derive(Clone, Copy, PartialEq, Eq)]
@@ -184,7 +184,7 @@ pub fn shown_unit(font: Option<SymbolFont>, unit: u16) -> u16
 /// The character of the sign with this number, from 0.
 fn character_at(font: SymbolFont, number: usize) -> u16
     requires { number < 224 }
-    ensures { result ≡ slice_index (characters_of font) number }
+    ensures { result ≡ slice_index (font_characters font) number }
 {
     match font {
         SymbolFont::Symbol => SYMBOL_CHARACTERS[number],

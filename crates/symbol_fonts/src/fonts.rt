@@ -1,6 +1,6 @@
 // The symbol fonts of a document.
 ghost use Rattle.std.specs.Prelude.{◌≡◌};
-ghost use Rattle.symbol_fonts.specs.Fonts.{first_named, fonts_in, is_dingbats, is_named, is_number, other_font};
+ghost use Rattle.symbol_fonts.specs.Fonts.{first_named, fonts_in, is_dingbats, is_font_named, is_number, other_font};
 ghost use Rattle.symbol_fonts.specs.Fonts.{symbol_font, symbol_fonts};
 
 use crate::SymbolFont;
@@ -139,7 +139,7 @@ fn first_named(table: &[u8], name: &[u8]) -> Option<u16>
 
 /// Whether a font has this name.
 fn is_named(font: &[u8], name: &[u8]) -> bool
-    ensures { result ≡ is_named name.now font.now }
+    ensures { result ≡ is_font_named name.now font.now }
 {
     let end = NAME_PLACE + name.len();
     end <= font.len() && &font[NAME_PLACE..end] == name

@@ -12,8 +12,8 @@ use Rattle.std.proofs.Math.Seq.{take-add}
 use Rattle.std.proofs.Common.{drop, length-drop, ◌-◌}
 use Rattle.std.proofs.lemmas.Str.{IsUtf8-append, IsUtf8-encode, IsUtf8-nil, IsUtf8-from_ascii, encode_ascii}
 use Rattle.std.proofs.lemmas.Str.Ascii.{IsAscii-cons, IsAscii-nil}
-use Rattle.text_codes.specs.Gathered.{IsTextOf, HasTextBehind}
-use Rattle.text_codes.specs.Shown.{shown_alone, is_escaped, escape, IsPlain}
+use Rattle.text_codes.specs.Gathered.{IsShownText, HasTextBehind}
+use Rattle.text_codes.specs.Shown.{shown_alone, is_escaped, escape, IsUnescapedAscii}
 use Rattle.text_codes.proofs.DigitLemmas.{hex_ascii}
 use Rattle.text_codes.proofs.ShownLemmas.{shown-first, six_are_utf8}
 use Rattle.doc_bits.proofs.Public.{second_false}
@@ -65,12 +65,12 @@ scalar-from_itself unit small e =
 -- ---- texts of units, one behind the other
 
 -- no units have no bytes
-pub no_text : (lines : Bool) → IsTextOf lines [] []
+pub no_text : (lines : Bool) → IsShownText lines [] []
 no_text lines = record { valid = IsUtf8-nil; shows = λ after. refl }
 
 -- texts are behind one another as their units do
-pub text_joined : (lines : Bool) (units more bytes others : List ℕ) → IsTextOf lines units bytes →
-    IsTextOf lines more others → IsTextOf lines (units ++ more) (bytes ++ others)
+pub text_joined : (lines : Bool) (units more bytes others : List ℕ) → IsShownText lines units bytes →
+    IsShownText lines more others → IsShownText lines (units ++ more) (bytes ++ others)
 text_joined lines units more bytes others first second = record {
   valid = IsUtf8-append bytes others first.valid second.valid;
   shows = λ after.
@@ -97,27 +97,28 @@ no_high unit (inr high) = rw (le-ltb unit 0xDC00 (omega (arith, high)), le-leb 0
 
 -- a unit that is no surrogate is shown alone
 pub text_alone : (lines : Bool) (unit : ℕ) → unit < 65536 → (unit < 0xD800) ⊎ (0xE000 ≤ unit) →
-    IsTextOf lines (unit ∷ []) (shown_alone lines unit)
+    IsShownText lines (unit ∷ []) (shown_alone lines unit)
 text_alone lines unit small alone = record {
   valid = shown_valid (is_escaped unit) (lines && unit == 0x0D) unit small refl;
   shows = λ after. shown-first lines unit after (no_high unit alone);
 }
 
-plain_one : (lines : Bool) (unit : ℕ) → IsPlain unit → IsTextOf lines (unit ∷ []) (unit ∷ [])
+plain_one : (lines : Bool) (unit : ℕ) → IsUnescapedAscii unit → IsShownText lines (unit ∷ []) (unit ∷ [])
 plain_one lines unit plain =
     let alone : shown_alone lines unit ≡ unit ∷ [] = rw plain.itself (encode_ascii unit plain.ascii) in
-    subst (IsTextOf lines (unit ∷ [])) alone
+    subst (IsShownText lines (unit ∷ [])) alone
     (text_alone lines unit (omega (arith, plain.ascii)) (inl (omega (arith, plain.ascii))))
 
 -- plain units are their own text
 pub plain_text : (lines : Bool) (units : List ℕ) (count : ℕ) → count ≤ length units →
-    ((k : ℕ) → k < count → IsPlain (slice_index units k)) → IsTextOf lines (take count units) (take count units)
+    ((k : ℕ) → k < count → IsUnescapedAscii (slice_index units k)) → IsShownText lines (take count units) (take count
+    units)
 plain_text lines units zero within plain = no_text lines
 plain_text lines units (suc count) within plain =
     let one : suc count ≡ count + 1 = omega arith in
     let next : take (suc count) units ≡ take count units ++ slice_index units count ∷ [] =
     ap (λ n. take n units) one ∙ take_more units count 0 (omega (arith, within)) in
-    subst (λ l. IsTextOf lines l l) (sym next)
+    subst (λ l. IsShownText lines l l) (sym next)
     (text_joined lines (take count units) (slice_index units count ∷ []) (take count units)
     (slice_index units count ∷ [])
     (plain_text lines units count (omega (arith, within)) (λ k below. plain k (omega (arith, below))))
@@ -125,7 +126,7 @@ plain_text lines units (suc count) within plain =
 
 -- a text behind a front grows by the bytes of more units
 pub behind_more : (lines : Bool) (units more front block new others : List ℕ) (end after : ℕ) →
-    HasTextBehind lines units front block end → IsTextOf lines more others →
+    HasTextBehind lines units front block end → IsShownText lines more others →
     take after new ≡ take end block ++ others → after ≤ length new →
     HasTextBehind lines (units ++ more) front new after
 behind_more lines units more front block new others end after so_far text bytes_are room = record {
@@ -137,13 +138,13 @@ behind_more lines units more front block new others end after so_far text bytes_
 
 -- the text at the front of a block grows by that of more units
 pub text_grown : (lines : Bool) (units block new : List ℕ) (count more len end : ℕ) →
-    IsTextOf lines (take count units) (take len block) →
+    IsShownText lines (take count units) (take len block) →
     HasTextBehind lines (take more (take (length units - count) (drop count units))) (take len block) new end →
-    IsTextOf lines (take (count + more) units) (take end new)
+    IsShownText lines (take (count + more) units) (take end new)
 text_grown lines units block new count more len end front behind =
     let rest : List ℕ = drop count units in
     let whole : take (length units - count) rest ≡ rest =
     take_all (length units - count) rest (omega (arith, length-drop count units)) in
     rw (take-add count more units, behind.grown)
     (text_joined lines (take count units) (take more rest) (take len block) behind.bytes front
-    (subst (λ l. IsTextOf lines (take more l) behind.bytes) whole behind.text))
+    (subst (λ l. IsShownText lines (take more l) behind.bytes) whole behind.text))

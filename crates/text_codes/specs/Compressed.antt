@@ -15,5 +15,5 @@ unit_by [] byte = byte
 unit_by (entry ∷ entries) byte = if byte == entry.0 then entry.1 else unit_by entries byte
 
 -- the unit of a byte of compressed text
-abbrev pub unit_of : ℕ → ℕ
-unit_of byte = unit_by compressed_text byte
+abbrev pub compressed_unit : ℕ → ℕ
+compressed_unit byte = unit_by compressed_text byte

@@ -19,7 +19,7 @@ abbrev pub is_escaped : ℕ → Bool
 is_escaped unit = nat_lt unit 0x20 || (unit == 0x5C || (nat_le 0xD800 unit && nat_lt unit 0xE000))
 
 -- a unit that is shown as its own byte
-pub record IsPlain (unit : ℕ) : Type 0 where
+pub record IsUnescapedAscii (unit : ℕ) : Type 0 where
   pub ascii : unit < 0x80
   pub itself : is_escaped unit ≡ false
 
@@ -39,12 +39,12 @@ shown_alone lines unit =
     if is_escaped unit then (if lines && unit == 0x0D then 10 ∷ [] else escape unit) else encode_utf8 unit
 
 -- the text of units: each pair is its character, each other unit is shown by itself
-unfoldable pub shown : Bool → List ℕ → List ℕ
-shown lines [] = []
-shown lines (unit ∷ []) = shown_alone lines unit
-shown lines (first ∷ second ∷ rest) =
-    if is_pair first second then encode_utf8 (pair_code first second) ++ shown lines rest else shown_alone lines
-    first ++ shown lines (second ∷ rest)
+unfoldable pub shown_text : Bool → List ℕ → List ℕ
+shown_text lines [] = []
+shown_text lines (unit ∷ []) = shown_alone lines unit
+shown_text lines (first ∷ second ∷ rest) =
+    if is_pair first second then encode_utf8 (pair_code first second) ++ shown_text lines rest else shown_alone lines
+    first ++ shown_text lines (second ∷ rest)
 
 -- a text that more units may follow: what is settled, and the units that wait for the next one
 pub record Showing : Type 0 where
@@ -54,4 +54,4 @@ pub record Showing : Type 0 where
 
 -- the whole text, when these units follow
 abbrev pub completed : Showing → List ℕ → List ℕ
-completed so_far units = so_far.text ++ shown so_far.lines (so_far.waiting ++ units)
+completed so_far units = so_far.text ++ shown_text so_far.lines (so_far.waiting ++ units)

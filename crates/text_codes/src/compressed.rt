@@ -1,9 +1,9 @@
 ghost use Rattle.std.specs.Prelude.{◌≡◌};
-ghost use Rattle.text_codes.specs.Compressed.{unit_of};
+ghost use Rattle.text_codes.specs.Compressed.{compressed_unit};
 
 /// The 16-bit unit that a byte of compressed text represents.
 pub fn unit_of_byte(byte: u8) -> u16
-    ensures { result ≡ unit_of byte }
+    ensures { result ≡ compressed_unit byte }
 {
     match byte {
         0x82 => 0x201A,

@@ -1,8 +1,8 @@
 // The text of the units at the front of a list, as bytes in a block.
 ghost use Rattle.std.specs.Prelude.{◌≡◌, ◌+◌, ◌%◌, ◌<◌, ◌≤◌, ◌++◌, ◌⊎◌, ◌∷◌, []};
 ghost use Rattle.std.specs.Prelude.{ℕ, length, take, slice_index, IsTrue, encode_utf8, true, false};
-ghost use Rattle.text_codes.specs.Gathered.{IsTextOf, HasTextBehind};
-ghost use Rattle.text_codes.specs.Shown.{shown_alone, is_escaped, escape, IsPlain};
+ghost use Rattle.text_codes.specs.Gathered.{IsShownText, HasTextBehind};
+ghost use Rattle.text_codes.specs.Shown.{shown_alone, is_escaped, escape, IsUnescapedAscii};
 
 use crate::digits::hex_digit;
 use crate::paragraph::{PARAGRAPH_MARK, PART_LEN};
@@ -24,7 +24,7 @@ const THREE_BYTES: u16 = 0x800;
 pub(crate) fn gather(units: &[u16], lines: bool, block: &mut [u8]) -> (usize, usize)
     ensures inside { result.0 ≤ length units.now }
     ensures room { result.1 ≤ length block.new }
-    ensures text { IsTextOf lines (take result.0 units.now) (take result.1 block.new) }
+    ensures text { IsShownText lines (take result.0 units.now) (take result.1 block.new) }
 {
     let mut count = 0;
     let mut len = 0;
@@ -57,7 +57,7 @@ fn gather_part(units: &[u16], lines: bool, block: &mut [u8], len: usize) -> (usi
 #[inline(always)]
 fn are_plain(units: &[u16]) -> bool
     requires { PART_LEN ≤ length units.now }
-    ensures { IsTrue result → (k : ℕ) → k < PART_LEN → IsPlain (slice_index units.now k) }
+    ensures { IsTrue result → (k : ℕ) → k < PART_LEN → IsUnescapedAscii (slice_index units.now k) }
 {
     let mut all = true;
     for k in 0..PART_LEN {
@@ -69,7 +69,7 @@ fn are_plain(units: &[u16]) -> bool
 /// Whether a unit is printable ASCII and no reverse solidus.
 #[inline(always)]
 fn is_plain(unit: u16) -> bool
-    ensures { IsTrue result → IsPlain unit }
+    ensures { IsTrue result → IsUnescapedAscii unit }
 {
     unit >= 0x20 && unit < TWO_BYTES && unit != 0x5C
 }
@@ -79,7 +79,7 @@ fn is_plain(unit: u16) -> bool
 fn put_plain(units: &[u16], block: &mut [u8], len: usize)
     requires room { len + PART_LEN ≤ length block.old }
     requires part { PART_LEN ≤ length units.now }
-    requires plain { (k : ℕ) → k < PART_LEN → IsPlain (slice_index units.now k) }
+    requires plain { (k : ℕ) → k < PART_LEN → IsUnescapedAscii (slice_index units.now k) }
     ensures long { length block.new ≡ length block.old }
     ensures bytes { take (len + PART_LEN) block.new ≡ take len block.old ++ take PART_LEN units.now }
 {

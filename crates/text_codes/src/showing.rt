@@ -3,7 +3,7 @@ ghost use Rattle.std.specs.Prelude.{◌≡◌, ◌<◌, ◌≤◌, ◌++◌, ◌
 ghost use Rattle.std.specs.Prelude.{nat_le, nat_lt, List, ℕ, [], ◌∷◌, length, take, Bool};
 ghost use Rattle.std.specs.Prelude.{true, false, IfOk, OnOk, OnErr, IfSome, MatchOption, IsTrue, encode_utf8};
 ghost use Rattle.std.specs.String.{string_bytes};
-ghost use Rattle.text_codes.specs.Shown.{Showing, shown, shown_alone, completed, escape, is_pair};
+ghost use Rattle.text_codes.specs.Shown.{Showing, shown_text, shown_alone, completed, escape, is_pair};
 ghost use Rattle.text_codes.specs.Shown.{pair_code, is_escaped};
 
 use crate::digits::hex_digit;
@@ -36,7 +36,7 @@ impl Model for ShownText {
 impl ShownText {
     /// A text of no units. With `lines` a paragraph mark is shown as a line feed.
     pub fn new(alloc: Global, lines: bool) -> ShownText
-        ensures { (units : List ℕ) → completed result units ≡ shown lines units }
+        ensures { (units : List ℕ) → completed result units ≡ shown_text lines units }
     {
         ShownText {
             lines,
@@ -132,7 +132,7 @@ impl ShownText {
 
 /// The shown text of units.
 pub fn show_units(alloc: Global, units: &[u16]) -> Result<Text, Memory>
-    ensures { IfOk result (λ text. text ≡ shown false units.now) }
+    ensures { IfOk result (λ text. text ≡ shown_text false units.now) }
 {
     let mut text = ShownText::new(alloc, false);
     text.push_all(units)?;

@@ -3,7 +3,7 @@ use Rattle.std.specs.Prelude.{ℕ, false, List, [], ◌∷◌, ◌++◌, codes}
 use Rattle.std.specs.Fmt.{decimal}
 use Rattle.doc_bits.specs.declared.places.Story.{Story}
 use Rattle.doc_bits.specs.declared.places.Story.TheVariants.{Main, Note, Head}
-use Rattle.text_codes.specs.Shown.{shown}
+use Rattle.text_codes.specs.Shown.{shown_text}
 use Rattle.text_codes.specs.Digits.{word_text}
 use Rattle.loss_report.specs.Lines.{story_word}
 use Rattle.text_losses.specs.declared.features.ListKind.{ListKind}
@@ -44,7 +44,7 @@ abbrev pub feature_text : TextFeature → List ℕ
 feature_text (has.Skipped kind code count) = codes "code " ++ code_text kind code count
 feature_text (has.Repeated kind code count) = codes "repeat " ++ code_text kind code count
 feature_text (has.Deleted story from to) = codes "deleted " ++ (place_text story ++ (spaced from ++ spaced to))
-feature_text (has.Bookmark name from to) = codes "bookmark " ++ (shown false name ++ (spaced from ++ spaced to))
+feature_text (has.Bookmark name from to) = codes "bookmark " ++ (shown_text false name ++ (spaced from ++ spaced to))
 feature_text (has.SheetBeyond len) = codes "sheet" ++ spaced len
 
 abbrev pub feature_line : TextFeature → List ℕ

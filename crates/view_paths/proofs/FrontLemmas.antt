@@ -5,20 +5,22 @@ use Rattle.std.proofs.lemmas.Bool.{cases_lt}
 use Rattle.std.proofs.lemmas.List.{append-nil, take-append-drop, length-take-le, take_more}
 use Rattle.std.proofs.Math.Seq.{take-append_seam, drop-append_seam, drop-cons}
 use Rattle.std.proofs.Math.ListN.{drop_of_length-le}
-use Rattle.view_paths.specs.Paths.{shared, behind}
-use Rattle.view_paths.specs.Turns.{IsShared, IsFront}
+use Rattle.view_paths.specs.Paths.{shared, behind_shared}
+use Rattle.view_paths.specs.Turns.{IsSharedFront, IsFront}
 
 -- values that are the same are one value
 abbrev pub IsExact : {E : Type 0} → (E → E → Bool) → Type 0
 IsExact {E} same = (one other : E) → same one other ≡ true ↔ one ≡ other
 
 -- a path is what it shares with another one, and the rest
-pub shared-behind : {E : Type 0} (same : E → E → Bool) (from to : List E) → shared same from to ++ behind same from to ≡
+pub shared-behind : {E : Type 0} (same : E → E → Bool) (from to : List E) → shared same from to ++ behind_shared same
+    from to ≡
     from
 shared-behind same [] to = refl
 shared-behind same (x ∷ xs) [] = refl
 shared-behind same (x ∷ xs) (y ∷ ys) =
-    elim (same x y) as (λ b. (if b then x ∷ shared same xs ys else []) ++ (if b then behind same xs ys else x ∷ xs) ≡
+    elim (same x y) as (λ b. (if b then x ∷ shared same xs ys else []) ++ (if b then behind_shared same xs ys else x ∷
+    xs) ≡
     x ∷ xs) [ true ↦ ap (λ rest. x ∷ rest) (shared-behind same xs ys) | false ↦ refl ]
 
 same_turned : {E : Type 0} (same : E → E → Bool) → IsExact same → (x y : E) → same y x ≡ same x y
@@ -46,16 +48,16 @@ shared-turned same exact (x ∷ xs) (y ∷ ys) =
 
 -- and so the other one is what they share, and its rest
 pub shared-behind_other : {E : Type 0} (same : E → E → Bool) → IsExact same → (from to : List E) → shared same from to ++
-    behind same to from ≡ to
+    behind_shared same to from ≡ to
 shared-behind_other same exact from to = rw (shared-turned same exact from to) (shared-behind same to from)
 
 -- two paths that share nothing
 pub record AreApart {E : Type 0} (same : E → E → Bool) (xs ys : List E) : Type 0 where
   pub front : shared same xs ys ≡ []
-  pub first : behind same xs ys ≡ xs
-  pub second : behind same ys xs ≡ ys
+  pub first : behind_shared same xs ys ≡ xs
+  pub second : behind_shared same ys xs ≡ ys
 
-pub behind-none : {E : Type 0} (same : E → E → Bool) (ys : List E) → behind same ys [] ≡ ys
+pub behind-none : {E : Type 0} (same : E → E → Bool) (ys : List E) → behind_shared same ys [] ≡ ys
 behind-none same [] = refl
 behind-none same (y ∷ ys) = refl
 
@@ -74,8 +76,8 @@ apart-heads same exact x y xs ys e =
     let turned : same y x ≡ false = same_turned same exact x y ∙ e in
     record {
       front = ap (λ b. if b then x ∷ shared same xs ys else []) e;
-      first = ap (λ b. if b then behind same xs ys else x ∷ xs) e;
-      second = ap (λ b. if b then behind same ys xs else y ∷ ys) turned;
+      first = ap (λ b. if b then behind_shared same xs ys else x ∷ xs) e;
+      second = ap (λ b. if b then behind_shared same ys xs else y ∷ ys) turned;
     }
 
 same_self : {E : Type 0} (same : E → E → Bool) → IsExact same → (x : E) → same x x ≡ true
@@ -89,15 +91,16 @@ shared-front same exact (x ∷ front) xs ys =
     ap (λ b. if b then x ∷ shared same (front ++ xs) (front ++ ys) else []) (same_self same exact x) ∙ ap (λ rest. x ∷
     rest) (shared-front same exact front xs ys)
 
-pub behind-front : {E : Type 0} (same : E → E → Bool) → IsExact same → (front xs ys : List E) → behind same (front ++ xs)
-    (front ++ ys) ≡ behind same xs ys
+pub behind-front : {E : Type 0} (same : E → E → Bool) → IsExact same → (front xs ys : List E) → behind_shared same
+    (front ++ xs)
+    (front ++ ys) ≡ behind_shared same xs ys
 behind-front same exact [] xs ys = refl
 behind-front same exact (x ∷ front) xs ys =
-    ap (λ b. if b then behind same (front ++ xs) (front ++ ys) else x ∷ (front ++ xs)) (same_self same exact x) ∙
+    ap (λ b. if b then behind_shared same (front ++ xs) (front ++ ys) else x ∷ (front ++ xs)) (same_self same exact x) ∙
     behind-front same exact front xs ys
 
 joined-shared : {E : Type 0} (same : E → E → Bool) → IsExact same → (front xs ys : List E) → AreApart same xs ys →
-    IsShared same (front ++ xs) (front ++ ys) (length front)
+    IsSharedFront same (front ++ xs) (front ++ ys) (length front)
 joined-shared same exact front xs ys apart =
     let all : shared same (front ++ xs) (front ++ ys) ≡ front = shared-front same exact front xs ys ∙ (ap (λ rest. front
     ++ rest) apart.front ∙ append-nil front) in
@@ -111,14 +114,15 @@ joined-shared same exact front xs ys apart =
 
 -- both paths have the front, and what is behind it is apart
 pub apart-shared : {E : Type 0} (same : E → E → Bool) → IsExact same → (from to : List E) (i : ℕ) → i ≤ length from →
-    take i from ≡ take i to → AreApart same (drop i from) (drop i to) → IsShared same from to i
+    take i from ≡ take i to → AreApart same (drop i from) (drop i to) → IsSharedFront same from to i
 apart-shared same exact from to i within alike apart =
     let long : length (take i from) ≡ i = length-take-le i from within in
     let first : take i from ++ drop i from ≡ from = take-append-drop i from in
     let second : take i from ++ drop i to ≡ to = ap (λ front. front ++ drop i to) alike ∙ take-append-drop i to in
     let joined = joined-shared same exact (take i from) (drop i from) (drop i to) apart in
-    subst (λ n. IsShared same from to n) long (subst (λ path. IsShared same from path (length (take i from))) second
-    (subst (λ path. IsShared same path (take i from ++ drop i to) (length (take i from))) first joined))
+    subst (λ n. IsSharedFront same from to n) long (subst (λ path. IsSharedFront same from path (length (take i from)))
+    second
+    (subst (λ path. IsSharedFront same path (take i from ++ drop i to) (length (take i from))) first joined))
 
 -- both have one element more, which is the same
 pub joined_at : {E : Type 0} (from to : List E) (i : ℕ) (x y : E) → i < length from → i < length to → take i from ≡ take

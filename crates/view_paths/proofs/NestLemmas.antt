@@ -4,9 +4,9 @@ use Rattle.std.proofs.Common.{append_assoc}
 use Rattle.std.specs.List.{filter_map}
 use Rattle.std.proofs.lemmas.List.{append-nil, map-append}
 use Rattle.std.proofs.lemmas.List.Elements.{filter_map-append}
-use Rattle.view_paths.specs.Paths.{shared, behind, Place, last_path}
+use Rattle.view_paths.specs.Paths.{shared, behind_shared, PathPlace, last_path}
 use Rattle.view_paths.specs.Events.{Tag, Event, Open, Close, Turn, Leaf, opens, closes, transition, turns, leaf}
-use Rattle.view_paths.specs.Events.{events_up_to, events_from, glyph_of}
+use Rattle.view_paths.specs.Events.{events_up_to, events_from, event_glyph}
 use Rattle.view_paths.specs.Laws.{AreNested}
 use Rattle.view_paths.proofs.FrontLemmas.{IsExact, shared-behind, shared-behind_other}
 
@@ -44,8 +44,8 @@ pub nested-turns : {E : Type 0} (G : Type 0) (same : E → E → Bool) → IsExa
 unfolding transition
 nested-turns {E} G same exact from to =
     let front = shared same from to in
-    let old = behind same from to in
-    let new = behind same to from in
+    let old = behind_shared same from to in
+    let new = behind_shared same to from in
     rw (map-append {B = Event E G} Turn (closes front old) (opens front new)) (nested-append from front to (map Turn (closes front old))
     (map Turn (opens front new)) (subst (λ path. AreNested {G = G} path (map Turn (closes front old)) front)
     (shared-behind same from to) (nested-closes G front old)) (subst (λ path. AreNested {G = G} front (map Turn (opens
@@ -56,7 +56,8 @@ nested-leaf path None = refl
 nested-leaf path (Some glyph) = (refl, refl)
 
 -- the events of places nest
-pub nested-events_from : {E G : Type 0} (same : E → E → Bool) → IsExact same → (before : List E) (places : List (Place E
+pub nested-events_from : {E G : Type 0} (same : E → E → Bool) → IsExact same → (before : List E) (places : List
+    (PathPlace E
     G)) → AreNested before (events_from same before places) []
 nested-events_from {G} same exact before [] = nested-turns G same exact before []
 nested-events_from {G} same exact before (place ∷ more) =
@@ -66,17 +67,19 @@ nested-events_from {G} same exact before (place ∷ more) =
     same exact place.path more))
 
 -- tags show nothing
-pub glyphs-tags : {E G : Type 0} (tags : List (Tag E)) → filter_map {X = Event E G} glyph_of (map Turn tags) ≡ []
+pub glyphs-tags : {E G : Type 0} (tags : List (Tag E)) → filter_map {X = Event E G} event_glyph (map Turn tags) ≡ []
 glyphs-tags [] = refl
 glyphs-tags (tag ∷ tags) = glyphs-tags tags
 
-glyphs-leaf : {E G : Type 0} (path : List E) (glyph : Option G) (events : List (Event E G)) → filter_map glyph_of (leaf
-    path glyph ++ events) ≡ filter_map (λ g. g) (glyph ∷ []) ++ filter_map glyph_of events
+glyphs-leaf : {E G : Type 0} (path : List E) (glyph : Option G) (events : List (Event E G)) → filter_map event_glyph
+    (leaf
+    path glyph ++ events) ≡ filter_map (λ g. g) (glyph ∷ []) ++ filter_map event_glyph events
 glyphs-leaf path None events = refl
 glyphs-leaf path (Some glyph) events = refl
 
-first-glyph : {E G : Type 0} (path : List E) (glyph : Option G) (more : List (Place E G)) → filter_map (λ g. g) (glyph ∷
-    []) ++ filter_map (λ (p : Place E G). p.glyph) more ≡ filter_map (λ (p : Place E G). p.glyph) (record {
+first-glyph : {E G : Type 0} (path : List E) (glyph : Option G) (more : List (PathPlace E G)) → filter_map (λ g. g)
+    (glyph ∷
+    []) ++ filter_map (λ (p : PathPlace E G). p.glyph) more ≡ filter_map (λ (p : PathPlace E G). p.glyph) (record {
       path = path;
       glyph = glyph;
     } ∷ more)
@@ -84,25 +87,27 @@ first-glyph path None more = refl
 first-glyph path (Some glyph) more = refl
 
 -- the events of places show their glyphs
-pub glyphs-events_from : {E G : Type 0} (same : E → E → Bool) (before : List E) (places : List (Place E G)) → filter_map
-    glyph_of (events_from same before places) ≡ filter_map (λ place. place.glyph) places
+pub glyphs-events_from : {E G : Type 0} (same : E → E → Bool) (before : List E) (places : List (PathPlace E G)) →
+    filter_map
+    event_glyph (events_from same before places) ≡ filter_map (λ place. place.glyph) places
 glyphs-events_from same before [] = glyphs-tags (transition same before [])
 glyphs-events_from {E} {G} same before (place ∷ more) =
     let rest = events_from same place.path more in
     let last = leaf place.path place.glyph ++ rest in
-    filter_map-append glyph_of (turns same before place.path) last ∙ (ap (λ front. front ++ filter_map glyph_of last)
+    filter_map-append event_glyph (turns same before place.path) last ∙ (ap (λ front. front ++ filter_map event_glyph
+    last)
     (glyphs-tags (transition same before place.path)) ∙ (glyphs-leaf place.path place.glyph rest ∙ (ap (λ back.
     filter_map (λ g. g) (place.glyph ∷ []) ++ back) (glyphs-events_from same place.path more) ∙ first-glyph place.path
     place.glyph more)))
 
 -- the path of the last place, of places one after another
-pub last_path-append : {E G : Type 0} (before : List E) (xs ys : List (Place E G)) → last_path before (xs ++ ys) ≡
+pub last_path-append : {E G : Type 0} (before : List E) (xs ys : List (PathPlace E G)) → last_path before (xs ++ ys) ≡
     last_path (last_path before xs) ys
 last_path-append before [] ys = refl
 last_path-append before (place ∷ more) ys = last_path-append place.path more ys
 
 -- the events of places one after another
-pub events_up_to-append : {E G : Type 0} (same : E → E → Bool) (before : List E) (xs ys : List (Place E G)) →
+pub events_up_to-append : {E G : Type 0} (same : E → E → Bool) (before : List E) (xs ys : List (PathPlace E G)) →
     events_up_to same before (xs ++ ys) ≡ events_up_to same before xs ++ events_up_to same (last_path before xs) ys
 events_up_to-append same before [] ys = refl
 events_up_to-append same before (place ∷ more) ys =
@@ -112,7 +117,8 @@ events_up_to-append same before (place ∷ more) ys =
     more) (events_up_to same (last_path place.path more) ys))))
 
 -- and to their end
-pub events_from-append : {E G : Type 0} (same : E → E → Bool) (before : List E) (xs ys : List (Place E G)) → events_from
+pub events_from-append : {E G : Type 0} (same : E → E → Bool) (before : List E) (xs ys : List (PathPlace E G)) →
+    events_from
     same before (xs ++ ys) ≡ events_up_to same before xs ++ events_from same (last_path before xs) ys
 events_from-append same before [] ys = refl
 events_from-append same before (place ∷ more) ys =

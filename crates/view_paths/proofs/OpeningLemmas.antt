@@ -1,7 +1,7 @@
 -- What is opened on the way through places, and what the events of places cost.
 use Rattle.std.proofs.Common.{◌≡◌, ℕ, ◌+◌, ◌≤◌, Bool, true, false, List, [], ◌∷◌, ◌++◌, map, Option, None, Some, refl, ap}
 use Rattle.std.proofs.Common.{sym, ◌∙◌, append_assoc, arith, if◌then◌else◌}
-use Rattle.view_paths.specs.Paths.{shared, behind, Place, last_path}
+use Rattle.view_paths.specs.Paths.{shared, behind_shared, PathPlace, last_path}
 use Rattle.view_paths.specs.Events.{Tag, Event, Open, Close, Turn, Leaf, opens, closes, transition, turns, leaf}
 use Rattle.view_paths.specs.Events.{events_from}
 use Rattle.view_paths.specs.Openings.{opened_from}
@@ -55,7 +55,7 @@ glyph_cost show None = 0
 glyph_cost show (Some glyph) = show glyph
 
 -- what is shown at places
-abbrev pub shown_cost : {E G : Type 0} → (G → ℕ) → List (Place E G) → ℕ
+abbrev pub shown_cost : {E G : Type 0} → (G → ℕ) → List (PathPlace E G) → ℕ
 shown_cost show places = total (λ place. glyph_cost show place.glyph) places
 
 opens_cost : {E : Type 0} (start end : E → ℕ) (front rest : List E) → total (tag_cost start end) (opens front rest) ≡
@@ -85,15 +85,16 @@ turned_cost start end show (tag ∷ tags) =
     ap (λ n. tag_cost start end tag + n) (turned_cost start end show tags)
 
 turns_cost : {E G : Type 0} (same : E → E → Bool) (start end : E → ℕ) (show : G → ℕ) (from to : List E) →
-    total (event_cost start end show) (turns same from to) ≡ total end (behind same from to) + total start (behind
+    total (event_cost start end show) (turns same from to) ≡ total end (behind_shared same from to) + total start
+    (behind_shared
     same to from)
 unfolding transition
 turns_cost same start end show from to =
-    let old = closes (shared same from to) (behind same from to) in
-    let new = opens (shared same from to) (behind same to from) in
+    let old = closes (shared same from to) (behind_shared same from to) in
+    let new = opens (shared same from to) (behind_shared same to from) in
     turned_cost start end show (old ++ new) ∙ (total-append (tag_cost start end) old new ∙ (λ i.
-    closes_cost start end (shared same from to) (behind same from to) i
-    + opens_cost start end (shared same from to) (behind same to from) i))
+    closes_cost start end (shared same from to) (behind_shared same from to) i
+    + opens_cost start end (shared same from to) (behind_shared same to from) i))
 
 leaf_cost : {E G : Type 0} (start end : E → ℕ) (show : G → ℕ) (path : List E) (glyph : Option G) →
     total (event_cost start end show) (leaf path glyph) ≡ glyph_cost show glyph
@@ -103,20 +104,22 @@ leaf_cost start end show path (Some glyph) =
 
 -- what is shared, and what is behind it
 parts_cost : {E : Type 0} (same : E → E → Bool) (cost : E → ℕ) (from to : List E) → total cost from ≡ total cost (shared
-    same from to) + total cost (behind same from to)
+    same from to) + total cost (behind_shared same from to)
 parts_cost same cost from to =
-    ap (total cost) (sym (shared-behind same from to)) ∙ total-append cost (shared same from to) (behind same from to)
+    ap (total cost) (sym (shared-behind same from to)) ∙ total-append cost (shared same from to) (behind_shared same
+    from to)
 
-pub behind_less : {E : Type 0} (same : E → E → Bool) (cost : E → ℕ) (from to : List E) → total cost (behind same from
+pub behind_less : {E : Type 0} (same : E → E → Bool) (cost : E → ℕ) (from to : List E) → total cost (behind_shared same
+    from
     to) ≤ total cost from
 behind_less same cost from to = omega (arith, parts_cost same cost from to)
 
 -- what is opened is closed once: so the events cost what is opened, both ways, and what is shown
 pub events_cost : {E G : Type 0} (same : E → E → Bool) → IsExact same → (start end : E → ℕ) (show : G → ℕ) (before :
-    List E) (places : List (Place E G)) → total (event_cost start end show) (events_from same before places) ≡ total
+    List E) (places : List (PathPlace E G)) → total (event_cost start end show) (events_from same before places) ≡ total
     end before + (total (λ e. start e + end e) (opened_from same before places) + shown_cost show places)
 events_cost same exact start end show before [] =
-    let all : total end before ≡ total end (shared same before []) + total end (behind same before []) =
+    let all : total end before ≡ total end (shared same before []) + total end (behind_shared same before []) =
     parts_cost same end before [] in
     let none : total end (shared same before []) ≡ 0 = ap (total end) (shared-turned same exact before []) in
     let long : total (event_cost start end show) (turns same before []) ≡ total end before + (0 + 0) =
@@ -127,7 +130,7 @@ events_cost {E = E} same exact start end show before (place ∷ more) =
     let first = turns same before place.path in
     let second = leaf place.path place.glyph in
     let rest = events_from same place.path more in
-    let new = behind same place.path before in
+    let new = behind_shared same place.path before in
     let long : total cost (first ++ (second ++ rest)) ≡ total end before + (total (λ (e : E). start e + end e) (new ++ opened_from same
     place.path more) + (glyph_cost show place.glyph + shown_cost show more)) =
     omega (
@@ -147,26 +150,29 @@ events_cost {E = E} same exact start end show before (place ∷ more) =
 
 -- ---- what is opened
 
-behind-itself : {E : Type 0} (same : E → E → Bool) → IsExact same → (path : List E) → behind same path path ≡ []
+behind-itself : {E : Type 0} (same : E → E → Bool) → IsExact same → (path : List E) → behind_shared same path path ≡ []
 behind-itself same exact [] = refl
 behind-itself same exact (e ∷ path) =
-    ap (λ b. if b then behind same path path else e ∷ path) ((exact e e).1 refl) ∙ behind-itself same exact path
+    ap (λ b. if b then behind_shared same path path else e ∷ path) ((exact e e).1 refl) ∙ behind-itself same exact path
 
 -- places one after another
-pub opened-append : {E G : Type 0} (same : E → E → Bool) (before : List E) (xs ys : List (Place E G)) → opened_from same
+pub opened-append : {E G : Type 0} (same : E → E → Bool) (before : List E) (xs ys : List (PathPlace E G)) → opened_from
+    same
     before (xs ++ ys) ≡ opened_from same before xs ++ opened_from same (last_path before xs) ys
 opened-append same before [] ys = refl
 opened-append same before (place ∷ xs) ys =
-    ap (λ more. behind same place.path before ++ more) (opened-append same place.path xs ys)
-    ∙ sym (append_assoc (behind same place.path before) (opened_from same place.path xs) (opened_from same (last_path
+    ap (λ more. behind_shared same place.path before ++ more) (opened-append same place.path xs ys)
+    ∙ sym (append_assoc (behind_shared same place.path before) (opened_from same place.path xs) (opened_from same
+    (last_path
     place.path xs) ys))
 
 -- no more is opened than the paths have
-pub opened_less : {E G : Type 0} (same : E → E → Bool) (cost : E → ℕ) (before : List E) (places : List (Place E G)) →
+pub opened_less : {E G : Type 0} (same : E → E → Bool) (cost : E → ℕ) (before : List E) (places : List (PathPlace E G))
+    →
     total cost (opened_from same before places) ≤ total (λ place. total cost place.path) places
 opened_less same cost before [] = omega arith
 opened_less same cost before (place ∷ more) =
-    let new = behind same place.path before in
+    let new = behind_shared same place.path before in
     let long : total cost (new ++ opened_from same place.path more) ≤ total cost place.path + total (λ place. total
     cost place.path) more =
     omega (
@@ -178,20 +184,22 @@ opened_less same cost before (place ∷ more) =
     long
 
 -- places on one path open it once
-pub opened_on : {E G A : Type 0} (same : E → E → Bool) → IsExact same → (path : List E) (show : A → Place E G) → ((x :
+pub opened_on : {E G A : Type 0} (same : E → E → Bool) → IsExact same → (path : List E) (show : A → PathPlace E G) → ((x
+    :
     A) → (show x).path ≡ path) → (xs : List A) → opened_from same path (map show xs) ≡ []
 opened_on same exact path show on [] = refl
 opened_on same exact path show on (x ∷ xs) =
-    (λ i. behind same (on x i) path ++ opened_from same (on x i) (map show xs))
+    (λ i. behind_shared same (on x i) path ++ opened_from same (on x i) (map show xs))
     ∙ (ap (λ new. new ++ opened_from same path (map show xs)) (behind-itself same exact path)
     ∙ opened_on same exact path show on xs)
 
 -- a place inside of some elements
-abbrev pub within : {E G : Type 0} → List E → Place E G → Place E G
+abbrev pub within : {E G : Type 0} → List E → PathPlace E G → PathPlace E G
 within front place = record { path = front ++ place.path; glyph = place.glyph }
 
 -- where they are open, they are opened no more
-pub opened_inside : {E G : Type 0} (same : E → E → Bool) → IsExact same → (front path : List E) (places : List (Place E
+pub opened_inside : {E G : Type 0} (same : E → E → Bool) → IsExact same → (front path : List E) (places : List
+    (PathPlace E
     G)) → opened_from same (front ++ path) (map (within front) places) ≡ opened_from same path places
 opened_inside same exact front path [] = refl
 opened_inside same exact front path (place ∷ more) =
@@ -199,27 +207,28 @@ opened_inside same exact front path (place ∷ more) =
 
 -- else they are opened once, where there is a place
 pub opened_within : {E G : Type 0} (same : E → E → Bool) → IsExact same → (cost : E → ℕ) (before front : List E) (places
-    : List (Place E G)) → total cost (opened_from same before (map (within front) places)) ≤ total cost front + total
+    : List (PathPlace E G)) → total cost (opened_from same before (map (within front) places)) ≤ total cost front +
+    total
     cost (opened_from same [] places)
 opened_within same exact cost before front [] = omega arith
 opened_within same exact cost before front (place ∷ more) =
     let path = front ++ place.path in
-    let new = behind same path before in
+    let new = behind_shared same path before in
     let inside = opened_from same path (map (within front) more) in
     let rest = opened_from same place.path more in
-    let long : total cost (new ++ inside) ≤ total cost front + total cost (behind same place.path [] ++ rest) =
+    let long : total cost (new ++ inside) ≤ total cost front + total cost (behind_shared same place.path [] ++ rest) =
     omega (
       arith,
       behind_less same cost path before,
       total-append cost front place.path,
       total-append cost new inside,
-      total-append cost (behind same place.path []) rest,
+      total-append cost (behind_shared same place.path []) rest,
       ap (total cost) (behind-none same place.path),
       ap (total cost) (opened_inside same exact front place.path more),
     ) in
     long
 
-pub shown_within : {E G : Type 0} (show : G → ℕ) (front : List E) (places : List (Place E G)) → shown_cost show (map
+pub shown_within : {E G : Type 0} (show : G → ℕ) (front : List E) (places : List (PathPlace E G)) → shown_cost show (map
     (within front) places) ≡ shown_cost show places
 shown_within show front [] = refl
 shown_within show front (place ∷ more) =

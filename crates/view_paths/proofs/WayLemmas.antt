@@ -5,10 +5,11 @@ use Rattle.std.proofs.lemmas.List.{append-nil, take-append-le, drop-append-le, t
 use Rattle.std.proofs.Math.Seq.{drop-append_seam}
 use Rattle.std.proofs.Math.ListN.{drop_of_length-le}
 use Rattle.view_paths.specs.Events.{Open, Close, opens, closes, transition}
-use Rattle.view_paths.specs.Turns.{IsShared, IsFront}
+use Rattle.view_paths.specs.Turns.{IsSharedFront, IsFront}
 
 -- a transition, by how many elements are shared
-pub transition-shared : {E : Type 0} (same : E → E → Bool) (from to : List E) (count : ℕ) → IsShared same from to count →
+pub transition-shared : {E : Type 0} (same : E → E → Bool) (from to : List E) (count : ℕ) → IsSharedFront same from to
+    count →
     transition same from to ≡ closes (take count from) (drop count from) ++ opens (take count from) (drop count to)
 unfolding transition
 transition-shared same from to count h = rw (h.front, h.from_rest, h.to_rest)

@@ -1,6 +1,6 @@
 -- What is opened, closed and shown on the way through places.
 use Rattle.std.specs.Prelude.{Bool, List, [], ◌∷◌, ◌++◌, map, Option, None, Some}
-use Rattle.view_paths.specs.Paths.{shared, behind, Place}
+use Rattle.view_paths.specs.Paths.{shared, behind_shared, PathPlace}
 
 -- an element that is opened or closed, with the path outside of it
 pub data Tag (E : Type 0) : Type 0 where
@@ -25,7 +25,8 @@ closes front (e ∷ more) = closes (front ++ e ∷ []) more ++ Close front e ∷
 -- from a path to the next one: what is behind the front that they share is closed and opened
 unfoldable pub transition : {E : Type 0} → (E → E → Bool) → List E → List E → List (Tag E)
 transition same from to =
-    closes (shared same from to) (behind same from to) ++ opens (shared same from to) (behind same to from)
+    closes (shared same from to) (behind_shared same from to) ++ opens (shared same from to) (behind_shared same to
+    from)
 
 -- a transition as events
 abbrev pub turns : {E G : Type 0} → (E → E → Bool) → List E → List E → List (Event E G)
@@ -37,18 +38,18 @@ leaf path None = []
 leaf path (Some glyph) = Leaf path glyph ∷ []
 
 -- the events up to the last place, which stays open
-abbrev pub events_up_to : {E G : Type 0} → (E → E → Bool) → List E → List (Place E G) → List (Event E G)
+abbrev pub events_up_to : {E G : Type 0} → (E → E → Bool) → List E → List (PathPlace E G) → List (Event E G)
 events_up_to same before [] = []
 events_up_to same before (place ∷ more) =
     turns same before place.path ++ (leaf place.path place.glyph ++ events_up_to same place.path more)
 
 -- the events of places where a path is open; at the end all is closed
-abbrev pub events_from : {E G : Type 0} → (E → E → Bool) → List E → List (Place E G) → List (Event E G)
+abbrev pub events_from : {E G : Type 0} → (E → E → Bool) → List E → List (PathPlace E G) → List (Event E G)
 events_from same before [] = turns same before []
 events_from same before (place ∷ more) =
     turns same before place.path ++ (leaf place.path place.glyph ++ events_from same place.path more)
 
 -- the glyph of an event, if it shows one
-abbrev pub glyph_of : {E G : Type 0} → Event E G → Option G
-glyph_of (Turn tag) = None
-glyph_of (Leaf path glyph) = Some glyph
+abbrev pub event_glyph : {E G : Type 0} → Event E G → Option G
+event_glyph (Turn tag) = None
+event_glyph (Leaf path glyph) = Some glyph

@@ -1,8 +1,8 @@
 -- What the definitions imply.
 use Rattle.std.specs.Prelude.{◌≡◌, Bool, List, [], ◌∷◌, ◌++◌}
 use Rattle.std.specs.List.{filter_map}
-use Rattle.view_paths.specs.Paths.{Place}
-use Rattle.view_paths.specs.Events.{Event, Open, Close, Turn, Leaf, events_from, glyph_of}
+use Rattle.view_paths.specs.Paths.{PathPlace}
+use Rattle.view_paths.specs.Events.{Event, Open, Close, Turn, Leaf, events_from, event_glyph}
 
 -- the events nest, from one path that is open to another: an element is opened inside of all that are open, the element
 -- that is closed is the innermost one that is open, and what is shown is in exactly those that are open
@@ -14,10 +14,10 @@ AreNested around (Leaf path glyph ∷ more) end = (path ≡ around) × AreNested
 
 -- the events of places nest, and at the end nothing is open
 abbrev pub PathsNest : (E G : Type 0) → (E → E → Bool) → Type 0
-PathsNest E G same = (places : List (Place E G)) → AreNested [] (events_from same [] places) []
+PathsNest E G same = (places : List (PathPlace E G)) → AreNested [] (events_from same [] places) []
 
 -- the events of places show their glyphs, each once and in order
 abbrev pub GlyphsStay : (E G : Type 0) → (E → E → Bool) → Type 0
 GlyphsStay E G same =
-    (places : List (Place E G)) →
-    filter_map glyph_of (events_from same [] places) ≡ filter_map (λ place. place.glyph) places
+    (places : List (PathPlace E G)) →
+    filter_map event_glyph (events_from same [] places) ≡ filter_map (λ place. place.glyph) places

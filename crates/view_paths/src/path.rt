@@ -1,7 +1,7 @@
 // A path that is kept while places are gone through. It takes no memory.
 ghost use Rattle.std.specs.Prelude.{◌≡◌, ◌+◌, ◌<◌, ◌≤◌, [], ◌∷◌, ◌++◌, length, take, slice_get};
 ghost use Rattle.std.specs.Prelude.{MatchOption};
-ghost use Rattle.view_paths.specs.Turns.{IsShared, IsFront};
+ghost use Rattle.view_paths.specs.Turns.{IsSharedFront, IsFront};
 
 use crate::Element;
 use std::marker::Model;
@@ -78,7 +78,7 @@ impl<E: Element> Path<E> {
 
     /// How many elements this path shares with another one, from outside.
     pub fn shared(&self, to: &Path<E>) -> usize
-        ensures { IsShared E.same self.now to.now result }
+        ensures { IsSharedFront E.same self.now to.now result }
     {
         shared_count(&self.elements[..self.len], &to.elements[..to.len])
     }
@@ -114,7 +114,7 @@ impl<E: Element> Path<E> {
 
 /// How many elements at the front of both are the same.
 fn shared_count<E: Element>(from: &[E], to: &[E]) -> usize
-    ensures { IsShared E.same from.now to.now result }
+    ensures { IsSharedFront E.same from.now to.now result }
 {
     let most = from.len().min(to.len());
     for i in 0..most {

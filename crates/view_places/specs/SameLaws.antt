@@ -11,7 +11,7 @@ use Rattle.view_places.specs.declared.element.Element.TheVariants.{Caps, Raised,
 use Rattle.view_places.specs.declared.element.Element.TheVariants.{NestedTable, NestedRow, NestedCell}
 use Rattle.view_places.specs.declared.element.Cell.{Cell as CellForm}
 use Rattle.view_places.specs.declared.element.Span.{Span}
-use Rattle.view_places.specs.Same.{code_of, equal, reached, same, same_code}
+use Rattle.view_places.specs.Same.{code_of, equal, cell_reach, same, same_code}
 
 -- how far the cell of a code reaches
 abbrev span_by : Bool → Span → Option Span
@@ -59,7 +59,7 @@ element_of code =
     if code.kind == 25 then NestedRow code.number else
     NestedCell code.number
 
-span_back : (span : Option Span) → span_by (is_some span) (reached span) ≡ span
+span_back : (span : Option Span) → span_by (is_some span) (cell_reach span) ≡ span
 span_back None = refl
 span_back (Some span) = refl
 

@@ -1,6 +1,6 @@
 // The elements that the text of a document is in.
 ghost use Rattle.std.specs.Prelude.{◌≡◌};
-ghost use Rattle.view_places.specs.Same.{cell_code, code_of, numbered, reached};
+ghost use Rattle.view_places.specs.Same.{cell_code, code_of, numbered_code, cell_reach};
 
 /// Over how many columns and rows of its table a cell reaches.
 #[derive(Clone, Copy)]
@@ -109,7 +109,7 @@ pub(crate) struct Code {
 impl Code {
     /// That of an element with a number.
     fn of(kind: u8, number: usize) -> Code
-        ensures { result ≡ numbered kind number }
+        ensures { result ≡ numbered_code kind number }
     {
         Code {
             kind,
@@ -141,7 +141,7 @@ impl Code {
 
 /// How far a cell reaches, or nothing.
 fn reached(span: Option<Span>) -> Span
-    ensures { result ≡ reached span }
+    ensures { result ≡ cell_reach span }
 {
     match span {
         None => Span {

@@ -1,7 +1,7 @@
 use Rattle.std.proofs.Common.{◌≡◌, ◌∙◌, true, false, not, Some, sym, ap, arith}
 use Rattle.std.specs.Prelude.{slice_get}
 use Rattle.std.proofs.lemmas.Option.{slice_get-get_or}
-use Rattle.cell_spans.specs.Spans.{goes_on_in}
+use Rattle.cell_spans.specs.Spans.{has_part_in}
 use Rattle.cell_spans.proofs.WalkLemmas.{below_ends, below_more, below_none}
 use Rattle.cell_spans.proofs.spans.rows_below.Goals as goal
 
@@ -12,8 +12,8 @@ returns-then-not-goes_on_in-clause-is c =
     let row = c.index-rows-number.result in
     let there : slice_get rows k ≡ Some row =
     slice_get-get_or rows k row (omega arith) ∙ sym (λ i. Some (c.index-rows-number.is i)) in
-    let off : goes_on_in c.args.cell row ≡ false =
-    ap (goes_on_in c.args.cell) (sym c.as_slice.ensures) ∙ sym c.goes_on_in.ensures
+    let off : has_part_in c.args.cell row ≡ false =
+    ap (has_part_in c.args.cell) (sym c.as_slice.ensures) ∙ sym c.goes_on_in.ensures
     ∙ c.if-not-goes_on_in.true in
     let none = below_ends c.args.cell rows k row there off in
     let so_far = c.loop-number.invariant in
@@ -26,8 +26,8 @@ loop-number-preserved c =
     let row = c.index-rows-number.result in
     let there : slice_get rows k ≡ Some row =
     slice_get-get_or rows k row (omega arith) ∙ sym (λ i. Some (c.index-rows-number.is i)) in
-    let on : goes_on_in c.args.cell row ≡ true =
-    ap (goes_on_in c.args.cell) (sym c.as_slice.ensures) ∙ sym c.goes_on_in.ensures
+    let on : has_part_in c.args.cell row ≡ true =
+    ap (has_part_in c.args.cell) (sym c.as_slice.ensures) ∙ sym c.goes_on_in.ensures
     ∙ c.if-not-goes_on_in.false in
     let more = below_more c.args.cell rows k row there on in
     let so_far = c.loop-number.invariant in

@@ -2,14 +2,14 @@ use Rattle.std.proofs.Common.{◌≡◌, ◌+◌, ◌<◌, length, slice_index, 
 use Rattle.std.proofs.lemmas.Grind.{get_or_default_zero}
 use Rattle.doc_bits.specs.Number.{u32_at}
 use Rattle.cfb_directory.specs.Reach.{entry_place, entry_count}
-use Rattle.cfb_directory.specs.Seen.{Follows}
+use Rattle.cfb_directory.specs.Seen.{FollowsLink}
 use Rattle.cfb_directory.proofs.ReachLemmas.{closed_begin, closed_step, closed_lists, seen_short, seen_entries}
 use Rattle.cfb_directory.proofs.directory.reach_all.Goals as goal
 
 pub loop-next-init : goal.loop-next-init
 loop-next-init c =
     let count : length c.follow.new.seen ≡ entry_count c.args.directory.now = omega (arith, c.requires.marks) in
-    let follows = subst (λ xs. Follows (length c.args.seen.now) c.get32-child.result xs c.follow.new.order.items)
+    let follows = subst (λ xs. FollowsLink (length c.args.seen.now) c.get32-child.result xs c.follow.new.order.items)
     c.new-order.ensures.items c.in_ok-follow.ensures.follows in
     record {
       seen = c.in_ok-follow.ensures.seen;

@@ -3,7 +3,7 @@ use Rattle.std.specs.List.{flat_map, range_with_len}
 use Rattle.std.proofs.lemmas.Option.{slice_get-get_or}
 use Rattle.cfb_layout.proofs.Public.{row_step}
 use Rattle.cfb_in_place.specs.declared.roles.Role.{Role}
-use Rattle.cfb_in_place.specs.Sources.{Sources, header_after, sector_after, written}
+use Rattle.cfb_in_place.specs.Sources.{Sources, header_after, sector_after, written_sectors}
 use Rattle.cfb_in_place.proofs.WrittenLemmas.{sector_is}
 use Rattle.cfb_in_place.proofs.appending.write.Goals as goal
 
@@ -37,7 +37,7 @@ loop-sector-preserved c =
     (omega arith) refl
 
 pub returns : goal.returns
-unfolding written
+unfolding written_sectors
 returns c =
     let view = ap (λ (s : Sources). length s.roles) c.sources.view_is in
     let past = c.loop-sector-test.false in

@@ -1,10 +1,10 @@
 use Rattle.std.proofs.Common.{◌-◌, ◌*◌, ◌++◌, List, ℕ, length, replicate, ap, ◌∙◌}
-use Rattle.cfb_layout.specs.Sectors.{units_for, padded}
+use Rattle.cfb_layout.specs.Sectors.{units_for, padded_to_unit}
 use Rattle.cfb_in_place.specs.Change.{NamedChange}
 use Rattle.cfb_in_place.proofs.sources.table_after.Goals as goal
 
 pub returns : goal.returns
-unfolding padded
+unfolding padded_to_unit
 returns c =
     let view = ap (λ (x : NamedChange). x.change.table) c.change.view_is in
     let table = c.as_slice-table.ensures in

@@ -1,5 +1,5 @@
 use Rattle.std.proofs.Common.{◌≡◌, ◌+◌, ◌≤◌}
-use Rattle.cfb_layout.specs.Tree.{all_entries, part_of}
+use Rattle.cfb_layout.specs.Tree.{all_entries, span_of_entry}
 use Rattle.cfb_layout.proofs.TreeLemmas.{IsWithin}
 use Rattle.cfb_layout.proofs.tree.part_of.Given as goal
 
@@ -7,7 +7,7 @@ abbrev pub invariant-loop-span : goal.invariant-loop-span
 invariant-loop-span l = record {
   within : IsWithin l.span l.entry;
   room : l.span.low + l.span.count ≤ l.count + 1;
-  same : part_of l.count l.entry (all_entries l.count) ≡ part_of l.span.count l.entry l.span;
+  same : span_of_entry l.count l.entry (all_entries l.count) ≡ span_of_entry l.span.count l.entry l.span;
 }
 
 abbrev pub decreases-loop-span : goal.decreases-loop-span

@@ -1,8 +1,9 @@
 use Rattle.std.proofs.Common.{◌≡◌, ◌++◌, take}
 use Rattle.std.specs.List.{flat_map}
-use Rattle.cfb_layout.specs.Sectors.{padded}
+use Rattle.cfb_layout.specs.Sectors.{padded_to_unit}
 use Rattle.cfb_layout.specs.Layout.{small_part}
 use Rattle.cfb_layout.proofs.writing.push_mini_stream.Given as goal
 
 abbrev pub invariant-loop-i : goal.invariant-loop-i
-invariant-loop-i l = l.out ≡ l.fn.out ++ flat_map (λ stream. padded 64 0 (small_part stream.bytes)) (take l.i l.streams)
+invariant-loop-i l = l.out ≡ l.fn.out ++ flat_map (λ stream. padded_to_unit 64 0 (small_part stream.bytes)) (take l.i
+    l.streams)

@@ -1,5 +1,5 @@
 use Rattle.std.proofs.Common.{◌<◌, length, slice_index, sym, subst, arith}
-use Rattle.cfb_sectors.specs.Ends.{IsEnd, Remembers, GoesOn}
+use Rattle.cfb_sectors.specs.Ends.{IsEnd, Remembers, GoesOnAtKnown}
 use Rattle.cfb_sectors.proofs.ends.settle.Goals as goal
 
 pub remember-requires : goal.remember-requires
@@ -12,7 +12,8 @@ remember-requires c =
           c.settle_ring.ensures.remembers;
       within = λ i h. subst (λ n. slice_index c.args.path.now i < n) (sym len) (c.requires.fresh.path.within i h);
       links = c.requires.fresh.path.links;
-      goes_on = subst (λ n. GoesOn (λ s. slice_index c.args.entries.now s) n c.settle_ring.new.ends c.args.path.now)
+      goes_on = subst (λ n. GoesOnAtKnown (λ s. slice_index c.args.entries.now s) n c.settle_ring.new.ends
+          c.args.path.now)
           (sym len) c.settle_ring.ensures.goes_on;
     }
 

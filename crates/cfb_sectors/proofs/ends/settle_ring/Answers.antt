@@ -1,5 +1,5 @@
 use Rattle.std.proofs.Common.{length, slice_index, sym, ap, ◌∙◌, subst, arith}
-use Rattle.cfb_sectors.specs.Ends.{IsKnown, IsRingEnd}
+use Rattle.cfb_sectors.specs.Ends.{IsKnownEndAt, IsRingEnd}
 use Rattle.cfb_sectors.proofs.ChainLemmas.{path_short}
 use Rattle.cfb_sectors.proofs.EndLemmas.{not_known}
 use Rattle.cfb_sectors.proofs.RingLemmas.{path_ring, fresh_turns}
@@ -33,5 +33,6 @@ remember_ring-requires-clause-ring c =
 
 pub returns-clause-goes_on : goal.returns-clause-goes_on
 returns-clause-goes_on c = λ less.
-    subst (IsKnown c.remember_ring.new.ends) (ap (λ k. slice_index c.args.entries.now k) c.last_sector-last.ensures)
+    subst (IsKnownEndAt c.remember_ring.new.ends) (ap (λ k. slice_index c.args.entries.now k)
+    c.last_sector-last.ensures)
     c.remember_ring.ensures.known

@@ -1,5 +1,5 @@
 use Rattle.std.proofs.Common.{◌≡◌, ◌+◌, length, slice_index, sym, ◌∙◌, subst, arith}
-use Rattle.cfb_directory.specs.Directory.{IsNameOf}
+use Rattle.cfb_directory.specs.Directory.{IsEntryName}
 use Rattle.cfb_directory.specs.Reach.{entry_place}
 use Rattle.cfb_streams.specs.Container.{AreNamesOf}
 use Rattle.cfb_streams.proofs.ContentLemmas.{names_push, names_none}
@@ -22,7 +22,7 @@ loop-entry-preserved c =
     let same = c.in_ok-units.ensures ∙ c.deref.ensures.value in
     subst (AreNamesOf file directory listed (i + 1)) (sym c.in_ok-push.ensures.items)
     (names_push file directory listed i c.loop-entry.names.items c.in_ok-units.units c.loop-entry.invariant
-    (subst (IsNameOf file (entry_place directory (slice_index listed i))) (sym same) c.in_ok-name.ensures))
+    (subst (IsEntryName file (entry_place directory (slice_index listed i))) (sym same) c.in_ok-name.ensures))
 
 pub returns : goal.returns
 returns c =

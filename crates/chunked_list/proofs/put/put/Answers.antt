@@ -1,6 +1,6 @@
 -- The block has room.
 use Rattle.std.proofs.Common.{ap, arith}
-use Rattle.chunked_list.specs.Blocks.{units_of}
+use Rattle.chunked_list.specs.Blocks.{total_units}
 use Rattle.chunked_list.proofs.JoinLemmas.{units_of_block}
 use Rattle.chunked_list.proofs.PutLemmas.{put_in}
 use Rattle.chunked_list.proofs.put.put.Goals as goal
@@ -12,7 +12,7 @@ put-requires-clause-units g c =
     omega (
       arith,
       units_of_block units c.make_room-seat.new.row.blocks c.make_room-seat.result.block made.in_block.there,
-      ap (units_of units) made.same,
+      ap (total_units units) made.same,
       c.requires.units,
     )
 

@@ -1,6 +1,6 @@
 -- The first block has the item alone.
 use Rattle.std.proofs.Common.{◌≡◌, ◌∷◌, ◌∙◌, List, [], ap, arith}
-use Rattle.chunked_list.specs.Blocks.{units_of}
+use Rattle.chunked_list.specs.Blocks.{total_units}
 use Rattle.chunked_list.proofs.UnitLemmas.{units-one}
 use Rattle.chunked_list.proofs.PutLemmas.{last_empty}
 use Rattle.chunked_list.proofs.put.put_first.Goals as goal
@@ -12,4 +12,4 @@ insert-requires-2-clause-units g c =
     c.in-Some.ensures.items c.requires.empty in
     let put : c.insert.new.self ≡ c.args.item ∷ [] =
     c.insert.ensures ∙ ap (λ (t : List g.row.T.Denot). c.args.item ∷ t) none in
-    omega (arith, ap (units_of units) put, units-one units c.args.item, c.requires.units)
+    omega (arith, ap (total_units units) put, units-one units c.args.item, c.requires.units)

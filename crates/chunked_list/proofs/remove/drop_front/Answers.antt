@@ -2,7 +2,7 @@
 use Rattle.std.proofs.Common.{◌≡◌, ◌+◌, ◌-◌, ◌<◌, ◌≤◌, ◌∙◌, List, [], length, take, drop, ap, arith}
 use Rattle.std.proofs.Common.{length-drop}
 use Rattle.std.specs.List.{splice}
-use Rattle.chunked_list.specs.Blocks.{joined, units_of, block_at}
+use Rattle.chunked_list.specs.Blocks.{joined, total_units, block_at}
 use Rattle.chunked_list.proofs.JoinLemmas.{units_of_block}
 use Rattle.chunked_list.proofs.RemoveLemmas.{dropped_out, dropped_cut, dropped_all, left_out, units_out, take_out_front}
 use Rattle.chunked_list.proofs.RemoveLemmas.{length_out}
@@ -73,7 +73,7 @@ loop-turn-preserved g c =
       spare = c.take_out.ensures.spare ∙ invariant.spare;
       units = omega (
         arith,
-        ap (λ (t : List (List g.row.T.Denot)). units_of g.T.Measured.units (joined t)) out,
+        ap (λ (t : List (List g.row.T.Denot)). total_units g.T.Measured.units (joined t)) out,
         units_out g.T.Measured.units now b there,
         invariant.units,
       );

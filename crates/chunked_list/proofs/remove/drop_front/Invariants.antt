@@ -1,5 +1,5 @@
 use Rattle.std.proofs.Common.{◌≡◌, ℕ, ◌+◌, ◌≤◌, length, take, drop}
-use Rattle.chunked_list.specs.Blocks.{joined, units_of, AreSizedBut}
+use Rattle.chunked_list.specs.Blocks.{joined, total_units, AreSizedBut}
 use Rattle.chunked_list.proofs.remove.drop_front.Given as goal
 
 -- what is left to go is at the front of the blocks that are there
@@ -10,8 +10,8 @@ invariant-loop-turn g l = record {
   low : l.left ≤ length (joined (drop l.block l.row.blocks));
   long : length l.row.blocks + l._turn ≡ length l.initial.row.blocks + l.block;
   spare : l.row.spare ≡ l.initial.row.spare;
-  units : units_of g.T.Measured.units (joined l.row.blocks)
-      ≤ units_of g.T.Measured.units (joined l.initial.row.blocks);
+  units : total_units g.T.Measured.units (joined l.row.blocks)
+      ≤ total_units g.T.Measured.units (joined l.initial.row.blocks);
   sized : (full from : ℕ) → from ≤ l.block → AreSizedBut l.initial.row.blocks full from l.block
       → AreSizedBut l.row.blocks full from l.block;
 }

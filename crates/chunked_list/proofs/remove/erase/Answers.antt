@@ -3,7 +3,7 @@ use Rattle.std.proofs.Common.{◌≡◌, ◌+◌, ◌<◌, ◌≤◌, ℕ, ◌++
 use Rattle.std.proofs.Common.{length-append}
 use Rattle.std.specs.List.{splice}
 use Rattle.std.proofs.lemmas.List.{drop-set-lt}
-use Rattle.chunked_list.specs.Blocks.{joined, units_of, block_at, AreSizedBut}
+use Rattle.chunked_list.specs.Blocks.{joined, total_units, block_at, AreSizedBut}
 use Rattle.chunked_list.proofs.JoinLemmas.{units_of_block, joined_at}
 use Rattle.chunked_list.proofs.SizeLemmas.{length-splice}
 use Rattle.chunked_list.proofs.ShortLemmas.{but_set}
@@ -50,7 +50,7 @@ drop_front-requires-clause-units g c =
     let x = splice (block_at old b) within (within + here) [] in
     omega (
       arith,
-      ap (λ (t : List (List g.row.T.Denot)). units_of units (joined t)) c.cut.ensures.blocks,
+      ap (λ (t : List (List g.row.T.Denot)). total_units units (joined t)) c.cut.ensures.blocks,
       units_shorter units old b x c.requires.place.there
           (units-cut-le units (block_at old b) within (within + here) (omega arith)),
       c.requires.units,

@@ -1,7 +1,7 @@
 -- The next block is joined, or gives items.
 use Rattle.std.proofs.Common.{◌≡◌, ◌+◌, ◌-◌, ◌<◌, ℕ, ◌++◌, ◌∙◌, [], length, take, set, ap, arith}
 use Rattle.std.specs.List.{splice}
-use Rattle.chunked_list.specs.Blocks.{units_of, block_at}
+use Rattle.chunked_list.specs.Blocks.{total_units, block_at}
 use Rattle.chunked_list.proofs.JoinLemmas.{units_of_block}
 use Rattle.chunked_list.proofs.FillLemmas.{joined_same, moved_same, joined_sized, moved_sized, lent_next}
 use Rattle.chunked_list.proofs.remove.fill.Goals as goal
@@ -38,8 +38,8 @@ cut-requires-clause-units g c =
     let grown = block_at old b ++ take (64 - c.len-len.result) (block_at old (b + 1)) in
     omega (
       arith,
-      ap (λ (n : ℕ). units_of units (block_at now n)) next,
-      ap (units_of units) (lent_next old now b grown c.lend-2.ensures.blocks),
+      ap (λ (n : ℕ). total_units units (block_at now n)) next,
+      ap (total_units units) (lent_next old now b grown c.lend-2.ensures.blocks),
       units_of_block units old (b + 1) there,
       c.requires.units,
     )

@@ -2,7 +2,7 @@
 use Rattle.std.proofs.Common.{◌≡◌, ◌+◌, ◌<◌, ◌++◌, ℕ, ◌∙◌, length, take, ap, sym, arith, Some}
 use Rattle.std.specs.Prelude.{slice_get}
 use Rattle.std.proofs.lemmas.Option.{slice_get_within, get_or_from_slice_get}
-use Rattle.chunked_list.specs.Blocks.{units_of, block_at}
+use Rattle.chunked_list.specs.Blocks.{total_units, block_at}
 use Rattle.chunked_list.proofs.UnitLemmas.{units-append, units_at, units-take-le}
 use Rattle.chunked_list.proofs.RemoveLemmas.{units_of_two}
 use Rattle.chunked_list.proofs.FillLemmas.{lent_here, lent_next, lent_more}
@@ -24,7 +24,7 @@ put-requires-clause-units g c =
     ∙ c.get-item.ensures in
     omega (
       arith,
-      ap (units_of units) (lent_here old now b grown there c.loop-i.invariant.blocks),
+      ap (total_units units) (lent_here old now b grown there c.loop-i.invariant.blocks),
       units-append units (block_at old b) (take i next),
       units_at units next i c.get-item.result is,
       units-take-le units next (i + 1),

@@ -2,7 +2,7 @@ use Rattle.std.specs.Prelude.{slice_index}
 use Rattle.std.proofs.Common.{◌∙◌, ap, ◌++◌, append_assoc, List}
 use Rattle.text_losses.specs.declared.features.ListKind.{ListKind}
 use Rattle.text_losses.specs.declared.features.TextFeature.{TextFeature}
-use Rattle.code_losses.specs.Losses.{list_kind, named_by, skipped_of, repeated_of}
+use Rattle.code_losses.specs.Losses.{list_kind, features_by_code, skipped_of, repeated_of}
 use Rattle.code_losses.proofs.NamedLemmas.{named_lists}
 use Rattle.code_losses.proofs.ResultLemmas.{on_err}
 use Rattle.code_losses.proofs.losses.add_codes.Goals as goal
@@ -18,9 +18,9 @@ returns c =
     let kind = list_kind c.args.kind in
     let old = c.args.features.now.items in
     let skips : ListKind → List TextFeature =
-    λ k. named_by (λ code. skipped_of k code (slice_index counts.first.counts.items code)) in
+    λ k. features_by_code (λ code. skipped_of k code (slice_index counts.first.counts.items code)) in
     let repeats : ListKind → List TextFeature =
-    λ k. named_by (λ code. repeated_of k code (slice_index counts.again.counts.items code)) in
+    λ k. features_by_code (λ code. repeated_of k code (slice_index counts.again.counts.items code)) in
     let first = c.in_ok-push_all_skipped.ensures ∙ ap (λ (k : ListKind). old ++ skips k) c.list_kind.ensures in
     let second = c.in_ok-push_all_repeated.ensures
     ∙ ap (λ (k : ListKind). c.push_all_skipped.new.features.items ++ repeats k) c.list_kind-2.ensures in (

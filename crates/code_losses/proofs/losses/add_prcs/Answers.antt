@@ -2,7 +2,7 @@ use Rattle.std.specs.Prelude.{slice_index}
 use Rattle.std.proofs.Common.{◌∙◌, ap, ◌++◌, append_assoc, List}
 use Rattle.text_losses.specs.declared.features.ListKind.TheVariants.{Prc}
 use Rattle.text_losses.specs.declared.features.TextFeature.{TextFeature}
-use Rattle.code_losses.specs.Losses.{named_by, skipped_of, repeated_of}
+use Rattle.code_losses.specs.Losses.{features_by_code, skipped_of, repeated_of}
 use Rattle.code_losses.proofs.NamedLemmas.{named_lists}
 use Rattle.code_losses.proofs.ResultLemmas.{on_err}
 use Rattle.code_losses.proofs.losses.add_prcs.Goals as goal
@@ -17,9 +17,9 @@ returns c =
     let counts = c.in_ok-counts.counts in
     let old = c.args.features.now.items in
     let skips : List TextFeature =
-    named_by (λ code. skipped_of Prc code (slice_index counts.first.counts.items code)) in
+    features_by_code (λ code. skipped_of Prc code (slice_index counts.first.counts.items code)) in
     let repeats : List TextFeature =
-    named_by (λ code. repeated_of Prc code (slice_index counts.again.counts.items code)) in (
+    features_by_code (λ code. repeated_of Prc code (slice_index counts.again.counts.items code)) in (
       found.0,
       (
         found.1.0,

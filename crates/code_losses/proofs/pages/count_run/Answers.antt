@@ -1,6 +1,6 @@
 use Rattle.std.specs.Prelude.{slice_range}
 use Rattle.std.proofs.Common.{refl, inl, inr, subst, ◌+◌, arith}
-use Rattle.code_losses.specs.Counted.{IsFound}
+use Rattle.code_losses.specs.Counted.{IsFoundPrlList}
 use Rattle.code_losses.specs.Pages.{IsFoundInRun}
 use Rattle.code_losses.proofs.JoinLemmas.{part_none}
 use Rattle.code_losses.proofs.RunLemmas.{no_list}
@@ -15,7 +15,8 @@ returns-in-Found-clause-counted c = λ lists counted.
         from = c.in-Found.from;
         to = c.in-Found.to;
         list = c.in-Found.ensures;
-        found_is = subst (λ n. IsFound (slice_range c.args.page.now (c.in-Found.from + n) c.in-Found.to) part.found)
+        found_is = subst (λ n. IsFoundPrlList (slice_range c.args.page.now (c.in-Found.from + n) c.in-Found.to)
+            part.found)
             c.least_list.ensures part.is_found;
       });
       counted = part.counted;

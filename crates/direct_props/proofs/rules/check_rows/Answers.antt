@@ -1,5 +1,5 @@
 use Rattle.std.proofs.Common.{ℕ, List, subst, ◌∙◌}
-use Rattle.doc_bits.specs.Rules.{Hold, IsFirst}
+use Rattle.doc_bits.specs.Rules.{Hold, IsFirstOffset}
 use Rattle.direct_props.specs.PageRules.{page_rules}
 use Rattle.direct_props.proofs.RightLemmas.{right_where_hold, right_places_hold}
 use Rattle.direct_props.proofs.rules.check_rows.Goals as goal
@@ -24,5 +24,6 @@ pub returns-clause-judged : goal.returns-clause-judged
 returns-clause-judged c =
     let fault = c.in-Err.fault in
     subst
-    (λ (places : List ℕ). IsFirst (page_rules c.args.kind c.args.wd.now c.args.bin.now places) fault.rule fault.offset)
+    (λ (places : List ℕ). IsFirstOffset (page_rules c.args.kind c.args.wd.now c.args.bin.now places) fault.rule
+    fault.offset)
     (c.deref.ensures.value ∙ c.in_ok-list.ensures) c.in-Err.ensures

@@ -6,7 +6,7 @@ use Rattle.std.proofs.lemmas.Option.{slice_get-get_or}
 use Rattle.prop_map.specs.Settings.{Properties}
 use Rattle.run_lists.specs.Spread.{expanded}
 use Rattle.run_lists.proofs.Public.{length-spread}
-use Rattle.plain_doc.specs.Document.{HasPropertyMaps}
+use Rattle.doc_model.specs.Document.{HasPropertyMaps}
 use Rattle.doc_columns.specs.declared.attached.Attached.{Attached}
 use Rattle.doc_columns.specs.Columns.{item_of}
 use Rattle.doc_columns.proofs.CollectLemmas.{one_put}

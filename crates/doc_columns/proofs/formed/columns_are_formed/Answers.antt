@@ -1,6 +1,6 @@
 -- What the calls say of their parts.
 use Rattle.std.proofs.Common.{subst}
-use Rattle.plain_doc.specs.Formed.{IsFormed}
+use Rattle.doc_model.specs.Formed.{IsFormed}
 use Rattle.doc_columns.proofs.SeenLemmas.{seen_document}
 use Rattle.doc_columns.proofs.formed.columns_are_formed.Goals as goal
 

@@ -3,7 +3,7 @@ use Rattle.doc_bits.specs.Rules.{Nowhere}
 use Rattle.doc_bits.specs.declared.places.Where.{Where}
 use Rattle.plain_doc.specs.declared.rules_counts.Counts.{Counts}
 use Rattle.plain_doc.specs.TextRules.{BreaksText}
-use Rattle.plain_doc.specs.TextWalk.{KeepsTextRules, HasCounts}
+use Rattle.plain_doc.specs.TextWalk.{KeepsTextRules, HasTextCounts}
 use Rattle.plain_doc.proofs.Public.{HoldsInText, holds_here, list_holds}
 use Rattle.doc_columns.proofs.RightLemmas.{taken}
 use Rattle.doc_columns.proofs.judge.are_valid_texts.Goals as goal
@@ -14,7 +14,7 @@ loop-k-preserved c rule =
     let text = c.get.result.now in
     let breaks = BreaksText rule sheet in
     let right =
-    taken (λ (counts : Counts). KeepsTextRules sheet c.part.result text × HasCounts text counts) _ c.in-Some.field-0
+    taken (λ (counts : Counts). KeepsTextRules sheet c.part.result text × HasTextCounts text counts) _ c.in-Some.field-0
     c.in-Some.is c.in_ok-right_counts.ensures in
     below_more (HoldsInText c.args.side c.args.texts.now breaks) c.loop-k.k (c.loop-k.invariant rule)
     (holds_here c.args.side c.args.texts.now breaks c.loop-k.k text c.get.ensures

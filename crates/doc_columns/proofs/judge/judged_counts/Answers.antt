@@ -7,7 +7,7 @@ use Rattle.run_lists.specs.declared.cursor.Cursor.{Cursor}
 use Rattle.run_lists.proofs.Public.{extent-nil, extent_more}
 use Rattle.plain_doc.specs.declared.text_walk.TextWalk.{TextWalk}
 use Rattle.plain_doc.specs.declared.rules_counts.Counts.{Counts}
-use Rattle.plain_doc.specs.TextWalk.{EndsWalk, KeepsTextRules, HasCounts}
+use Rattle.plain_doc.specs.TextWalk.{EndsWalk, KeepsTextRules, HasTextCounts}
 use Rattle.plain_doc.proofs.Public.{none_passed}
 use Rattle.doc_columns.specs.declared.attached.Attached.{Attached}
 use Rattle.doc_columns.specs.Judging.{IsPassedTo}
@@ -71,5 +71,5 @@ returns c =
     c.loop-run.walk c.attachments-run-items.ensures (omega arith) c.loop-run.invariant.place c.loop-run.invariant.passed
     in
     some_more (EndsWalk c.loop-run.walk)
-    (λ (counts : Counts). KeepsTextRules sheet judged.part text × HasCounts text counts) c.counts.result
+    (λ (counts : Counts). KeepsTextRules sheet judged.part text × HasTextCounts text counts) c.counts.result
     (λ counts ends. ends sheet judged.part text c.requires.ends c.requires.formed.few passed) c.counts.ensures

@@ -1,7 +1,7 @@
 -- An item is passed at each place of the run.
 use Rattle.std.proofs.Common.{◌≡◌, ◌+◌, ◌<◌, ◌≤◌, ℕ, List, get_or, sym, subst, refl, arith}
 use Rattle.std.proofs.lemmas.Option.{slice_get_within, get_or_from_slice_get}
-use Rattle.plain_doc.specs.declared.item.Item.{Item}
+use Rattle.doc_model.specs.declared.item.Item.{Item}
 use Rattle.plain_doc.specs.TextWalk.{PassesItem}
 use Rattle.plain_doc.proofs.Public.{one_passed}
 use Rattle.doc_columns.specs.Judging.{IsPassedTo}

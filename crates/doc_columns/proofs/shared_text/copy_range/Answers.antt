@@ -1,8 +1,8 @@
 -- The parts are those of the whole columns.
 use Rattle.std.proofs.Common.{◌∙◌, sym, ap, subst, List, length, arith}
 use Rattle.std.specs.Prelude.{slice_range}
-use Rattle.plain_doc.specs.declared.item.Item.{Item}
-use Rattle.plain_doc.specs.Document.{IsFormedText}
+use Rattle.doc_model.specs.declared.item.Item.{Item}
+use Rattle.doc_model.specs.Document.{IsFormedText}
 use Rattle.doc_columns.proofs.WindowLemmas.{within_columns, same_items, parts_long, walk_of_parts}
 use Rattle.doc_columns.proofs.shared_text.copy_range.Goals as goal
 

@@ -1,5 +1,5 @@
 use Rattle.std.proofs.Common.{◌≤◌, length, refl, arith}
-use Rattle.plain_doc.specs.Marks.{most_bookmarks}
+use Rattle.doc_model.specs.Marks.{most_bookmarks}
 use Rattle.doc_columns.proofs.RightLemmas.{right_marks}
 use Rattle.doc_columns.proofs.sound.are_valid.Goals as goal
 

@@ -1,11 +1,11 @@
 -- By the texts, the counts and the sheet.
 use Rattle.std.proofs.Common.{◌≡◌, ◌≤◌, length, refl, sym, subst, arith}
 use Rattle.doc_bits.specs.declared.places.Where.TheVariants.{Main}
-use Rattle.plain_doc.specs.declared.document.Document.{Document}
+use Rattle.doc_model.specs.declared.document.Document.{Document}
 use Rattle.plain_doc.specs.declared.rules_counts.Counts.{Counts}
 use Rattle.plain_doc.specs.RulesOfSheet.{heads_of_sections, item_count, most_items}
 use Rattle.plain_doc.specs.Sound.{IsSound}
-use Rattle.plain_doc.specs.TextWalk.{KeepsTextRules, HasCounts}
+use Rattle.plain_doc.specs.TextWalk.{KeepsTextRules, HasTextCounts}
 use Rattle.plain_doc.proofs.Public.{all_texts, judged_sound}
 use Rattle.doc_columns.specs.Marks.{AreValidBookmarks}
 use Rattle.doc_columns.proofs.RightLemmas.{taken}
@@ -15,7 +15,7 @@ use Rattle.doc_columns.proofs.sound.is_sound.Goals as goal
 pub fit_counts-requires : goal.fit_counts-requires
 fit_counts-requires c =
     let own = c.document.inside in
-    (taken (λ (counts : Counts). KeepsTextRules own.sheet Main own.main × HasCounts own.main counts) _
+    (taken (λ (counts : Counts). KeepsTextRules own.sheet Main own.main × HasTextCounts own.main counts) _
     c.in-Some.counts c.in-Some.is c.in_ok-counts.ensures).1.few
 
 pub returns : goal.returns
@@ -28,7 +28,7 @@ returns c = λ sound.
     let marks : AreValidBookmarks (length own.main) own.bookmarks =
     subst (λ n. AreValidBookmarks n own.bookmarks) c.len.ensures.len (c.if-not-are_valid.ensures refl) in
     let main =
-    taken (λ (counts : Counts). KeepsTextRules own.sheet Main own.main × HasCounts own.main counts) _ counts
+    taken (λ (counts : Counts). KeepsTextRules own.sheet Main own.main × HasTextCounts own.main counts) _ counts
     c.in-Some.is c.in_ok-counts.ensures in
     let notes = c.in_ok-are_valid_texts.ensures c.if-not-branch.false in
     let heads = c.in_ok-are_valid_texts-2.ensures c.if-not-branch-2.false in

@@ -1,7 +1,7 @@
 -- What both columns have at a place.
 use Rattle.std.proofs.Common.{arith}
 use Rattle.run_lists.specs.Spread.{expanded}
-use Rattle.plain_doc.specs.declared.item.Item.{Item}
+use Rattle.doc_model.specs.declared.item.Item.{Item}
 use Rattle.doc_columns.specs.Attached.{attached_of}
 use Rattle.doc_columns.specs.Walks.{items_in}
 use Rattle.doc_columns.proofs.WalkLemmas.{part_at, chps_are, attachments_are}

@@ -1,5 +1,5 @@
 use Rattle.std.proofs.lemmas.Result.{IfOk-weaker}
-use Rattle.doc_fit.specs.ReadAs.{IsMendedOn, IsOpenedFile, mend_count}
+use Rattle.doc_fit.specs.ReadAs.{IsMendedOn, IsOpenedFile, most_mends}
 use Rattle.doc_fit.proofs.ReadAsLemmas.{opened_mended, refused_accepted}
 use Rattle.doc_fit.proofs.file_opening.open_refused.Goals as goal
 
@@ -15,6 +15,7 @@ returns c =
     let copy = c.args.mended in
     let never = c.if-accepted.false in
     let is = c.in_ok-accepted.ensures in
-    IfOk-weaker c.open_mended.result (λ f. IsMendedOn c.args.plain file mend_count copy f) (λ f. IsOpenedFile c.args.plain file f)
+    IfOk-weaker c.open_mended.result (λ f. IsMendedOn c.args.plain file most_mends copy f) (λ f. IsOpenedFile
+    c.args.plain file f)
     (λ f on. opened_mended c.args.plain file copy f c.requires.fills (λ accepted. absurd (cc (never, is.1 accepted))) on)
     c.open_mended.ensures

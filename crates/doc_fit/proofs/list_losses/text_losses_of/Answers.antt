@@ -1,7 +1,7 @@
 use Rattle.std.specs.Prelude.{slice_range}
 use Rattle.std.proofs.Common.{◌≡◌, ◌∙◌, ◌+◌, ◌<◌, sym, ap, subst, arith, ℕ, List}
 use Rattle.fib_form.specs.Fib.{fib_pair, table_part}
-use Rattle.fib_versions.specs.Versions.{pair_count}
+use Rattle.fib_versions.specs.Versions.{fib_pair_count}
 use Rattle.fib_versions.proofs.Public.{enough_pairs}
 use Rattle.code_losses.specs.Losses.{AreCodeLosses}
 use Rattle.doc_fit.proofs.list_losses.text_losses_of.Goals as goal
@@ -9,17 +9,17 @@ use Rattle.doc_fit.proofs.list_losses.text_losses_of.Goals as goal
 pub pair-requires : goal.pair-requires
 pair-requires c =
     let enough = enough_pairs c.args.wd.now c.requires.version in
-    subst (λ (w : List ℕ). 12 < pair_count w) (sym c.requires.same) (omega (arith, enough))
+    subst (λ (w : List ℕ). 12 < fib_pair_count w) (sym c.requires.same) (omega (arith, enough))
 
 pub pair-requires-2 : goal.pair-requires-2
 pair-requires-2 c =
     let enough = enough_pairs c.args.wd.now c.requires.version in
-    subst (λ (w : List ℕ). 13 < pair_count w) (sym c.requires.same) (omega (arith, enough))
+    subst (λ (w : List ℕ). 13 < fib_pair_count w) (sym c.requires.same) (omega (arith, enough))
 
 pub pair-requires-3 : goal.pair-requires-3
 pair-requires-3 c =
     let enough = enough_pairs c.args.wd.now c.requires.version in
-    subst (λ (w : List ℕ). 33 < pair_count w) (sym c.requires.same) (omega (arith, enough))
+    subst (λ (w : List ℕ). 33 < fib_pair_count w) (sym c.requires.same) (omega (arith, enough))
 
 pub returns : goal.returns
 returns c =

@@ -10,7 +10,7 @@ use Rattle.loss_report.specs.Losses.{losses}
 use Rattle.loss_report.specs.Lines.{feature_line}
 use Rattle.text_losses.specs.Lines.{feature_line as line_of_feature}
 use Rattle.text_losses.specs.declared.features.TextFeature.{TextFeature}
-use Rattle.doc_losses.specs.Marks.{AreMarksOf}
+use Rattle.doc_losses.specs.Marks.{AreFileMarks}
 use Rattle.doc_fit.specs.Losses.{AreLossLines, other_losses}
 use Rattle.doc_fit.proofs.LossLemmas.{lines_joined}
 use Rattle.doc_fit.proofs.losses.found_in.Goals as goal
@@ -90,6 +90,6 @@ returns c =
     } in
     record {
       losses = lines;
-      marks = subst (λ (w : List ℕ). AreMarksOf w table c.in_ok-marks.marks) fib c.in_ok-marks.ensures;
+      marks = subst (λ (w : List ℕ). AreFileMarks w table c.in_ok-marks.marks) fib c.in_ok-marks.ensures;
       begins = c.story_begins.ensures;
     }

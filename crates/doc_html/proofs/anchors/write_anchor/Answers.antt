@@ -2,7 +2,7 @@ use Rattle.std.proofs.Common.{◌≡◌, ◌++◌, ◌∷◌, [], List, ap, subs
 use Rattle.std.proofs.Math.Seq.{take-append_seam}
 use Rattle.view_places.specs.declared.element.Element.{Element}
 use Rattle.view_places.specs.declared.element.Element.TheVariants.{Anchor}
-use Rattle.doc_places.specs.Places.{bare}
+use Rattle.doc_places.specs.Places.{bare_place}
 use Rattle.form_page.specs.Forms.{PutsPlaces}
 use Rattle.doc_html.proofs.anchors.write_anchor.Goals as goal
 
@@ -16,4 +16,4 @@ returns-clause-path g c =
 pub returns-clause-puts : goal.returns-clause-puts
 returns-clause-puts g c =
     subst (λ (path : List Element). PutsPlaces g.K.Sink c.args.out.now c.args.writer.now.page c.put.new.out
-    c.put.new.self (bare path ∷ [])) c.push.ensures c.put.ensures
+    c.put.new.self (bare_place path ∷ [])) c.push.ensures c.put.ensures

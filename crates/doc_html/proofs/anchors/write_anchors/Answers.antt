@@ -7,7 +7,7 @@ use Rattle.view_places.specs.declared.element.Element.TheVariants.{Anchor}
 use Rattle.form_page.specs.Forms.{Places}
 use Rattle.form_page.specs.Forms.{PutsPlaces}
 use Rattle.form_page.proofs.Public.{places_none, places_then}
-use Rattle.doc_places.specs.Places.{anchor_places, bare, lead, numbers}
+use Rattle.doc_places.specs.Places.{anchor_places, bare_place, lead, consecutive}
 use Rattle.doc_places.proofs.Public.{anchors_more}
 use Rattle.doc_html.proofs.anchors.write_anchors.Goals as goal
 
@@ -20,7 +20,7 @@ loop-writer-init g c =
       path = refl;
       puts =
           subst (λ (n : ℕ). PutsPlaces g.K.Sink c.args.out.now c.args.writer.now.page c.args.out.now
-          c.args.writer.now.page (anchor_places c.args.writer.now.path (numbers c.args.next n))) none (places_none
+          c.args.writer.now.page (anchor_places c.args.writer.now.path (consecutive c.args.next n))) none (places_none
           g.K.Sink c.args.out.now c.args.writer.now.page);
     }
 
@@ -43,9 +43,10 @@ loop-writer-preserved g c =
     c.loop-writer-test.true) in
     let more : next + (old.number - next) ≡ old.number = omega (arith, low) in
     let count : (old.number - next) + 1 ≡ (old.number + 1) - next = omega (arith, low) in
-    let one : Places = bare (path ++ Anchor old.number ∷ []) ∷ [] in
+    let one : Places = bare_place (path ++ Anchor old.number ∷ []) ∷ [] in
     let here : PutsPlaces g.K.Sink old.out old.writer.page put.new.out put.new.writer.page one =
-    subst (λ (p : List Element). PutsPlaces g.K.Sink old.out old.writer.page put.new.out put.new.writer.page (bare (p ++
+    subst (λ (p : List Element). PutsPlaces g.K.Sink old.out old.writer.page put.new.out put.new.writer.page (bare_place
+    (p ++
     Anchor old.number ∷ []) ∷ [])) old.invariant.path put.ensures.puts in
     record {
       low = omega (arith, low);
@@ -53,10 +54,11 @@ loop-writer-preserved g c =
       path = put.ensures.path ∙ old.invariant.path;
       puts =
           subst (λ (places : Places). PutsPlaces g.K.Sink c.args.out.now c.args.writer.now.page put.new.out
-          put.new.writer.page places) (ap (λ (n : ℕ). anchor_places path (numbers next (old.number - next)) ++ (bare
+          put.new.writer.page places) (ap (λ (n : ℕ). anchor_places path (consecutive next (old.number - next)) ++
+          (bare_place
           (path ++ Anchor n ∷ []) ∷ [])) (sym more) ∙ sym (anchors_more path next (old.number - next)) ∙ ap (λ (n : ℕ).
-          anchor_places path (numbers next n)) count) (places_then g.K.Sink c.args.out.now old.out put.new.out
-          c.args.writer.now.page old.writer.page put.new.writer.page (anchor_places path (numbers next (old.number -
+          anchor_places path (consecutive next n)) count) (places_then g.K.Sink c.args.out.now old.out put.new.out
+          c.args.writer.now.page old.writer.page put.new.writer.page (anchor_places path (consecutive next (old.number -
           next))) one old.invariant.puts here);
     }
 
@@ -74,5 +76,5 @@ returns-clause-puts g c =
     c.loop-writer-test.false) in
     let last : c.loop-writer.number ≡ lead c.args.bookmarks.now c.args.end = omega (arith, high, more) in
     subst (λ (n : ℕ). PutsPlaces g.K.Sink c.args.out.now c.args.writer.now.page c.loop-writer.out
-    c.loop-writer.writer.page (anchor_places c.args.writer.now.path (numbers c.args.next (n - c.args.next)))) last
+    c.loop-writer.writer.page (anchor_places c.args.writer.now.path (consecutive c.args.next (n - c.args.next)))) last
     c.loop-writer.invariant.puts

@@ -1,6 +1,6 @@
 use Rattle.std.proofs.Common.{◌≡◌, ◌≤◌, ◌-◌}
 use Rattle.form_page.specs.Forms.{PutsPlaces}
-use Rattle.doc_places.specs.Places.{anchor_places, lead, numbers}
+use Rattle.doc_places.specs.Places.{anchor_places, lead, consecutive}
 use Rattle.doc_html.proofs.anchors.write_anchors.Given as goal
 
 -- the anchors up to the number were written
@@ -10,7 +10,7 @@ invariant-loop-writer g l = record {
   high : l.number ≤ lead l.bookmarks l.end;
   path : l.writer.path ≡ l.fn.writer.path;
   puts : PutsPlaces g.K.Sink l.fn.out l.fn.writer.page l.out l.writer.page
-      (anchor_places l.fn.writer.path (numbers l.next (l.number - l.next)));
+      (anchor_places l.fn.writer.path (consecutive l.next (l.number - l.next)));
 }
 
 abbrev pub decreases-loop-writer : goal.decreases-loop-writer

@@ -2,8 +2,8 @@
 use Rattle.std.proofs.Common.{◌≡◌, ◌∙◌, ◌≤◌, ◌+◌, ◌-◌, ◌++◌, ◌&&◌, not, Some, List, sym, ap, arith, append-nil, length}
 use Rattle.std.specs.Prelude.{◌==◌, slice_index, slice_get}
 use Rattle.std.proofs.lemmas.Option.{slice_get-get_or}
-use Rattle.plain_doc.specs.Settings.{is_inside}
-use Rattle.plain_doc.specs.Stretches.{stretches}
+use Rattle.doc_model.specs.Settings.{is_inside}
+use Rattle.doc_model.specs.Stretches.{stretches}
 use Rattle.doc_columns.specs.Walks.{items_in}
 use Rattle.doc_columns.proofs.Public.{items_long, start_at, begins_at_start}
 use Rattle.cell_spans.specs.declared.tables.Tables.{Tables}

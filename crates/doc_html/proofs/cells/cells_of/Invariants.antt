@@ -1,7 +1,7 @@
 use Rattle.std.proofs.Common.{◌≡◌, ◌≤◌, ◌-◌, ◌++◌, length, drop}
-use Rattle.run_lists.specs.Places.{IsAt}
-use Rattle.plain_doc.specs.Settings.{is_inside}
-use Rattle.plain_doc.specs.Stretches.{stretches}
+use Rattle.run_lists.specs.Places.{IsAtRunBegin}
+use Rattle.doc_model.specs.Settings.{is_inside}
+use Rattle.doc_model.specs.Stretches.{stretches}
 use Rattle.doc_columns.specs.Walks.{items_in}
 use Rattle.cell_spans.specs.Tables.{no_tables}
 use Rattle.doc_places.specs.Cells.{depths_from, tables_from}
@@ -12,7 +12,7 @@ use Rattle.doc_html.proofs.cells.cells_of.Given as goal
 abbrev pub invariant-loop-place : goal.invariant-loop-place
 invariant-loop-place l = record {
   within : l.place ≤ length l.parts.units.now;
-  marks : IsAt l.parts.attachments.now l.marks;
+  marks : IsAtRunBegin l.parts.attachments.now l.marks;
   ahead : l.marks.begin ≤ l.place;
   number : l.number ≤ l.place;
   next : l.next ≡ lead l.bookmarks l.place;

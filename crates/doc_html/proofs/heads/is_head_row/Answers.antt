@@ -4,7 +4,7 @@ use Rattle.std.specs.Prelude.{slice_index, slice_get}
 use Rattle.std.proofs.lemmas.Option.{slice_get-get_or}
 use Rattle.doc_columns.specs.Walks.{items_in}
 use Rattle.doc_columns.proofs.Public.{items_long}
-use Rattle.doc_view.specs.Layout.{ends_head, keeps_row}
+use Rattle.doc_view.specs.Layout.{ends_head, row_goes_on}
 use Rattle.doc_view.specs.Seen.{standing_of}
 use Rattle.doc_view.proofs.Public.{next_left, none_left}
 use Rattle.doc_places.specs.Grid.{is_head_row}
@@ -37,7 +37,7 @@ returns-then-not-keeps_row c = λ formats manner.
     c.ends_head.ensures ∙ ap ends_head c.of-standing.ensures
     ∙ sym (ap is_head_row left ∙ head_ends (standing_of unit last.mark) (paragraphs_left formats manner (items_in
     parts) end)
-    (ap keeps_row (sym c.of-standing.ensures) ∙ sym c.keeps_row.ensures ∙ c.if-not-keeps_row.true))
+    (ap row_goes_on (sym c.of-standing.ensures) ∙ sym c.keeps_row.ensures ∙ c.if-not-keeps_row.true))
     ∙ c.loop-at.invariant.same formats manner
 
 pub loop-at-preserved : goal.loop-at-preserved
@@ -62,7 +62,7 @@ loop-at-preserved c =
           unit_is c.seek-last.ensures.value in
           sym (ap is_head_row left ∙ head_on (standing_of unit last.mark) (paragraphs_left formats manner (items_in
           parts) end)
-          (ap keeps_row (sym c.of-standing.ensures) ∙ sym c.keeps_row.ensures ∙ c.if-not-keeps_row.false))
+          (ap row_goes_on (sym c.of-standing.ensures) ∙ sym c.keeps_row.ensures ∙ c.if-not-keeps_row.false))
           ∙ c.loop-at.invariant.same formats manner;
     }
 

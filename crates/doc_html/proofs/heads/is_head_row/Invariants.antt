@@ -1,5 +1,5 @@
 use Rattle.std.proofs.Common.{◌≡◌, ◌≤◌, ◌-◌, length}
-use Rattle.run_lists.specs.Places.{IsAt}
+use Rattle.run_lists.specs.Places.{IsAtRunBegin}
 use Rattle.doc_columns.specs.Walks.{items_in}
 use Rattle.doc_view.specs.declared.reading.Manner.{Manner}
 use Rattle.doc_view.specs.Seen.{Formats}
@@ -11,7 +11,7 @@ use Rattle.doc_html.proofs.heads.is_head_row.Given as goal
 abbrev pub invariant-loop-at : goal.invariant-loop-at
 invariant-loop-at l = record {
   within : l.at ≤ length l.parts.units.now;
-  marks : IsAt l.parts.attachments.now l.marks;
+  marks : IsAtRunBegin l.parts.attachments.now l.marks;
   ahead : l.marks.begin ≤ l.at;
   same : (formats : Formats) (manner : Manner) →
       is_head_row (paragraphs_left formats manner (items_in l.parts) l.at)

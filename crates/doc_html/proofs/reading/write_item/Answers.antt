@@ -8,7 +8,7 @@ use Rattle.doc_view.proofs.Public.{item_course, item_room, item_there, few_numbe
 use Rattle.view_places.specs.declared.element.Element.{Element}
 use Rattle.form_page.specs.Forms.{PutsPlaces}
 use Rattle.doc_places.specs.Places.{count_of, item_places, up_to_reference}
-use Rattle.doc_html.specs.Writes.{At, IsReading, Writes, at, links_in}
+use Rattle.doc_html.specs.Writes.{WrittenAt, IsReading, WritesItems, at, links_in}
 use Rattle.doc_html.proofs.WriteLemmas.{count_few, item_written, referred_on}
 use Rattle.doc_html.proofs.reading.write_item.Goals as goal
 
@@ -91,7 +91,7 @@ returns-clause-writes g c = λ formats istd has.
     (items_in parts) course format one.0 c.see-seen.result formats istd c.requires.reading.course one.1.0 same
     (has course.place one.0 (omega arith) ahead one.1.0) c.requires.reading.referred c.link-link.ensures c.begin.ensures.puts put in
     let links = links_in reading.origin (items_in parts) in
-    subst (λ (begun : Bool). Writes g.K.Sink (at c.args.out.now writer reading) (record {
+    subst (λ (begun : Bool). WritesItems g.K.Sink (at c.args.out.now writer reading) (record {
       out = c.write.new.out;
       page = c.write.new.self.page;
       begun = begun;
@@ -101,7 +101,7 @@ returns-clause-writes g c = λ formats istd has.
           c.pass.new.self.references.list;
     }) links writer.path label (seen_range formats manner istd (items_in parts) course.place (course.place + 1))) (sym
     c.begun_behind-reading.ensures)
-    (subst (λ (n : ℕ). Writes g.K.Sink (at c.args.out.now writer reading) (record {
+    (subst (λ (n : ℕ). WritesItems g.K.Sink (at c.args.out.now writer reading) (record {
       out = c.write.new.out;
       page = c.write.new.self.page;
       begun = reading.begun || c.see-seen.result.is_shown;
@@ -111,7 +111,7 @@ returns-clause-writes g c = λ formats istd has.
           c.pass.new.self.references.list;
     }) links writer.path label (seen_range formats manner istd (items_in parts) course.place (course.place + 1))) (sym
     c.count_behind-reading.ensures)
-    (subst (λ (x : Course). Writes g.K.Sink (at c.args.out.now writer reading) (record {
+    (subst (λ (x : Course). WritesItems g.K.Sink (at c.args.out.now writer reading) (record {
       out = c.write.new.out;
       page = c.write.new.self.page;
       begun = reading.begun || c.see-seen.result.is_shown;

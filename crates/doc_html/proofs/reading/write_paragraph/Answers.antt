@@ -1,11 +1,11 @@
 -- The items of the paragraph, stretch by stretch.
 use Rattle.std.proofs.Common.{◌≡◌, ◌∙◌, ◌+◌, ◌≤◌, ℕ, refl, sym, ap, subst, arith, List, length}
-use Rattle.doc_columns.specs.Walks.{items_in, IsWalk}
+use Rattle.doc_columns.specs.Walks.{items_in, IsColumnWalk}
 use Rattle.doc_columns.specs.declared.walk.Walk.{Walk}
 use Rattle.doc_columns.proofs.Public.{later_walk}
 use Rattle.char_formats.proofs.Public.{format_one}
 use Rattle.view_places.specs.declared.element.Element.{Element}
-use Rattle.doc_html.specs.Writes.{At, IsReading, Writes, at, links_in}
+use Rattle.doc_html.specs.Writes.{WrittenAt, IsReading, WritesItems, at, links_in}
 use Rattle.doc_html.proofs.WriteLemmas.{reading_walk, writes_from, writes_further, writes_in, writes_start, writes_to}
 use Rattle.doc_view.proofs.Public.{seen_range}
 use Rattle.doc_html.proofs.reading.write_paragraph.Goals as goal
@@ -67,7 +67,7 @@ loop-reading-preserved g c =
       low = omega (arith, low, ahead);
       within = omega (arith, place, least);
       walk =
-          subst (λ (w : Walk). IsWalk parts w to) (sym next.ensures.walk)
+          subst (λ (w : Walk). IsColumnWalk parts w to) (sym next.ensures.walk)
           (later_walk parts alike.new.walk at_place to alike.ensures.walk ahead);
       reading = next.ensures.reading;
       path = next.ensures.path ∙ old.invariant.path;

@@ -2,7 +2,7 @@
 use Rattle.std.proofs.Common.{◌≡◌, ◌∙◌, ◌+◌, ◌≤◌, ℕ, refl, sym, arith, List, length, subst}
 use Rattle.doc_columns.specs.Walks.{items_in}
 use Rattle.view_places.specs.declared.element.Element.{Element}
-use Rattle.doc_html.specs.Writes.{At, IsReading, Writes, at, links_in}
+use Rattle.doc_html.specs.Writes.{WrittenAt, IsReading, WritesItems, at, links_in}
 use Rattle.doc_html.proofs.WriteLemmas.{writes_from, writes_further, writes_in, writes_start, writes_to}
 use Rattle.doc_view.proofs.Public.{seen_range}
 use Rattle.doc_html.proofs.reading.write_stretch.Goals as goal

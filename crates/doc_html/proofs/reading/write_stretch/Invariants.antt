@@ -1,10 +1,10 @@
 use Rattle.std.proofs.Common.{◌≡◌, ℕ, ◌-◌, ◌≤◌}
-use Rattle.doc_columns.specs.Walks.{items_in, IsWalk}
+use Rattle.doc_columns.specs.Walks.{items_in, IsColumnWalk}
 use Rattle.doc_view.specs.Course.{HasFormat}
 use Rattle.doc_view.specs.Page.{AreFormats}
 use Rattle.doc_view.specs.Seen.{Formats}
 use Rattle.doc_view.proofs.Public.{seen_range}
-use Rattle.doc_html.specs.Writes.{At, IsReading, Writes, at, links_in}
+use Rattle.doc_html.specs.Writes.{WrittenAt, IsReading, WritesItems, at, links_in}
 use Rattle.doc_html.proofs.reading.write_stretch.Given as goal
 
 -- the items so far were written
@@ -17,7 +17,7 @@ invariant-loop-reading g l = record {
   path : l.writer.path ≡ l.fn.writer.path;
   origin : l.reading.origin ≡ l.fn.reading.origin;
   writes : (formats : Formats) (istd : ℕ) → HasFormat formats istd (items_in l.fn.text.parts) l.fn.reading.course.place
-      l.fn.stretch.until l.fn.stretch.format → Writes g.K.Sink
+      l.fn.stretch.until l.fn.stretch.format → WritesItems g.K.Sink
       (at l.fn.out l.fn.writer l.fn.reading) (at l.out l.writer l.reading)
       (links_in l.fn.reading.origin (items_in l.fn.text.parts)) l.fn.writer.path l.label
       (seen_range formats l.fn.text.manner istd (items_in l.fn.text.parts) l.fn.reading.course.place

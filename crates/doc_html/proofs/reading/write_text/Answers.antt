@@ -5,8 +5,8 @@ use Rattle.std.proofs.Common.{take, Some, Bool, true, false, length-append}
 use Rattle.std.specs.Prelude.{slice_index, slice_get, ◌&&◌, nat_le, option_map}
 use Rattle.std.proofs.Math.Seq.{take-append_seam}
 use Rattle.std.proofs.lemmas.Option.{slice_get-get_or}
-use Rattle.style_sheet.specs.Chain.{kind_at}
-use Rattle.doc_columns.specs.Walks.{items_in, IsWalk}
+use Rattle.style_sheet.specs.Chain.{style_kind_at}
+use Rattle.doc_columns.specs.Walks.{items_in, IsColumnWalk}
 use Rattle.doc_columns.proofs.Public.{first_walk, items_long, start_at, begins_at_start}
 use Rattle.view_places.specs.declared.element.Element.{Element}
 use Rattle.doc_view.specs.declared.references.Reference.{Reference}
@@ -21,11 +21,11 @@ use Rattle.doc_places.specs.declared.lists.Lists.{Lists}
 use Rattle.doc_places.specs.declared.looks.Look.{Look}
 use Rattle.doc_places.specs.Lists.{lists_after}
 use Rattle.doc_places.specs.Looks.{label_units, look_of}
-use Rattle.doc_places.specs.Places.{anchor_places, block_of, cell_at, hypertext_of, lead, numbers, up_to_reference}
+use Rattle.doc_places.specs.Places.{anchor_places, block_of, cell_at, hypertext_of, lead, consecutive, up_to_reference}
 use Rattle.doc_places.proofs.Public.{lead_more, lead_none}
 use Rattle.form_page.specs.Forms.{Places}
 use Rattle.form_page.specs.Forms.{PutsPlaces}
-use Rattle.doc_html.specs.Writes.{Writes, at, at_front, head_by, paragraphs_left}
+use Rattle.doc_html.specs.Writes.{WritesItems, at, at_front, head_by, paragraphs_left}
 use Rattle.doc_html.proofs.HeadLemmas.{head_with, known_on}
 use Rattle.doc_html.proofs.TextLemmas.{TextAt, all_met, block_few, cell_few, ended_few, text_on, text_start, text_written}
 use Rattle.doc_html.proofs.WriteLemmas.{writes_from, writes_in}
@@ -47,7 +47,7 @@ loop-reading-init g c =
     record {
       within = omega (arith, place);
       walk =
-          subst (λ (n : ℕ). IsWalk parts reading.result.course.walk n) (sym place)
+          subst (λ (n : ℕ). IsColumnWalk parts reading.result.course.walk n) (sym place)
           (first_walk parts reading.result.course.walk reading.ensures.walk);
       marks = start_at parts.attachments.now c.new-marks.result c.new-marks.ensures;
       ahead =
@@ -118,7 +118,7 @@ write_paragraph-requires-clause-style g c =
     let sheet = c.args.text.now.formats.now in
     let some = c.paragraph_end-end.ensures.some in
     let within = c.paragraph_end-end.ensures.within in
-    subst (λ (istd : ℕ). kind_at sheet istd ≡ 1) (sym c.style_of.ensures)
+    subst (λ (istd : ℕ). style_kind_at sheet istd ≡ 1) (sym c.style_of.ensures)
     (right_style sheet parts c.requires.parts (c.paragraph_end-end.result - 1) c.seek-last.result.now
     c.requires.normal c.requires.styles (omega (arith, some, within)) c.seek-last.ensures.value)
 
@@ -195,7 +195,7 @@ loop-reading-preserved g c =
     let next_ended = ended_few old.grid standing in
     record {
       within = omega (arith, place, inside);
-      walk = subst (λ (n : ℕ). IsWalk parts put.new.reading.course.walk n) (sym place) put.ensures.walk;
+      walk = subst (λ (n : ℕ). IsColumnWalk parts put.new.reading.course.walk n) (sym place) put.ensures.walk;
       marks = c.seek-last.ensures.at;
       ahead = omega (arith, behind, place);
       reading = put.ensures.reading;
@@ -245,11 +245,13 @@ loop-reading-preserved g c =
           let links = hypertext.links in
           let origin : Origin = record { note = c.args.context.now.note; begin = at_place } in
           let label = c.label_units-label.result.now in
-          let styled : Writes g.K.Sink mid b (links_in c.new-origin.result items) anchors.new.writer.path label seen =
-          subst (λ (istd : ℕ). Writes g.K.Sink mid b (links_in c.new-origin.result items) anchors.new.writer.path label
+          let styled : WritesItems g.K.Sink mid b (links_in c.new-origin.result items) anchors.new.writer.path label
+          seen =
+          subst (λ (istd : ℕ). WritesItems g.K.Sink mid b (links_in c.new-origin.result items) anchors.new.writer.path
+          label
           (seen_range formats manner istd items at_place end))
           c.style_of.ensures (put.ensures.writes formats are) in
-          let linked : Writes g.K.Sink mid b (links at_place) anchors.new.writer.path label seen =
+          let linked : WritesItems g.K.Sink mid b (links at_place) anchors.new.writer.path label seen =
           writes_from g.K.Sink mid b c.new-origin.result origin items anchors.new.writer.path label seen
           c.new-origin.ensures styled in
           let long : end ≡ at_place + length seen = sym place ∙ linked.place in
@@ -268,10 +270,10 @@ loop-reading-preserved g c =
           let anchored : PutsPlaces g.K.Sink a.out a.page mid.out mid.page (anchor_places inner (hypertext.anchors
           at_place (at_place + length seen))) =
           subst (λ (places : Places). PutsPlaces g.K.Sink a.out a.page mid.out mid.page places) (λ i. anchor_places
-          (path_is i) (numbers (old.invariant.next i) (lead bookmarks (long i) - old.invariant.next i)))
+          (path_is i) (consecutive (old.invariant.next i) (lead bookmarks (long i) - old.invariant.next i)))
           anchors.ensures.puts in
-          let written : Writes g.K.Sink mid b (links at_place) inner (label_units looks.item own) seen =
-          subst (λ (units : List ℕ). Writes g.K.Sink mid b (links at_place) inner units seen) label_is
+          let written : WritesItems g.K.Sink mid b (links at_place) inner (label_units looks.item own) seen =
+          subst (λ (units : List ℕ). WritesItems g.K.Sink mid b (links at_place) inner units seen) label_is
           (writes_in g.K.Sink mid b (links at_place) anchors.new.writer.path inner label seen (anchors.ensures.path ∙
           path_is) linked) in
           let step =

@@ -1,6 +1,6 @@
 use Rattle.std.proofs.Common.{◌≡◌, ◌≤◌, ◌-◌, length, drop, Bool, Some}
-use Rattle.run_lists.specs.Places.{IsAt}
-use Rattle.doc_columns.specs.Walks.{items_in, IsWalk}
+use Rattle.run_lists.specs.Places.{IsAtRunBegin}
+use Rattle.doc_columns.specs.Walks.{items_in, IsColumnWalk}
 use Rattle.doc_view.specs.declared.reading.Manner.{Manner}
 use Rattle.doc_view.specs.Page.{AreFormats}
 use Rattle.doc_view.specs.Seen.{Formats, paragraphs_of, with_values}
@@ -14,8 +14,8 @@ use Rattle.doc_html.proofs.reading.write_text.Given as goal
 abbrev pub invariant-loop-reading : goal.invariant-loop-reading
 invariant-loop-reading g l = record {
   within : l.reading.course.place ≤ length l.text.parts.units.now;
-  walk : IsWalk l.text.parts l.reading.course.walk l.reading.course.place;
-  marks : IsAt l.text.parts.attachments.now l.marks;
+  walk : IsColumnWalk l.text.parts l.reading.course.walk l.reading.course.place;
+  marks : IsAtRunBegin l.text.parts.attachments.now l.marks;
   ahead : l.marks.begin ≤ l.reading.course.place;
   reading : IsReading l.text.manner (items_in l.text.parts) l.reading;
   path : l.writer.path ≡ l.fn.writer.path;

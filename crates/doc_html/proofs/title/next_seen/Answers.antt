@@ -2,7 +2,7 @@
 use Rattle.std.proofs.Common.{◌≡◌, ◌∙◌, ◌+◌, ◌∷◌, [], ℕ, refl, sym, ap, subst, arith}
 use Rattle.std.specs.Prelude.{slice_index}
 use Rattle.char_formats.proofs.Public.{format_one}
-use Rattle.doc_columns.specs.Walks.{items_in, IsWalk}
+use Rattle.doc_columns.specs.Walks.{items_in, IsColumnWalk}
 use Rattle.doc_columns.specs.declared.walk.Walk.{Walk}
 use Rattle.doc_columns.proofs.Public.{later_walk}
 use Rattle.doc_view.specs.declared.reading.Seen.{Seen}
@@ -52,7 +52,7 @@ returns-clause-walk c =
     let parts = c.args.text.now.parts in
     let alike = c.alike_from-alike in
     let place = c.args.course.now.place in
-    subst (λ (x : Course). IsWalk parts x.walk (place + 1)) (sym c.pass.ensures)
+    subst (λ (x : Course). IsColumnWalk parts x.walk (place + 1)) (sym c.pass.ensures)
     (later_walk parts alike.new.walk place (place + 1) alike.ensures.walk (omega arith))
 
 pub returns-clause-seen : goal.returns-clause-seen

@@ -1,6 +1,6 @@
 -- The items of the paragraph, one by one.
 use Rattle.std.proofs.Common.{◌≡◌, ◌∙◌, ◌+◌, ◌∷◌, ◌++◌, [], ◌≤◌, ℕ, List, refl, sym, ap, subst, arith, length, take, length-take}
-use Rattle.doc_columns.specs.Walks.{items_in, IsWalk}
+use Rattle.doc_columns.specs.Walks.{items_in, IsColumnWalk}
 use Rattle.doc_view.specs.declared.reading.Seen.{Seen}
 use Rattle.doc_view.proofs.Public.{seen_none, seen_range, seen_then}
 use Rattle.doc_html.specs.Head.{longest_title, title_units}
@@ -37,7 +37,7 @@ loop-course-preserved c =
     record {
       low = omega (arith, low, place);
       within = omega (arith, place, more);
-      walk = subst (λ (n : ℕ). IsWalk c.args.text.now.parts next.new.course.walk n) (sym place) next.ensures.walk;
+      walk = subst (λ (n : ℕ). IsColumnWalk c.args.text.now.parts next.new.course.walk n) (sym place) next.ensures.walk;
       course = next.ensures.course;
       few =
           subst (λ (title : List ℕ). length title ≤ longest_title) (sym put)

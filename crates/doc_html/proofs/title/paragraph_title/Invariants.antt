@@ -1,5 +1,5 @@
 use Rattle.std.proofs.Common.{◌≡◌, ◌≤◌, ◌-◌, length}
-use Rattle.doc_columns.specs.Walks.{items_in, IsWalk}
+use Rattle.doc_columns.specs.Walks.{items_in, IsColumnWalk}
 use Rattle.doc_view.specs.Course.{IsCourse}
 use Rattle.doc_view.specs.Page.{AreFormats}
 use Rattle.doc_view.specs.Seen.{Formats}
@@ -12,7 +12,7 @@ abbrev pub invariant-loop-course : goal.invariant-loop-course
 invariant-loop-course l = record {
   low : l.fn.course.place ≤ l.course.place;
   within : l.course.place ≤ l.bounds.end;
-  walk : IsWalk l.fn.text.parts l.course.walk l.course.place;
+  walk : IsColumnWalk l.fn.text.parts l.course.walk l.course.place;
   course : IsCourse l.fn.text.manner (items_in l.fn.text.parts) l.course;
   few : length l.title ≤ longest_title;
   title : (formats : Formats) → AreFormats l.fn.text.formats.now formats → l.title ≡ title_units

@@ -2,8 +2,8 @@
 use Rattle.std.proofs.Common.{◌≡◌, ◌∙◌, ◌+◌, ◌-◌, ◌<◌, ◌≤◌, ◌∷◌, [], ℕ, List, refl, sym, ap, subst, arith, None, Some, Bool, true, false, length}
 use Rattle.std.specs.Prelude.{slice_index, slice_get}
 use Rattle.std.proofs.lemmas.Option.{slice_get-get_or}
-use Rattle.style_sheet.specs.Chain.{kind_at}
-use Rattle.doc_columns.specs.Walks.{items_in, IsWalk}
+use Rattle.style_sheet.specs.Chain.{style_kind_at}
+use Rattle.doc_columns.specs.Walks.{items_in, IsColumnWalk}
 use Rattle.doc_columns.specs.declared.walk.Walk.{Walk}
 use Rattle.doc_columns.proofs.Public.{first_walk, items_long, start_at, begins_at_start}
 use Rattle.std.specs.List.{count_by}
@@ -11,7 +11,7 @@ use Rattle.doc_view.specs.Course.{has_reference}
 use Rattle.doc_view.specs.Kept.{KeptReferences}
 use Rattle.doc_view.specs.Seen.{Paragraph, paragraphs_of, standing_of, style_of}
 use Rattle.doc_view.proofs.Public.{seen_range, next_left, none_left, right_style}
-use Rattle.doc_html.specs.Head.{is_title, title_in, title_units}
+use Rattle.doc_html.specs.Head.{is_title_text, title_in, title_units}
 use Rattle.doc_html.specs.Writes.{paragraphs_left}
 use Rattle.doc_html.proofs.TitleLemmas.{no_title, title_here, title_past}
 use Rattle.doc_html.proofs.title.title_in.Goals as goal
@@ -26,7 +26,7 @@ loop-course-init c =
     record {
       within = omega (arith, place);
       walk =
-          subst (λ (n : ℕ). IsWalk parts course.result.walk n) (sym place)
+          subst (λ (n : ℕ). IsColumnWalk parts course.result.walk n) (sym place)
           (first_walk parts course.result.walk course.ensures.walk);
       marks = start_at parts.attachments.now c.new-marks.result c.new-marks.ensures;
       ahead =
@@ -45,7 +45,7 @@ paragraph_title-requires-clause-style c =
     let sheet = c.args.text.now.formats.now in
     let some = c.paragraph_end-end.ensures.some in
     let within = c.paragraph_end-end.ensures.within in
-    subst (λ (istd : ℕ). kind_at sheet istd ≡ 1) (sym c.style_of.ensures)
+    subst (λ (istd : ℕ). style_kind_at sheet istd ≡ 1) (sym c.style_of.ensures)
     (right_style sheet parts c.requires.parts (c.paragraph_end-end.result - 1) c.seek-last.result.now
     c.requires.normal c.requires.styles (omega (arith, some, within)) c.seek-last.ensures.value)
 
@@ -73,7 +73,7 @@ returns-then-is_title c = λ formats are.
     c.in_ok-title.ensures.title formats are
     ∙ ap (λ (istd : ℕ). title_units (seen_range formats manner istd items at end)) c.style_of.ensures in
     title ∙ sym (c.loop-course.invariant.title formats are ∙ ap title_in left
-    ∙ title_here paragraph rest (ap is_title (sym title ∙ sym c.as_slice.ensures) ∙ sym c.is_title.ensures
+    ∙ title_here paragraph rest (ap is_title_text (sym title ∙ sym c.as_slice.ensures) ∙ sym c.is_title.ensures
     ∙ c.if-is_title.true))
 
 pub loop-course-preserved : goal.loop-course-preserved
@@ -96,7 +96,7 @@ loop-course-preserved c =
     slice_get-get_or parts.units.now (end - 1) 0 (omega (arith, some, inside)) in
     record {
       within = omega (arith, place, inside);
-      walk = subst (λ (n : ℕ). IsWalk parts after.walk n) (sym place) put.walk;
+      walk = subst (λ (n : ℕ). IsColumnWalk parts after.walk n) (sym place) put.walk;
       marks = c.seek-last.ensures.at;
       ahead = omega (arith, behind, place);
       course = put.course;
@@ -111,7 +111,7 @@ loop-course-preserved c =
           put.title formats are
           ∙ ap (λ (istd : ℕ). title_units (seen_range formats manner istd items at end)) c.style_of.ensures in
           c.loop-course.invariant.title formats are ∙ ap title_in left
-          ∙ title_past paragraph rest (ap is_title (sym title ∙ sym c.as_slice.ensures) ∙ sym c.is_title.ensures
+          ∙ title_past paragraph rest (ap is_title_text (sym title ∙ sym c.as_slice.ensures) ∙ sym c.is_title.ensures
           ∙ c.if-is_title.false)
           ∙ ap (λ (n : ℕ). title_in (paragraphs_left formats manner items n)) (sym place);
     }

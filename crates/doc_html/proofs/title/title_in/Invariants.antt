@@ -1,6 +1,6 @@
 use Rattle.std.proofs.Common.{◌≡◌, ◌≤◌, ◌-◌, length}
-use Rattle.run_lists.specs.Places.{IsAt}
-use Rattle.doc_columns.specs.Walks.{items_in, IsWalk}
+use Rattle.run_lists.specs.Places.{IsAtRunBegin}
+use Rattle.doc_columns.specs.Walks.{items_in, IsColumnWalk}
 use Rattle.doc_view.specs.Course.{IsCourse}
 use Rattle.doc_view.specs.Page.{AreFormats}
 use Rattle.doc_view.specs.Seen.{Formats, paragraphs_of}
@@ -12,8 +12,8 @@ use Rattle.doc_html.proofs.title.title_in.Given as goal
 abbrev pub invariant-loop-course : goal.invariant-loop-course
 invariant-loop-course l = record {
   within : l.course.place ≤ length l.text.parts.units.now;
-  walk : IsWalk l.text.parts l.course.walk l.course.place;
-  marks : IsAt l.text.parts.attachments.now l.marks;
+  walk : IsColumnWalk l.text.parts l.course.walk l.course.place;
+  marks : IsAtRunBegin l.text.parts.attachments.now l.marks;
   ahead : l.marks.begin ≤ l.course.place;
   course : IsCourse l.text.manner (items_in l.text.parts) l.course;
   title : (formats : Formats) → AreFormats l.text.formats.now formats →

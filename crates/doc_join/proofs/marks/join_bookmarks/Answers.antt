@@ -3,10 +3,10 @@ use Rattle.std.proofs.Common.{length-append, length-take}
 use Rattle.std.proofs.lemmas.List.{take_all, append-nil}
 use Rattle.std.proofs.lemmas.List.Sorted.{list_any-IsPermutation}
 use Rattle.std.proofs.lemmas.Option.{get_or_from_slice_get, slice_get_within}
-use Rattle.doc_parts.specs.declared.bookmark_order.Bookmark.{Bookmark}
-use Rattle.doc_parts.specs.Order.{in_order}
-use Rattle.doc_parts.specs.Bookmarks.{bookmark_cmp}
-use Rattle.doc_parts.specs.Names.{is_named}
+use Rattle.document_bookmarks.specs.declared.bookmark_order.Bookmark.{Bookmark}
+use Rattle.document_bookmarks.specs.Order.{in_order}
+use Rattle.document_bookmarks.specs.Bookmarks.{bookmark_cmp}
+use Rattle.document_bookmarks.specs.Names.{is_named}
 use Rattle.doc_join.specs.Bookmarks.{bookmarks_from_second, has_name}
 use Rattle.doc_join.proofs.BookmarkLemmas.{length-second, second_more, second_same}
 use Rattle.doc_join.proofs.marks.join_bookmarks.Goals as goal

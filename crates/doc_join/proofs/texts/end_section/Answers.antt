@@ -1,6 +1,6 @@
 use Rattle.std.proofs.Common.{◌∙◌, ◌++◌, ◌∷◌, ◌+◌, ◌-◌, [], List, ap, arith}
 use Rattle.std.specs.List.{splice}
-use Rattle.plain_doc.specs.declared.item.Item.{Item}
+use Rattle.doc_model.specs.declared.item.Item.{Item}
 use Rattle.doc_join.specs.Texts.{ending_section}
 use Rattle.doc_join.proofs.TextLemmas.{ended_maps}
 use Rattle.doc_join.proofs.ColumnLemmas.{ended_splice}

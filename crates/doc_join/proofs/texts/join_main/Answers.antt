@@ -1,6 +1,6 @@
 use Rattle.std.proofs.Common.{◌∙◌, ◌++◌, length, List, ap, arith}
 use Rattle.std.proofs.lemmas.List.{length-map}
-use Rattle.plain_doc.specs.declared.item.Item.{Item}
+use Rattle.doc_model.specs.declared.item.Item.{Item}
 use Rattle.doc_join.specs.Texts.{renumbered_item, renumbered_text, section_ended}
 use Rattle.doc_join.proofs.ColumnLemmas.{splice_end}
 use Rattle.doc_join.proofs.SoundLemmas.{length-ended}

@@ -4,7 +4,7 @@ use Rattle.fib_form.specs.declared.table_parts.TablePart.TheVariants.{PlcfBteChp
 use Rattle.fkp_pages.specs.declared.kind.PageKind.TheVariants.{Chpx, Papx}
 use Rattle.fkp_pages.specs.Bin.{IsBinTable}
 use Rattle.fkp_gaps.specs.Gaps.{ArePagesWithin}
-use Rattle.doc_meaning.specs.Skipped.{bins_of}
+use Rattle.doc_meaning.specs.Skipped.{bin_tables_of}
 use Rattle.doc_meaning.specs.Filled.{ArePartsWithin}
 use Rattle.doc_lift.proofs.StreamLemmas.{part_is, both_pages}
 use Rattle.doc_lift.proofs.gap_filling.can_fill.Goals as goal
@@ -47,7 +47,7 @@ returns c =
     let pars = part_is c.args.fib.now wd table c.part-2.result.now PlcfBtePapx c.requires.fields c.part-2.ensures in
     let pairs = ap (λ (f : FibFields). f.pairs) c.early_fib-early.ensures in (
       λ t. record {
-        pages = both_pages (bins_of wd table) wd
+        pages = both_pages (bin_tables_of wd table) wd
             (subst (λ (b : List ℕ). ArePagesWithin b wd) chars (c.if-not-are_pages_within.ensures.0 refl))
             (subst (λ (b : List ℕ). ArePagesWithin b wd) pars (c.if-not-are_pages_within-2.ensures.0 refl));
         parts = subst (λ (ps : List (ℕ × ℕ)). ArePartsWithin ps table) pairs (c.are_parts_within.ensures.0 t);

@@ -1,6 +1,6 @@
 use Rattle.std.proofs.Common.{ap, subst, refl, ℕ, List, length, arith}
 use Rattle.std.proofs.lemmas.Result.{err_from_is_err_and}
-use Rattle.file_rules.specs.FileRules.{source_of}
+use Rattle.file_rules.specs.FileRules.{doc_source_of}
 use Rattle.doc_lift.specs.Reading.{IsRefusedAtGap, IsReadAtGaps}
 use Rattle.doc_lift.proofs.FillLemmas.{gap_of, gap_bins, to_streams, HaveBinTables, plain_read, plain_refused}
 use Rattle.doc_lift.proofs.FillLemmas.{gap_read, gap_refused, gap_stays}
@@ -16,7 +16,7 @@ pub read_gaps-requires-clause-are : goal.read_gaps-requires-clause-are
 read_gaps-requires-clause-are c =
     let read = c.requires.read in
     let text = c.args.front.text in
-    let gap = gap_of (source_of text) c.in-Err.fault c.in-Err.ensures
+    let gap = gap_of (doc_source_of text) c.in-Err.fault c.in-Err.ensures
     (c.is_gap_fault.ensures.0 c.if-not-is_gap_fault.false) in
     record {
       own = read.own;
@@ -25,7 +25,7 @@ read_gaps-requires-clause-are c =
       table_short = omega (arith, c.requires.room.short, ap length read.table_is);
       fields = read.fields;
       bins = to_streams HaveBinTables text c.args.wd.now c.args.table.now read.wd_is read.table_is
-          (gap_bins (source_of text) gap);
+          (gap_bins (doc_source_of text) gap);
     }
 
 pub returns-in_err-document-in-Err : goal.returns-in_err-document-in-Err
@@ -35,7 +35,7 @@ returns-in_err-document-in-Err c =
     let text = c.args.front.text in
     let units = c.args.front.units.items in
     let fault = c.in_err-document-in-Err.field-0.0 in
-    let gap = gap_of (source_of text) c.in-Err.fault c.in-Err.ensures
+    let gap = gap_of (doc_source_of text) c.in-Err.fault c.in-Err.ensures
     (c.is_gap_fault.ensures.0 c.if-not-is_gap_fault.false) in
     let refused : IsRefusedAtGap own c.args.wd.now c.args.table.now units fault =
     subst (λ (us : List ℕ). IsRefusedAtGap own c.args.wd.now c.args.table.now us fault) c.deref.ensures.value
@@ -60,7 +60,7 @@ returns-in-Some c =
     let contents = c.args.container.now in
     let text = c.args.front.text in
     let units = c.args.front.units.items in
-    let gap = gap_of (source_of text) c.in-Err.fault c.in-Err.ensures
+    let gap = gap_of (doc_source_of text) c.in-Err.fault c.in-Err.ensures
     (c.is_gap_fault.ensures.0 c.if-not-is_gap_fault.false) in
     let found = document_some own wd table c.deref.result.now contents c.in_ok-document-in-Err.field-0
     c.in-Some.document c.in-Some.is c.in_ok-document-in-Err.ensures in

@@ -1,7 +1,7 @@
 use Rattle.std.proofs.Common.{◌≡◌, ◌∙◌, ◌++◌, sym, subst, take, drop, length, arith}
 use Rattle.fib_form.proofs.Public.{take_front}
 use Rattle.page_copies.specs.Pages.{SkipsPages}
-use Rattle.doc_meaning.specs.Skipped.{bins_of}
+use Rattle.doc_meaning.specs.Skipped.{bin_tables_of}
 use Rattle.doc_lift.proofs.SkipLemmas.{pages_skipped}
 use Rattle.doc_lift.proofs.skipping.skipped_pages.Goals as goal
 
@@ -15,7 +15,7 @@ returns c =
     let all : take c.in_ok-pages.pages.len (new ++ drop (length new) items) ≡ new =
     take_front new (drop (length new) items) c.in_ok-pages.pages.len
     (omega (arith, skips.len, c.deref_mut.ensures.len)) in
-    subst (SkipsPages (bins_of wd table) wd) (sym all)
+    subst (SkipsPages (bin_tables_of wd table) wd) (sym all)
     (pages_skipped wd table c.args.fib.now c.deref_mut.result.now new c.part-characters.result.now
     c.part-paragraphs.result.now c.requires.same c.part-characters.ensures c.part-paragraphs.ensures
     (c.deref_mut.ensures.value ∙ c.in_ok-pages.ensures) skips)

@@ -1,7 +1,7 @@
 use Rattle.std.proofs.Common.{◌<◌, ◌^◌, ap, sym, subst, length, List, ℕ, arith}
 use Rattle.fib_form.specs.Fib.{form_size}
 use Rattle.fib_form.specs.FibFields.{FibFields}
-use Rattle.doc_meaning.specs.Skipped.{bins_of}
+use Rattle.doc_meaning.specs.Skipped.{bin_tables_of}
 use Rattle.page_copies.specs.Pages.{SkipsPages}
 use Rattle.doc_lift.proofs.LiftLemmas.{early_long}
 use Rattle.doc_lift.proofs.SkipLemmas.{front_skipped}
@@ -26,5 +26,5 @@ returns c =
     let table = c.args.table.now in
     front_skipped wd table c.args.fib.now c.deref.result.now c.in_ok-front.front.items c.in_ok-sheet.sheet.items
     c.early_fib-early.result c.requires.same c.early_fib-early.ensures
-    (subst (SkipsPages (bins_of wd table) wd) (sym c.deref.ensures.value) c.in_ok-pages.ensures)
+    (subst (SkipsPages (bin_tables_of wd table) wd) (sym c.deref.ensures.value) c.in_ok-pages.ensures)
     c.in_ok-front.ensures.bytes c.in_ok-front.ensures.fields c.in_ok-sheet.ensures

@@ -1,6 +1,6 @@
 use Rattle.std.proofs.Common.{◌≡◌, ◌∙◌, ◌<◌, ◌^◌, refl, sym, ap, subst, length, arith, ℕ, List}
 use Rattle.fib_form.specs.FibFields.{fib_fields}
-use Rattle.fib_form.specs.TableParts.{pair_of}
+use Rattle.fib_form.specs.TableParts.{pair_number}
 use Rattle.fib_form.specs.Fib.{table_part}
 use Rattle.fib_form.specs.declared.table_parts.TablePart.TheVariants.{PlcfSed}
 use Rattle.fib_versions.specs.Early.{early_fields, early_pairs}
@@ -81,7 +81,8 @@ returns-then-keeps_text c =
     } in
     let compared : AreCompared wd table skipped.wd.items front.units.items c.part-sections.result.now
     c.deref-in-Ok.result.now c.deref-in-Ok-2.result.now = record {
-      sections_are = c.part-sections.ensures ∙ ap (λ (w : List ℕ). table_part w table (pair_of PlcfSed)) c.requires.same;
+      sections_are = c.part-sections.ensures ∙ ap (λ (w : List ℕ). table_part w table (pair_number PlcfSed))
+          c.requires.same;
       wd_is = c.deref-in-Ok.ensures.value;
       units_are = c.deref-in-Ok-2.ensures.value;
     } in
@@ -104,7 +105,8 @@ returns-in-Ok c =
     } in
     let compared : AreCompared wd table skipped.wd.items front.units.items c.part-sections.result.now
     c.deref-in-Ok.result.now c.deref-in-Ok-2.result.now = record {
-      sections_are = c.part-sections.ensures ∙ ap (λ (w : List ℕ). table_part w table (pair_of PlcfSed)) c.requires.same;
+      sections_are = c.part-sections.ensures ∙ ap (λ (w : List ℕ). table_part w table (pair_number PlcfSed))
+          c.requires.same;
       wd_is = c.deref-in-Ok.ensures.value;
       units_are = c.deref-in-Ok-2.ensures.value;
     } in

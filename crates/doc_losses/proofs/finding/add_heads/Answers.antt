@@ -5,11 +5,11 @@ use Rattle.std.specs.List.{sum_by, flat_map}
 use Rattle.std.proofs.lemmas.List.Sums.{sum_by_more}
 use Rattle.std.proofs.lemmas.Option.{get_or_from_slice_get}
 use Rattle.doc_bits.specs.declared.places.Story.TheVariants.{Head}
-use Rattle.plain_doc.specs.declared.item.Item.{Item}
+use Rattle.doc_model.specs.declared.item.Item.{Item}
 use Rattle.doc_parts.specs.Tabulated.{tabulate}
 use Rattle.text_losses.specs.declared.features.Reference.{Reference}
 use Rattle.doc_losses.specs.References.{Names, text_references, head_references, head_begin, head_at}
-use Rattle.doc_losses.specs.Marks.{named_by}
+use Rattle.doc_losses.specs.Marks.{names_of_marks}
 use Rattle.doc_losses.proofs.ListingLemmas.{joined_more}
 use Rattle.doc_losses.proofs.finding.add_heads.Goals as goal
 
@@ -22,7 +22,7 @@ loop-number-preserved c =
     let heads : List (List Item) = c.args.heads.now in
     let number = c.loop-number.number in
     let text : List Item = c.get-text.result.now in
-    let names : Names = named_by c.args.marks.now in
+    let names : Names = names_of_marks c.args.marks.now in
     let front : List Reference = c.args.list.now.items in
     let here : get_or heads number text ≡ text = get_or_from_slice_get heads number text text c.get-text.ensures in
     let there : head_at heads number ≡ text = ap (λ (o : Option (List Item)). unwrap_or o []) c.get-text.ensures in

@@ -1,6 +1,6 @@
 use Rattle.std.proofs.Common.{◌∙◌, ap, subst, ℕ, List, map}
 use Rattle.style_sheet.specs.Sheet.{Sheet}
-use Rattle.plain_doc.specs.declared.document.Document.{Document}
+use Rattle.doc_model.specs.declared.document.Document.{Document}
 use Rattle.doc_mends.specs.declared.mends.Mend.TheVariants.{DropBase}
 use Rattle.doc_mends.specs.Bases.{DropsBases}
 use Rattle.doc_mends.proofs.bases.drop_bases.Goals as goal

@@ -1,18 +1,19 @@
 use Rattle.std.proofs.Common.{◌≡◌, ◌∙◌, ◌++◌, ◌<◌, ap, sym, subst, ℕ, List, length}
 use Rattle.std.specs.Prelude.{All}
 use Rattle.style_sheet.specs.Sheet.{Sheet}
-use Rattle.style_sheet.specs.Chain.{kind_at}
+use Rattle.style_sheet.specs.Chain.{style_kind_at}
 use Rattle.doc_mends.specs.Bases.{other_bases, bases_dropped, AreEndless}
 use Rattle.doc_mends.proofs.BaseLemmas.{slots_stay, drops_joined}
 use Rattle.doc_mends.proofs.bases.drop_from.Goals as goal
 
 pub drop_each-requires : goal.drop_each-requires
 drop_each-requires c =
-    subst (All (λ istd. 0 < kind_at c.args.sheet.now istd)) (sym c.deref.ensures.value) c.in_ok-istds.ensures.kinds
+    subst (All (λ istd. 0 < style_kind_at c.args.sheet.now istd)) (sym c.deref.ensures.value)
+    c.in_ok-istds.ensures.kinds
 
 pub drop_each-requires-2 : goal.drop_each-requires-2
 drop_each-requires-2 c =
-    subst (All (λ istd. 0 < kind_at c.drop_each.new.sheet istd)) (sym c.deref-2.ensures.value)
+    subst (All (λ istd. 0 < style_kind_at c.drop_each.new.sheet istd)) (sym c.deref-2.ensures.value)
     c.in_ok-endless.ensures.kinds
 
 pub returns-clause-drop : goal.returns-clause-drop

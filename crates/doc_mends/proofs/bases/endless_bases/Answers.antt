@@ -1,5 +1,5 @@
 use Rattle.std.proofs.Common.{◌<◌}
-use Rattle.style_sheet.specs.Chain.{kind_at}
+use Rattle.style_sheet.specs.Chain.{style_kind_at}
 use Rattle.doc_mends.proofs.BaseLemmas.{judged_one, kinds_one}
 use Rattle.doc_mends.proofs.bases.endless_bases.Goals as goal
 
@@ -11,6 +11,7 @@ loop-istd-preserved c =
     record {
       are = rw c.in_ok-add_where.ensures (judged_one sheet istd c.loop-istd.istds.items is c.loop-istd.invariant.are
           c.is_endless.ensures);
-      kinds = rw c.in_ok-add_where.ensures (kinds_one (λ istd. 0 < kind_at sheet istd) c.loop-istd.istds.items istd is
+      kinds = rw c.in_ok-add_where.ensures (kinds_one (λ istd. 0 < style_kind_at sheet istd) c.loop-istd.istds.items
+          istd is
           c.loop-istd.invariant.kinds (λ yes. (c.is_endless.ensures.0 yes).properties));
     }

@@ -5,17 +5,17 @@ use Rattle.std.proofs.lemmas.List.Sums.{sum_by_more}
 use Rattle.std.proofs.lemmas.Option.{get_or_from_slice_get}
 use Rattle.doc_bits.specs.declared.places.Story.TheVariants.{Head}
 use Rattle.doc_bits.proofs.Public.{there_is}
-use Rattle.plain_doc.specs.declared.item.Item.{Item}
+use Rattle.doc_model.specs.declared.item.Item.{Item}
 use Rattle.doc_patch.specs.Changes.{changed_at}
 use Rattle.doc_losses.specs.References.{Names, head_begin}
-use Rattle.doc_losses.specs.Marks.{named_by}
+use Rattle.doc_losses.specs.Marks.{names_of_marks}
 use Rattle.doc_mends.specs.Cuts.{cut_text}
 use Rattle.doc_mends.proofs.HeadLemmas.{first_heads, heads_long, head_there, heads_more, all_heads}
 use Rattle.doc_mends.proofs.cutting.cut_heads.Goals as goal
 
 pub loop-number-init : goal.loop-number-init
 loop-number-init c = record {
-  heads = first_heads (named_by c.args.marks.now) c.args.heads.now;
+  heads = first_heads (names_of_marks c.args.marks.now) c.args.heads.now;
   within = omega arith;
   begin = omega arith;
   few = omega arith;
@@ -27,7 +27,7 @@ get-requires c =
     let number = c.loop-number.number in
     let low : number < length heads = omega (arith, c.len-number-end.ensures.len, c.loop-number-test.true) in
     let same = ap length c.loop-number.invariant.heads in
-    let long = heads_long (named_by c.args.marks.now) heads number (omega (arith, low)) in
+    let long = heads_long (names_of_marks c.args.marks.now) heads number (omega (arith, low)) in
     omega (arith, low, same, long)
 
 pub cut_head-requires-clause-there : goal.cut_head-requires-clause-there
@@ -36,14 +36,14 @@ cut_head-requires-clause-there c =
     let number = c.loop-number.number in
     let low : number < length heads = omega (arith, c.len-number-end.ensures.len, c.loop-number-test.true) in
     let same = ap length c.loop-number.invariant.heads in
-    let long = heads_long (named_by c.args.marks.now) heads number (omega (arith, low)) in
+    let long = heads_long (names_of_marks c.args.marks.now) heads number (omega (arith, low)) in
     omega (arith, low, same, long)
 
 pub loop-number-preserved : goal.loop-number-preserved
 loop-number-preserved c =
     let heads : List (List Item) = c.args.heads.now in
     let number = c.loop-number.number in
-    let names : Names = named_by c.args.marks.now in
+    let names : Names = names_of_marks c.args.marks.now in
     let text : List Item = c.get.result.now in
     let before = c.loop-number.invariant in
     let low : number < length heads = omega (arith, c.len-number-end.ensures.len, c.loop-number-test.true) in
@@ -70,5 +70,5 @@ loop-number-preserved c =
 pub returns : goal.returns
 returns c =
     c.loop-number.invariant.heads
-    ∙ all_heads (named_by c.args.marks.now) c.args.heads.now c.loop-number.number c.loop-number.invariant.within
+    ∙ all_heads (names_of_marks c.args.marks.now) c.args.heads.now c.loop-number.number c.loop-number.invariant.within
     (omega (arith, c.len-number-end.ensures.len, c.loop-number-test.false))

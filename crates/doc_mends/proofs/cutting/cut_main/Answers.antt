@@ -1,10 +1,10 @@
 use Rattle.std.proofs.Common.{◌≡◌, ◌∙◌, ap, arith, Bool, List, length}
 use Rattle.doc_bits.specs.declared.places.Story.TheVariants.{Main}
-use Rattle.doc_parts.specs.declared.bookmark_order.Bookmark.{Bookmark}
-use Rattle.plain_doc.specs.declared.item.Item.{Item}
-use Rattle.plain_doc.specs.declared.document.Document.{Document}
+use Rattle.document_bookmarks.specs.declared.bookmark_order.Bookmark.{Bookmark}
+use Rattle.doc_model.specs.declared.item.Item.{Item}
+use Rattle.doc_model.specs.declared.document.Document.{Document}
 use Rattle.doc_losses.specs.References.{Names}
-use Rattle.doc_losses.specs.Marks.{named_by}
+use Rattle.doc_losses.specs.Marks.{names_of_marks}
 use Rattle.doc_mends.specs.Cuts.{reference_flags, unflagged, cut_text, bookmarks_left}
 use Rattle.doc_mends.proofs.UncutLemmas.{length-flags}
 use Rattle.doc_mends.proofs.cutting.cut_main.Goals as goal
@@ -12,19 +12,19 @@ use Rattle.doc_mends.proofs.cutting.cut_main.Goals as goal
 pub cut_text-requires : goal.cut_text-requires
 cut_text-requires c =
     ap length (c.deref.ensures.value ∙ c.in_ok-flags.ensures)
-    ∙ length-flags (named_by c.args.marks.now) Main 0 c.document.inside.main
+    ∙ length-flags (names_of_marks c.args.marks.now) Main 0 c.document.inside.main
 
 pub move_bookmarks-requires : goal.move_bookmarks-requires
 move_bookmarks-requires c =
     let few = c.len-len.ensures.formed.few in
     let long : length c.deref-2.result.now ≡ length c.document.inside.main =
     ap length (c.deref-2.ensures.value ∙ c.in_ok-flags.ensures)
-    ∙ length-flags (named_by c.args.marks.now) Main 0 c.document.inside.main in
+    ∙ length-flags (names_of_marks c.args.marks.now) Main 0 c.document.inside.main in
     omega (arith, few, long)
 
 pub returns-clause-ok : goal.returns-clause-ok
 returns-clause-ok c =
-    let names : Names = named_by c.args.marks.now in
+    let names : Names = names_of_marks c.args.marks.now in
     let inside : Document = record {
       main = c.document.inside.main;
       notes = c.document.inside.notes;

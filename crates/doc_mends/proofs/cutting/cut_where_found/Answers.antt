@@ -1,10 +1,10 @@
 use Rattle.std.proofs.Common.{◌≡◌, ◌∙◌, ap, sym, length, List}
 use Rattle.std.proofs.lemmas.Bool.{eqb-true}
 use Rattle.text_losses.specs.declared.features.Reference.{Reference}
-use Rattle.plain_doc.specs.declared.item.Item.{Item}
-use Rattle.plain_doc.specs.declared.document.Document.{Document}
+use Rattle.doc_model.specs.declared.item.Item.{Item}
+use Rattle.doc_model.specs.declared.document.Document.{Document}
 use Rattle.doc_losses.specs.References.{Names}
-use Rattle.doc_losses.specs.Marks.{named_by}
+use Rattle.doc_losses.specs.Marks.{names_of_marks}
 use Rattle.doc_mends.specs.Cuts.{cut_heads}
 use Rattle.doc_mends.proofs.UncutLemmas.{uncut}
 use Rattle.doc_mends.proofs.cutting.cut_where_found.Goals as goal
@@ -15,12 +15,12 @@ returns-then-is_empty-clause-ok c =
     let found : List Reference = c.args.found.now in
     let none : length found ≡ 0 =
     eqb-true (length found) 0 (sym c.is_empty.ensures ∙ c.if-is_empty.true) in
-    sym (uncut (named_by c.args.marks.now) c.args.document.now c.requires.formed
+    sym (uncut (names_of_marks c.args.marks.now) c.args.document.now c.requires.formed
     (sym c.requires.found ∙ nil_from_length found none))
 
 pub returns-clause-ok : goal.returns-clause-ok
 returns-clause-ok c =
-    let names : Names = named_by c.args.marks.now in
+    let names : Names = names_of_marks c.args.marks.now in
     let document : Document = c.args.document.now in
     let inside : Document = record {
       main = c.document.inside.main;

@@ -1,7 +1,7 @@
 use Rattle.std.proofs.Common.{◌≡◌, ◌∙◌, ap, arith, length, Bool, List}
-use Rattle.doc_parts.specs.declared.bookmark_order.Bookmark.{Bookmark}
-use Rattle.doc_parts.specs.Order.{in_order}
-use Rattle.doc_parts.specs.Bookmarks.{bookmark_cmp}
+use Rattle.document_bookmarks.specs.declared.bookmark_order.Bookmark.{Bookmark}
+use Rattle.document_bookmarks.specs.Order.{in_order}
+use Rattle.document_bookmarks.specs.Bookmarks.{bookmark_cmp}
 use Rattle.doc_bits.proofs.Public.{there_is}
 use Rattle.doc_mends.specs.Cuts.{bookmark_left}
 use Rattle.doc_mends.proofs.TextLemmas.{put_mapped, all_mapped, mapped_len}

@@ -1,6 +1,6 @@
 use Rattle.std.proofs.Common.{◌≡◌, ◌∙◌, ap, sym, List, false, slice_set}
 use Rattle.std.proofs.lemmas.Option.{same_Some}
-use Rattle.plain_doc.specs.declared.item.Item.{Item}
+use Rattle.doc_model.specs.declared.item.Item.{Item}
 use Rattle.doc_patch.proofs.Public.{changed_back}
 use Rattle.doc_mends.specs.Ends.{is_ended, with_end}
 use Rattle.doc_mends.proofs.EndLemmas.{stays_at, stays_ended, gets_end}

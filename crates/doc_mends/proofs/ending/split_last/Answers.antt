@@ -1,6 +1,6 @@
 use Rattle.std.proofs.Common.{subst, sym}
-use Rattle.plain_doc.specs.declared.item.Item.{Item}
-use Rattle.plain_doc.specs.Document.{HasPropertyMaps}
+use Rattle.doc_model.specs.declared.item.Item.{Item}
+use Rattle.doc_model.specs.Document.{HasPropertyMaps}
 use Rattle.doc_mends.proofs.EndLemmas.{left_maps, ending_maps}
 use Rattle.doc_mends.proofs.ending.split_last.Goals as goal
 

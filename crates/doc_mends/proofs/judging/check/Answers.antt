@@ -9,9 +9,9 @@ use Rattle.run_lists.specs.Spread.{expanded, total_len}
 use Rattle.run_lists.proofs.Public.{length-spread}
 use Rattle.std.specs.Prelude.{slice_range}
 use Rattle.std.specs.List.{list_all}
-use Rattle.plain_doc.specs.declared.item.Item.{Item}
-use Rattle.plain_doc.specs.declared.document.Document.{Document}
-use Rattle.doc_patch.specs.Places.{items_at, text_at, HasText, HasRange}
+use Rattle.doc_model.specs.declared.item.Item.{Item}
+use Rattle.doc_model.specs.declared.document.Document.{Document}
+use Rattle.doc_patch.specs.Places.{items_at, story_text, HasText, HasRange}
 use Rattle.doc_patch.proofs.Public.{any_text}
 use Rattle.doc_mends.specs.declared.mends.DeletedRange.{DeletedRange}
 use Rattle.doc_mends.specs.Mends.{can_strike, is_short}
@@ -40,7 +40,7 @@ toward-walk-requires-clause-there c =
 pub range_stays_short-requires-clause-ordered : goal.range_stays_short-requires-clause-ordered
 range_stays_short-requires-clause-ordered c =
     let range = c.range_at-range.result in
-    let has = items_such (HasRange range.from range.to) (text_at c.args.document.now range.story)
+    let has = items_such (HasRange range.from range.to) (story_text c.args.document.now range.story)
     (All_at (λ (r : DeletedRange). HasText c.args.document.now r.story (HasRange r.from r.to)) c.args.ranges.now
     c.loop-k.k range c.requires c.range_at-range.ensures) in
     omega (arith, has.0)
@@ -49,7 +49,7 @@ pub range_stays_short-requires-clause-within : goal.range_stays_short-requires-c
 range_stays_short-requires-clause-within c =
     let range = c.range_at-range.result in
     let text = items_at c.args.document.now range.story in
-    let has = items_such (HasRange range.from range.to) (text_at c.args.document.now range.story)
+    let has = items_such (HasRange range.from range.to) (story_text c.args.document.now range.story)
     (All_at (λ (r : DeletedRange). HasText c.args.document.now r.story (HasRange r.from r.to)) c.args.ranges.now
     c.loop-k.k range c.requires c.range_at-range.ensures) in
     let runs = c.toward-walk.ensures.walk.runs in

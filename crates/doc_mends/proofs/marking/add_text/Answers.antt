@@ -3,7 +3,7 @@ use Rattle.std.proofs.Common.{append_assoc}
 use Rattle.std.specs.List.{filter_map}
 use Rattle.std.proofs.lemmas.List.{length-map, append-nil}
 use Rattle.run_lists.specs.Spread.{total_len}
-use Rattle.run_lists.specs.Places.{IsAt}
+use Rattle.run_lists.specs.Places.{IsAtRunBegin}
 use Rattle.run_lists.specs.declared.cursor.Cursor.{Cursor}
 use Rattle.run_lists.proofs.Public.{extent-nil, length-spread}
 use Rattle.doc_columns.specs.declared.attached.Attached.{Attached}
@@ -19,7 +19,7 @@ pub loop-at-init : goal.loop-at-init
 unfolding tabulate
 loop-at-init c = record {
   list = sym (append-nil c.args.list.now.items);
-  cursor_at = subst (IsAt c.attachments-attachments.result.now) (sym c.new-cursor.ensures) (record {
+  cursor_at = subst (IsAtRunBegin c.attachments-attachments.result.now) (sym c.new-cursor.ensures) (record {
     there = omega arith;
     begins = extent-nil Attached;
   });

@@ -1,8 +1,8 @@
 use Rattle.std.proofs.Common.{◌≡◌, ◌∙◌, ◌++◌, ap, sym, subst, List, map, append_assoc}
-use Rattle.plain_doc.specs.declared.document.Document.{Document}
-use Rattle.plain_doc.specs.Marks.{HasFormedBookmarks}
+use Rattle.doc_model.specs.declared.document.Document.{Document}
+use Rattle.doc_model.specs.Marks.{HasFormedBookmarks}
 use Rattle.doc_losses.specs.References.{Names, references}
-use Rattle.doc_losses.specs.Marks.{named_by}
+use Rattle.doc_losses.specs.Marks.{names_of_marks}
 use Rattle.doc_mends.specs.declared.mends.Mend.{Mend}
 use Rattle.doc_mends.specs.declared.mends.Mend.TheVariants.{CutReference, EndText}
 use Rattle.doc_mends.specs.Cuts.{references_cut}
@@ -19,7 +19,7 @@ cut_references-requires c =
 
 pub returns-clause-ok : goal.returns-clause-ok
 returns-clause-ok c =
-    let names : Names = named_by c.args.marks.now in
+    let names : Names = names_of_marks c.args.marks.now in
     let based : Document = c.drop_bases.new.document in
     let placed : Document = mended_in_place based in
     let bases : List Mend = c.in_ok-mends.mends.items in

@@ -1,5 +1,5 @@
 use Rattle.std.proofs.Common.{◌≡◌, ◌∙◌, ◌++◌, ap, List, map}
-use Rattle.plain_doc.specs.declared.document.Document.{Document}
+use Rattle.doc_model.specs.declared.document.Document.{Document}
 use Rattle.doc_mends.specs.declared.mends.Mend.{Mend}
 use Rattle.doc_mends.specs.declared.mends.Mend.TheVariants.{NormalMark, PlainRow}
 use Rattle.doc_mends.specs.NormalMarks.{with_normal_marks, wrong_marks}

@@ -1,7 +1,7 @@
 use Rattle.std.proofs.Common.{◌∙◌, ap, sym, subst, map, List, Some}
 use Rattle.doc_bits.proofs.Public.{All_at, get-map}
-use Rattle.plain_doc.specs.declared.item.Item.{Item}
-use Rattle.plain_doc.specs.Document.{HasPropertyMaps, IsFormedItem}
+use Rattle.doc_model.specs.declared.item.Item.{Item}
+use Rattle.doc_model.specs.Document.{HasPropertyMaps, IsFormedItem}
 use Rattle.doc_mends.specs.PlainRows.{plain_item}
 use Rattle.doc_mends.proofs.TableLemmas.{plain_maps}
 use Rattle.doc_mends.proofs.plain_items.item_in.Goals as goal

@@ -5,10 +5,10 @@ use Rattle.std.specs.List.{filter_map}
 use Rattle.std.proofs.lemmas.List.{length-map, append-nil}
 use Rattle.std.proofs.lemmas.Option.{slice_get-get_or}
 use Rattle.run_lists.specs.Spread.{total_len}
-use Rattle.run_lists.specs.Places.{IsAt}
+use Rattle.run_lists.specs.Places.{IsAtRunBegin}
 use Rattle.run_lists.specs.declared.cursor.Cursor.{Cursor}
 use Rattle.run_lists.proofs.Public.{extent-nil, length-spread}
-use Rattle.plain_doc.specs.declared.item.Item.{Item}
+use Rattle.doc_model.specs.declared.item.Item.{Item}
 use Rattle.doc_columns.specs.declared.attached.Attached.{Attached}
 use Rattle.doc_columns.specs.Attached.{attached_of}
 use Rattle.doc_parts.specs.Tabulated.{tabulate}
@@ -24,7 +24,7 @@ unfolding tabulate
 loop-at-init c = record {
   list = sym (append-nil c.args.list.now.items);
   left = none_open c.args.text.now (record { len = 0; cells = 0 }) refl refl;
-  cursor_at = subst (IsAt c.attachments-attachments.result.now) (sym c.new-cursor.ensures) (record {
+  cursor_at = subst (IsAtRunBegin c.attachments-attachments.result.now) (sym c.new-cursor.ensures) (record {
     there = omega arith;
     begins = extent-nil Attached;
   });

@@ -3,7 +3,7 @@ use Rattle.std.specs.Option.{unwrap_or}
 use Rattle.std.specs.List.{flat_map}
 use Rattle.std.proofs.lemmas.List.{append-nil}
 use Rattle.doc_bits.specs.declared.places.Story.{Story}
-use Rattle.plain_doc.specs.declared.item.Item.{Item}
+use Rattle.doc_model.specs.declared.item.Item.{Item}
 use Rattle.doc_parts.specs.Tabulated.{tabulate}
 use Rattle.doc_losses.proofs.Public.{joined_more}
 use Rattle.doc_mends.specs.declared.mends.BrokenRow.{BrokenRow}

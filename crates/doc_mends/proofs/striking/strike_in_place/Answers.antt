@@ -1,6 +1,6 @@
 use Rattle.std.proofs.Common.{◌≡◌, ◌∙◌, ap, sym, subst, arith, List, [], length, drop, length-drop}
 use Rattle.doc_bits.proofs.Public.{nil_from_length}
-use Rattle.plain_doc.specs.declared.document.Document.{Document}
+use Rattle.doc_model.specs.declared.document.Document.{Document}
 use Rattle.doc_mends.specs.declared.mends.DeletedRange.{DeletedRange}
 use Rattle.doc_mends.specs.Mends.{all_struck, AreRanges}
 use Rattle.doc_mends.proofs.BatchLemmas.{batch_there, first_are, left_are, left_struck}

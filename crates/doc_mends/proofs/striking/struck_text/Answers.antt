@@ -1,6 +1,6 @@
 use Rattle.std.proofs.Common.{◌∙◌, ap, sym, subst, List, Option}
 use Rattle.std.specs.Prelude.{MatchOption, ⊤}
-use Rattle.plain_doc.specs.declared.item.Item.{Item}
+use Rattle.doc_model.specs.declared.item.Item.{Item}
 use Rattle.doc_patch.proofs.Public.{items_are}
 use Rattle.doc_mends.specs.Striking.{text_struck}
 use Rattle.doc_mends.proofs.BatchLemmas.{batch_ranges}

@@ -3,13 +3,13 @@ use Rattle.std.proofs.lemmas.List.{take_all}
 use Rattle.std.proofs.lemmas.Slice.{between_to_end}
 use Rattle.prop_map.specs.Settings.{Properties}
 use Rattle.run_lists.specs.declared.cursor.Cursor.{Cursor}
-use Rattle.run_lists.specs.Places.{IsAt}
+use Rattle.run_lists.specs.Places.{IsAtRunBegin}
 use Rattle.run_lists.specs.Spread.{expanded}
 use Rattle.run_lists.proofs.Public.{extent-nil, length-spread, run_and_rest}
 use Rattle.doc_bits.proofs.Public.{All_at}
 use Rattle.doc_mends.specs.declared.mends.DeletedRange.{DeletedRange}
-use Rattle.doc_mends.specs.Batches.{Ascend}
-use Rattle.doc_mends.specs.Striking.{struck_chp, chps_struck, range_struck, IsWithin}
+use Rattle.doc_mends.specs.Batches.{RangesAscend}
+use Rattle.doc_mends.specs.Striking.{struck_chp, chps_struck, range_struck, IsRangeWithin}
 use Rattle.doc_mends.proofs.StruckLemmas.{struck_more, range_more}
 use Rattle.doc_mends.proofs.struck_runs.strike_chps.Goals as goal
 
@@ -17,7 +17,7 @@ pub loop-k-init : goal.loop-k-init
 loop-k-init c =
     let values : List Properties = expanded c.args.runs.now in
     record {
-      cursor_at = subst (IsAt c.args.runs.now) (sym c.new-cursor.ensures) (record {
+      cursor_at = subst (IsAtRunBegin c.args.runs.now) (sym c.new-cursor.ensures) (record {
         there = omega arith;
         begins = extent-nil Properties;
       });
@@ -32,12 +32,12 @@ pub add_part-requires-clause-ordered : goal.add_part-requires-clause-ordered
 add_part-requires-clause-ordered c =
     let ranges : List DeletedRange = c.args.batch.now.ranges.now in
     let step = run_and_rest ranges c.loop-k.k c.range_at-range.result c.range_at-range.ensures in
-    (subst (Ascend c.args.batch.now.story c.loop-k.at) step c.loop-k.invariant.ascend).0.ahead
+    (subst (RangesAscend c.args.batch.now.story c.loop-k.at) step c.loop-k.invariant.ascend).0.ahead
 
 pub add_part-requires-clause-within : goal.add_part-requires-clause-within
 add_part-requires-clause-within c =
     let ranges : List DeletedRange = c.args.batch.now.ranges.now in
-    let has = All_at (IsWithin c.args.len) ranges c.loop-k.k c.range_at-range.result c.requires.ranges
+    let has = All_at (IsRangeWithin c.args.len) ranges c.loop-k.k c.range_at-range.result c.requires.ranges
     c.range_at-range.ensures in
     omega (arith, has.0, has.1, c.requires.len)
 
@@ -49,8 +49,9 @@ loop-k-preserved c =
     let k = c.loop-k.k in
     let range = c.range_at-range.result in
     let is = c.range_at-range.ensures in
-    let next = subst (Ascend c.args.batch.now.story at) (run_and_rest ranges k range is) c.loop-k.invariant.ascend in
-    let has = All_at (IsWithin c.args.len) ranges k range c.requires.ranges is in
+    let next = subst (RangesAscend c.args.batch.now.story at) (run_and_rest ranges k range is) c.loop-k.invariant.ascend
+    in
+    let has = All_at (IsRangeWithin c.args.len) ranges k range c.requires.ranges is in
     let all = length-spread c.args.runs.now in
     let mid : List Properties = slice_range values range.from range.to in
     record {

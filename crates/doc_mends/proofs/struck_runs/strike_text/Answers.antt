@@ -3,11 +3,11 @@ use Rattle.std.specs.Prelude.{All}
 use Rattle.std.proofs.lemmas.List.{length-map}
 use Rattle.std.proofs.lemmas.List.Elements.{All-weaker}
 use Rattle.prop_map.specs.Settings.{Properties}
-use Rattle.run_lists.specs.Places.{IsAt}
+use Rattle.run_lists.specs.Places.{IsAtRunBegin}
 use Rattle.run_lists.specs.Spread.{expanded}
 use Rattle.run_lists.proofs.Public.{extent-nil, length-spread}
-use Rattle.plain_doc.specs.declared.item.Item.{Item}
-use Rattle.plain_doc.specs.Document.{HasPropertyMaps, IsFormedItem}
+use Rattle.doc_model.specs.declared.item.Item.{Item}
+use Rattle.doc_model.specs.Document.{HasPropertyMaps, IsFormedItem}
 use Rattle.doc_columns.specs.declared.attached.Attached.{Attached}
 use Rattle.doc_columns.specs.Attached.{attached_of}
 use Rattle.doc_patch.proofs.Public.{whole_range}
@@ -37,7 +37,7 @@ strike_chps-requires-clause-ranges c =
 
 pub copy_runs-requires-clause-at : goal.copy_runs-requires-clause-at
 copy_runs-requires-clause-at c =
-    subst (IsAt c.attachments.result.now) (sym c.new.ensures) (record {
+    subst (IsAtRunBegin c.attachments.result.now) (sym c.new.ensures) (record {
       there = omega arith;
       begins = extent-nil Attached;
     })

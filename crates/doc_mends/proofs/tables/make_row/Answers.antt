@@ -1,5 +1,5 @@
 use Rattle.std.proofs.Common.{◌≡◌, ◌∙◌, ◌+◌, ap, sym, arith, length, ℕ, List}
-use Rattle.plain_doc.specs.declared.item.Item.{Item}
+use Rattle.doc_model.specs.declared.item.Item.{Item}
 use Rattle.doc_patch.specs.Changes.{changed_at, map_range}
 use Rattle.doc_mends.specs.PlainRows.{plain_item}
 use Rattle.doc_mends.proofs.TableLemmas.{none_changed, range_next, range_length, set_changed}

@@ -1,7 +1,7 @@
 use Rattle.std.proofs.Common.{◌≡◌, ◌∙◌, ◌+◌, ◌≤◌, ap, sym, arith, length, take, List}
 use Rattle.std.proofs.lemmas.List.Elements.{All-take}
 use Rattle.doc_bits.proofs.Public.{All_at}
-use Rattle.plain_doc.specs.declared.item.Item.{Item}
+use Rattle.doc_model.specs.declared.item.Item.{Item}
 use Rattle.doc_mends.specs.declared.mends.BrokenRow.{BrokenRow}
 use Rattle.doc_mends.specs.PlainRows.{row_plain}
 use Rattle.doc_mends.proofs.TableLemmas.{rows_length, rows_more}

@@ -1,5 +1,5 @@
 use Rattle.std.proofs.Common.{◌∙◌, ap, List, slice_set}
-use Rattle.plain_doc.specs.declared.item.Item.{Item}
+use Rattle.doc_model.specs.declared.item.Item.{Item}
 use Rattle.doc_patch.proofs.Public.{changed_back}
 use Rattle.doc_mends.specs.PlainRows.{plain_text}
 use Rattle.doc_mends.proofs.tables.plain_at.Goals as goal

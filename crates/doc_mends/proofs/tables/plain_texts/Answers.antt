@@ -1,6 +1,6 @@
 use Rattle.std.proofs.Common.{◌≡◌, ◌∙◌, ap, arith, length, List}
 use Rattle.doc_bits.proofs.Public.{there_is}
-use Rattle.plain_doc.specs.declared.item.Item.{Item}
+use Rattle.doc_model.specs.declared.item.Item.{Item}
 use Rattle.doc_patch.specs.Changes.{changed_at}
 use Rattle.doc_mends.specs.PlainRows.{plain_text}
 use Rattle.doc_mends.proofs.TextLemmas.{put_mapped, all_mapped, mapped_len}

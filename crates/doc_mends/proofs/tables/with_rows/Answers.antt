@@ -1,7 +1,7 @@
 use Rattle.std.proofs.Common.{◌≡◌, ◌∙◌, ap, sym, subst, List, length}
 use Rattle.std.proofs.lemmas.Bool.{eqb-true}
 use Rattle.doc_bits.specs.declared.places.Story.TheVariants.{Main}
-use Rattle.plain_doc.specs.declared.item.Item.{Item}
+use Rattle.doc_model.specs.declared.item.Item.{Item}
 use Rattle.doc_mends.specs.declared.mends.BrokenRow.{BrokenRow}
 use Rattle.doc_mends.specs.BrokenRows.{text_broken_rows}
 use Rattle.doc_mends.specs.PlainRows.{rows_plain}

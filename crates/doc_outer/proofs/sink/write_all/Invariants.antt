@@ -1,5 +1,5 @@
 use Rattle.std.proofs.Common.{length, ◌-◌, ◌≤◌, take}
-use Rattle.doc_outer.specs.Counts.{GoesOn}
+use Rattle.doc_outer.specs.Counts.{CountGoesOn}
 use Rattle.doc_outer.specs.Written.{Appends}
 use Rattle.doc_outer.proofs.sink.write_all.Given as goal
 
@@ -10,7 +10,7 @@ invariant-loop-taken g l =
     record {
       within : l.taken ≤ length l.bytes;
       appended : Appends (written l.fn.sink) (written l.sink) (take l.taken l.bytes);
-      faults : GoesOn (faults l.fn.sink) (faults l.sink);
+      faults : CountGoesOn (faults l.fn.sink) (faults l.sink);
     }
 
 abbrev pub decreases-loop-taken : goal.decreases-loop-taken

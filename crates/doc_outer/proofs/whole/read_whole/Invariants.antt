@@ -1,5 +1,5 @@
 use Rattle.std.proofs.Common.{◌-◌, ◌≡◌, ◌≤◌, length}
-use Rattle.doc_outer.specs.Counts.{GoesOn}
+use Rattle.doc_outer.specs.Counts.{CountGoesOn}
 use Rattle.doc_outer.specs.Held.{Told}
 use Rattle.doc_outer.proofs.WholeLemmas.{IsFront}
 use Rattle.doc_outer.proofs.whole.read_whole.Given as goal
@@ -15,8 +15,8 @@ invariant-loop-taken g l =
       limit : l.taken ≤ 7143937;
       kept : held l.shelf ≡ held l.fn.shelf;
       front : Told (held l.fn.shelf) l.name (IsFront l.bytes);
-      faults : GoesOn (faults l.fn.shelf) (faults l.shelf);
-      missed : GoesOn (missed l.fn.shelf) (missed l.shelf);
+      faults : CountGoesOn (faults l.fn.shelf) (faults l.shelf);
+      missed : CountGoesOn (missed l.fn.shelf) (missed l.shelf);
       put_faults : put_faults l.shelf ≡ put_faults l.fn.shelf;
     }
 

@@ -1,8 +1,8 @@
 use Rattle.std.proofs.Common.{arith, ◌≡◌, ◌∙◌, refl, ap, sym, subst, ◌<◌, [], length}
 use Rattle.std.specs.Prelude.{All}
 use Rattle.doc_bits.specs.Rules.{LeastOrNone, lesser_of}
-use Rattle.doc_parts.specs.Order.{in_order}
-use Rattle.doc_parts.specs.Bookmarks.{bookmark_cmp, HasFileNumbers}
+use Rattle.document_bookmarks.specs.Order.{in_order}
+use Rattle.document_bookmarks.specs.Bookmarks.{bookmark_cmp, HasFileNumbers}
 use Rattle.doc_parts.specs.BookmarkParts.{BookmarkParts, parts_at, HasNames, BreaksParts}
 use Rattle.doc_parts.proofs.BookmarkPartLemmas.{parts_judged, right_from_none, right_elsewhere, kept_numbers, read_some}
 use Rattle.doc_parts.proofs.bookmark_parts.bookmarks.Goals as goal

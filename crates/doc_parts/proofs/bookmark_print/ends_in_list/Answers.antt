@@ -1,4 +1,4 @@
-use Rattle.doc_parts.specs.declared.bookmark_order.Bookmark.{Bookmark}
+use Rattle.document_bookmarks.specs.declared.bookmark_order.Bookmark.{Bookmark}
 use Rattle.doc_parts.proofs.BookmarkBackLemmas.{map_next}
 use Rattle.doc_parts.proofs.bookmark_print.ends_in_list.Goals as goal
 

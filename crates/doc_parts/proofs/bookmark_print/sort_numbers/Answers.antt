@@ -1,7 +1,7 @@
 use Rattle.std.specs.Ordering.{nat_cmp}
 use Rattle.std.specs.FinMap.{nat_cmp-IsAntisymmetric}
 use Rattle.std.proofs.lemmas.Cmp.{nat_cmp_total}
-use Rattle.doc_parts.proofs.OrderLemmas.{sorted_is_in_order}
+use Rattle.document_bookmarks.proofs.Public.{sorted_is_in_order}
 use Rattle.doc_parts.proofs.bookmark_print.sort_numbers.Goals as goal
 
 pub returns : goal.returns

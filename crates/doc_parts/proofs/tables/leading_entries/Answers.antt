@@ -1,5 +1,5 @@
 use Rattle.std.proofs.Common.{◌≡◌, ◌++◌, ◌<◌, ◌∙◌, Some, None, [], ◌∷◌, refl, subst, arith, below_more, length-append}
-use Rattle.doc_parts.specs.Table.{IsValidEntry, entry_at}
+use Rattle.doc_parts.specs.Table.{IsValidEntry, spelled_entry}
 use Rattle.doc_parts.proofs.TableLemmas.{length-plc_entry, each_more}
 use Rattle.doc_parts.proofs.tables.leading_entries.Goals as goal
 
@@ -13,10 +13,10 @@ loop-k-preserved g c =
     let form = g.E.TableEntry.form in
     let items : c.push.new.self.items ≡ c.loop-k.list.items ++ c.in-Some.entry ∷ [] =
     c.in_ok-push-in-Some.ensures.items in
-    let here : entry_at form c.args.plc.now c.loop-k.k ≡ Some c.in-Some.entry = cc in
+    let here : spelled_entry form c.args.plc.now c.loop-k.k ≡ Some c.in-Some.entry = cc in
     record {
       count = rw items (simp length-append (omega arith));
-      each = each_more c.loop-k.list.items c.push.new.self.items c.in-Some.entry c.loop-k.k (entry_at form
+      each = each_more c.loop-k.list.items c.push.new.self.items c.in-Some.entry c.loop-k.k (spelled_entry form
           c.args.plc.now) items c.loop-k.invariant.count here c.loop-k.invariant.each;
       right = below_more (IsValidEntry form c.args.cps c.args.plc.now) c.loop-k.k c.loop-k.invariant.right
           (record { in_order = c.if-not-is_kept.ensures.0 refl; spelled = rw here refl });
@@ -42,7 +42,7 @@ returns-in-None g c =
     let form = g.E.TableEntry.form in
     let so_far = c.loop-k.invariant in
     let count = so_far.count in
-    let none : entry_at form c.args.plc.now c.loop-k.k ≡ None = cc in
+    let none : spelled_entry form c.args.plc.now c.loop-k.k ≡ None = cc in
     record {
       within = omega (arith, c.len-k-end.ensures);
       each = λ k low. so_far.each k (omega arith);

@@ -1,5 +1,5 @@
 use Rattle.std.proofs.Common.{◌≡◌}
-use Rattle.plain_doc.specs.declared.document.Document.{Document}
+use Rattle.doc_model.specs.declared.document.Document.{Document}
 use Rattle.doc_patch.specs.Changes.{changed}
 use Rattle.doc_patch.proofs.MakeLemmas.{given_right}
 use Rattle.doc_patch.proofs.making.make.Goals as goal

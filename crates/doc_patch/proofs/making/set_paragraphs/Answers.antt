@@ -1,7 +1,7 @@
 -- The sheet alone is another.
 use Rattle.std.proofs.Common.{◌≡◌, ap, subst}
 use Rattle.style_sheet.specs.Sheet.{Sheet}
-use Rattle.plain_doc.specs.declared.document.Document.{Document}
+use Rattle.doc_model.specs.declared.document.Document.{Document}
 use Rattle.doc_patch.specs.Changes.{with_kind_at, paragraphs_set}
 use Rattle.doc_patch.proofs.MakeLemmas.{paragraphs_are_set}
 use Rattle.doc_patch.proofs.making.set_paragraphs.Goals as goal

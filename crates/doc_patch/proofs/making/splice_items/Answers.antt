@@ -1,7 +1,7 @@
 -- The text is taken out, spliced and put back.
 use Rattle.std.proofs.Common.{◌≡◌, ◌∙◌, ap, length, List, arith}
 use Rattle.std.specs.List.{splice}
-use Rattle.plain_doc.specs.declared.item.Item.{Item}
+use Rattle.doc_model.specs.declared.item.Item.{Item}
 use Rattle.doc_patch.specs.Makes.{CanSplice}
 use Rattle.doc_patch.proofs.MakingLemmas.{any_text, such_text, has_hole, text_back, whole_range}
 use Rattle.doc_patch.proofs.making.splice_items.Goals as goal

@@ -1,6 +1,6 @@
 use Rattle.std.proofs.Common.{◌≡◌, ◌∙◌, ap, length, List, arith}
 use Rattle.std.specs.List.{splice}
-use Rattle.plain_doc.specs.declared.item.Item.{Item}
+use Rattle.doc_model.specs.declared.item.Item.{Item}
 use Rattle.doc_patch.proofs.MakingLemmas.{whole_range}
 use Rattle.doc_patch.proofs.making.splice_texts.Goals as goal
 

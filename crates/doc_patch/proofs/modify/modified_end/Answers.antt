@@ -1,6 +1,6 @@
 use Rattle.std.proofs.Common.{Some}
 use Rattle.prop_map.specs.Formed.{IsPropertyMap, paragraph_groups}
-use Rattle.plain_doc.proofs.Public.{ForSome-from_cases}
+use Rattle.doc_model.proofs.Public.{ForSome-from_cases}
 use Rattle.doc_patch.proofs.modify.modified_end.Goals as goal
 
 pub returns-in_ok-modified_mark-in-Some-clause-formed : goal.returns-in_ok-modified_mark-in-Some-clause-formed

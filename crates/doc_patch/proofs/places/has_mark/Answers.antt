@@ -1,6 +1,6 @@
 use Rattle.std.proofs.Common.{rules, false, Option, sym, subst}
 use Rattle.std.specs.Prelude.{◌↔◌, IsTrue, IsSome}
-use Rattle.plain_doc.specs.declared.item.Mark.{Mark}
+use Rattle.doc_model.specs.declared.item.Mark.{Mark}
 use Rattle.doc_columns.specs.declared.attached.Attached.{Attached}
 use Rattle.doc_patch.proofs.PlaceLemmas.{part_there, part_past}
 use Rattle.doc_patch.proofs.places.has_mark.Goals as goal

@@ -5,7 +5,7 @@ use Rattle.doc_bits.proofs.Public.{All_at}
 use Rattle.doc_outer.proofs.Public.{Rose-after, count_stays, count_on, StaysAt-refl}
 use Rattle.doc_pictures.specs.declared.pictures.Picture.{Picture}
 use Rattle.doc_pictures.specs.Names.{picture_path}
-use Rattle.doc_pictures.specs.Album.{IsWithinStream, Writes}
+use Rattle.doc_pictures.specs.Album.{IsWithinStream, WritesPictures}
 use Rattle.doc_pictures.proofs.ApartLemmas.{paths-apart, there-before}
 use Rattle.doc_pictures.proofs.AlbumLemmas.{none-written, stays-by, stays-on}
 use Rattle.doc_pictures.proofs.AlbumLemmas.{within-length, writes-on}
@@ -114,6 +114,7 @@ returns-in-Err-clause-missed g c =
 pub returns-clause-written : goal.returns-clause-written
 returns-clause-written g c =
     let held = g.S.Shelf.held in
-    subst (λ (all : List Picture). Writes c.args.album.now.force c.args.album.now.folder.now c.args.stream.now 1 all
+    subst (λ (all : List Picture). WritesPictures c.args.album.now.force c.args.album.now.folder.now c.args.stream.now 1
+    all
     (held c.args.shelf.now) (held c.loop-k.shelf)) (take_all c.loop-k.k c.args.pictures.now (omega arith))
     c.loop-k.invariant.written

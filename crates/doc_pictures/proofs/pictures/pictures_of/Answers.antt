@@ -2,7 +2,7 @@ use Rattle.std.proofs.Common.{ℕ, List, sym, subst}
 use Rattle.std.specs.List.Sorted.{IsNonDecreasing}
 use Rattle.std.proofs.lemmas.List.Sorted.{IsNonDecreasingBy-from_sort}
 use Rattle.doc_pictures.specs.declared.pictures.Picture.{Picture}
-use Rattle.doc_pictures.specs.Places.{places_of}
+use Rattle.doc_pictures.specs.Places.{picture_places}
 use Rattle.doc_pictures.specs.Pictures.{ArePictures}
 use Rattle.doc_pictures.proofs.FileLemmas.{in_order-ascends}
 use Rattle.doc_pictures.proofs.OrderLemmas.{pictures-permuted}
@@ -21,7 +21,7 @@ pub returns : goal.returns
 returns c =
     let stream = c.args.stream.now in
     let pictures = c.in_ok-list.list.items in
-    subst (λ (all : List Picture). ArePictures stream (places_of c.args.document.now) all) (sym c.of.ensures)
+    subst (λ (all : List Picture). ArePictures stream (picture_places c.args.document.now) all) (sym c.of.ensures)
     (subst (λ (places : List ℕ). ArePictures stream places pictures) c.in_ok-places.ensures
     (pictures-permuted stream c.sort_unstable.new.self.items c.in_ok-places.places.items pictures
     c.sort_unstable.ensures.permutation

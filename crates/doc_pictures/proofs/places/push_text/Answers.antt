@@ -2,7 +2,7 @@
 use Rattle.std.proofs.Common.{◌∙◌, ◌+◌, ◌++◌, List, sym, ap, arith, append-nil}
 use Rattle.std.proofs.lemmas.List.{take_all}
 use Rattle.doc_bits.proofs.Public.{there_is}
-use Rattle.plain_doc.specs.declared.item.Item.{Item}
+use Rattle.doc_model.specs.declared.item.Item.{Item}
 use Rattle.doc_columns.specs.Walks.{items_in}
 use Rattle.doc_columns.proofs.Public.{first_walk, items_long, later_walk}
 use Rattle.doc_pictures.specs.Places.{places_in}

@@ -2,7 +2,7 @@
 use Rattle.std.proofs.Common.{◌∙◌, ◌+◌, ◌++◌, List, sym, ap, arith, append-nil}
 use Rattle.std.specs.List.{flat_map}
 use Rattle.std.proofs.lemmas.List.{take_all}
-use Rattle.plain_doc.specs.declared.item.Item.{Item}
+use Rattle.doc_model.specs.declared.item.Item.{Item}
 use Rattle.doc_pictures.specs.Places.{places_in}
 use Rattle.doc_pictures.proofs.PlaceLemmas.{texts-on}
 use Rattle.doc_pictures.proofs.places.push_texts.Goals as goal

@@ -10,12 +10,13 @@ use Rattle.fkp_pages.specs.declared.kind.PageKind.TheVariants.{Papx}
 use Rattle.direct_props.specs.Direct.{IsDirectMark}
 use Rattle.direct_props.specs.PageRules.{IsValidPlace}
 use Rattle.text_codes.specs.Paragraph.{is_paragraph_end}
-use Rattle.plain_doc.specs.declared.item.Mark.{Mark}
-use Rattle.plain_doc.proofs.Public.{ForSome-from_cases}
+use Rattle.doc_model.specs.declared.item.Mark.{Mark}
+use Rattle.doc_model.proofs.Public.{ForSome-from_cases}
 use Rattle.doc_columns.specs.declared.attached.Attached.{Attached}
 use Rattle.doc_columns.specs.Changes.{HasAttachedMaps}
-use Rattle.doc_read.specs.Items.{IsMarkAt}
-use Rattle.doc_read.specs.Reading.{ArePassed, HaveValidMarks, TextView, ends_at, field_at, note_at, section_at}
+use Rattle.doc_read.specs.Items.{IsDirectMarkAt}
+use Rattle.doc_read.specs.Reading.{ArePassed, HaveValidMarks, TextView, ends_paragraph_at, field_at, note_at}
+use Rattle.doc_read.specs.Reading.{section_at}
 use Rattle.doc_read.specs.Reading.{text_view}
 use Rattle.doc_read.specs.Attached.{IsAttachedAt}
 use Rattle.doc_read.proofs.PageLemmas.{one_mark}
@@ -41,12 +42,13 @@ stands : (view : TextView) (modifier : Modifier) (cp : ℕ) (ends : Bool) (attac
     ends ≡ is_paragraph_end (slice_index view.units cp) (is_some attached.sect) →
     attached.sect ≡ section_at view.marks.section_cps view.maps cp → attached.fld ≡ field_at view.marks cp →
     attached.note ≡ note_at view.marks cp →
-    IsMarkAt ends view.wd view.paragraphs (slice_index view.places cp) modifier attached.mark →
+    IsDirectMarkAt ends view.wd view.paragraphs (slice_index view.places cp) modifier attached.mark →
     HasAttachedMaps attached → IsAttachedAt view modifier cp attached
 stands view modifier cp ends attached ends_are sect fld note mark maps = record {
   sect_is = sect;
   mark_is =
-      subst (λ b. IsMarkAt b view.wd view.paragraphs (slice_index view.places cp) modifier attached.mark) ends_are mark;
+      subst (λ b. IsDirectMarkAt b view.wd view.paragraphs (slice_index view.places cp) modifier attached.mark) ends_are
+      mark;
   fld_is = fld;
   note_is = note;
   maps = maps;
@@ -71,7 +73,7 @@ returns-then-not-ends-clause-attached c =
     record { fld = c.byte_at-fld.result; note = c.kind_at-note.result; mark = None; sect = sect } in
     let goes_on : is_paragraph_end unit (is_some sect) ≡ false =
     sym (c.ends_paragraph-ends.ensures ∙ ap (is_paragraph_end unit) c.is_some.ensures) ∙ c.if-not-ends.true in
-    let here : ends_at (text_view text) cp ≡ false =
+    let here : ends_paragraph_at (text_view text) cp ≡ false =
     ap (λ (o : Option Properties). is_paragraph_end unit (is_some o)) (sym c.in_ok-sect.ensures.section) ∙ goes_on in
     let there = stands (text_view text) modifier cp false attached (sym goes_on) c.in_ok-sect.ensures.section
     c.byte_at-fld.ensures.byte c.kind_at-note.ensures.kind tt
@@ -91,9 +93,9 @@ returns-in_default-clause-attached c = λ all.
     let unit = slice_index text.units.now cp in
     let ends : is_paragraph_end unit (is_some c.in_ok-sect.sect) ≡ true =
     sym (c.ends_paragraph-ends.ensures ∙ ap (is_paragraph_end unit) c.is_some.ensures) ∙ c.if-not-ends.false in
-    let here : ends_at (text_view text) cp ≡ true =
+    let here : ends_paragraph_at (text_view text) cp ≡ true =
     ap (λ (o : Option Properties). is_paragraph_end unit (is_some o)) (sym c.in_ok-sect.ensures.section) ∙ ends in
-    let there = subst (λ (v : TextView). ends_at v cp ≡ true) c.text-text.ensures.view here in
+    let there = subst (λ (v : TextView). ends_paragraph_at v cp ≡ true) c.text-text.ensures.view here in
     subst (IsMarkOf view c.args.reader.now.characters.modifier cp) c.in_default.is c.in_ok-mark.ensures.mark
     (all cp (omega arith) (omega arith) there)
 

@@ -1,8 +1,8 @@
 -- What is carried is well formed.
 use Rattle.std.proofs.Common.{◌<◌, ◌^◌, ℕ, List, [], ◌∷◌, length, refl, sym, ap, ◌∙◌, subst, arith}
-use Rattle.plain_doc.specs.Carried.{AreCarriedStreams}
+use Rattle.doc_model.specs.Carried.{AreCarriedStreams}
 use Rattle.file_rules.specs.PartRules.{PartLists}
-use Rattle.file_rules.specs.FileRules.{source_of}
+use Rattle.file_rules.specs.FileRules.{doc_source_of}
 use Rattle.doc_read.proofs.LevelLemmas.{lists-with_levels, levels-short}
 use Rattle.doc_read.proofs.PartLemmas.{short-cons}
 use Rattle.doc_read.proofs.StreamLemmas.{carried-fit}
@@ -11,7 +11,7 @@ use Rattle.doc_read.proofs.carried.read_carried.Goals as goal
 pub invariant_of-result-clause-short : goal.invariant_of-result-clause-short
 invariant_of-result-clause-short c =
     let levels = c.in_ok-from_slice.ensures ∙ ap (λ (p : PartLists). p.levels) c.parts.view_is in
-    let source = source_of c.args.text.now in
+    let source = doc_source_of c.args.text.now in
     let few = levels-short source c.args.parts.now.levels c.requires.lists.has_levels in
     let small : length source.table < 2 ^ 32 = rw c.source-source.ensures at c.in_ok-copy_part.ensures.small in
     let levels_few : length c.args.parts.now.levels < 2 ^ 32 = omega (arith, few, small) in
@@ -36,7 +36,7 @@ invariant_of-result-clause-lists c =
       c.in_ok-from_slice.ensures,
       ap (λ (p : PartLists). p.levels) c.parts.view_is,
     )
-    (lists-with_levels (source_of c.args.text.now) c.args.parts.now.levels c.requires.rules.rest.1.1.1.1.1.0
+    (lists-with_levels (doc_source_of c.args.text.now) c.args.parts.now.levels c.requires.rules.rest.1.1.1.1.1.0
     c.requires.lists.has_levels)
 
 pub invariant_of-result-clause-others : goal.invariant_of-result-clause-others

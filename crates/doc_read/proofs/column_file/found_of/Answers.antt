@@ -1,9 +1,9 @@
 use Rattle.std.proofs.Common.{sym, subst, ℕ, List, length}
 use Rattle.fib_form.specs.FibFields.{FibFields, fib_fields}
 use Rattle.file_rules.specs.FormatRules.{judged_units}
-use Rattle.file_rules.specs.FileRules.{source_of}
+use Rattle.file_rules.specs.FileRules.{doc_source_of}
 use Rattle.doc_read.specs.ReadParts.{FitUnits}
-use Rattle.doc_read.specs.ReadTexts.{AreCutsOf, IsDocumentWith}
+use Rattle.doc_read.specs.ReadTexts.{AreCutsOf, IsDocumentOfUnits}
 use Rattle.doc_read.proofs.column_file.found_of.Goals as goal
 
 pub document_with-requires-clause-units : goal.document_with-requires-clause-units
@@ -24,7 +24,7 @@ returns-clause-document c =
     let made = c.into_loaded-fib in
     let parts = c.args.parts in
     let document = c.in_ok-document.document in
-    let with_units = subst (λ (us : List ℕ). IsDocumentWith made.result.0 us parts document) made.ensures.units
+    let with_units = subst (λ (us : List ℕ). IsDocumentOfUnits made.result.0 us parts document) made.ensures.units
     c.in_ok-document.ensures in
-    subst (λ (fib : FibFields). IsDocumentWith fib (judged_units (source_of c.args.text)) parts document)
+    subst (λ (fib : FibFields). IsDocumentOfUnits fib (judged_units (doc_source_of c.args.text)) parts document)
     made.ensures.fib with_units

@@ -1,7 +1,7 @@
 use Rattle.std.proofs.lemmas.Result.{err_from_is_err_and}
 use Rattle.doc_bits.specs.Rules.{given}
 use Rattle.file_rules.specs.PartRules.{part_rules}
-use Rattle.file_rules.specs.FileRules.{FileText, HasText, source_of, loading_rules}
+use Rattle.file_rules.specs.FileRules.{FileText, HasFileText, doc_source_of, loading_rules}
 use Rattle.file_rules.proofs.Public.{refused-next, refused-given}
 use Rattle.doc_read.proofs.FewLemmas.{leaves_room}
 use Rattle.doc_read.proofs.column_file.read_contents.Goals as goal
@@ -16,10 +16,10 @@ returns-in_err-found c =
     let fault = c.in_err-found.field-0.0 in
     let p = err_from_is_err_and c.from_residual-in_err-found.result c.from_residual-in_err-found.ensures.1 in
     let text = c.in_ok-text.ensures in
-    let parts = λ (text : FileText). part_rules (source_of text) in
+    let parts = λ (text : FileText). part_rules (doc_source_of text) in
     rw (p.1, p.2)
-    (refused-next (loading_rules contents) (given (HasText contents) parts) fault text.0
-    (refused-given (HasText contents) parts c.in_ok-text.text fault text.1 c.in_err-found.ensures))
+    (refused-next (loading_rules contents) (given (HasFileText contents) parts) fault text.0
+    (refused-given (HasFileText contents) parts c.in_ok-text.text fault text.1 c.in_err-found.ensures))
 
 pub returns : goal.returns
 returns c =

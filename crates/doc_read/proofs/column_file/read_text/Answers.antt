@@ -6,7 +6,7 @@ use Rattle.file_rules.specs.Faults.{IsReadFault}
 use Rattle.file_rules.specs.Source.{DocSource}
 use Rattle.file_rules.specs.FormatRules.{rules_of_formats}
 use Rattle.file_rules.specs.PartRules.{PartLists}
-use Rattle.file_rules.specs.FileRules.{FileText, source_of}
+use Rattle.file_rules.specs.FileRules.{FileText, doc_source_of}
 use Rattle.file_rules.proofs.Public.{all_hold, formats_refused}
 use Rattle.doc_read.specs.declared.document.DocumentParts.{DocumentParts}
 use Rattle.doc_read.specs.ReadParts.{AreDocumentParts}
@@ -26,8 +26,8 @@ read_document_parts-requires-clause-lists c = rw c.source-source.ensures at c.in
 -- what is read of the parts
 abbrev IsReadOf : Contents → FileText → PartLists → Option DocumentParts → Type 0
 IsReadOf contents text lists read =
-    MatchOption read (¬ (Hold (rules_of_formats (source_of text))))
-    (λ (r : DocumentParts). Hold (rules_of_formats (source_of text)) × AreDocumentParts contents text lists r)
+    MatchOption read (¬ (Hold (rules_of_formats (doc_source_of text))))
+    (λ (r : DocumentParts). Hold (rules_of_formats (doc_source_of text)) × AreDocumentParts contents text lists r)
 
 pub format_fault-requires-clause-layout : goal.format_fault-requires-clause-layout
 format_fault-requires-clause-layout c = c.in_ok-parts.ensures.0.layout
@@ -43,7 +43,7 @@ returns-in_default c =
     let but = rw c.source-source.ensures at c.in_ok-parts.ensures.0 in
     let formats = subst (λ (s : DocSource). IsReadFault (rules_of_formats s) c.format_fault.result)
     c.source-source.ensures c.format_fault.ensures in
-    formats_refused (source_of c.args.text.now) c.format_fault.result but.layout formats
+    formats_refused (doc_source_of c.args.text.now) c.format_fault.result but.layout formats
 
 pub returns : goal.returns
 returns c =
@@ -51,6 +51,6 @@ returns c =
     let read = subst (IsReadOf c.args.container.now text c.in_ok-parts.parts) c.in-Some.is c.in_ok-read.ensures in
     let but = rw c.source-source.ensures at c.in_ok-parts.ensures.0 in
     let lists = rw c.source-source.ensures at c.in_ok-parts.ensures.1 in (
-      all_hold (source_of text) but read.0,
+      all_hold (doc_source_of text) but read.0,
       record { lists = c.in_ok-parts.parts; has_lists = lists; are = read.1 },
     )

@@ -4,12 +4,12 @@ use Rattle.std.proofs.Common.{Option, MatchOption}
 use Rattle.std.proofs.lemmas.List.{length-take-le}
 use Rattle.fib_form.specs.declared.table_parts.TablePart.TheVariants.{PlcfBteChpx, PlcfBtePapx}
 use Rattle.piece_table.specs.Piece.{TextPiece}
-use Rattle.file_rules.specs.Source.{DocSource, part_bytes}
-use Rattle.file_rules.specs.FileRules.{source_of}
+use Rattle.file_rules.specs.Source.{DocSource, table_part_bytes}
+use Rattle.file_rules.specs.FileRules.{doc_source_of}
 use Rattle.file_rules.specs.FormatRules.{text_count, judged_units, judged_places}
 use Rattle.doc_columns.specs.Columns.{items_of}
 use Rattle.doc_read.specs.declared.columns.ReadColumns.{ReadColumns}
-use Rattle.doc_read.specs.Reading.{AreMarksOf, ArePlacedItems, HaveValidPages, IsReadable, TextView, mark_lists}
+use Rattle.doc_read.specs.Reading.{AreMarkListsOf, ArePlacedItems, HaveValidPages, IsReadable, TextView, mark_lists}
 use Rattle.doc_read.proofs.ReadableLemmas.{pages_hold, pages_right, readable_of, view_of, view_same}
 use Rattle.doc_read.proofs.PlacedLemmas.{enough_units, held}
 use Rattle.doc_read.specs.ReadParts.{AreReadColumns}
@@ -21,13 +21,13 @@ read_marks-requires c = rw c.source-source.ensures c.requires.lists
 
 pub columns_of_pieces-requires-clause-readable : goal.columns_of_pieces-requires-clause-readable
 columns_of_pieces-requires-clause-readable c =
-    let source = source_of c.args.text.now in
+    let source = doc_source_of c.args.text.now in
     let same = c.source-source.ensures in
     let marks = mark_lists c.in_ok-marks.marks in
     let maps = c.args.sections.now in
     let wd_is = c.wd.ensures.bytes ∙ ap (λ (s : DocSource). s.wd) same in
-    let characters_are = c.part.ensures.bytes ∙ ap (λ s. part_bytes s PlcfBteChpx) same in
-    let paragraphs_are = c.part-2.ensures.bytes ∙ ap (λ s. part_bytes s PlcfBtePapx) same in
+    let characters_are = c.part.ensures.bytes ∙ ap (λ s. table_part_bytes s PlcfBteChpx) same in
+    let paragraphs_are = c.part-2.ensures.bytes ∙ ap (λ s. table_part_bytes s PlcfBtePapx) same in
     let units_are = c.judged_units.ensures.units ∙ ap judged_units same in
     let places_are = c.judged_places.ensures.places ∙ ap judged_places same in
     let small = subst (λ l. length l < 2 ^ 32) wd_is c.wd.ensures.small in
@@ -42,7 +42,7 @@ columns_of_pieces-requires-clause-readable c =
 
 pub columns_of_pieces-requires-clause-enough : goal.columns_of_pieces-requires-clause-enough
 columns_of_pieces-requires-clause-enough c =
-    enough_units c.args.text.now (source_of c.args.text.now) c.judged_units.result.now c.pieces.result.now.pieces
+    enough_units c.args.text.now (doc_source_of c.args.text.now) c.judged_units.result.now c.pieces.result.now.pieces
     (c.judged_units.ensures.units ∙ ap judged_units c.source-source.ensures) refl c.pieces.ensures
 
 -- what is read of a text
@@ -52,14 +52,14 @@ IsReadOf view pieces read =
 
 pub returns-in_default : goal.returns-in_default
 returns-in_default c = λ holds.
-    let source = source_of c.args.text.now in
+    let source = doc_source_of c.args.text.now in
     let same = c.source-source.ensures in
     let marks = mark_lists c.in_ok-marks.marks in
     let maps = c.args.sections.now in
     let view_is = view_same source marks maps _ _ _ _ _
     (c.wd.ensures.bytes ∙ ap (λ (s : DocSource). s.wd) same)
-    (c.part.ensures.bytes ∙ ap (λ s. part_bytes s PlcfBteChpx) same)
-    (c.part-2.ensures.bytes ∙ ap (λ s. part_bytes s PlcfBtePapx) same)
+    (c.part.ensures.bytes ∙ ap (λ s. table_part_bytes s PlcfBteChpx) same)
+    (c.part-2.ensures.bytes ∙ ap (λ s. table_part_bytes s PlcfBtePapx) same)
     (c.judged_units.ensures.units ∙ ap judged_units same)
     (c.judged_places.ensures.places ∙ ap judged_places same) in
     let in_view = subst (λ (v : TextView). IsReadOf v c.pieces.result.now.pieces c.in_ok-read.field-0) view_is
@@ -75,7 +75,7 @@ returns-in_default c = λ holds.
 pub returns : goal.returns
 returns c =
     let text = c.args.text.now in
-    let source = source_of text in
+    let source = doc_source_of text in
     let same = c.source-source.ensures in
     let lists = c.args.parts.now in
     let marks = mark_lists c.in_ok-marks.marks in
@@ -85,8 +85,8 @@ returns c =
     let count = text_count source in
     let view_is = view_same source marks maps _ _ _ _ _
     (c.wd.ensures.bytes ∙ ap (λ (s : DocSource). s.wd) same)
-    (c.part.ensures.bytes ∙ ap (λ s. part_bytes s PlcfBteChpx) same)
-    (c.part-2.ensures.bytes ∙ ap (λ s. part_bytes s PlcfBtePapx) same)
+    (c.part.ensures.bytes ∙ ap (λ s. table_part_bytes s PlcfBteChpx) same)
+    (c.part-2.ensures.bytes ∙ ap (λ s. table_part_bytes s PlcfBtePapx) same)
     (c.judged_units.ensures.units ∙ ap judged_units same)
     (c.judged_places.ensures.places ∙ ap judged_places same) in
     let in_view = subst (λ (v : TextView). IsReadOf v c.pieces.result.now.pieces c.in_ok-read.field-0) view_is
@@ -104,7 +104,7 @@ returns c =
     let same_count : length (judged_places source) ≡ length (judged_units source) =
     ap length (sym (c.judged_places.ensures.places ∙ ap judged_places same))
     ∙ (c.judged_places.ensures.count ∙ ap (λ s. length (judged_units s)) same) in
-    let are : AreMarksOf source lists marks = rw same at c.in_ok-marks.ensures in (
+    let are : AreMarkListsOf source lists marks = rw same at c.in_ok-marks.ensures in (
       pages_hold source lists marks maps c.requires.rules c.requires.lists c.requires.sections are same_count
           here.right,
       record {

@@ -1,8 +1,8 @@
 -- The text is that of the units and the columns.
 use Rattle.std.proofs.Common.{◌≡◌, ◌∙◌, sym, ap, subst, length, arith, List}
 use Rattle.std.specs.Prelude.{IfOk}
-use Rattle.plain_doc.specs.declared.item.Item.{Item}
-use Rattle.doc_read.specs.ReadTexts.{AreCutsOf, AreTextsOf}
+use Rattle.doc_model.specs.declared.item.Item.{Item}
+use Rattle.doc_read.specs.ReadTexts.{AreCutsOf, AreCutTexts}
 use Rattle.doc_read.proofs.MeetLemmas.{length-read}
 use Rattle.doc_read.proofs.document.cut_units.Goals as goal
 
@@ -18,5 +18,5 @@ read_texts-texts-requires c =
 
 pub returns : goal.returns
 returns c =
-    subst (λ (items : List Item). IfOk c.read_texts-texts.result (AreTextsOf c.args.fib.now c.args.cuts.now items))
+    subst (λ (items : List Item). IfOk c.read_texts-texts.result (AreCutTexts c.args.fib.now c.args.cuts.now items))
     (c.in_ok-whole.ensures ∙ c.from_parts-all.ensures) c.read_texts-texts.ensures

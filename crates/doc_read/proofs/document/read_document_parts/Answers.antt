@@ -3,7 +3,7 @@ use Rattle.std.proofs.Common.{refl, sym, subst, Option, MatchOption}
 use Rattle.doc_bits.specs.Rules.{Hold}
 use Rattle.cfb_streams.specs.Contents.{Contents}
 use Rattle.file_rules.specs.FormatRules.{rules_of_formats}
-use Rattle.file_rules.specs.FileRules.{FileText, source_of}
+use Rattle.file_rules.specs.FileRules.{FileText, doc_source_of}
 use Rattle.file_rules.specs.PartRules.{PartLists}
 use Rattle.doc_read.specs.declared.document.ReadFromText.{ReadFromText}
 use Rattle.doc_read.specs.ReadParts.{AreDocumentParts, IsReadFromText}
@@ -12,8 +12,8 @@ use Rattle.doc_read.proofs.document.read_document_parts.Goals as goal
 -- what is read of the text
 abbrev IsReadOf : Contents → FileText → PartLists → Option ReadFromText → Type 0
 IsReadOf contents text lists read =
-    MatchOption read (¬ (Hold (rules_of_formats (source_of text))))
-    (λ (r : ReadFromText). Hold (rules_of_formats (source_of text)) × IsReadFromText contents text lists r)
+    MatchOption read (¬ (Hold (rules_of_formats (doc_source_of text))))
+    (λ (r : ReadFromText). Hold (rules_of_formats (doc_source_of text)) × IsReadFromText contents text lists r)
 
 pub returns-in-Err : goal.returns-in-Err
 returns-in-Err c = rw c.drop_then.ensures tt

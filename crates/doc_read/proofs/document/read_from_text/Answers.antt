@@ -3,7 +3,7 @@ use Rattle.std.proofs.Common.{◌≡◌, ap, subst, Option, MatchOption}
 use Rattle.doc_bits.specs.Rules.{Hold}
 use Rattle.file_rules.specs.Source.{DocSource}
 use Rattle.file_rules.specs.FormatRules.{rules_of_formats}
-use Rattle.file_rules.specs.FileRules.{source_of}
+use Rattle.file_rules.specs.FileRules.{doc_source_of}
 use Rattle.file_rules.specs.PartRules.{PartLists}
 use Rattle.doc_read.specs.declared.columns.ReadColumns.{ReadColumns}
 use Rattle.doc_read.specs.Items.{TextParts}
@@ -19,7 +19,7 @@ IsReadOf source parts read =
 
 pub returns-in_default : goal.returns-in_default
 returns-in_default c =
-    let source = source_of c.args.text.now in
+    let source = doc_source_of c.args.text.now in
     let parts : TextParts = record {
       source = source;
       pieces = c.args.text.now.pieces;
@@ -30,7 +30,7 @@ returns-in_default c =
 
 pub returns : goal.returns
 returns c =
-    let source = source_of c.args.text.now in
+    let source = doc_source_of c.args.text.now in
     let parts : TextParts = record {
       source = source;
       pieces = c.args.text.now.pieces;

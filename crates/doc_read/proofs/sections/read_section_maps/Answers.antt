@@ -2,7 +2,7 @@ use Rattle.std.proofs.Common.{◌≡◌, ◌∙◌, ap, arith}
 use Rattle.doc_parts.specs.declared.lists.Sed.{Sed}
 use Rattle.file_rules.specs.Source.{DocSource}
 use Rattle.file_rules.specs.SectionRules.{section_fc}
-use Rattle.file_rules.specs.FileRules.{source_of}
+use Rattle.file_rules.specs.FileRules.{doc_source_of}
 use Rattle.file_rules.proofs.Public.{index_of_get}
 use Rattle.doc_read.specs.Sections.{IsSectionProperties}
 use Rattle.doc_read.proofs.SettingsLemmas.{sepx-there, sepx-right, maps_none, maps_more}
@@ -16,7 +16,7 @@ loop-k-init c = record {
 
 pub properties-requires-clause-there : goal.properties-requires-clause-there
 properties-requires-clause-there c =
-    let source = source_of c.args.text.now in
+    let source = doc_source_of c.args.text.now in
     let wd : c.wd-wd.result.now ≡ source.wd = c.wd-wd.ensures.bytes ∙ ap (λ (s : DocSource). s.wd)
     c.source-source.ensures in
     let list = c.args.sections.now in
@@ -29,7 +29,7 @@ properties-requires-clause-there c =
 
 pub properties-requires-clause-right : goal.properties-requires-clause-right
 properties-requires-clause-right c =
-    let source = source_of c.args.text.now in
+    let source = doc_source_of c.args.text.now in
     let wd : c.wd-wd.result.now ≡ source.wd = c.wd-wd.ensures.bytes ∙ ap (λ (s : DocSource). s.wd)
     c.source-source.ensures in
     let list = c.args.sections.now in
@@ -42,7 +42,7 @@ properties-requires-clause-right c =
 
 pub loop-k-preserved : goal.loop-k-preserved
 loop-k-preserved c =
-    let source = source_of c.args.text.now in
+    let source = doc_source_of c.args.text.now in
     let wd : c.wd-wd.result.now ≡ source.wd = c.wd-wd.ensures.bytes ∙ ap (λ (s : DocSource). s.wd)
     c.source-source.ensures in
     let list = c.args.sections.now in

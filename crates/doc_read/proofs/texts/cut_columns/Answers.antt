@@ -1,6 +1,6 @@
 -- A text more.
 use Rattle.std.proofs.Common.{◌∙◌, refl, sym, subst, ◌+◌, List, length}
-use Rattle.plain_doc.specs.declared.item.Item.{Item}
+use Rattle.doc_model.specs.declared.item.Item.{Item}
 use Rattle.doc_read.specs.Texts.{AreCutFrom, AreCutsWithin}
 use Rattle.doc_read.proofs.SliceLemmas.{texts_none, texts_more}
 use Rattle.doc_read.proofs.texts.cut_columns.Goals as goal

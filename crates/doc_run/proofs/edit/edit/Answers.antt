@@ -1,7 +1,7 @@
 use Rattle.std.proofs.Common.{◌≡◌, map}
 use Rattle.std.proofs.lemmas.Result.{IfOk-weaker}
 use Rattle.script_run.specs.declared.faults.RunFault.TheVariants.{Stopped}
-use Rattle.script_run.specs.States.{start_of}
+use Rattle.script_run.specs.States.{starting_state}
 use Rattle.document_commands.specs.declared.reply.Reply.TheVariants.{Made, Refused}
 use Rattle.doc_run.specs.EditLines.{stop_line, edited_line}
 use Rattle.doc_run.specs.Edits.{refusal_of, Edits}
@@ -11,7 +11,8 @@ use Rattle.doc_run.proofs.edit.edit.Goals as goal
 pub returns-in-Ok : goal.returns-in-Ok
 returns-in-Ok g c =
     let start =
-    start_of c.args.session (map (λ b. (goal.Guard-dyn g (b.vtable, b.value)).policy b.value) c.args.guards.now) in
+    starting_state c.args.session (map (λ b. (goal.Guard-dyn g (b.vtable, b.value)).policy b.value) c.args.guards.now)
+    in
     let commands = c.args.script.now in
     let saved = c.in-Ok.saved in
     IfOk-weaker c.reply_of_edit.result
@@ -22,7 +23,8 @@ returns-in-Ok g c =
 pub returns-in-Err-Stopped : goal.returns-in-Err-Stopped
 returns-in-Err-Stopped g c =
     let start =
-    start_of c.args.session (map (λ b. (goal.Guard-dyn g (b.vtable, b.value)).policy b.value) c.args.guards.now) in
+    starting_state c.args.session (map (λ b. (goal.Guard-dyn g (b.vtable, b.value)).policy b.value) c.args.guards.now)
+    in
     let commands = c.args.script.now in
     let index = c.in-Err-Stopped.index in
     let stop = c.in-Err-Stopped.stop in

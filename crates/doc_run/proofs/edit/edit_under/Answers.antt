@@ -1,5 +1,5 @@
 use Rattle.std.proofs.Common.{◌≡◌, ◌∙◌, refl, Some, map, arith}
-use Rattle.script_run.specs.States.{start_of}
+use Rattle.script_run.specs.States.{starting_state}
 use Rattle.document_commands.proofs.Public.{ends_by}
 use Rattle.doc_run.specs.Edits.{EditsBy}
 use Rattle.doc_run.proofs.edit.edit_under.Goals as goal
@@ -9,7 +9,7 @@ returns-clause-ends g c =
     let out = Some c.args.out.now in
     let such =
     EditsBy
-    (start_of c.args.session (map (λ b. (goal.Guard-dyn g (b.vtable, b.value)).policy b.value) c.args.guards.now))
+    (starting_state c.args.session (map (λ b. (goal.Guard-dyn g (b.vtable, b.value)).policy b.value) c.args.guards.now))
     c.args.script.now in
     ends_by out out such c.in_ok-reply.reply c.explain.result c.in_ok-reply.ensures refl
     (c.explain.ensures ∙ c.in_ok-ending.ensures)

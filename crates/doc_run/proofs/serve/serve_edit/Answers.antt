@@ -1,7 +1,7 @@
 use Rattle.std.proofs.Common.{subst, map}
 use Rattle.std.specs.Prelude.{IfOk}
 use Rattle.std.proofs.lemmas.Result.{IfOk-weaker}
-use Rattle.script_run.specs.States.{start_of}
+use Rattle.script_run.specs.States.{starting_state}
 use Rattle.doc_run.specs.Reading.{IsBegun}
 use Rattle.doc_run.specs.Edits.{ReadsScript, EditsFile}
 use Rattle.doc_run.proofs.SessionLemmas.{begun_unchanged}
@@ -29,7 +29,7 @@ returns-in-Go-clause-ends g c =
     let session = c.in-Go.session in
     let result = c.edit_by_name.result in
     let policies = map (λ b. (goal.Guard-dyn g (b.vtable, b.value)).policy b.value) c.args.guards.now in
-    let start = start_of session policies in
+    let start = starting_state session policies in
     let begun = subst (λ b. IsBegun name taken b) c.in-Go.is c.in_ok-begun.ensures in
     let reads =
     subst (λ h. IfOk result (λ e. ReadsScript script out h start e)) c.in_ok-taken.ensures.read.kept

@@ -1,7 +1,7 @@
 use Rattle.std.proofs.Common.{subst}
 use Rattle.std.specs.Prelude.{IfOk}
 use Rattle.doc_read.specs.Holds.{all_rules}
-use Rattle.document_commands.specs.Tasks.{pair_of}
+use Rattle.document_commands.specs.Tasks.{pair_task_of}
 use Rattle.run_stages.specs.Stages.{ReadsFile}
 use Rattle.doc_run.specs.Reading.{IsOpenedStage, AnswersBeside}
 use Rattle.doc_run.specs.Endings.{ReadsSecond}
@@ -24,7 +24,7 @@ pub returns-in-Go-clause-ends : goal.returns-in-Go-clause-ends
 returns-in-Go-clause-ends g c =
     let first = c.args.first.now in
     let second = c.args.second.now in
-    let pair = pair_of c.args.pair in
+    let pair = pair_task_of c.args.pair in
     let held = g.S.Shelf.held c.args.shelf.now in
     let taken = c.in_ok-taken.taken in
     let document = c.in-Go.document in
@@ -48,7 +48,7 @@ returns-in-Stop-clause-ends g c =
     let held = g.S.Shelf.held c.args.shelf.now in
     let taken = c.in_ok-taken.taken in
     let stopped = subst (λ r. IsOpenedStage first taken r) c.in-Stop.is c.in_ok-reached.ensures in
-    stopped_reads first held taken (ReadsSecond (pair_of c.args.pair) c.args.second.now held) c.in-Stop.ending
+    stopped_reads first held taken (ReadsSecond (pair_task_of c.args.pair) c.args.second.now held) c.in-Stop.ending
     c.in_ok-taken.ensures.is stopped
 
 pub returns-in-Stop-clause-cause : goal.returns-in-Stop-clause-cause

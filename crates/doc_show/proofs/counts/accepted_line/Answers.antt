@@ -1,5 +1,5 @@
 use Rattle.std.proofs.Common.{◌≡◌, IfOk, subst}
-use Rattle.plain_doc.specs.declared.document.Document.{Document}
+use Rattle.doc_model.specs.declared.document.Document.{Document}
 use Rattle.doc_show.specs.Counts.{accepted_line_of}
 use Rattle.doc_show.proofs.counts.accepted_line.Goals as goal
 

@@ -1,5 +1,5 @@
 use Rattle.std.proofs.Common.{◌≡◌, IfOk, subst}
-use Rattle.plain_doc.specs.declared.document.Document.{Document}
+use Rattle.doc_model.specs.declared.document.Document.{Document}
 use Rattle.doc_show.specs.MainText.{main_text_of}
 use Rattle.doc_show.proofs.plain_text.main_text.Goals as goal
 

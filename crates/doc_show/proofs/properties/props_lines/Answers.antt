@@ -1,5 +1,5 @@
 use Rattle.std.proofs.Common.{◌<◌, IfOk, length, sym, subst}
-use Rattle.plain_doc.specs.declared.document.Document.{Document}
+use Rattle.doc_model.specs.declared.document.Document.{Document}
 use Rattle.plain_doc.specs.Sound.{IsSound}
 use Rattle.doc_show.specs.Properties.{ArePropertyLines}
 use Rattle.doc_show.proofs.properties.props_lines.Goals as goal

@@ -1,5 +1,5 @@
 use Rattle.std.proofs.Common.{refl, subst}
-use Rattle.plain_doc.specs.declared.document.Document.{Document}
+use Rattle.doc_model.specs.declared.document.Document.{Document}
 use Rattle.plain_doc.proofs.Public.{item_map, sound_seen}
 use Rattle.doc_show.specs.Properties.{ArePropertyLines, item_lines, mark_lines}
 use Rattle.doc_show.proofs.LineLemmas.{two_written}

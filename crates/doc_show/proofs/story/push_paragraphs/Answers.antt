@@ -1,7 +1,7 @@
 -- The lines of each paragraph.
 use Rattle.std.proofs.Common.{◌≡◌, ◌∙◌, ◌++◌, sym, ap, subst, length, arith}
 use Rattle.std.specs.Prelude.{slice_range}
-use Rattle.plain_doc.specs.Settings.{is_inside}
+use Rattle.doc_model.specs.Settings.{is_inside}
 use Rattle.doc_columns.proofs.Public.{start_at, begins_at_start, items_long, first_walk}
 use Rattle.doc_show.specs.Story.{paragraph_lines, story_lines}
 use Rattle.doc_columns.specs.Walks.{items_in}

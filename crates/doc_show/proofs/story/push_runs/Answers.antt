@@ -2,7 +2,7 @@
 use Rattle.std.proofs.Common.{◌≡◌, ◌∙◌, ◌++◌, sym, ap, subst, arith}
 use Rattle.std.specs.Prelude.{slice_range}
 use Rattle.std.specs.List.{flat_map}
-use Rattle.plain_doc.specs.Stretches.{stretches}
+use Rattle.doc_model.specs.Stretches.{stretches}
 use Rattle.doc_show.specs.Story.{is_one_run, run_line}
 use Rattle.doc_columns.specs.Walks.{items_in}
 use Rattle.doc_columns.proofs.Public.{begins_range, items_long}

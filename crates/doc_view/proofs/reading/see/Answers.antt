@@ -1,10 +1,10 @@
 use Rattle.std.proofs.Common.{◌≡◌, ◌∙◌, ◌+◌, ◌==◌, Bool, not, ◌&&◌, Option}
 use Rattle.std.specs.Prelude.{is_some}
 use Rattle.text_codes.specs.Paragraph.{cell_mark}
-use Rattle.plain_doc.specs.Rows.{is_on, value_in}
+use Rattle.plain_doc.specs.Rows.{is_byte_one, mark_value_in}
 use Rattle.doc_columns.specs.Columns.{item_of}
 use Rattle.view_places.specs.declared.glyph.Glyph.{Glyph}
-use Rattle.doc_view.specs.Glyphs.{glyph_of}
+use Rattle.doc_view.specs.Glyphs.{visible_glyph}
 use Rattle.doc_view.specs.Seen.{counts, is_shown, reference_kind, reference_of, visible}
 use Rattle.doc_view.proofs.reading.see.Goals as goal
 
@@ -17,16 +17,17 @@ returns c = λ chp.
     let kind : c.reference_kind-kind.result ≡ reference_kind manner item.note = c.reference_kind-kind.ensures in
     let section : c.is_some.result ≡ is_some item.sect = c.is_some.ensures in
     let shown : c.is_shown-shown.result ≡ is_shown manner format c.args.front item = c.is_shown-shown.ensures chp in
-    let row : Bool = c.args.unit == cell_mark && is_on (value_in item.mark 0x2417) in
+    let row : Bool = c.args.unit == cell_mark && is_byte_one (mark_value_in item.mark 0x2417) in
     let text : c.is_text-text.result ≡ (is_shown manner format c.args.front item && not row) =
     c.is_text-text.ensures ∙ (λ i. shown i && not row) in
-    let drawn : c.glyph_of-drawn.result ≡ glyph_of manner.fonts format (is_some item.sect) c.args.unit =
-    c.glyph_of-drawn.ensures ∙ (λ i. glyph_of manner.fonts format (section i) c.args.unit) in
+    let drawn : c.glyph_of-drawn.result ≡ visible_glyph manner.fonts format (is_some item.sect) c.args.unit =
+    c.glyph_of-drawn.ensures ∙ (λ i. visible_glyph manner.fonts format (section i) c.args.unit) in
     let glyph : c.visible-glyph.result
-    ≡ visible (reference_kind manner item.note) number (glyph_of manner.fonts format (is_some item.sect) c.args.unit) =
+    ≡ visible (reference_kind manner item.note) number (visible_glyph manner.fonts format (is_some item.sect)
+    c.args.unit) =
     c.visible-glyph.ensures ∙ (λ i. visible (kind i) number (drawn i)) in
     let seen : c.is_seen.result
-    ≡ (counts manner.kind (visible (reference_kind manner item.note) number (glyph_of manner.fonts format (is_some
+    ≡ (counts manner.kind (visible (reference_kind manner item.note) number (visible_glyph manner.fonts format (is_some
     item.sect) c.args.unit)) && (is_shown manner format c.args.front item && not row)) =
     c.is_seen.ensures ∙ (λ i. counts manner.kind (glyph i) && text i) in
     let reference : c.reference_of.result

@@ -1,13 +1,13 @@
 use Rattle.std.proofs.Common.{inl, inr, sym, subst, arith}
 use Rattle.std.proofs.lemmas.Result.{IfOk-weaker}
-use Rattle.plain_doc.specs.declared.document.Document.{Document}
+use Rattle.doc_model.specs.declared.document.Document.{Document}
 use Rattle.plain_doc.specs.Sound.{IsSound}
 use Rattle.doc_read.specs.Holds.{all_rules, HoldsDocument}
 use Rattle.doc_read.specs.CarriedParts.{AreShortStreams}
 use Rattle.doc_read.proofs.Public.{streams_short}
 use Rattle.run_stages.specs.Judged.{Judges}
 use Rattle.document_commands.specs.Tasks.{task_of, out_of}
-use Rattle.document_commands.specs.Replies.{EndsBy, Replies}
+use Rattle.document_commands.specs.Replies.{EndsByReply, Replies}
 use Rattle.document_commands.specs.Judged.{NamesRule}
 use Rattle.document_commands.specs.Answers.{AnswersFile}
 use Rattle.document_commands.proofs.JudgedLemmas.{names-refused}
@@ -30,7 +30,7 @@ returns-in-Ok-clause-judges c =
     let document = c.document.result.now in
     let opened = c.in-Ok.ensures in
     let holds = subst (λ (d : Document). HoldsDocument file d) (sym c.document.ensures) opened.holds in
-    IfOk-weaker c.answer_document-ending.result (EndsBy (out_of task) (Replies task name document))
+    IfOk-weaker c.answer_document-ending.result (EndsByReply (out_of task) (Replies task name document))
     (λ e. Judges (all_rules file) name (AnswersFile task name file) e)
     (λ e h. inr (opened.accepted, record { document = document; holds = holds; answers = h }))
     c.answer_document-ending.ensures

@@ -1,6 +1,6 @@
 use Rattle.std.proofs.Common.{◌≡◌, ◌∙◌, ◌+◌, ◌++◌, [], ◌∷◌, ap, drop, length, false, append_assoc}
 use Rattle.std.specs.Fmt.{decimal}
-use Rattle.text_codes.specs.Shown.{shown}
+use Rattle.text_codes.specs.Shown.{shown_text}
 use Rattle.text_codes.specs.Shown.{line}
 use Rattle.document_commands.specs.Lines.{stream_lines}
 use Rattle.document_commands.proofs.ListingLemmas.{lines-from}
@@ -13,8 +13,8 @@ loop-i-preserved c =
     let bytes = c.bytes.result.now in
     let name = c.name.result.now in
     let rest = stream_lines (drop (i + 1) streams) in
-    let one = line (decimal (length bytes) ++ (32 ∷ [] ++ shown false name)) in
-    let name_is : c.as_str-name.result.now ≡ shown false name = c.as_str-name.ensures ∙ c.in_ok-name.ensures in
+    let one = line (decimal (length bytes) ++ (32 ∷ [] ++ shown_text false name)) in
+    let name_is : c.as_str-name.result.now ≡ shown_text false name = c.as_str-name.ensures ∙ c.in_ok-name.ensures in
     let text : c.as_str.result.now ≡ one =
     simp append_assoc (c.as_str.ensures.value ∙ rw name_is at c.in_ok-line.ensures.ok) in
     let pushed : c.push_all.new.self ≡ c.loop-i.text ++ one =

@@ -1,7 +1,7 @@
 use Rattle.std.specs.Prelude.{codes}
 use Rattle.std.proofs.Common.{subst}
 use Rattle.std.proofs.lemmas.Result.{IfOk-weaker}
-use Rattle.plain_doc.specs.declared.document.Document.{Document}
+use Rattle.doc_model.specs.declared.document.Document.{Document}
 use Rattle.document_commands.specs.Saves.{Saves}
 use Rattle.document_commands.specs.Summaries.{HasSummaryBytes, SavesWith}
 use Rattle.document_commands.proofs.SummaryLemmas.{changed_sound}

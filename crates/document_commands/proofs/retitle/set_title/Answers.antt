@@ -3,7 +3,7 @@ use Rattle.std.proofs.lemmas.Result.{IfOk-weaker}
 use Rattle.summary_set.specs.declared.fault.SetFault.TheVariants.{Form}
 use Rattle.summary_set.specs.Laws.{IsAsked}
 use Rattle.summary_set.specs.Written.{retitled_stream}
-use Rattle.plain_doc.specs.Carried.{AreCarriedStreams, with_bytes}
+use Rattle.doc_model.specs.Carried.{AreCarriedStreams, with_bytes}
 use Rattle.document_commands.specs.declared.reply.Reply.{Reply}
 use Rattle.document_commands.specs.declared.reply.Reply.TheVariants.{Refused}
 use Rattle.document_commands.specs.declared.reply.Refusal.TheVariants.{WrongSummary}

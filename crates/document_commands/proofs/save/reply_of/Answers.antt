@@ -1,7 +1,7 @@
 use Rattle.std.specs.Prelude.{MatchResult, Result}
 use Rattle.std.proofs.Common.{◌≡◌, ◌∙◌, ap, inl, length, List, ℕ, subst, Ok}
 use Rattle.std.proofs.lemmas.Result.{IfOk-weaker}
-use Rattle.plain_doc.specs.declared.document.Document.{Document}
+use Rattle.doc_model.specs.declared.document.Document.{Document}
 use Rattle.full_save.specs.declared.fault.SaveFault.{SaveFault}
 use Rattle.full_save.specs.Layout.{full_save_image, FitsCompoundFile, IsTooLarge}
 use Rattle.document_commands.specs.declared.reply.Reply.{Reply}

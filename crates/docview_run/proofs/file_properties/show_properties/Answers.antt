@@ -1,6 +1,6 @@
 use Rattle.std.proofs.Common.{◌≡◌, ◌∙◌, ℕ, List, sym, subst}
 use Rattle.run_stages.specs.Leaves.{IsCaused}
-use Rattle.run_stages.specs.Reading.{IsFound}
+use Rattle.run_stages.specs.Reading.{IsFoundFile}
 use Rattle.docview_run.specs.Endings.{RunEnds}
 use Rattle.docview_run.specs.FileProperties.{PropertiesOf, ShowsProperties}
 use Rattle.docview_run.proofs.EndLemmas.{file_asked, file_caused, file_ends, stopped_ends, stopped_status}
@@ -13,7 +13,7 @@ returns-in-Ok-Go-clause-ends g c =
     let taken = rw c.in-Ok-Go.field-0-is at c.in-Ok-Go.ensures.is in
     file_ends g.K.Sink c.args.out.now c.show_taken.new.out name held (PropertiesOf name) c.as_slice.result.now
     c.show_taken.result
-    (subst (λ (bytes : List ℕ). IsFound name held bytes) (sym c.as_slice.ensures) taken) c.show_taken.ensures.bytes
+    (subst (λ (bytes : List ℕ). IsFoundFile name held bytes) (sym c.as_slice.ensures) taken) c.show_taken.ensures.bytes
     c.show_taken.ensures.ends
 
 pub returns-in-Ok-Go-clause-cause : goal.returns-in-Ok-Go-clause-cause

@@ -1,6 +1,6 @@
 use Rattle.std.proofs.Common.{◌≢◌, ◌∙◌, ℕ, List, Some, arith, subst, sym}
 use Rattle.run_stages.specs.Leaves.{IsCaused}
-use Rattle.run_stages.specs.Reading.{IsFound}
+use Rattle.run_stages.specs.Reading.{IsFoundFile}
 use Rattle.docview_run.specs.Endings.{RunEnds, ShowsFile, ShowsPictured}
 use Rattle.docview_run.proofs.EndLemmas.{stopped_ends, stopped_status}
 use Rattle.docview_run.proofs.PictureLemmas.{named_ends, read_leaves, stopped_not_shown, taken_asked, taken_caused}
@@ -15,7 +15,7 @@ returns-in-Ok-Go-clause-ends g c =
     taken_ends g.K.Sink c.args.out.now c.show_taken.new.out asked.view asked.album.force asked.album.folder.now
     asked.name.now held (g.S.Shelf.held c.take_file.new.shelf) c.as_slice.result.now c.show_taken.result
     c.in-Ok-Go.ensures.read.kept
-    (subst (λ (bytes : List ℕ). IsFound asked.name.now held bytes) (sym c.as_slice.ensures) taken)
+    (subst (λ (bytes : List ℕ). IsFoundFile asked.name.now held bytes) (sym c.as_slice.ensures) taken)
     c.show_taken.ensures.bytes c.show_taken.ensures.ends
 
 pub returns-in-Ok-Go-clause-leaves : goal.returns-in-Ok-Go-clause-leaves
@@ -26,7 +26,7 @@ returns-in-Ok-Go-clause-leaves g c =
     taken_leaves g.S.Shelf asked.view.strict asked.album.force asked.album.folder.now asked.name.now
     c.as_slice.result.now c.show_taken.result c.args.shelf.now c.take_file.new.shelf c.show_taken.new.shelf
     c.in-Ok-Go.ensures.read
-    (subst (λ (bytes : List ℕ). IsFound asked.name.now held bytes) (sym c.as_slice.ensures) taken)
+    (subst (λ (bytes : List ℕ). IsFoundFile asked.name.now held bytes) (sym c.as_slice.ensures) taken)
     c.show_taken.ensures.leaves
 
 pub returns-in-Ok-Go-clause-cause : goal.returns-in-Ok-Go-clause-cause

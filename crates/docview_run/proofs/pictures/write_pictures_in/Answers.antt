@@ -1,15 +1,15 @@
 use Rattle.std.proofs.Common.{◌≡◌, ◌⊎◌, Err, List, ap, inr, subst, sym}
 use Rattle.doc_pictures.specs.declared.pictures.Picture.{Picture}
-use Rattle.doc_pictures.specs.Album.{AreWithin, IsCutShort, Writes}
-use Rattle.doc_pictures.specs.Places.{places_of}
+use Rattle.doc_pictures.specs.Album.{AreWithinStream, IsCutShort, WritesPictures}
+use Rattle.doc_pictures.specs.Places.{picture_places}
 use Rattle.doc_pictures.proofs.Public.{pictures-within}
 use Rattle.docview_run.proofs.PictureLemmas.{path_named, same_fault, taken_there}
 use Rattle.docview_run.proofs.pictures.write_pictures_in.Goals as goal
 
 pub write_pictures-requires : goal.write_pictures-requires
 write_pictures-requires g c =
-    subst (λ (pictures : List Picture). AreWithin c.args.stream.now pictures) (sym c.as_slice.ensures.is)
-    (pictures-within c.args.stream.now (places_of c.args.document.now) c.in-Ok.pictures c.in-Ok.ensures)
+    subst (λ (pictures : List Picture). AreWithinStream c.args.stream.now pictures) (sym c.as_slice.ensures.is)
+    (pictures-within c.args.stream.now (picture_places c.args.document.now) c.in-Ok.pictures c.in-Ok.ensures)
 
 pub returns-in-Ok-write_pictures-clause-written : goal.returns-in-Ok-write_pictures-clause-written
 returns-in-Ok-write_pictures-clause-written g c =
@@ -17,7 +17,8 @@ returns-in-Ok-write_pictures-clause-written g c =
     record {
       are = c.in-Ok.ensures;
       writes =
-          subst (λ (all : List Picture). Writes c.args.album.now.force c.args.album.now.folder.now c.args.stream.now 1 all
+          subst (λ (all : List Picture). WritesPictures c.args.album.now.force c.args.album.now.folder.now
+          c.args.stream.now 1 all
           (held c.args.shelf.now) (held c.write_pictures.new.shelf)) c.as_slice.ensures.is c.in-Ok-write_pictures.ensures.written;
     }
 

@@ -1,11 +1,12 @@
 use Rattle.std.proofs.Common.{◌≡◌, sym, subst, arith}
-use Rattle.plain_doc.specs.declared.document.Document.{Document}
+use Rattle.doc_model.specs.declared.document.Document.{Document}
 use Rattle.plain_doc.specs.Sound.{IsSound}
 use Rattle.doc_read.specs.Holds.{HoldsDocument}
-use Rattle.docview_run.proofs.ViewLemmas.{held_ends, not_accepted, refused_ends}
+use Rattle.docview_run.proofs.ViewLemmas.{held_ends, refused_ends}
 use Rattle.docview_run.proofs.run.show_file.Goals as goal
 use Rattle.doc_bits.proofs.Public.{not_true}
 use Rattle.doc_view.proofs.Public.{shown_by}
+use Rattle.doc_fit.proofs.Public.{refused_not_accepted}
 
 pub show_document-status-requires : goal.show_document-status-requires
 show_document-status-requires g c =
@@ -29,7 +30,7 @@ pub show_lifted-requires-clause-refused : goal.show_lifted-requires-clause-refus
 show_lifted-requires-clause-refused g c =
     let refused = c.in-Err-Refused in
     let first = rw refused.field-0-is at refused.ensures in
-    not_accepted c.args.file.now refused.rule (refused.place, refused.offset) first
+    refused_not_accepted c.args.file.now refused.rule (refused.place, refused.offset) first
 
 pub show_lifted-requires-clause-lifts : goal.show_lifted-requires-clause-lifts
 show_lifted-requires-clause-lifts g c = not_true c.args.view.strict c.if-not-view.true

@@ -1,6 +1,6 @@
 use Rattle.std.proofs.Common.{◌≡◌, ◌∙◌, ℕ, List, Option, None, sym, subst}
 use Rattle.run_stages.specs.Leaves.{IsCaused}
-use Rattle.run_stages.specs.Reading.{IsFound}
+use Rattle.run_stages.specs.Reading.{IsFoundFile}
 use Rattle.docview_run.specs.Endings.{RunEnds, ShowsFile, ShowsName}
 use Rattle.docview_run.proofs.EndLemmas.{file_asked, file_caused, file_ends, stopped_ends, stopped_status}
 use Rattle.docview_run.proofs.run.show_name.Goals as goal
@@ -12,7 +12,7 @@ returns-in-Ok-Go-clause-ends g c =
     let taken = rw c.in-Ok-Go.field-0-is at c.in-Ok-Go.ensures.is in
     file_ends g.K.Sink c.args.out.now c.show_file.new.out name held (ShowsFile c.args.view None name) c.as_slice.result.now
     c.show_file.result
-    (subst (λ (bytes : List ℕ). IsFound name held bytes) (sym c.as_slice.ensures) taken) c.show_file.ensures.bytes
+    (subst (λ (bytes : List ℕ). IsFoundFile name held bytes) (sym c.as_slice.ensures) taken) c.show_file.ensures.bytes
     c.show_file.ensures.ends
 
 pub returns-in-Ok-Go-clause-cause : goal.returns-in-Ok-Go-clause-cause

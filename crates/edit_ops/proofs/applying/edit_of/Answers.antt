@@ -1,6 +1,6 @@
 use Rattle.std.proofs.Common.{refl, subst, sym}
-use Rattle.plain_doc.specs.declared.document.Document.{Document}
-use Rattle.plain_doc.specs.Marks.{HasFormedBookmarks}
+use Rattle.doc_model.specs.declared.document.Document.{Document}
+use Rattle.doc_model.specs.Marks.{HasFormedBookmarks}
 use Rattle.edit_ops.specs.Causes.{CanBeTried}
 use Rattle.edit_ops.proofs.JudgeLemmas.{outcome}
 use Rattle.edit_ops.proofs.KeepLemmas.{keeps_bookmarks}

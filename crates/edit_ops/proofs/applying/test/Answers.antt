@@ -1,6 +1,6 @@
 use Rattle.std.proofs.Common.{◌≡◌, sym, subst}
 use Rattle.std.specs.Prelude.{MatchResult}
-use Rattle.plain_doc.specs.declared.document.Document.{Document}
+use Rattle.doc_model.specs.declared.document.Document.{Document}
 use Rattle.plain_doc.specs.Sound.{IsSound}
 use Rattle.edit_ops.specs.Causes.{IsAcceptedEdit, IsEditFault}
 use Rattle.edit_ops.specs.EditFacts.{edit_facts}

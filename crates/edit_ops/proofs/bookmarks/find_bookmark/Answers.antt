@@ -1,6 +1,6 @@
 use Rattle.std.proofs.Common.{◌≡◌, ◌∙◌, ◌+◌, ap, sym, cond, drop, Some, true, false}
 use Rattle.std.specs.List.{find}
-use Rattle.doc_parts.specs.Names.{is_named}
+use Rattle.document_bookmarks.specs.Names.{is_named}
 use Rattle.edit_ops.proofs.bookmarks.find_bookmark.Goals as goal
 use Rattle.run_lists.proofs.Public.{run_and_rest}
 

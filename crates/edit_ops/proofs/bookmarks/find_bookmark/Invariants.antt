@@ -1,6 +1,6 @@
 use Rattle.std.proofs.Common.{◌≡◌, drop}
 use Rattle.std.specs.List.{find}
-use Rattle.doc_parts.specs.Names.{is_named}
+use Rattle.document_bookmarks.specs.Names.{is_named}
 use Rattle.edit_ops.proofs.bookmarks.find_bookmark.Given as goal
 
 -- the first of that name is among those that are left

@@ -1,6 +1,6 @@
 use Rattle.std.proofs.Common.{◌∙◌, [], sym, ap, List, Option}
 use Rattle.std.specs.Option.{unwrap_or}
-use Rattle.plain_doc.specs.declared.item.Item.{Item}
+use Rattle.doc_model.specs.declared.item.Item.{Item}
 use Rattle.edit_ops.specs.EditFacts.{style_before}
 use Rattle.edit_ops.proofs.facts.style_at.Goals as goal
 

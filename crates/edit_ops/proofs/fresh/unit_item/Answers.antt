@@ -1,6 +1,6 @@
 use Rattle.std.proofs.Common.{sym, subst}
 use Rattle.prop_map.specs.Formed.{IsPropertyMap, character_groups}
-use Rattle.plain_doc.proofs.Public.{HasPropertyMaps-from_parts}
+use Rattle.doc_model.proofs.Public.{HasPropertyMaps-from_parts}
 use Rattle.edit_ops.proofs.fresh.unit_item.Goals as goal
 
 pub returns-clause-maps : goal.returns-clause-maps

@@ -1,6 +1,6 @@
 use Rattle.std.proofs.Common.{Some}
 use Rattle.prop_map.specs.Formed.{IsPropertyMap, section_groups}
-use Rattle.plain_doc.proofs.Public.{ForSome-from_cases}
+use Rattle.doc_model.proofs.Public.{ForSome-from_cases}
 use Rattle.edit_ops.proofs.marks.section_item.Goals as goal
 
 pub add-requires-clause-maps : goal.add-requires-clause-maps

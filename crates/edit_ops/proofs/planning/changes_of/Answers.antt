@@ -1,6 +1,6 @@
 use Rattle.std.proofs.Common.{subst, sym, length, ◌≤◌, arith}
-use Rattle.plain_doc.specs.declared.document.Document.{Document}
-use Rattle.plain_doc.specs.Marks.{most_bookmarks}
+use Rattle.doc_model.specs.declared.document.Document.{Document}
+use Rattle.doc_model.specs.Marks.{most_bookmarks}
 use Rattle.plain_doc.proofs.Public.{sound_is_valid}
 use Rattle.edit_ops.specs.Codes.{HasValidCodes}
 use Rattle.edit_ops.proofs.planning.changes_of.Goals as goal

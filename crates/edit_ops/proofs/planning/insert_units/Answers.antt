@@ -1,6 +1,6 @@
 use Rattle.std.proofs.Common.{◌≡◌, ◌∙◌, ap, sym, subst, List}
 use Rattle.std.specs.Prelude.{IfOk}
-use Rattle.plain_doc.specs.declared.item.Item.{Item}
+use Rattle.doc_model.specs.declared.item.Item.{Item}
 use Rattle.doc_patch.specs.Places.{items_at}
 use Rattle.edit_ops.specs.Edits.{insertion}
 use Rattle.edit_ops.specs.Fresh.{inserted_items}

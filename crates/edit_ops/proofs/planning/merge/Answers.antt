@@ -1,6 +1,6 @@
 use Rattle.std.proofs.Common.{◌≡◌, ◌∙◌, ◌+◌, ℕ, ap, sym, subst, List, arith}
 use Rattle.std.specs.Prelude.{IfOk}
-use Rattle.plain_doc.specs.declared.item.Item.{Item}
+use Rattle.doc_model.specs.declared.item.Item.{Item}
 use Rattle.doc_patch.specs.Places.{items_at, mark_place}
 use Rattle.edit_ops.specs.Ranges.{HasText, HasRange, EndsWithMark}
 use Rattle.edit_ops.specs.Edits.{erased}

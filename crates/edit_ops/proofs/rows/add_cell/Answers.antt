@@ -3,7 +3,7 @@ use Rattle.std.specs.Prelude.{IfOk}
 use Rattle.prop_map.specs.Settings.{Properties}
 use Rattle.prop_map.specs.Formed.{IsPropertyMap, character_groups}
 use Rattle.prop_map.proofs.Public.{IsPropertyMap-empty}
-use Rattle.plain_doc.specs.declared.item.Item.{Item}
+use Rattle.doc_model.specs.declared.item.Item.{Item}
 use Rattle.doc_columns.specs.Columns.{bare_items}
 use Rattle.edit_ops.specs.Fresh.{mark_item, mark_with}
 use Rattle.std.specs.FinMap.{empty}

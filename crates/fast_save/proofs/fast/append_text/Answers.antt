@@ -1,6 +1,6 @@
 use Rattle.std.proofs.Common.{sym, subst, List, ℕ, Option}
 use Rattle.fast_save_layout.specs.Answers.{IsAppended, IsAppendFault}
-use Rattle.fast_save_layout.specs.Kept.{CanBeAppended}
+use Rattle.fast_save_layout.specs.Kept.{CanBeFastSaved}
 use Rattle.fast_save_layout.specs.Saves.{FastSave}
 use Rattle.fast_save.specs.declared.parts.SessionParts.{SessionParts}
 use Rattle.fast_save.specs.Fast.{save_in}
@@ -14,7 +14,7 @@ append-requires c =
     let right = c.text_is_formed.ensures in
     let parts : SessionParts = with_text c.args.parts.now c.args.text.now in
     let save : FastSave = save_in c.args.bytes.now c.args.document.now parts in
-    subst (λ (places : List (Option ℕ)). CanBeAppended (record save { places = places })) (sym c.deref.ensures.value)
+    subst (λ (places : List (Option ℕ)). CanBeFastSaved (record save { places = places })) (sym c.deref.ensures.value)
     (can_append c.args.document.now parts c.requires right.document right.items right.pieces)
 
 pub returns-in-Ok : goal.returns-in-Ok

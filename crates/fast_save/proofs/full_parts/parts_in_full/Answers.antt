@@ -9,7 +9,7 @@ use Rattle.fib_form.specs.FibRules.{fib_rules}
 use Rattle.piece_table.specs.Piece.{one_piece}
 use Rattle.doc_read.specs.Opened.{OpenedFile}
 use Rattle.full_save.specs.Text.{text_items}
-use Rattle.full_save.specs.WordDocument.{wd_stream, full_fib, text_at}
+use Rattle.full_save.specs.WordDocument.{wd_stream, full_fib, text_offset}
 use Rattle.full_save.specs.Layout.{full_save_image}
 use Rattle.fast_save.specs.Session.{IsSession}
 use Rattle.fast_save.specs.Started.{IsOpenFile}
@@ -80,8 +80,8 @@ of_file-requires c =
     let len : c.text_len.result ≡ length (text_items document) =
     c.text_len.ensures.value
     ∙ (ap (λ (f : FibFields). text_length f.ccps) fib ∙ image_length document c.requires.savable bytes) in
-    let pieces : c.in_ok-pieces.pieces.pieces ≡ one_piece text_at (length (text_items document)) =
-    c.in_ok-pieces.ensures ∙ ap (one_piece text_at) len in
+    let pieces : c.in_ok-pieces.pieces.pieces ≡ one_piece text_offset (length (text_items document)) =
+    c.in_ok-pieces.ensures ∙ ap (one_piece text_offset) len in
     full_open document c.requires.savable bytes c.read_fib-fib.result contents c.in_ok-pieces.pieces.pieces has fib
     pieces
 
@@ -105,8 +105,8 @@ returns-clause-session c =
     let len : c.text_len.result ≡ length (text_items document) =
     c.text_len.ensures.value
     ∙ (ap (λ (f : FibFields). text_length f.ccps) fib ∙ image_length document c.requires.savable bytes) in
-    let pieces : c.in_ok-pieces.pieces.pieces ≡ one_piece text_at (length (text_items document)) =
-    c.in_ok-pieces.ensures ∙ ap (one_piece text_at) len in
+    let pieces : c.in_ok-pieces.pieces.pieces ≡ one_piece text_offset (length (text_items document)) =
+    c.in_ok-pieces.ensures ∙ ap (one_piece text_offset) len in
     let opened : OpenedFile = record {
       document = document;
       fib = c.read_fib-fib.result;
@@ -142,10 +142,10 @@ returns-clause-pieces c =
     let len : c.text_len.result ≡ length (text_items document) =
     c.text_len.ensures.value
     ∙ (ap (λ (f : FibFields). text_length f.ccps) fib ∙ image_length document c.requires.savable bytes) in
-    let pieces : c.in_ok-pieces.pieces.pieces ≡ one_piece text_at (length (text_items document)) =
-    c.in_ok-pieces.ensures ∙ ap (one_piece text_at) len in
+    let pieces : c.in_ok-pieces.pieces.pieces ≡ one_piece text_offset (length (text_items document)) =
+    c.in_ok-pieces.ensures ∙ ap (one_piece text_offset) len in
     ok_more c.of_file.result (λ parts. parts.text.pieces.pieces ≡ c.in_ok-pieces.pieces.pieces)
-    (λ parts. parts.text.pieces.pieces ≡ one_piece text_at (length (text_items document)))
+    (λ parts. parts.text.pieces.pieces ≡ one_piece text_offset (length (text_items document)))
     (λ parts is. is ∙ pieces) c.of_file.ensures.pieces
 
 pub returns-clause-fib : goal.returns-clause-fib

@@ -1,7 +1,7 @@
 use Rattle.std.proofs.Common.{◌≡◌, ◌∙◌, ap, subst, List, ℕ, arith}
 use Rattle.cfb_streams.specs.Names.{table_name}
 use Rattle.cfb_streams.specs.Contents.{HasNamed}
-use Rattle.fib_form.specs.FibFields.{FibFields, pair_at}
+use Rattle.fib_form.specs.FibFields.{FibFields, listed_pair}
 use Rattle.file_rules.specs.FileRules.{table_stream_name}
 use Rattle.fast_save.specs.Started.{IsReadFile, written_places}
 use Rattle.fast_save.proofs.OpenLemmas.{named_short, sections_are, sections_hold, no_part_fault}
@@ -32,7 +32,8 @@ returns-in-Ok c =
     let same : c.in-Ok.seds ≡ file.parts.lists.sections =
     sections_are contents fib file table c.part_of-plc.result.now c.pair-pair.result c.ccp.result c.in-Ok.seds
     required_stream
-    (c.pair-pair.ensures ∙ ap (pair_at fib.pairs) c.pair.ensures.number) c.part_of-plc.ensures.bytes c.ccp.ensures.value
+    (c.pair-pair.ensures ∙ ap (listed_pair fib.pairs) c.pair.ensures.number) c.part_of-plc.ensures.bytes
+    c.ccp.ensures.value
     c.in-Ok.ensures.1 in
     is ∙ ap written_places same)
     c.places_of.ensures
@@ -50,7 +51,8 @@ unreachable-requires c =
     let hold =
     sections_hold c.args.container.now fib file table c.part_of-plc.result.now c.pair-pair.result c.ccp.result
     required_stream
-    (c.pair-pair.ensures ∙ ap (pair_at fib.pairs) c.pair.ensures.number) c.part_of-plc.ensures.bytes c.ccp.ensures.value
+    (c.pair-pair.ensures ∙ ap (listed_pair fib.pairs) c.pair.ensures.number) c.part_of-plc.ensures.bytes
+    c.ccp.ensures.value
     in
     no_part_fault c.part_of-plc.result.now c.pair-pair.result.0 c.ccp.result c.in-Err-Rule.field-0
     c.in-Err-Rule.field-0-0 c.in-Err-Rule.field-0-1 hold c.in-Err-Rule.ensures c.in-Err-Rule.field-0-is

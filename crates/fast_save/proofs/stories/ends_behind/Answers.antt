@@ -1,6 +1,6 @@
 use Rattle.std.proofs.Common.{ap, length, arith}
-use Rattle.plain_doc.specs.declared.document.Document.{Document}
-use Rattle.plain_doc.specs.Collected.{joined_texts}
+use Rattle.doc_model.specs.declared.document.Document.{Document}
+use Rattle.doc_model.specs.Collected.{joined_texts}
 use Rattle.plain_doc.proofs.Public.{sound_is_valid}
 use Rattle.full_save.proofs.Public.{few_items}
 use Rattle.fast_save.proofs.stories.ends_behind.Goals as goal

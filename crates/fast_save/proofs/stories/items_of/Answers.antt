@@ -1,7 +1,7 @@
 use Rattle.std.proofs.Common.{◌+◌, ap, length, take, arith}
 use Rattle.std.proofs.lemmas.List.{length-append}
-use Rattle.plain_doc.specs.Collected.{joined_texts}
-use Rattle.plain_doc.proofs.Public.{text_joined, first_joined}
+use Rattle.doc_model.specs.Collected.{joined_texts}
+use Rattle.doc_model.proofs.Public.{text_joined, first_joined}
 use Rattle.fast_save.proofs.stories.items_of.Goals as goal
 
 pub overflow_add-count : goal.overflow_add-count

@@ -1,7 +1,7 @@
 use Rattle.std.proofs.Common.{◌∙◌, ◌++◌, List, ℕ, length, ap, arith}
 use Rattle.std.proofs.lemmas.List.{length-map}
-use Rattle.cfb_layout.specs.Sectors.{padded}
-use Rattle.plain_doc.specs.declared.item.Item.{Item}
+use Rattle.cfb_layout.specs.Sectors.{padded_to_unit}
+use Rattle.doc_model.specs.declared.item.Item.{Item}
 use Rattle.full_save.specs.WordDocument.{units_bytes}
 use Rattle.fast_save_layout.proofs.added.add_text.Goals as goal
 
@@ -17,4 +17,4 @@ append_text-requires c =
 pub returns : goal.returns
 returns c =
     c.in_ok-append_text.ensures
-    ∙ ap (λ (units : List ℕ). c.args.out.now ++ padded 512 0 (units_bytes units)) c.units.ensures
+    ∙ ap (λ (units : List ℕ). c.args.out.now ++ padded_to_unit 512 0 (units_bytes units)) c.units.ensures

@@ -1,10 +1,10 @@
 use Rattle.std.proofs.Common.{◌≡◌, ◌<◌, ◌+◌, [], length, take, get_or, ap, arith}
 use Rattle.std.proofs.lemmas.List.{length-append}
 use Rattle.std.proofs.lemmas.Option.{get_or_from_slice_get}
-use Rattle.plain_doc.specs.Collected.{joined_texts}
+use Rattle.doc_model.specs.Collected.{joined_texts}
 use Rattle.full_save.proofs.Public.{joined_next}
 use Rattle.fast_save_layout.proofs.added.items_of.Goals as goal
-use Rattle.plain_doc.proofs.Public.{first_joined}
+use Rattle.doc_model.proofs.Public.{first_joined}
 
 pub overflow_add-count : goal.overflow_add-count
 overflow_add-count c =

@@ -1,5 +1,5 @@
 use Rattle.std.proofs.Common.{◌≡◌, length, take}
-use Rattle.plain_doc.specs.Collected.{joined_texts}
+use Rattle.doc_model.specs.Collected.{joined_texts}
 use Rattle.fast_save_layout.proofs.added.items_of.Given as goal
 
 abbrev pub invariant-loop-k : goal.invariant-loop-k

@@ -6,9 +6,9 @@ use Rattle.cfb_layout.specs.Counts.{Fits, sectors_needed}
 use Rattle.cfb_layout.specs.declared.faults.LayoutFault.TheVariants.{TooLarge}
 use Rattle.cfb_layout.specs.Layout.{lengths_of, compound_file}
 use Rattle.cfb_in_place.specs.Change.{StreamChange}
-use Rattle.cfb_in_place.specs.Contract.{CanBeAppended as CanBePut, IsSavedInPlace, NeedsTooMany as NeedTooMany}
+use Rattle.cfb_in_place.specs.Contract.{CanBePutInPlace as CanBePut, IsSavedInPlace, NeedsTooMany as NeedTooMany}
 use Rattle.file_rules.proofs.Public.{hold_out}
-use Rattle.fast_save_layout.specs.Saves.{FastSave, save_of}
+use Rattle.fast_save_layout.specs.Saves.{FastSave, fast_save_of}
 use Rattle.fast_save_layout.specs.Appended.{table_name_of}
 use Rattle.fast_save_layout.specs.Bodies.{IsWriteFault}
 use Rattle.fast_save_layout.proofs.ReadyLemmas.{long_wd}
@@ -20,7 +20,7 @@ use Rattle.fast_save_layout.proofs.saving.append.Goals as goal
 
 pub saved_by-requires : goal.saved_by-requires
 saved_by-requires c =
-    let save : FastSave = save_of c.args.old.now c.args.document.now c.args.text.now in
+    let save : FastSave = fast_save_of c.args.old.now c.args.document.now c.args.text.now in
     let made = c.in_ok-parts.ensures in
     let m : Made = made_of save c.in_ok-parts.parts c.requires made in
     let streams = streams_made c.args.old.now c.args.document.now c.args.text.now c.in_ok-parts.parts c.requires made in
@@ -44,7 +44,7 @@ saved_by-requires c =
 
 pub returns-in-Ok : goal.returns-in-Ok
 returns-in-Ok c =
-    let save : FastSave = save_of c.args.old.now c.args.document.now c.args.text.now in
+    let save : FastSave = fast_save_of c.args.old.now c.args.document.now c.args.text.now in
     let made = c.in_ok-parts.ensures in
     let m : Made = made_of save c.in_ok-parts.parts c.requires made in
     let file = c.in-Ok.file in
@@ -63,7 +63,7 @@ returns-in-Ok c =
 
 pub returns-in-Err-TooLarge : goal.returns-in-Err-TooLarge
 returns-in-Err-TooLarge c =
-    let save : FastSave = save_of c.args.old.now c.args.document.now c.args.text.now in
+    let save : FastSave = fast_save_of c.args.old.now c.args.document.now c.args.text.now in
     let made = c.in_ok-parts.ensures in
     let m : Made = made_of save c.in_ok-parts.parts c.requires made in
     let sectors = c.in-Err-TooLarge.sectors in

@@ -3,7 +3,7 @@ use Rattle.std.specs.List.{range_with_len}
 use Rattle.std.specs.Prelude.{slice_index}
 use Rattle.doc_bits.specs.Rules.{IsLeast, Nowhere}
 use Rattle.file_rules.specs.FormatRules.{ends_paragraph, judged_places, judged_units}
-use Rattle.file_rules.specs.EndSearch.{AreMet, IsSoIn}
+use Rattle.file_rules.specs.EndSearch.{BeginUpTo, IsSoIn}
 use Rattle.file_rules.proofs.FormatLemmas.{one-added, walk_on}
 use Rattle.file_rules.proofs.EndLemmas.{met_behind, none_first, none_nowhere, none_up_to}
 use Rattle.file_rules.proofs.formats.paragraph_places.Goals as goal
@@ -43,7 +43,7 @@ loop-end-preserved c =
       within = omega arith;
       behind = omega arith;
       rest = c.place_of.ensures.rest ∙ (walked.0 ∙ ap (λ n. drop n all) (sym passed));
-      met = subst (λ s. AreMet s c.next_end.new.ends.met (end + 1)) same met;
+      met = subst (λ s. BeginUpTo s c.next_end.new.ends.met (end + 1)) same met;
       same = same;
       main = c.next_end.ensures.main ∙ so_far.main;
     }

@@ -2,7 +2,7 @@ use Rattle.std.proofs.Common.{◌≡◌, ◌≤◌, ◌-◌, drop, filter, lengt
 use Rattle.std.specs.List.{range_with_len}
 use Rattle.std.specs.Prelude.{slice_index}
 use Rattle.file_rules.specs.FormatRules.{ends_paragraph, judged_places}
-use Rattle.file_rules.specs.EndSearch.{AreMet}
+use Rattle.file_rules.specs.EndSearch.{BeginUpTo}
 use Rattle.file_rules.proofs.formats.paragraph_places.Given as goal
 
 -- the places of the first ends, those that the walk has still before it, and the sections that are met
@@ -14,7 +14,7 @@ invariant-loop-end l =
       within : l.cp ≤ length l.units;
       behind : l.walk.passed ≤ l.cp;
       rest : l.walk.rest ≡ drop l.walk.passed (judged_places l.source);
-      met : AreMet l.sections l.ends.met l.cp;
+      met : BeginUpTo l.sections l.ends.met l.cp;
       same : l.ends.sections.now ≡ l.sections;
       main : l.ends.main_len ≡ l.main_len;
     }

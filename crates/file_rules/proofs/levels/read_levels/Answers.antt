@@ -5,7 +5,7 @@ use Rattle.doc_bits.specs.Rules.{Hold}
 use Rattle.doc_bits.proofs.Public.{hold_in, first_in}
 use Rattle.doc_parts.specs.Levels.{level_rules, HaveLength}
 use Rattle.fib_form.specs.declared.table_parts.TablePart.TheVariants.{PlfLst}
-use Rattle.file_rules.specs.Source.{part_bytes, part_place}
+use Rattle.file_rules.specs.Source.{table_part_bytes, part_place}
 use Rattle.file_rules.proofs.ListLemmas.{levels_within, levels_empty}
 use Rattle.file_rules.proofs.levels.read_levels.Goals as goal
 
@@ -13,7 +13,7 @@ pub returns-then-is_empty-clause-read : goal.returns-then-is_empty-clause-read
 returns-then-is_empty-clause-read c =
     let source = c.args.source.now in
     let at = part_place source PlfLst in
-    let lcb = length (part_bytes source PlfLst) in
+    let lcb = length (table_part_bytes source PlfLst) in
     let none : lcb ≡ 0 = ap length (sym c.part-part.ensures.bytes) ∙ eqb-true (length c.part-part.result.now) 0
     (sym c.if-is_empty.ensures) in
     let w = levels_empty source.table at lcb none in
@@ -23,7 +23,7 @@ pub slice_bounds-result-end-in-Ok : goal.slice_bounds-result-end-in-Ok
 slice_bounds-result-end-in-Ok c =
     let source = c.args.source.now in
     let at = part_place source PlfLst in
-    let lcb = length (part_bytes source PlfLst) in
+    let lcb = length (table_part_bytes source PlfLst) in
     let holds : Hold (level_rules source.table at lcb) = rw (
       c.table-table.ensures.bytes,
       c.place-at.ensures.place,
@@ -48,7 +48,7 @@ pub returns-in-Ok-clause-read : goal.returns-in-Ok-clause-read
 returns-in-Ok-clause-read c =
     let source = c.args.source.now in
     let at = part_place source PlfLst in
-    let lcb = length (part_bytes source PlfLst) in
+    let lcb = length (table_part_bytes source PlfLst) in
     let holds : Hold (level_rules source.table at lcb) = rw (
       c.table-table.ensures.bytes,
       c.place-at.ensures.place,
@@ -71,7 +71,7 @@ pub returns-in-Err-clause-read : goal.returns-in-Err-clause-read
 returns-in-Err-clause-read c =
     let source = c.args.source.now in
     let at = part_place source PlfLst in
-    let lcb = length (part_bytes source PlfLst) in
+    let lcb = length (table_part_bytes source PlfLst) in
     first_in Table (level_rules source.table at lcb) 56 c.in-Err.fault.offset (rw (
       c.table-table.ensures.bytes,
       c.place-at.ensures.place,

@@ -8,7 +8,7 @@ use Rattle.fib_form.specs.FibFields.{FibFields}
 use Rattle.piece_table.specs.ClxRules.{clx_rules, text_bounds}
 use Rattle.fib_form.specs.declared.table_parts.TablePart.TheVariants.{Clx}
 use Rattle.file_rules.specs.PairRules.{BreaksPairs}
-use Rattle.fib_form.specs.TableParts.{pair_of}
+use Rattle.fib_form.specs.TableParts.{pair_number}
 use Rattle.file_rules.specs.Faults.{clx_refusal}
 use Rattle.file_rules.specs.FileRules.{clx_of}
 use Rattle.file_rules.proofs.RefusalLemmas.{refused-rule, holds-rule, refused-next, refused-clx}
@@ -25,8 +25,8 @@ returns-in-Err-clause-read c =
     let wd = c.args.wd.now in
     let table = c.args.table.now in
     let bounds = text_bounds (fib_size wd) (length wd) in
-    let rules = clx_rules (clx_of wd table) (fib_pair wd (pair_of Clx)).0 bounds c.args.text_len in
-    let pair : c.pair-pair.result ≡ fib_pair wd (pair_of Clx) = clx_pair c.pair.result wd c.args.fib.now
+    let rules = clx_rules (clx_of wd table) (fib_pair wd (pair_number Clx)).0 bounds c.args.text_len in
+    let pair : c.pair-pair.result ≡ fib_pair wd (pair_number Clx) = clx_pair c.pair.result wd c.args.fib.now
     c.pair-pair.result c.pair.ensures.number c.pair-pair.ensures c.requires.fields in
     let from : c.size.result ≡ fib_size wd = c.size.ensures.value ∙ ap (λ (f : FibFields). form_size f.form)
     c.requires.fields in
@@ -41,8 +41,8 @@ returns-in-Ok-clause-read c =
     let wd = c.args.wd.now in
     let table = c.args.table.now in
     let bounds = text_bounds (fib_size wd) (length wd) in
-    let rules = clx_rules (clx_of wd table) (fib_pair wd (pair_of Clx)).0 bounds c.args.text_len in
-    let pair : c.pair-pair.result ≡ fib_pair wd (pair_of Clx) = clx_pair c.pair.result wd c.args.fib.now
+    let rules = clx_rules (clx_of wd table) (fib_pair wd (pair_number Clx)).0 bounds c.args.text_len in
+    let pair : c.pair-pair.result ≡ fib_pair wd (pair_number Clx) = clx_pair c.pair.result wd c.args.fib.now
     c.pair-pair.result c.pair.ensures.number c.pair-pair.ensures c.requires.fields in
     let from : c.size.result ≡ fib_size wd = c.size.ensures.value ∙ ap (λ (f : FibFields). form_size f.form)
     c.requires.fields in

@@ -1,6 +1,6 @@
 use Rattle.std.proofs.Common.{◌≡◌, ◌+◌, ◌∙◌, ◌++◌, append_assoc, ap, sym, ℕ, map, take, slice_index, arith}
 use Rattle.std.specs.List.{range_with_len}
-use Rattle.text_codes.specs.Compressed.{unit_of}
+use Rattle.text_codes.specs.Compressed.{compressed_unit}
 use Rattle.file_rules.specs.Units.{narrow_unit}
 use Rattle.file_rules.proofs.UnitLemmas.{run-join}
 use Rattle.file_rules.proofs.narrow.put_narrow.Goals as goal
@@ -15,7 +15,8 @@ loop-done-preserved c =
     let so_far = c.loop-done.invariant in
     let first = narrow_unit wd at in
     let next = narrow_unit wd (at + done) in
-    let same : (j : ℕ) → next j ≡ first (done + j) = λ j. ap (λ place. unit_of (slice_index wd place)) (omega arith) in
+    let same : (j : ℕ) → next j ≡ first (done + j) = λ j. ap (λ place. compressed_unit (slice_index wd place)) (omega
+    arith) in
     let joined = run-join first next done part same in
     let before = take cp c.args.units.now in
     let begun = map first (range_with_len 0 done) in

@@ -1,6 +1,6 @@
 use Rattle.std.proofs.Common.{◌≡◌, ◌+◌, ◌*◌, ◌<◌, ◌∙◌, ap, length, slice_index, arith}
 use Rattle.std.proofs.lemmas.List.{length-set}
-use Rattle.text_codes.specs.Compressed.{unit_of}
+use Rattle.text_codes.specs.Compressed.{compressed_unit}
 use Rattle.file_rules.specs.Units.{narrow_unit}
 use Rattle.file_rules.proofs.UnitLemmas.{run-put}
 use Rattle.file_rules.proofs.narrow.put_plain.Goals as goal
@@ -16,7 +16,8 @@ loop-j-preserved c =
     let test = c.loop-j-test.true in
     let below : c.args.cp + j < length c.loop-j.units = omega arith in
     let place : at + j ≡ at + j * 1 = omega arith in
-    let unit : c.plain_unit.result ≡ narrow_unit wd at j = c.plain_unit.ensures ∙ ap (λ n. unit_of (slice_index wd n))
+    let unit : c.plain_unit.result ≡ narrow_unit wd at j = c.plain_unit.ensures ∙ ap (λ n. compressed_unit (slice_index
+    wd n))
     place in
     record {
       len = length-set c.loop-j.units (c.args.cp + j) c.plain_unit.result ∙ so_far.len;

@@ -2,7 +2,7 @@ use Rattle.std.proofs.Common.{◌≡◌, ◌+◌, ◌*◌, length, below_more, a
 use Rattle.doc_parts.specs.declared.lists.Sed.{Sed}
 use Rattle.fib_form.specs.declared.table_parts.TablePart.TheVariants.{PlcfSed}
 use Rattle.fib_form.specs.declared.stories.StoryKind.TheVariants.{Main}
-use Rattle.file_rules.specs.Source.{part_place, part_bytes, story_length, story_units}
+use Rattle.file_rules.specs.Source.{part_place, table_part_bytes, story_length, story_units}
 use Rattle.file_rules.specs.SectionRules.{section_begin, BeginsElsewhere}
 use Rattle.file_rules.proofs.RowLemmas.{first_row, index_of_get}
 use Rattle.file_rules.proofs.SectionLemmas.{section_within, section_later}
@@ -14,7 +14,7 @@ overflow_sub-start c =
     let list = c.args.list.now in
     let begin : section_begin list c.loop-k.k ≡ c.get-start.result.0 = index_of_get (λ (sed : Sed). sed.start) list
     c.loop-k.k _ c.get-start.ensures in
-    let later = section_later (part_bytes source PlcfSed) (story_length source Main) list c.requires c.loop-k.k
+    let later = section_later (table_part_bytes source PlcfSed) (story_length source Main) list c.requires c.loop-k.k
     (omega (arith, c.len-k-end.ensures)) (omega arith) in
     omega arith
 
@@ -24,9 +24,9 @@ bounds-units-start c =
     let list = c.args.list.now in
     let begin : section_begin list c.loop-k.k ≡ c.get-start.result.0 = index_of_get (λ (sed : Sed). sed.start) list
     c.loop-k.k _ c.get-start.ensures in
-    let later = section_later (part_bytes source PlcfSed) (story_length source Main) list c.requires c.loop-k.k
+    let later = section_later (table_part_bytes source PlcfSed) (story_length source Main) list c.requires c.loop-k.k
     (omega (arith, c.len-k-end.ensures)) (omega arith) in
-    let within = section_within (part_bytes source PlcfSed) (story_length source Main) list c.requires c.loop-k.k
+    let within = section_within (table_part_bytes source PlcfSed) (story_length source Main) list c.requires c.loop-k.k
     (omega (arith, c.len-k-end.ensures)) in
     omega (arith, c.units-units.ensures.count)
 

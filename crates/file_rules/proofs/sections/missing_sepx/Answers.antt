@@ -4,7 +4,7 @@ use Rattle.doc_parts.specs.declared.lists.Sed.{Sed}
 use Rattle.doc_parts.specs.Sections.{place_of_fc_sepx}
 use Rattle.fib_form.specs.declared.table_parts.TablePart.TheVariants.{PlcfSed}
 use Rattle.fib_form.specs.declared.stories.StoryKind.TheVariants.{Main}
-use Rattle.file_rules.specs.Source.{part_place, part_bytes, story_length}
+use Rattle.file_rules.specs.Source.{part_place, table_part_bytes, story_length}
 use Rattle.file_rules.specs.SectionRules.{section_fc, LacksSepx}
 use Rattle.file_rules.proofs.RowLemmas.{first_row, index_of_get}
 use Rattle.file_rules.proofs.SectionLemmas.{sections_fit}
@@ -15,7 +15,7 @@ fc_sepx_place-requires-clause-addressed c =
     let source = c.args.source.now in
     let list = c.args.list.now in
     let some : 0 < length list = omega (arith, c.len-k-end.ensures) in
-    let fit = sections_fit (part_bytes source PlcfSed) (story_length source Main) list c.requires some in
+    let fit = sections_fit (table_part_bytes source PlcfSed) (story_length source Main) list c.requires some in
     omega (arith, c.place-at.ensures.addressed, c.place-at.ensures.place, c.len.ensures)
 
 pub returns-then-lacks_sepx : goal.returns-then-lacks_sepx

@@ -1,8 +1,8 @@
 use Rattle.std.proofs.Common.{◌≡◌, ◌≤◌, ◌+◌, length, take, slice_get, subst, arith, refl, ◌++◌, ◌∙◌, ap, sym, map}
 use Rattle.std.proofs.lemmas.Option.{slice_get_within, get_or_from_slice_get}
 use Rattle.piece_table.specs.declared.pieces.Piece.{Piece}
-use Rattle.piece_table.specs.Piece.{unit_places, flat_pieces, piece_end, total_length}
-use Rattle.file_rules.specs.Units.{text_piece, unit_at}
+use Rattle.piece_table.specs.Piece.{places_of_piece, flat_pieces, piece_end, total_length}
+use Rattle.file_rules.specs.Units.{unmodified_piece, unit_at}
 use Rattle.file_rules.proofs.UnitLemmas.{map-flat_pieces-none, map-flat_pieces-more, piece_read, units-any, total-more}
 use Rattle.file_rules.proofs.UnitLemmas.{total-within}
 use Rattle.file_rules.proofs.units.put_all.Goals as goal
@@ -38,14 +38,15 @@ loop-i-preserved c =
     let so_far = c.loop-i.invariant in
     let read = piece_read (slice_get pieces i) c.piece-piece.result c.piece-piece.ensures.value in
     let len : read.0.len ≡ c.piece-piece.result.len = ap (λ (p : Piece). p.len) read.1.1 in
-    let units = ap (λ piece. map unit (unit_places (text_piece piece))) (sym read.1.1) ∙ units-any c.args.wd.now
+    let units = ap (λ piece. map unit (places_of_piece (unmodified_piece piece))) (sym read.1.1) ∙ units-any
+    c.args.wd.now
     read.0 in
     record {
       units_len = c.put_units.ensures.len ∙ so_far.units_len;
       cp_is = ap (λ n. n + c.piece-piece.result.len) so_far.cp_is ∙ (ap (λ n. total_length (take i pieces) + n)
           (sym len) ∙ sym (total-more pieces i read.0 read.1.0));
       units_so_far =
-          c.put_units.ensures.put ∙ (ap (λ xs. xs ++ map unit (unit_places (text_piece c.piece-piece.result)))
+          c.put_units.ensures.put ∙ (ap (λ xs. xs ++ map unit (places_of_piece (unmodified_piece c.piece-piece.result)))
           so_far.units_so_far
           ∙ (ap (λ xs. map unit (flat_pieces (take i pieces)) ++ xs) units ∙ sym (map-flat_pieces-more unit pieces i
           read.0 read.1.0)));

@@ -1,7 +1,7 @@
 use Rattle.std.proofs.Common.{◌≡◌, ◌+◌, ◌-◌, ◌++◌, ◌∷◌, [], length, take, drop, length-drop, OnOk, subst, refl, sym}
 use Rattle.std.proofs.Common.{ap, ◌∙◌, arith}
 use Rattle.std.proofs.lemmas.List.{take_all}
-use Rattle.fkp_pages.specs.Fkp.{entry_size}
+use Rattle.fkp_pages.specs.Fkp.{run_entry_size}
 use Rattle.fkp_pages.specs.PageBytes.{zeros}
 use Rattle.fkp_pages.proofs.PageSteps.{HasFirstRuns, no_runs_yet, half_is, next_room, area_len, next_run, page_done}
 use Rattle.fkp_pages.proofs.page_writer.push_page.Goals as goal
@@ -32,7 +32,7 @@ loop-run-preserved c =
     let next = next_run c.args.kind c.args.runs.now c.loop-run.run-index c.push_fcs.new.bytes c.loop-run.bytes
     c.loop-run.lists c.loop-run.limit c.offset_below-offset.result c.run-item.result c.as_slice-list.result.now _
     c.write_at.new.area state c.requires.fits (omega arith) c.run-item.is list offset
-    (ap (λ n. n ∷ zeros (entry_size c.args.kind - 1)) half) c.write_at.ensures in
+    (ap (λ n. n ∷ zeros (run_entry_size c.args.kind - 1)) half) c.write_at.ensures in
     subst (λ l. HasFirstRuns c.args.kind c.args.runs.now (c.loop-run.run-index + 1) c.push_fcs.new.bytes l
     c.write_at.new.area c.offset_below-offset.result) (sym pushed) next
 

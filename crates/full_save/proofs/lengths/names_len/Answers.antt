@@ -2,8 +2,8 @@ use Rattle.std.proofs.Common.{◌∙◌, ◌+◌, ◌≤◌, length, ap, arith}
 use Rattle.std.specs.Prelude.{sum_by}
 use Rattle.std.proofs.lemmas.List.{take_all}
 use Rattle.doc_bits.proofs.Public.{All_at}
-use Rattle.doc_parts.specs.declared.bookmark_order.Bookmark.{Bookmark}
-use Rattle.full_save.specs.Lengths.{name_length}
+use Rattle.document_bookmarks.specs.declared.bookmark_order.Bookmark.{Bookmark}
+use Rattle.full_save.specs.Lengths.{bookmark_name_length}
 use Rattle.full_save.proofs.MeasureLemmas.{names_few, names_next, names_short, some_names}
 use Rattle.full_save.proofs.lengths.names_len.Goals as goal
 
@@ -32,7 +32,7 @@ returns-clause-is c =
     let none = c.if-len-eq0.false in
     let count = c.len.ensures.len in
     c.loop-i.invariant
-    ∙ ap (λ bookmarks. 6 + sum_by name_length bookmarks) (take_all c.loop-i.i list (omega (arith, end, test)))
+    ∙ ap (λ bookmarks. 6 + sum_by bookmark_name_length bookmarks) (take_all c.loop-i.i list (omega (arith, end, test)))
     ∙ some_names list (λ zero. none (count ∙ zero))
 
 pub returns-clause-bound : goal.returns-clause-bound
@@ -41,6 +41,6 @@ returns-clause-bound c =
     let end = c.len-i-end.ensures.len in
     let test = c.loop-i-test.false in
     let so = c.loop-i.invariant in
-    let all = ap (sum_by name_length) (take_all c.loop-i.i list (omega (arith, end, test))) in
+    let all = ap (sum_by bookmark_name_length) (take_all c.loop-i.i list (omega (arith, end, test))) in
     let few = c.requires.few in
     omega (arith, so, all, few, names_few list c.requires)

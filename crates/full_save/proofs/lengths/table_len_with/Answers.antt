@@ -1,7 +1,7 @@
 use Rattle.std.proofs.Common.{◌∙◌, ◌+◌, length, ap, sym, arith}
 use Rattle.fkp_pages.specs.declared.kind.PageKind.TheVariants.{Chpx, Papx}
-use Rattle.plain_doc.specs.declared.document.Document.{Document}
-use Rattle.plain_doc.specs.Collected.{joined_texts}
+use Rattle.doc_model.specs.declared.document.Document.{Document}
+use Rattle.doc_model.specs.Collected.{joined_texts}
 use Rattle.doc_columns.proofs.Public.{seen_document}
 use Rattle.full_save.specs.declared.lengths.PageCounts.{PageCounts}
 use Rattle.full_save.proofs.StreamLengths.{few_pages, short_table}

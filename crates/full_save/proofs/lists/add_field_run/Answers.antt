@@ -3,8 +3,8 @@ use Rattle.std.proofs.Common.{◌≡◌, ◌+◌, ◌∙◌, ◌++◌, List, [],
 use Rattle.std.proofs.Common.{arith}
 use Rattle.std.proofs.lemmas.List.{get_or-map}
 use Rattle.std.proofs.lemmas.Option.{slice_get_within, get_or_from_slice_get}
-use Rattle.plain_doc.specs.declared.item.Item.{Item}
-use Rattle.plain_doc.specs.Collected.{field_of}
+use Rattle.doc_model.specs.declared.item.Item.{Item}
+use Rattle.doc_model.specs.Collected.{field_character}
 use Rattle.doc_columns.specs.declared.attached.Attached.{Attached}
 use Rattle.doc_columns.specs.Attached.{attached_of}
 use Rattle.full_save.specs.Alike.{HaveAlike}
@@ -17,14 +17,14 @@ pub returns-in_default : goal.returns-in_default
 returns-in_default c = λ text start units are listed.
     let run = c.args.run.now in
     let fld : Item → Option ℕ = λ item. item.fld in
-    listed_none field_of field_entry c.args.cp text c.args.place run.count start c.args.fields.now
+    listed_none field_character field_entry c.args.cp text c.args.place run.count start c.args.fields.now
     (no_field text c.args.place run.count
     (subst (λ (value : Option ℕ). HaveAlike fld value text c.args.place run.count) c.in_default.is
     (alike_of attached_of (λ (b : Attached). b.fld) run.value text c.args.place run.count are))) listed
 
 pub loop-at-init : goal.loop-at-init
 loop-at-init c =
-    none_listed field_of field_entry c.args.cp (λ text. c.args.units.now ≡ map (λ (item : Item). item.unit) text)
+    none_listed field_character field_entry c.args.cp (λ text. c.args.units.now ≡ map (λ (item : Item). item.unit) text)
     c.args.run.now.value c.args.place c.args.run.now.count c.args.fields.now
 
 pub loop-at-preserved : goal.loop-at-preserved
@@ -34,7 +34,7 @@ loop-at-preserved c =
     let at = c.loop-at.at in
     let byte = c.in-Some.byte in
     let unit : Item → ℕ = λ item. item.unit in
-    one_listed field_of field_entry c.args.cp (λ text. units ≡ map unit text) run.value c.args.place run.count at
+    one_listed field_character field_entry c.args.cp (λ text. units ≡ map unit text) run.value c.args.place run.count at
     c.args.fields.now c.loop-at.fields c.add.new.self (λ item. (item.unit, byte)) c.loop-at-test.true
     (λ item is. ap (option_map (λ (b : ℕ). (item.unit, b))) (ap (λ (b : Attached). b.fld) is ∙ c.in-Some.is))
     (λ text item such here.
@@ -52,5 +52,5 @@ returns c = λ text start units are listed.
     let test = c.loop-at-test.false in
     let high = c.loop-at.invariant.high in
     let end : c.loop-at.at ≡ c.args.place + run.count = omega (arith, test, high) in
-    subst (λ (n : ℕ). IsListedUpTo field_of field_entry c.args.cp text n start c.loop-at.fields) end
+    subst (λ (n : ℕ). IsListedUpTo field_character field_entry c.args.cp text n start c.loop-at.fields) end
     (c.loop-at.invariant.goes text start units are listed)

@@ -4,9 +4,9 @@ use Rattle.std.proofs.lemmas.List.{length-map}
 use Rattle.std.proofs.lemmas.Option.{slice_get_read}
 use Rattle.run_lists.specs.declared.runs.Run.{Run}
 use Rattle.run_lists.proofs.Public.{extent-nil}
-use Rattle.plain_doc.specs.declared.item.Item.{Item}
+use Rattle.doc_model.specs.declared.item.Item.{Item}
 use Rattle.doc_columns.specs.declared.attached.Attached.{Attached}
-use Rattle.plain_doc.specs.Collected.{field_of}
+use Rattle.doc_model.specs.Collected.{field_character}
 use Rattle.full_save.specs.Lists.{field_entry}
 use Rattle.full_save.proofs.ListLemmas.{listed_all}
 use Rattle.full_save.proofs.ColumnLists.{run_inside, run_after, at_end, listed_begins}
@@ -14,7 +14,7 @@ use Rattle.full_save.proofs.lists.add_fields.Goals as goal
 
 pub loop-run-init : goal.loop-run-init
 loop-run-init c =
-    (sym (extent-nil Attached), listed_begins field_of field_entry c.args.cp c.args.text.now c.args.fields.now)
+    (sym (extent-nil Attached), listed_begins field_character field_entry c.args.cp c.args.text.now c.args.fields.now)
 
 pub overflow_add-place : goal.overflow_add-place
 overflow_add-place c =
@@ -65,6 +65,7 @@ loop-run-preserved c =
 
 pub returns : goal.returns
 returns c =
-    listed_all field_of field_entry c.args.cp c.args.text.now c.loop-run.place c.args.fields.now c.loop-run.fields
+    listed_all field_character field_entry c.args.cp c.args.text.now c.loop-run.place c.args.fields.now
+    c.loop-run.fields
     (at_end c.args.text.now c.attachments-run-items.result.now c.loop-run.run-index c.loop-run.place
     c.attachments-run-items.ensures (omega arith) c.loop-run.invariant.0) c.loop-run.invariant.1

@@ -1,5 +1,5 @@
 use Rattle.std.specs.Prelude.{⊤}
-use Rattle.plain_doc.specs.declared.item.Item.{Item}
+use Rattle.doc_model.specs.declared.item.Item.{Item}
 use Rattle.full_save.proofs.ColumnLists.{AreListedIn}
 use Rattle.full_save.specs.Lists.{ref_entry}
 use Rattle.full_save.proofs.lists.add_ref_run.Given as goal

@@ -1,5 +1,5 @@
 use Rattle.std.proofs.Common.{◌≤◌, ◌<◌, ◌≡◌, ◌+◌, length, get_or, [], arith, sym, ap, subst, ◌∙◌}
-use Rattle.plain_doc.specs.Collected.{joined_texts}
+use Rattle.doc_model.specs.Collected.{joined_texts}
 use Rattle.std.proofs.lemmas.Option.{get_or_from_slice_get}
 use Rattle.full_save.proofs.ListLemmas.{IsAtText, IsCutUpTo, text_fits, at_next, at_last, cut_next, cut_last, some_cut}
 use Rattle.full_save.proofs.lists.cuts_of.Goals as goal

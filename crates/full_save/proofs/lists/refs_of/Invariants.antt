@@ -1,6 +1,6 @@
 use Rattle.std.specs.Prelude.{◌≡◌, [], take}
 use Rattle.run_lists.specs.Spread.{total_len}
-use Rattle.plain_doc.specs.declared.item.Item.{Item}
+use Rattle.doc_model.specs.declared.item.Item.{Item}
 use Rattle.full_save.specs.Lists.{IsListedUpTo, ref_entry}
 use Rattle.full_save.proofs.lists.refs_of.Given as goal
 

@@ -1,5 +1,5 @@
 use Rattle.std.proofs.Common.{[], ◌∷◌, subst}
-use Rattle.fib_form.specs.TableParts.{pair_of}
+use Rattle.fib_form.specs.TableParts.{pair_number}
 use Rattle.fib_form.specs.declared.table_parts.TablePart.TheVariants.{Stshf, PlcffndRef, PlcffndTxt, PlcfSed}
 use Rattle.fib_form.specs.declared.table_parts.TablePart.TheVariants.{PlcfHdd, PlcfBteChpx, PlcfBtePapx, SttbfFfn}
 use Rattle.fib_form.specs.declared.table_parts.TablePart.TheVariants.{PlcfFldMom, PlcfFldHdr, PlcfFldFtn, SttbfBkmk}
@@ -36,23 +36,23 @@ returns c =
     let lfo = c.as_slice-20.ensures in
     subst (λ parts. AreWritten parts c.put.new.self)
     (λ i.
-    entry (pair_of Stshf) (sheet i)
-    ∷ entry (pair_of PlcffndRef) (refs i)
-    ∷ entry (pair_of PlcffndTxt) (note_cuts i)
-    ∷ entry (pair_of PlcfSed) (sections i)
-    ∷ entry (pair_of PlcfHdd) (head_cuts i)
-    ∷ entry (pair_of PlcfBteChpx) (characters i)
-    ∷ entry (pair_of PlcfBtePapx) (paragraphs i)
-    ∷ entry (pair_of SttbfFfn) (fonts i)
-    ∷ entry (pair_of PlcfFldMom) (main_fields i)
-    ∷ entry (pair_of PlcfFldHdr) (head_fields i)
-    ∷ entry (pair_of PlcfFldFtn) (note_fields i)
-    ∷ entry (pair_of SttbfBkmk) (names i)
-    ∷ entry (pair_of PlcfBkf) (starts i)
-    ∷ entry (pair_of PlcfBkl) (ends i)
-    ∷ entry (pair_of Dop) (dop i)
-    ∷ entry (pair_of SttbfAssoc) (assoc i)
-    ∷ entry (pair_of Clx) (clx i)
-    ∷ record { number = pair_of PlfLst; bytes = lst i; behind = levels i }
-    ∷ entry (pair_of PlfLfo) (lfo i)
+    entry (pair_number Stshf) (sheet i)
+    ∷ entry (pair_number PlcffndRef) (refs i)
+    ∷ entry (pair_number PlcffndTxt) (note_cuts i)
+    ∷ entry (pair_number PlcfSed) (sections i)
+    ∷ entry (pair_number PlcfHdd) (head_cuts i)
+    ∷ entry (pair_number PlcfBteChpx) (characters i)
+    ∷ entry (pair_number PlcfBtePapx) (paragraphs i)
+    ∷ entry (pair_number SttbfFfn) (fonts i)
+    ∷ entry (pair_number PlcfFldMom) (main_fields i)
+    ∷ entry (pair_number PlcfFldHdr) (head_fields i)
+    ∷ entry (pair_number PlcfFldFtn) (note_fields i)
+    ∷ entry (pair_number SttbfBkmk) (names i)
+    ∷ entry (pair_number PlcfBkf) (starts i)
+    ∷ entry (pair_number PlcfBkl) (ends i)
+    ∷ entry (pair_number Dop) (dop i)
+    ∷ entry (pair_number SttbfAssoc) (assoc i)
+    ∷ entry (pair_number Clx) (clx i)
+    ∷ record { number = pair_number PlfLst; bytes = lst i; behind = levels i }
+    ∷ entry (pair_number PlfLfo) (lfo i)
     ∷ []) all

@@ -3,7 +3,7 @@ use Rattle.std.proofs.lemmas.List.{length-map}
 use Rattle.std.proofs.lemmas.Result.{IfOk-weaker}
 use Rattle.fkp_pages.specs.declared.kind.PageKind.TheVariants.{Chpx}
 use Rattle.run_lists.proofs.Public.{length-spread}
-use Rattle.plain_doc.specs.declared.item.Item.{Item}
+use Rattle.doc_model.specs.declared.item.Item.{Item}
 use Rattle.full_save.specs.Runs.{text_runs}
 use Rattle.full_save.proofs.runs.character_runs.Goals as goal
 

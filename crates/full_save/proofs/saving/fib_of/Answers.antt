@@ -1,9 +1,9 @@
-use Rattle.plain_doc.specs.declared.document.Document.{Document}
+use Rattle.doc_model.specs.declared.document.Document.{Document}
 use Rattle.std.proofs.Common.{◌+◌, List, ℕ, false, length, ap, sym, subst, ◌∙◌, arith}
 use Rattle.fib_form.specs.declared.form.Form.TheVariants.{Early}
-use Rattle.fib_form.specs.FibFields.{AreCounts, ArePairs}
+use Rattle.fib_form.specs.FibFields.{AreFibCcps, ArePairs}
 use Rattle.full_save.specs.declared.table_text.TableText.{TableText}
-use Rattle.full_save.specs.WordDocument.{text_at, full_fib, full_entries}
+use Rattle.full_save.specs.WordDocument.{text_offset, full_fib, full_entries}
 use Rattle.full_save.proofs.EntriesFound.{entries_are_pairs}
 use Rattle.full_save.proofs.TextLaidOut.{counts_are}
 use Rattle.full_save.proofs.StreamLengths.{short_body}
@@ -18,7 +18,7 @@ cb_mac-requires c =
 
 pub made-requires-clause-counts : goal.made-requires-clause-counts
 made-requires-clause-counts c =
-    subst AreCounts (sym (ap (λ (t : TableText). t.counts) c.requires.body.text))
+    subst AreFibCcps (sym (ap (λ (t : TableText). t.counts) c.requires.body.text))
     (counts_are c.args.document.now c.requires.right)
 
 pub made-requires-clause-pairs : goal.made-requires-clause-pairs
@@ -30,7 +30,7 @@ made-requires-clause-pairs c =
 pub returns : goal.returns
 unfolding full_fib
 returns c =
-    let mac = c.cb_mac.ensures ∙ ap (λ (bytes : List ℕ). text_at + length bytes) c.requires.body.bytes in
+    let mac = c.cb_mac.ensures ∙ ap (λ (bytes : List ℕ). text_offset + length bytes) c.requires.body.bytes in
     let counts = ap (λ (t : TableText). t.counts) c.requires.body.text in
     let carried = ap (λ (x : Document). x.carried) c.document.view_is in
     c.made.ensures ∙ (λ i. record {

@@ -4,7 +4,7 @@ use Rattle.fkp_pages.specs.declared.lists.Run.{Run}
 use Rattle.fkp_pages.specs.Runs.{AreRuns}
 use Rattle.cfb_layout.specs.Counts.{sectors_needed}
 use Rattle.cfb_layout.specs.Layout.{lengths_of}
-use Rattle.plain_doc.specs.declared.document.Document.{Document}
+use Rattle.doc_model.specs.declared.document.Document.{Document}
 use Rattle.full_save.specs.WordDocument.{table_stream, wd_stream}
 use Rattle.full_save.specs.Streams.{saved_streams}
 use Rattle.full_save.specs.Layout.{layout_streams}

@@ -1,10 +1,10 @@
 use Rattle.std.proofs.Common.{◌≡◌, ◌≤◌, ◌+◌, ◌-◌, ◌++◌, ℕ, Bool, List, [], ◌∷◌, length, ap, sym, subst, ◌∙◌, arith}
 use Rattle.std.specs.Prelude.{nat_lt}
 use Rattle.std.proofs.lemmas.List.{length-append}
-use Rattle.plain_doc.specs.declared.item.Item.{Item}
+use Rattle.doc_model.specs.declared.item.Item.{Item}
 use Rattle.full_save.specs.Text.{mark_if, note_story, head_story, text_items, text_counts}
-use Rattle.plain_doc.specs.declared.document.Document.{Document}
-use Rattle.full_save.specs.RunsSoFar.{IsTextSoFar, IsWholeText, IsTextOf}
+use Rattle.doc_model.specs.declared.document.Document.{Document}
+use Rattle.full_save.specs.RunsSoFar.{IsTextSoFar, IsWholeText, IsSavedTextOf}
 use Rattle.doc_columns.proofs.Public.{seen_document}
 use Rattle.full_save.proofs.TextLemmas.{text_is, text_sizes, came_behind, mark_most}
 use Rattle.full_save.proofs.text.text_of.Goals as goal
@@ -99,6 +99,6 @@ returns c =
     let e : behind - before - (between - before) ≡ length heads = omega arith in
     let given : List ℕ = before ∷ (between - before) ∷ (behind - before - (between - before)) ∷ [] in
     let counts : given ≡ length d.main ∷ length notes ∷ length heads ∷ [] = λ i. a i ∷ b i ∷ e i ∷ [] in
-    subst (λ (x : Document). IsTextOf x c.in_ok-text.text) c.document.view_is
+    subst (λ (x : Document). IsSavedTextOf x c.in_ok-text.text) c.document.view_is
     (subst (λ (cs : List ℕ). IsWholeText (text_items d) cs c.in_ok-text.text) counts
     (subst (λ (xs : List Item). IsWholeText xs given c.in_ok-text.text) items whole))

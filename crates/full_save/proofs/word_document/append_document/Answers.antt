@@ -1,7 +1,7 @@
 use Rattle.std.specs.Prelude.{replicate}
 use Rattle.std.proofs.Common.{◌≡◌, ◌+◌, ◌-◌, ◌*◌, ◌/◌, ◌++◌, ℕ, List, length, ap, ◌∙◌, arith}
 use Rattle.std.proofs.lemmas.List.{append_assoc}
-use Rattle.cfb_layout.specs.Sectors.{padded}
+use Rattle.cfb_layout.specs.Sectors.{padded_to_unit}
 use Rattle.full_save.specs.WordDocument.{text_bytes}
 use Rattle.full_save.proofs.BodyLemmas.{length-units}
 use Rattle.full_save.proofs.TextLaidOut.{length-text}
@@ -11,7 +11,7 @@ pub append_stories-requires-clause-counts : goal.append_stories-requires-clause-
 append_stories-requires-clause-counts c = c.requires.text.counts_are
 
 pub returns : goal.returns
-unfolding padded
+unfolding padded_to_unit
 returns c =
     let bytes = text_bytes c.args.document.now in
     let len : 2 * c.args.text.now.len ≡ length bytes =

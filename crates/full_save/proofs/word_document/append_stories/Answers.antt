@@ -1,8 +1,8 @@
 use Rattle.std.proofs.Common.{◌≡◌, ◌∙◌, ◌+◌, ◌++◌, ℕ, List, length, ap, sym, subst, arith, length-append}
 use Rattle.std.specs.Prelude.{slice_index, nat_lt}
-use Rattle.plain_doc.specs.declared.item.Item.{Item}
-use Rattle.plain_doc.specs.declared.document.Document.{Document}
-use Rattle.plain_doc.specs.Collected.{joined_texts}
+use Rattle.doc_model.specs.declared.item.Item.{Item}
+use Rattle.doc_model.specs.declared.document.Document.{Document}
+use Rattle.doc_model.specs.Collected.{joined_texts}
 use Rattle.doc_columns.proofs.Public.{seen_document}
 use Rattle.full_save.specs.Text.{mark_if, note_story, head_story, text_counts}
 use Rattle.full_save.specs.WordDocument.{units_bytes, items_bytes, text_bytes}

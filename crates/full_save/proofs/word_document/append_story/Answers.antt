@@ -1,8 +1,8 @@
 use Rattle.std.proofs.Common.{◌∙◌, ◌<◌, ◌++◌, List, ℕ, [], length, take, ap, sym, arith}
 use Rattle.std.proofs.lemmas.List.{append-nil, take_all}
 use Rattle.std.proofs.lemmas.Option.{get_or_from_slice_get}
-use Rattle.plain_doc.specs.declared.item.Item.{Item}
-use Rattle.plain_doc.specs.Collected.{joined_texts}
+use Rattle.doc_model.specs.declared.item.Item.{Item}
+use Rattle.doc_model.specs.Collected.{joined_texts}
 use Rattle.full_save.specs.Text.{mark_if}
 use Rattle.full_save.specs.WordDocument.{units_bytes, items_bytes}
 use Rattle.full_save.proofs.TextLemmas.{joined_next, puts_both}

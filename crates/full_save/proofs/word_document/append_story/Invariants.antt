@@ -1,5 +1,5 @@
 use Rattle.std.specs.Prelude.{◌≡◌, ◌++◌, take}
-use Rattle.plain_doc.specs.Collected.{joined_texts}
+use Rattle.doc_model.specs.Collected.{joined_texts}
 use Rattle.full_save.specs.WordDocument.{items_bytes}
 use Rattle.full_save.proofs.word_document.append_story.Given as goal
 

@@ -1,13 +1,13 @@
 use Rattle.std.specs.Prelude.{replicate}
 use Rattle.std.proofs.Common.{◌≡◌, ◌+◌, ◌-◌, ◌*◌, ◌/◌, ◌++◌, ℕ, List, length, ap, sym, ◌∙◌, arith}
 use Rattle.std.proofs.lemmas.List.{append_assoc}
-use Rattle.cfb_layout.specs.Sectors.{padded}
+use Rattle.cfb_layout.specs.Sectors.{padded_to_unit}
 use Rattle.cfb_layout.proofs.Public.{length-table}
 use Rattle.full_save.specs.WordDocument.{units_bytes}
 use Rattle.full_save.proofs.word_document.append_text.Goals as goal
 
 pub returns : goal.returns
-unfolding padded
+unfolding padded_to_unit
 returns c =
     let units = c.args.units.now in
     let bytes = units_bytes units in

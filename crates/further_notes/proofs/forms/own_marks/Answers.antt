@@ -1,6 +1,6 @@
 use Rattle.std.proofs.Common.{Some}
 use Rattle.std.specs.Prelude.{slice_get}
-use Rattle.plain_doc.specs.declared.item.Item.{Item}
+use Rattle.doc_model.specs.declared.item.Item.{Item}
 use Rattle.further_notes.proofs.FormLemmas.{mark_maps}
 use Rattle.further_notes.proofs.forms.own_marks.Goals as goal
 

@@ -4,14 +4,14 @@ use Rattle.std.specs.Prelude.{slice_get}
 use Rattle.std.proofs.lemmas.List.{length-map, length-take-le, take_all}
 use Rattle.doc_bits.proofs.Public.{take_step}
 use Rattle.run_lists.specs.Spread.{total_len}
-use Rattle.run_lists.specs.Places.{IsAt}
+use Rattle.run_lists.specs.Places.{IsAtRunBegin}
 use Rattle.run_lists.specs.declared.cursor.Cursor.{Cursor}
 use Rattle.run_lists.proofs.Public.{extent-nil, length-spread}
-use Rattle.plain_doc.specs.declared.item.Item.{Item}
-use Rattle.plain_doc.specs.declared.item.NoteKind.{NoteKind}
+use Rattle.doc_model.specs.declared.item.Item.{Item}
+use Rattle.doc_model.specs.declared.item.NoteKind.{NoteKind}
 use Rattle.doc_columns.specs.declared.attached.Attached.{Attached}
 use Rattle.doc_columns.specs.Attached.{attached_of}
-use Rattle.further_notes.specs.Sources.{kind_at}
+use Rattle.further_notes.specs.Sources.{note_kind_at}
 use Rattle.further_notes.specs.Splices.{attached_noted, with_kinds}
 use Rattle.further_notes.proofs.KindLemmas.{changed_at_place, length-with_kinds}
 use Rattle.further_notes.proofs.main_text.attachments_noted.Goals as goal
@@ -19,7 +19,7 @@ use Rattle.further_notes.proofs.main_text.attachments_noted.Goals as goal
 pub loop-at-init : goal.loop-at-init
 loop-at-init c = record {
   made = c.new-made.ensures;
-  cursor_at = subst (IsAt c.attachments-attachments.result.now) (sym c.new-cursor.ensures) (record {
+  cursor_at = subst (IsAtRunBegin c.attachments-attachments.result.now) (sym c.new-cursor.ensures) (record {
     there = omega arith;
     begins = extent-nil Attached;
   });
@@ -59,7 +59,7 @@ loop-at-preserved c =
     let attached = c.in_ok-attached.attached in
     let there : slice_get column at ≡ Some attached =
     here ∙ ap (λ (a : Attached). Some a) (sym c.in_ok-attached.ensures) in
-    let value : c.attached_noted.result ≡ attached_noted (kind_at kinds at) attached =
+    let value : c.attached_noted.result ≡ attached_noted (note_kind_at kinds at) attached =
     c.attached_noted.ensures
     ∙ ap (λ (k : Option NoteKind). attached_noted k attached) c.kind_at.ensures in
     let next = changed_at_place attached_noted kinds column at attached (λ y. refl) there in
@@ -67,7 +67,7 @@ loop-at-preserved c =
       made = c.in_ok-add.ensures.ok
           ∙ (ap (λ (l : List Attached). l ++ c.attached_noted.result ∷ []) c.loop-at.invariant.made
           ∙ (ap (λ (v : Attached). take at list ++ v ∷ []) value
-          ∙ sym (take_step list at (attached_noted (kind_at kinds at) attached) next)));
+          ∙ sym (take_step list at (attached_noted (note_kind_at kinds at) attached) next)));
       cursor_at = c.seek.ensures.at;
       ahead = omega (arith, c.seek.ensures.ahead);
     }

@@ -3,11 +3,11 @@ use Rattle.std.specs.Prelude.{slice_get}
 use Rattle.std.proofs.lemmas.List.{length-map, take_all}
 use Rattle.doc_bits.proofs.Public.{take_step}
 use Rattle.run_lists.specs.Spread.{total_len}
-use Rattle.run_lists.specs.Places.{IsAt}
+use Rattle.run_lists.specs.Places.{IsAtRunBegin}
 use Rattle.run_lists.specs.declared.cursor.Cursor.{Cursor}
 use Rattle.run_lists.proofs.Public.{extent-nil, length-spread}
-use Rattle.plain_doc.specs.declared.item.Item.{Item}
-use Rattle.plain_doc.specs.declared.item.NoteKind.{NoteKind}
+use Rattle.doc_model.specs.declared.item.Item.{Item}
+use Rattle.doc_model.specs.declared.item.NoteKind.{NoteKind}
 use Rattle.doc_columns.specs.declared.attached.Attached.{Attached}
 use Rattle.doc_columns.specs.Attached.{attached_of}
 use Rattle.further_notes.specs.Sources.{note_kinds}
@@ -17,7 +17,7 @@ use Rattle.further_notes.proofs.main_text.note_kinds.Goals as goal
 pub loop-at-init : goal.loop-at-init
 loop-at-init c = record {
   list = c.in_ok-kinds.ensures.items;
-  cursor_at = subst (IsAt c.attachments-attachments.result.now) (sym c.new-cursor.ensures) (record {
+  cursor_at = subst (IsAtRunBegin c.attachments-attachments.result.now) (sym c.new-cursor.ensures) (record {
     there = omega arith;
     begins = extent-nil Attached;
   });

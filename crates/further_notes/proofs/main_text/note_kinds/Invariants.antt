@@ -1,5 +1,5 @@
 use Rattle.std.proofs.Common.{◌≡◌, ◌≤◌, take}
-use Rattle.run_lists.specs.Places.{IsAt}
+use Rattle.run_lists.specs.Places.{IsAtRunBegin}
 use Rattle.further_notes.specs.Sources.{note_kinds}
 use Rattle.further_notes.proofs.main_text.note_kinds.Given as goal
 
@@ -7,6 +7,6 @@ use Rattle.further_notes.proofs.main_text.note_kinds.Given as goal
 abbrev pub invariant-loop-at : goal.invariant-loop-at
 invariant-loop-at l = record {
   list : l.kinds.items ≡ take l.at (note_kinds l.text);
-  cursor_at : IsAt l.attachments l.cursor;
+  cursor_at : IsAtRunBegin l.attachments l.cursor;
   ahead : l.cursor.begin ≤ l.at;
 }

@@ -3,10 +3,10 @@ use Rattle.std.specs.Prelude.{All}
 use Rattle.std.proofs.lemmas.List.{length-map, take_all}
 use Rattle.prop_map.specs.Settings.{Properties}
 use Rattle.run_lists.specs.Spread.{expanded, total_len}
-use Rattle.run_lists.specs.Places.{IsAt}
+use Rattle.run_lists.specs.Places.{IsAtRunBegin}
 use Rattle.run_lists.proofs.Public.{extent-nil, length-spread}
-use Rattle.plain_doc.specs.declared.item.Item.{Item}
-use Rattle.plain_doc.specs.Document.{HasPropertyMaps}
+use Rattle.doc_model.specs.declared.item.Item.{Item}
+use Rattle.doc_model.specs.Document.{HasPropertyMaps}
 use Rattle.doc_columns.specs.declared.attached.Attached.{Attached}
 use Rattle.doc_columns.specs.Attached.{attached_of}
 use Rattle.further_notes.specs.Splices.{attached_noted, unit_with, with_kinds}
@@ -15,7 +15,11 @@ use Rattle.further_notes.proofs.main_text.text_noted.Goals as goal
 
 pub copy_runs-requires-clause-at : goal.copy_runs-requires-clause-at
 copy_runs-requires-clause-at c =
-    subst (IsAt c.chps.result.now) (sym c.new.ensures) (record { there = omega arith; begins = extent-nil Properties })
+    subst (IsAtRunBegin c.chps.result.now) (sym c.new.ensures) (record {
+      there = omega arith;
+      begins = extent-nil
+          Properties;
+    })
 
 pub copy_runs-requires-clause-within : goal.copy_runs-requires-clause-within
 copy_runs-requires-clause-within c =

@@ -2,10 +2,10 @@ use Rattle.std.proofs.Common.{◌≡◌, ◌∙◌, ap, sym, rules, arith, List,
 use Rattle.std.specs.Prelude.{is_some, slice_get}
 use Rattle.std.specs.List.{count_by, filter_map}
 use Rattle.std.proofs.lemmas.Option.{slice_get-get_or, unwrap_or-slice_get}
-use Rattle.plain_doc.specs.declared.item.NoteKind.{NoteKind}
+use Rattle.doc_model.specs.declared.item.NoteKind.{NoteKind}
 use Rattle.doc_parts.specs.Tabulated.{tabulate}
 use Rattle.further_notes.specs.declared.sources.NoteSource.{NoteSource}
-use Rattle.further_notes.specs.Sources.{kind_at, source_by}
+use Rattle.further_notes.specs.Sources.{note_kind_at, source_by}
 use Rattle.further_notes.proofs.KindLemmas.{before_more}
 use Rattle.further_notes.proofs.SourceLemmas.{source_more}
 use Rattle.further_notes.proofs.sources.note_sources.Goals as goal
@@ -24,14 +24,14 @@ loop-at-preserved c =
     let so_far = c.loop-at.invariant in
     let here : Option NoteKind = get_or own at None in
     let pick : List (Option NoteSource) → List NoteSource = filter_map (λ (o : Option NoteSource). o) in
-    let there : kind_at own at ≡ here = unwrap_or-slice_get own at None in
-    let source : c.source_by.result ≡ source_by here (kind_at others at) before more =
+    let there : note_kind_at own at ≡ here = unwrap_or-slice_get own at None in
+    let source : c.source_by.result ≡ source_by here (note_kind_at others at) before more =
     c.source_by.ensures ∙ ap (λ (k : Option NoteKind). source_by here k before more) c.kind_at-other.ensures in
     let own_more = before_more own at in
     let other_more = before_more others at in
-    let one : c.one_if-before.result ≡ count_by is_some (kind_at own at ∷ []) =
+    let one : c.one_if-before.result ≡ count_by is_some (note_kind_at own at ∷ []) =
     c.one_if-before.ensures.count ∙ ap (λ (k : Option NoteKind). count_by is_some (k ∷ [])) (sym there) in
-    let other : c.one_if-more.result ≡ count_by is_some (kind_at others at ∷ []) =
+    let other : c.one_if-more.result ≡ count_by is_some (note_kind_at others at ∷ []) =
     c.one_if-more.ensures.count ∙ ap (λ (k : Option NoteKind). count_by is_some (k ∷ [])) c.kind_at-other.ensures in
     record {
       list = c.in_ok-push_source.ensures

@@ -9,7 +9,7 @@ use Rattle.file_rules.specs.Faults.{IsReadFault}
 use Rattle.doc_lift.specs.LiftedFiles.{lifted_rules}
 use Rattle.doc_lift.proofs.Public.{lifted_single}
 use Rattle.further_notes.specs.declared.splicing.NotedDocument.{NotedDocument}
-use Rattle.further_notes.specs.Splices.{CanSplice, IsSplice, IsSplicedBy, HasNoSpliceBy, state_of}
+use Rattle.further_notes.specs.Splices.{CanSpliceNotes, IsSplice, IsSplicedBy, HasNoSpliceBy, note_state_of}
 use Rattle.further_notes.proofs.SpliceLemmas.{splice_found}
 use Rattle.further_notes.proofs.splicing.splice_file.Goals as goal
 
@@ -17,15 +17,15 @@ pub returns-in-Ok : goal.returns-in-Ok
 returns-in-Ok c =
     let file = c.args.file.now in
     let form = c.args.form.now in
-    let old = state_of c.args.noted.now in
+    let old = note_state_of c.args.noted.now in
     let lifted = c.in-Ok.lifted in
     let bytes : AreBytes file = λ i. omega (arith, c.type_inv.file i) in
     rw c.drop_then.ensures
     (IfOk-weaker c.splice-found.result
-    (λ (found : Option NotedDocument). MatchOption found (¬ CanSplice old.document lifted.document)
-    (λ new. IsSplice form old lifted.document (state_of new)))
+    (λ (found : Option NotedDocument). MatchOption found (¬ CanSpliceNotes old.document lifted.document)
+    (λ new. IsSplice form old lifted.document (note_state_of new)))
     (λ (found : Option NotedDocument). MatchOption found (HasNoSpliceBy file form old)
-    (λ new. IsSplicedBy file form old (state_of new)))
+    (λ new. IsSplicedBy file form old (note_state_of new)))
     (λ found is. splice_found file form old lifted found bytes c.in-Ok.ensures is) c.splice-found.ensures)
 
 pub returns-in-Err-Refused : goal.returns-in-Err-Refused

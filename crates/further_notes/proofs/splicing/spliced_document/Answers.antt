@@ -1,6 +1,6 @@
 use Rattle.std.proofs.Common.{◌≡◌, ◌∙◌, ap, List}
-use Rattle.plain_doc.specs.declared.item.Item.{Item}
-use Rattle.plain_doc.specs.declared.document.Document.{Document}
+use Rattle.doc_model.specs.declared.item.Item.{Item}
+use Rattle.doc_model.specs.declared.document.Document.{Document}
 use Rattle.further_notes.specs.Sources.{note_kinds, note_texts}
 use Rattle.further_notes.specs.Splices.{text_noted, sources_of}
 use Rattle.further_notes.proofs.splicing.spliced_document.Goals as goal

@@ -2,7 +2,7 @@ use Rattle.std.proofs.Common.{Option}
 use Rattle.std.specs.Prelude.{MatchOption}
 use Rattle.std.proofs.lemmas.Result.{IfOk-weaker}
 use Rattle.further_notes.specs.declared.splicing.Spliced.{Spliced}
-use Rattle.further_notes.specs.Splices.{NoteState, state_of}
+use Rattle.further_notes.specs.Splices.{NoteState, note_state_of}
 use Rattle.further_notes.specs.Noted.{AreSteps, IsSplicedFrom, IsSpliced, HasNoSplice}
 use Rattle.further_notes.proofs.SpliceLemmas.{all_found}
 use Rattle.further_notes.proofs.splicing.with_further_notes.Goals as goal
@@ -13,7 +13,7 @@ returns c =
     let wd = c.args.wd.now in
     let table = c.args.table.now in
     let document = c.args.document.now in
-    let start = state_of c.in_ok-start.start in
+    let start = note_state_of c.in_ok-start.start in
     rw c.drop_then.ensures
     (IfOk-weaker c.spliced_from-found.result
     (λ (found : Option Spliced). MatchOption found ((new : NoteState) → ¬ AreSteps stories wd table start new)

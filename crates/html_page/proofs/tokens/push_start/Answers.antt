@@ -5,14 +5,14 @@ use Rattle.page_out.proofs.Public.{put_then, three_put}
 use Rattle.html_text.specs.Tokens.{Character, escaped, printed}
 use Rattle.html_page.specs.Pages.{back_tokens, characters, close_tokens, end, front_tokens, other_tokens, start_tokens}
 use Rattle.html_page.specs.Pages.{style_tokens}
-use Rattle.html_page.specs.Tags.{attributes_of, attributes_text, ends_line, name_of}
+use Rattle.html_page.specs.Tags.{attributes_of, attributes_text, ends_line, element_name}
 use Rattle.html_page.proofs.PutLemmas.{end_pieces, four_put, open_pieces, put_as, tokens_then}
 use Rattle.html_page.proofs.tokens.push_start.Goals as goal
 
 pub returns : goal.returns
 returns g c =
     let e = c.args.element in
-    let name = name_of e in
+    let name = element_name e in
     let attributes = attributes_text (attributes_of c.args.document.now e) in
     put_as g.K.Sink c.args.out.now c.push_ascii-3.new.out c.args.page.now c.push_ascii-3.new.self ((60 ∷ []) ++ (name ++
     (attributes ++ 62 ∷ []))) (printed (start_tokens c.args.document.now e)) (open_pieces name attributes)

@@ -5,7 +5,7 @@ use Rattle.page_out.proofs.Public.{put_then, three_put}
 use Rattle.html_text.specs.Tokens.{Character, escaped, printed}
 use Rattle.html_page.specs.Pages.{back_tokens, characters, close_tokens, end, front_tokens, open_tokens, other_tokens}
 use Rattle.html_page.specs.Pages.{style_tokens}
-use Rattle.html_page.specs.Tags.{attributes_of, attributes_text, ends_line, name_of}
+use Rattle.html_page.specs.Tags.{attributes_of, attributes_text, ends_line, element_name}
 use Rattle.html_page.proofs.PutLemmas.{end_pieces, four_put, open_pieces, put_as, tokens_then}
 use Rattle.html_page.proofs.PutLemmas.{ascii_all}
 use Rattle.html_page.proofs.tokens.push_style.Goals as goal

@@ -1,6 +1,6 @@
 use Rattle.std.proofs.Common.{◌≡◌, ◌∙◌, ap, sym, subst, List, map, take, length, All, arith}
 use Rattle.doc_bits.specs.Number.{AreBytes}
-use Rattle.plain_doc.specs.declared.document.Document.{Document}
+use Rattle.doc_model.specs.declared.document.Document.{Document}
 use Rattle.doc_patch.specs.declared.changes.Change.{Change}
 use Rattle.doc_patch.specs.Changes.{all_changed}
 use Rattle.doc_patch.specs.Makes.{CanMakeAll}

@@ -1,5 +1,5 @@
 use Rattle.std.proofs.Common.{slice_get, arith}
-use Rattle.plain_doc.proofs.Public.{stream_of_parts}
+use Rattle.doc_model.proofs.Public.{stream_of_parts}
 use Rattle.json_doc.specs.CarriedParts.{stream_json}
 use Rattle.json_doc.proofs.WrittenLemmas.{where_ok, next_placed, all_placed}
 use Rattle.json_doc.proofs.carried_parts.write_streams.Goals as goal

@@ -1,6 +1,6 @@
 use Rattle.std.proofs.lemmas.Result.{err_from_is_err_and}
 use Rattle.serde_json.specs.View.{view}
-use Rattle.plain_doc.specs.Formed.{IsFormedCarried}
+use Rattle.doc_model.specs.Formed.{IsFormedCarried}
 use Rattle.json_doc.specs.CarriedParts.{carried_json}
 use Rattle.json_doc.proofs.CarriedLemmas.{no_carried, carried_unread, carried_told}
 use Rattle.json_doc.proofs.ValueLemmas.{tells_err}

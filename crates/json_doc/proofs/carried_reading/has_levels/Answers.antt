@@ -1,6 +1,6 @@
 use Rattle.std.proofs.Common.{◌≡◌, ◌++◌, ◌∙◌, ap, length, subst}
 use Rattle.std.proofs.lemmas.Bool.Decides.{Decides-eqb}
-use Rattle.doc_bits.specs.Rules.{Hold, IsFirst}
+use Rattle.doc_bits.specs.Rules.{Hold, IsFirstOffset}
 use Rattle.doc_parts.specs.Levels.{level_rules, HaveLength}
 use Rattle.json_doc.proofs.LevelLemmas.{levels_told, levels_hold, levels_length}
 use Rattle.json_doc.proofs.carried_reading.has_levels.Goals as goal
@@ -12,7 +12,8 @@ returns-in-None c =
     let table : c.as_slice-2.result.now ≡ lst ++ levels =
     c.as_slice-2.ensures ∙ c.in_ok-push_all.ensures.ok ∙ ap (λ t. t ++ levels) c.in_ok-table.ensures in (
       (λ t. absurd (cc (t))),
-      λ are. absurd (levels_hold lst levels c.in-None.ensures.0 are (subst (λ t. IsFirst (level_rules t 0 (length lst))
+      λ are. absurd (levels_hold lst levels c.in-None.ensures.0 are (subst (λ t. IsFirstOffset (level_rules t 0 (length
+          lst))
           56 c.in-None.ensures.0) table c.in-None.ensures.1)),
     )
 

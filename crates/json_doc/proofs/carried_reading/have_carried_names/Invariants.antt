@@ -1,7 +1,7 @@
 use Rattle.std.proofs.Common.{◌≡◌, ℕ, ◌<◌}
 use Rattle.std.specs.Prelude.{slice_get, Some}
 use Rattle.cfb_streams.specs.Contents.{NamedBytes}
-use Rattle.plain_doc.specs.Carried.{IsCarriedName}
+use Rattle.doc_model.specs.Carried.{IsCarriedName}
 use Rattle.json_doc.proofs.carried_reading.have_carried_names.Given as goal
 
 abbrev pub invariant-loop-i : goal.invariant-loop-i

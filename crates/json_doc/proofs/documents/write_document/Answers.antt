@@ -1,7 +1,7 @@
 use Rattle.std.proofs.Common.{subst}
 use Rattle.std.specs.Prelude.{OnOk}
 use Rattle.json.specs.Print.{escape_byte}
-use Rattle.plain_doc.specs.declared.document.Document.{Document}
+use Rattle.doc_model.specs.declared.document.Document.{Document}
 use Rattle.serde_json.specs.Written.{compact_text}
 use Rattle.json_values.specs.Out.{Adds}
 use Rattle.json_doc.specs.Documents.{json_value}

@@ -3,7 +3,7 @@ use Rattle.std.proofs.lemmas.List.{length-map}
 use Rattle.std.proofs.lemmas.Result.{err_from_is_err_and}
 use Rattle.serde_json.specs.Data.{Data, array}
 use Rattle.serde_json.specs.View.{view, items_view}
-use Rattle.plain_doc.specs.Document.{IsFormedText, AreFormedTexts}
+use Rattle.doc_model.specs.Document.{IsFormedText, AreFormedTexts}
 use Rattle.json_doc.specs.Pieces.{text_json, texts_json}
 use Rattle.json_doc.proofs.ReadLemmas.{AreRead, same_items, read_more, read_length, list_read}
 use Rattle.json_doc.proofs.ValueLemmas.{more_values, all_values, reads_err, wrong_at, front_length}

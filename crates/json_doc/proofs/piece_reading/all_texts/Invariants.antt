@@ -1,6 +1,6 @@
 use Rattle.std.proofs.Common.{map, take}
 use Rattle.serde_json.specs.View.{view}
-use Rattle.plain_doc.specs.Document.{IsFormedText}
+use Rattle.doc_model.specs.Document.{IsFormedText}
 use Rattle.json_doc.specs.Pieces.{text_json}
 use Rattle.json_doc.proofs.ReadLemmas.{AreRead}
 use Rattle.json_doc.proofs.piece_reading.all_texts.Given as goal

@@ -1,5 +1,5 @@
 use Rattle.prop_map.specs.Formed.{IsPropertyMap, paragraph_groups}
-use Rattle.plain_doc.specs.declared.item.Mark.{Mark}
+use Rattle.doc_model.specs.declared.item.Mark.{Mark}
 use Rattle.json_doc.proofs.RowLemmas.{for_iff}
 use Rattle.json_doc.proofs.piece_reading.has_valid_mark.Goals as goal
 

@@ -3,7 +3,7 @@ use Rattle.std.proofs.lemmas.List.{length-map}
 use Rattle.std.proofs.lemmas.Result.{err_from_is_err_and}
 use Rattle.serde_json.specs.Data.{Data, array}
 use Rattle.serde_json.specs.View.{view, items_view}
-use Rattle.plain_doc.specs.Document.{IsFormedText}
+use Rattle.doc_model.specs.Document.{IsFormedText}
 use Rattle.json_doc.specs.Pieces.{text_json}
 use Rattle.json_doc.specs.PieceReading.{IsNoPiece}
 use Rattle.json_doc.proofs.CutTextLemmas.{AreTaken, one_taken, none_taken, taken_same, text_unread}

@@ -1,6 +1,6 @@
 use Rattle.std.proofs.Common.{◌∙◌, List, ap}
-use Rattle.plain_doc.specs.declared.item.Item.{Item}
-use Rattle.plain_doc.specs.Stretches.{goes_over}
+use Rattle.doc_model.specs.declared.item.Item.{Item}
+use Rattle.doc_model.specs.Stretches.{goes_over}
 use Rattle.json_doc.specs.Pieces.{is_one_piece}
 use Rattle.json_doc.specs.PieceReading.{piece_items}
 use Rattle.json_doc.proofs.TextReadLemmas.{over_end}

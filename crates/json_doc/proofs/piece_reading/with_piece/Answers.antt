@@ -1,8 +1,8 @@
 use Rattle.std.proofs.Common.{◌∙◌, ◌++◌, ◌∷◌, [], ℕ, List, get_or, sym, ap, subst}
 use Rattle.prop_map.specs.Formed.{IsPropertyMap, character_groups}
 use Rattle.prop_map.specs.Settings.{Properties}
-use Rattle.plain_doc.specs.declared.item.Item.{Item}
-use Rattle.plain_doc.specs.Document.{HasPropertyMaps}
+use Rattle.doc_model.specs.declared.item.Item.{Item}
+use Rattle.doc_model.specs.Document.{HasPropertyMaps}
 use Rattle.doc_columns.specs.Columns.{bare_items}
 use Rattle.json_doc.specs.PieceReading.{item_with}
 use Rattle.json_doc.proofs.TextReadLemmas.{bare_piece, special_piece, piece_maps}

@@ -4,7 +4,7 @@ use Rattle.serde_json.specs.Written.{compact_text}
 use Rattle.json_values.proofs.Public.{Adds-same}
 use Rattle.doc_columns.specs.Walks.{items_in}
 use Rattle.doc_columns.proofs.Public.{items_long, first_walk}
-use Rattle.plain_doc.specs.Stretches.{stretches}
+use Rattle.doc_model.specs.Stretches.{stretches}
 use Rattle.json_doc.specs.Pieces.{is_one_piece, stretch_json}
 use Rattle.json_doc.proofs.PieceLemmas.{next_piece, no_stretch, stretch_json-range}
 use Rattle.json_doc.proofs.WrittenLemmas.{where_ok, begun}

@@ -1,6 +1,6 @@
 use Rattle.std.proofs.lemmas.Result.{err_from_is_err_and}
 use Rattle.serde_json.specs.View.{view}
-use Rattle.plain_doc.specs.declared.document.Document.{Document}
+use Rattle.doc_model.specs.declared.document.Document.{Document}
 use Rattle.json_doc.specs.DocumentReading.{SixValues}
 use Rattle.json_doc.proofs.DocumentLemmas.{no_document, document_told}
 use Rattle.json_doc.proofs.DocumentTextLemmas.{no_sheet, no_carried}

@@ -3,12 +3,12 @@ use Rattle.std.specs.Prelude.{Ok}
 use Rattle.std.proofs.lemmas.List.Sorted.{IsPermutation-refl}
 use Rattle.std.proofs.lemmas.Result.{err_from_is_err_and}
 use Rattle.serde_json.specs.View.{view}
-use Rattle.doc_parts.specs.declared.bookmark_order.Bookmark.{Bookmark}
-use Rattle.doc_parts.specs.Bookmarks.{bookmark_cmp}
-use Rattle.doc_parts.proofs.Public.{bookmark_total, bookmark_alone, sorted_is_in_order}
+use Rattle.document_bookmarks.specs.declared.bookmark_order.Bookmark.{Bookmark}
+use Rattle.document_bookmarks.specs.Bookmarks.{bookmark_cmp}
+use Rattle.document_bookmarks.proofs.Public.{bookmark_total, bookmark_alone, sorted_is_in_order}
 use Rattle.json_doc.specs.DocumentReading.{AreMarks}
 use Rattle.json_doc.specs.Documents.{bookmarks_json}
-use Rattle.json_doc.specs.ReadValues.{Reads}
+use Rattle.json_doc.specs.ReadValues.{ReadsValue}
 use Rattle.json_doc.proofs.MarkLemmas.{bookmarks_one}
 use Rattle.json_doc.proofs.ReadLemmas.{misfit, refused, accepted}
 use Rattle.json_doc.proofs.reading.marks_in.Goals as goal
@@ -34,6 +34,6 @@ returns c =
     c.arrange.ensures
     ∙ sym (sorted_is_in_order bookmark_cmp bookmark_total bookmark_alone old old (IsPermutation-refl old)
     formed.in_order) in
-    subst (λ (list : List Bookmark). Reads bookmarks_json (AreMarks c.args.len) value (Ok list)) (sym same)
+    subst (λ (list : List Bookmark). ReadsValue bookmarks_json (AreMarks c.args.len) value (Ok list)) (sym same)
     (accepted bookmarks_one (AreMarks c.args.len) (λ x marks. marks.numbers) value old c.in_ok-bookmarks.ensures
     (record { formed = formed; numbers = c.len.ensures.numbers }))

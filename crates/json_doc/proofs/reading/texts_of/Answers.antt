@@ -3,7 +3,7 @@ use Rattle.std.proofs.Common.{subst}
 use Rattle.serde_json.specs.View.{view}
 use Rattle.json_doc.specs.DocumentReading.{AreMarks, SixValues}
 use Rattle.json_doc.specs.Documents.{bookmarks_json}
-use Rattle.json_doc.specs.ReadValues.{Reads}
+use Rattle.json_doc.specs.ReadValues.{ReadsValue}
 use Rattle.std.specs.Prelude.{Ok}
 use Rattle.json_doc.proofs.DocumentLemmas.{marks_unread}
 use Rattle.json_doc.proofs.DocumentTextLemmas.{no_main, no_notes, no_heads}
@@ -71,7 +71,7 @@ pub returns : goal.returns
 returns c = record {
   main = c.in_ok-main.ensures;
   bookmarks =
-      subst (λ len. Reads bookmarks_json (AreMarks len) (view c.args.parts.now.bookmarks.now)
+      subst (λ len. ReadsValue bookmarks_json (AreMarks len) (view c.args.parts.now.bookmarks.now)
       (Ok c.in_ok-bookmarks.bookmarks)) c.len.ensures.len c.in_ok-bookmarks.ensures;
   notes = c.in_ok-notes.ensures;
   heads = c.in_ok-heads.ensures;

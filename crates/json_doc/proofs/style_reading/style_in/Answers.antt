@@ -1,7 +1,7 @@
 use Rattle.std.proofs.Common.{refl, subst, sym, ◌∙◌}
 use Rattle.std.proofs.lemmas.Result.{err_from_is_err_and}
 use Rattle.serde_json.specs.View.{view}
-use Rattle.edit_script.specs.Json.{Gives}
+use Rattle.edit_script.specs.Json.{GivesReading}
 use Rattle.json_doc.specs.StyleReading.{read_style_of}
 use Rattle.json_doc.specs.StyleGroups.{style_row}
 use Rattle.json_doc.proofs.RowLemmas.{gives_err, gives_lost, then_goes, then_lost}
@@ -37,6 +37,6 @@ returns-in_err-end c =
 
 pub returns : goal.returns
 returns c =
-    subst (Gives c.style_from.result)
+    subst (GivesReading c.style_from.result)
     (sym (then_goes style_row c.in_ok-row.ensures (c.in_ok-front.ensures ∙ (c.in_ok-back.ensures c.in_ok-front.front
     ∙ then_goes _ c.in_ok-end.ensures refl)))) c.style_from.ensures

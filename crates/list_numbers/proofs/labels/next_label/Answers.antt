@@ -3,7 +3,7 @@ use Rattle.std.specs.Prelude.{slice_get}
 use Rattle.list_numbers.specs.Counters.{counter}
 use Rattle.list_numbers.proofs.AlikeLemmas.{number_by_counts}
 use Rattle.list_numbers.specs.Numbers.{units_in}
-use Rattle.list_numbers.specs.ParagraphValues.{is_bullet_level, label_with, level_of, shown_units}
+use Rattle.list_numbers.specs.ParagraphValues.{is_bullet_level, label_with, list_level, shown_units}
 use Rattle.list_numbers.proofs.CounterLemmas.{other_counted, paragraph_counted}
 use Rattle.list_numbers.proofs.labels.next_label.Goals as goal
 
@@ -28,7 +28,7 @@ returns-clause-label c =
     let place = c.in-Some.place in
     let counts = c.count_place.new.counts in
     let units = units_in (slice_get lists place.list) place.level (counter counts place.list) in
-    let level = level_of (slice_get lists place.list) place.level in
+    let level = list_level (slice_get lists place.list) place.level in
     let bullet = is_bullet_level level in
     rw c.in-Some.is (c.in_ok-label.ensures
     ∙ ap (λ us. label_with place.level bullet (shown_units c.args.fonts level (take 64 us))) (number_by_counts lists place (places ++ Some place ∷ []) counts units

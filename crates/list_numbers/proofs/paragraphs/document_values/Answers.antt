@@ -1,10 +1,10 @@
 use Rattle.std.proofs.Common.{◌≡◌, ◌+◌, ◌<◌, ◌-◌, length, ap, subst, refl, arith}
-use Rattle.plain_doc.specs.declared.document.Document.{Document}
+use Rattle.doc_model.specs.declared.document.Document.{Document}
 use Rattle.plain_doc.proofs.Public.{sound_is_valid, sound_seen}
 use Rattle.doc_columns.specs.Attached.{attached_of}
 use Rattle.doc_columns.proofs.Public.{start_at, column_long, begins_at_start}
 use Rattle.list_numbers.specs.MarkValues.{AreKnownValues, AreMarkValues}
-use Rattle.list_numbers.specs.Places.{EndsBefore}
+use Rattle.list_numbers.specs.Places.{ParagraphEndsBefore}
 use Rattle.list_numbers.proofs.DocumentValueLemmas.{HaveValues, none_known, style_of_mark, no_values}
 use Rattle.list_numbers.proofs.DocumentValueLemmas.{more_values, all_values}
 use Rattle.list_numbers.proofs.ParagraphLemmas.{mark_there, mark_taken}
@@ -64,8 +64,8 @@ loop-at-preserved c =
     let seen =
     mark_taken c.document.inside.main at end found.result.0 c.unwrap.result c.unwrap.ensures
     (found.ensures.found c.document.inside.main c.attachments-attachments.ensures) in
-    let ended : EndsBefore document.main at end mark =
-    subst (λ (d : Document). EndsBefore d.main at end mark) c.document.view_is seen in
+    let ended : ParagraphEndsBefore document.main at end mark =
+    subst (λ (d : Document). ParagraphEndsBefore d.main at end mark) c.document.view_is seen in
     let own = c.in_ok-own.own in
     let are : AreMarkValues document.sheet mark own =
     subst (λ (d : Document). AreMarkValues d.sheet mark own) c.document.view_is c.in_ok-own.ensures.values in

@@ -1,5 +1,5 @@
 use Rattle.std.proofs.Common.{◌-◌, ◌≤◌}
-use Rattle.run_lists.specs.Places.{IsAt}
+use Rattle.run_lists.specs.Places.{IsAtRunBegin}
 use Rattle.list_numbers.specs.MarkValues.{AreKnownValues}
 use Rattle.list_numbers.proofs.DocumentValueLemmas.{HaveValues}
 use Rattle.list_numbers.proofs.paragraphs.document_values.Given as goal
@@ -8,7 +8,7 @@ abbrev pub invariant-loop-at : goal.invariant-loop-at
 invariant-loop-at l = record {
   values : HaveValues l.document l.values.items l.at;
   known : AreKnownValues l.sheet l.known.items;
-  cursor : IsAt l.attachments l.marks;
+  cursor : IsAtRunBegin l.attachments l.marks;
   ahead : l.marks.begin ≤ l.at;
 }
 

@@ -2,7 +2,7 @@ use Rattle.std.proofs.Common.{◌≡◌, ◌+◌, ◌<◌, ◌≤◌, ◌++◌, 
 use Rattle.std.specs.Prelude.{Bool, Option, filter, slice_get}
 use Rattle.std.specs.List.{cons_option}
 use Rattle.view_places.specs.declared.element.Element.{Element}
-use Rattle.markdown_page.specs.Shape.{keeps, kind_of}
+use Rattle.markdown_page.specs.Shape.{keeps, element_kind}
 use Rattle.markdown_page.proofs.ShapeLemmas.{kept_few, kept_next}
 use Rattle.markdown_page.proofs.shape.shaped_path.Goals as goal
 
@@ -16,7 +16,8 @@ pub loop-i-preserved : goal.loop-i-preserved
 loop-i-preserved c =
     let old = c.loop-i in
     let to = c.args.to.now in
-    let keep : Element → Bool = λ element. keeps c.inner_kind-inner.result c.is_space-space.result (kind_of element) in
+    let keep : Element → Bool = λ element. keeps c.inner_kind-inner.result c.is_space-space.result (element_kind
+    element) in
     let len = c.len-i-end.ensures.len in
     let few = old.invariant.few in
     let within : old.i < length to = omega (arith, len) in

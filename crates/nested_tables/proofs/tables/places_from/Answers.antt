@@ -3,7 +3,7 @@ use Rattle.std.proofs.Common.{◌∙◌, ◌≤◌, ℕ, ◌+◌, ◌++◌, List
 use Rattle.std.proofs.Common.{append-nil, drop}
 use Rattle.nested_tables.specs.declared.walk.NestedPlace.{NestedPlace}
 use Rattle.nested_tables.specs.declared.walk.Walk.{Walk}
-use Rattle.nested_tables.specs.Tables.{ends_row, is_whole, is_within}
+use Rattle.nested_tables.specs.Tables.{ends_row, is_whole_table, reaches_depth}
 use Rattle.nested_tables.proofs.TableLemmas.{cell_few, known_by, places_end, places_on, places_start, whole_step}
 use Rattle.nested_tables.proofs.tables.places_from.Goals as goal
 
@@ -41,7 +41,7 @@ loop-number-preserved c =
       cell = subst (λ (w : Walk). w.cell ≤ k + 1) (sym c.behind-walk.ensures) (omega (arith, few, cell));
       known = λ value here. (
         ends_row depth one,
-        known_by (is_within depth one) (is_whole depth (ends_row depth one) (drop (k + 1) all))
+        known_by (reaches_depth depth one) (is_whole_table depth (ends_row depth one) (drop (k + 1) all))
             value whole whole_is here,
       );
     }

@@ -1,5 +1,5 @@
 use Rattle.std.proofs.Common.{◌≡◌, ◌≤◌, Bool, Some, drop}
-use Rattle.nested_tables.specs.Tables.{is_whole}
+use Rattle.nested_tables.specs.Tables.{is_whole_table}
 use Rattle.nested_tables.proofs.TableLemmas.{PlacesAt}
 use Rattle.nested_tables.proofs.tables.places_from.Given as goal
 
@@ -10,5 +10,5 @@ invariant-loop-number l = record {
   count : l.walk.number ≡ l.number;
   cell : l.walk.cell ≤ l.number;
   known : (whole : Bool) → l.known ≡ Some whole →
-      (ended : Bool) × (whole ≡ is_whole l.depth ended (drop l.number l.paragraphs));
+      (ended : Bool) × (whole ≡ is_whole_table l.depth ended (drop l.number l.paragraphs));
 }

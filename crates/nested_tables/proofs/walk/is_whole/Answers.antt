@@ -1,6 +1,6 @@
 -- The paragraphs, one by one.
 use Rattle.std.proofs.Common.{◌∙◌, ◌+◌, Bool, sym, ap, arith, drop}
-use Rattle.nested_tables.specs.Tables.{is_whole}
+use Rattle.nested_tables.specs.Tables.{is_whole_table}
 use Rattle.nested_tables.proofs.TableLemmas.{whole_end, whole_step, whole_stop}
 use Rattle.nested_tables.proofs.walk.is_whole.Goals as goal
 
@@ -17,7 +17,8 @@ loop-number-preserved c =
     old.invariant
     ∙ whole_step c.args.depth old.last paragraphs old.number c.depth_at-one.result c.depth_at-one.ensures (sym
     c.is_within.ensures ∙ c.if-not-is_within.false)
-    ∙ ap (λ (b : Bool). is_whole c.args.depth b (drop (old.number + 1) paragraphs)) (sym c.is_row_end-last.ensures)
+    ∙ ap (λ (b : Bool). is_whole_table c.args.depth b (drop (old.number + 1) paragraphs)) (sym
+    c.is_row_end-last.ensures)
 
 pub returns : goal.returns
 returns c =

@@ -1,6 +1,6 @@
 use Rattle.std.proofs.Common.{◌≡◌, inl, inr, refl, subst, arith}
 use Rattle.std.proofs.lemmas.Bool.{cases_lt}
-use Rattle.page_copies.specs.Places.{IsApart}
+use Rattle.page_copies.specs.Places.{IsClearRun}
 use Rattle.page_copies.proofs.places.has_lists_apart.Goals as goal
 
 pub returns-then-not-is_apart : goal.returns-then-not-is_apart
@@ -15,7 +15,7 @@ loop-run-preserved c = λ k h. elim (cases_lt k c.loop-run.run) [
   | inl lo ↦ c.loop-run.invariant k lo
   | inr hi ↦
       let same : c.loop-run.run ≡ k = omega arith in
-      subst (IsApart c.args.kind c.args.page.now) same (c.if-not-is_apart.ensures.0 refl)
+      subst (IsClearRun c.args.kind c.args.page.now) same (c.if-not-is_apart.ensures.0 refl)
 ]
 
 pub returns : goal.returns

@@ -1,6 +1,6 @@
 use Rattle.std.proofs.Common.{◌≡◌, inl, inr, refl, ap, ◌∙◌, subst, arith}
 use Rattle.std.proofs.lemmas.Bool.{cases_lt}
-use Rattle.fkp_pages.specs.Fkp.{entry_place}
+use Rattle.fkp_pages.specs.Fkp.{run_entry_place}
 use Rattle.page_copies.specs.Places.{IsApartFrom}
 use Rattle.page_copies.proofs.places.is_clear.Goals as goal
 
@@ -21,7 +21,7 @@ loop-other-preserved c = λ run h. elim (cases_lt run c.loop-other.other) [
 
 pub returns : goal.returns
 returns c =
-    let end = c.entry_at.ensures.place ∙ ap (entry_place c.args.kind c.args.page.now) c.run_count-count.ensures in (
+    let end = c.entry_at.ensures.place ∙ ap (run_entry_place c.args.kind c.args.page.now) c.run_count-count.ensures in (
       λ t. record {
         behind = omega (arith, end, c.if-place-entry_at.false);
         apart = λ run low. c.loop-other.invariant run

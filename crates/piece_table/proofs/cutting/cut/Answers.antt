@@ -1,8 +1,8 @@
 use Rattle.std.proofs.Common.{◌≡◌, ◌+◌, ◌∙◌, arith, length, slice_set, sym, ap, subst}
 use Rattle.std.proofs.lemmas.Option.{slice_get_within, get_or_from_slice_get}
-use Rattle.chunked_list.specs.Blocks.{units_of}
+use Rattle.chunked_list.specs.Blocks.{total_units}
 use Rattle.piece_table.specs.declared.pieces.Entry.{Entry}
-use Rattle.piece_table.specs.Cuts.{IsCut, front_entry, back_entry}
+use Rattle.piece_table.specs.Cuts.{AreCutEntries, front_entry, back_entry}
 use Rattle.piece_table.proofs.BlockLemmas.{units-entries, spot_told, end_seam, units_behind}
 use Rattle.piece_table.proofs.CutLemmas.{IsCutPlace, spot_place, spot_seam, cut_inside, cut_nowhere, cut_entries}
 use Rattle.piece_table.proofs.CutLemmas.{inserted}
@@ -12,7 +12,7 @@ pub returns-then-cp-total-clause-cut : goal.returns-then-cp-total-clause-cut
 returns-then-cp-total-clause-cut c =
     let entries = c.args.entries.now.items in
     let end : c.args.cp ≡ c.args.total = omega (arith, c.if-cp-total.true) in
-    subst (λ n. IsCut entries entries c.args.cp n) (sym c.len.ensures.value)
+    subst (λ n. AreCutEntries entries entries c.args.cp n) (sym c.len.ensures.value)
     (cut_nowhere entries c.args.cp (length entries) c.requires.sound (end_seam entries c.args.cp (end
     ∙ c.requires.total)))
 
@@ -60,7 +60,7 @@ set-requires-clause-units c =
     omega (
       arith,
       units_behind entries c.args.cp spot.item spot.within entry place,
-      ap (λ (e : Entry). units_of (λ (e : Entry). e.piece.len) (slice_set entries spot.item e)) c.back.ensures,
+      ap (λ (e : Entry). total_units (λ (e : Entry). e.piece.len) (slice_set entries spot.item e)) c.back.ensures,
       c.requires.total,
     )
 
@@ -77,8 +77,8 @@ insert-requires-clause-units c =
     omega (
       arith,
       units_behind entries c.args.cp spot.item spot.within entry place,
-      ap (λ (e : Entry). units_of (λ (e : Entry). e.piece.len) (slice_set entries spot.item e)) c.back.ensures,
-      ap (units_of (λ (e : Entry). e.piece.len)) c.set.ensures.items,
+      ap (λ (e : Entry). total_units (λ (e : Entry). e.piece.len) (slice_set entries spot.item e)) c.back.ensures,
+      ap (total_units (λ (e : Entry). e.piece.len)) c.set.ensures.items,
       ap (λ (e : Entry). e.piece.len) c.front.ensures,
       c.requires.total,
     )
@@ -100,5 +100,6 @@ returns-clause-cut c =
     c.insert.ensures.items
     ∙ (rw (c.set.ensures.items, c.front.ensures, c.back.ensures) (inserted entries number (front_entry entry inside)
     (back_entry entry inside) low)) in
-    subst (λ l. IsCut entries l c.args.cp (number + 1)) (sym new) (cut_inside entries c.args.cp number inside entry
+    subst (λ l. AreCutEntries entries l c.args.cp (number + 1)) (sym new) (cut_inside entries c.args.cp number inside
+    entry
     place)

@@ -1,13 +1,13 @@
 use Rattle.std.proofs.Common.{◌≡◌, ◌+◌, ◌++◌, map, take, drop, slice_set, sym, subst, arith}
 use Rattle.std.specs.Prelude.{slice_range}
 use Rattle.piece_table.specs.declared.pieces.Entry.{Entry}
-use Rattle.piece_table.specs.Cuts.{renumbered}
+use Rattle.piece_table.specs.Cuts.{renumbered_entry}
 use Rattle.piece_table.proofs.RenumberLemmas.{renumber_more}
 use Rattle.piece_table.proofs.renumber.renumber.Goals as goal
 
 pub loop-k-preserved : goal.loop-k-preserved
 loop-k-preserved c =
-    let f : Entry → Entry = renumbered c.args.numbers.now in
+    let f : Entry → Entry = renumbered_entry c.args.numbers.now in
     let old = c.args.entries.now.items in
     let new = c.loop-k.entries.items in
     let first = c.args.first in

@@ -1,5 +1,5 @@
 -- What carries nothing is well formed.
-use Rattle.plain_doc.specs.NothingCarried.{no_lists, no_streams}
+use Rattle.doc_model.specs.NothingCarried.{no_lists, no_streams}
 use Rattle.plain_doc.proofs.blank_parts.nothing_carried.Goals as goal
 
 pub invariant_of-result-clause-lists : goal.invariant_of-result-clause-lists

@@ -1,5 +1,5 @@
 -- Each style is well formed.
-use Rattle.plain_doc.proofs.BlankLemmas.{normal_is_formed, heading_is_formed, default_font_is_formed}
+use Rattle.doc_model.proofs.Public.{normal_is_formed, heading_is_formed, default_font_is_formed}
 use Rattle.plain_doc.proofs.blank_parts.sheet.Goals as goal
 
 pub new-requires : goal.new-requires

@@ -1,5 +1,5 @@
 use Rattle.std.proofs.Common.{rules, refl, ◌≤◌, length}
-use Rattle.plain_doc.specs.Marks.{most_bookmarks}
+use Rattle.doc_model.specs.Marks.{most_bookmarks}
 use Rattle.plain_doc.proofs.BookmarkRuleLemmas.{same_name_first, none_wrong_bookmarks}
 use Rattle.plain_doc.proofs.judge.check_bookmarks.Goals as goal
 

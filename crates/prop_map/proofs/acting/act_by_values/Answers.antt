@@ -6,7 +6,7 @@ use Rattle.std.specs.Option.{option_or}
 use Rattle.std.specs.FinMap.{get, empty}
 use Rattle.sprm_table.specs.Sprm.{Prl}
 use Rattle.prop_map.specs.Acting.{value_after, style_named, ArePropertiesAfter}
-use Rattle.prop_map.specs.Values.{set_map, AreInOrder}
+use Rattle.prop_map.specs.Values.{set_map, AreCodesInOrder}
 use Rattle.prop_map.proofs.ActingLemmas.{value_after-append, style_of-append}
 use Rattle.prop_map.proofs.EntriesLemmas.{from_sorted-nil}
 use Rattle.prop_map.proofs.acting.act_by_values.Goals as goal
@@ -16,7 +16,7 @@ loop-code-init c =
     let start = c.new-prls.ensures in
     record {
       list_is = ap (λ s. s.bytes) start;
-      order = subst AreInOrder (sym c.new-values.ensures.items) refl;
+      order = subst AreCodesInOrder (sym c.new-values.ensures.items) refl;
       so_far = λ prls h. record {
         done = [];
         others = prls;

@@ -5,7 +5,7 @@ use Rattle.std.specs.Cmp.{nat_cmp_total}
 use Rattle.std.specs.FinMap.{get, get-insert, from_sorted}
 use Rattle.sprm_table.specs.Codes.{class_of, is_property}
 use Rattle.prop_map.specs.Acting.{ArePropertiesAfter}
-use Rattle.prop_map.specs.Values.{entries_of, entry_of, set_map}
+use Rattle.prop_map.specs.Values.{set_value_entries, entry_of, set_map}
 use Rattle.prop_map.proofs.ActingLemmas.{sets_not_clears, value_after-set}
 use Rattle.prop_map.proofs.EntriesLemmas.{from_sorted-put}
 use Rattle.prop_map.proofs.acting.keep_value.Goals as goal
@@ -27,10 +27,10 @@ returns-in_ok-put-in-Plain-clause-kept c =
     let clears = sets_not_clears (class_of set.code.0) sets in
     let key = set.code.0 in
     let value = set.value.now in
-    let IsPut : Type 0 = entries_of new ≡ map.put nat_cmp key value (entries_of items) in
+    let IsPut : Type 0 = set_value_entries new ≡ map.put nat_cmp key value (set_value_entries items) in
     let IsKept : Type 0 = ArePropertiesAfter (entry_of set ∷ []) c.args.groups (set_map items) (set_map new) in
     let kept : IsPut → IsKept = λ put code.
-    ap (λ m. get m code) (ap from_sorted put ∙ from_sorted-put (entries_of items) key value c.requires)
+    ap (λ m. get m code) (ap from_sorted put ∙ from_sorted-put (set_value_entries items) key value c.requires)
     ∙ (get-insert nat_cmp_total _ _ _ code
     ∙ value_after-set c.args.groups code key value (get (set_map items) code) (sym c.if-held.ensures) sets clears) in
     known c.in_ok-put-in-Plain.put IsPut IsKept kept c.in_ok-put-in-Plain.ensures.put

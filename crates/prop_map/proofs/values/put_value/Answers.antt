@@ -2,7 +2,7 @@ use Rattle.std.proofs.Common.{List, IsTrue, sym, ap, ◌∙◌, subst, arith}
 use Rattle.std.specs.Ordering.{nat_cmp}
 use Rattle.std.specs.FinMap.{is_sorted}
 use Rattle.prop_map.specs.declared.values.SetValue.{SetValue}
-use Rattle.prop_map.specs.Values.{entries_of, IsLesserCount}
+use Rattle.prop_map.specs.Values.{set_value_entries, IsLesserCount}
 use Rattle.prop_map.proofs.EntriesLemmas.{sorted-put}
 use Rattle.prop_map.proofs.ValueLemmas.{set_found, set_between}
 use Rattle.prop_map.proofs.values.put_value.Goals as goal
@@ -29,7 +29,7 @@ returns-then-index-set-clause-order c =
       c.if-at-len.true,
       c.len.ensures,
     )) (ap (λ (x : SetValue). x.code.0) (sym c.index.ensures) ∙ c.if-index-set.true) in
-    subst (λ es. IsTrue (is_sorted nat_cmp es)) (sym put) (sorted-put (entries_of items) c.args.set.code.0
+    subst (λ es. IsTrue (is_sorted nat_cmp es)) (sym put) (sorted-put (set_value_entries items) c.args.set.code.0
     c.args.set.value.now c.requires)
 
 pub returns-clause-put : goal.returns-clause-put
@@ -38,7 +38,7 @@ returns-clause-put c =
     let at = c.place_of-at.result in
     let set = c.args.set in
     let count = subst (λ l. IsLesserCount l set.code.0 at) c.deref.ensures.value c.place_of-at.ensures in
-    ap entries_of c.in_ok-insert.ensures.items
+    ap set_value_entries c.in_ok-insert.ensures.items
     ∙ elim c.else-at-len.branch [
       | else-at-len-via-then-at-len+else-index-set w ↦ set_between items at set w.index.result.now count
           (λ _ same. w.if-index-set.false (ap (λ (x : SetValue). x.code.0) w.index.ensures ∙ same)) c.requires
@@ -51,4 +51,4 @@ returns-clause-put c =
 
 pub returns-clause-order : goal.returns-clause-order
 returns-clause-order c = subst (λ es. IsTrue (is_sorted nat_cmp es)) (sym (returns-clause-put c)) (sorted-put
-    (entries_of c.args.values.now.items) c.args.set.code.0 c.args.set.value.now c.requires)
+    (set_value_entries c.args.values.now.items) c.args.set.code.0 c.args.set.value.now c.requires)

@@ -1,7 +1,7 @@
 -- A run in two parts is the same list, and the second part begins at the place.
 use Rattle.std.proofs.Common.{◌≡◌, ◌<◌, ◌-◌, List, length, get_or, refl, ap, subst, arith}
 use Rattle.run_lists.specs.declared.runs.Run.{Run}
-use Rattle.run_lists.specs.Places.{IsFound}
+use Rattle.run_lists.specs.Places.{IsFoundSpot}
 use Rattle.run_lists.proofs.RunsLemmas.{spot_partial, left_inside, cut_same, cut_is}
 use Rattle.run_lists.proofs.cut.cut.Goals as goal
 
@@ -14,8 +14,8 @@ returns-clause-same g c =
     let front = c.index_mut-run.result.now in
     let rest : Run g.row.T.Denot = record { count = again.count - spot.left; value = c.in_ok-value.value } in
     let new : Run g.row.T.Denot = record { count = spot.left; value = front.value } in
-    let found : IsFound runs c.args.begin c.args.place spot =
-    subst (λ (t : List (Run g.row.T.Denot)). IsFound t c.args.begin c.args.place spot) c.deref.ensures.value
+    let found : IsFoundSpot runs c.args.begin c.args.place spot =
+    subst (λ (t : List (Run g.row.T.Denot)). IsFoundSpot t c.args.begin c.args.place spot) c.deref.ensures.value
     c.find-spot.ensures in
     let inside : spot.run < length runs = spot_partial runs c.args.begin c.args.place spot found c.if-spot-eq0.false in
     let left = left_inside runs c.args.begin c.args.place spot again found inside in
@@ -41,8 +41,8 @@ returns-clause-cut g c =
     let front = c.index_mut-run.result.now in
     let rest : Run g.row.T.Denot = record { count = again.count - spot.left; value = c.in_ok-value.value } in
     let new : Run g.row.T.Denot = record { count = spot.left; value = front.value } in
-    let found : IsFound runs c.args.begin c.args.place spot =
-    subst (λ (t : List (Run g.row.T.Denot)). IsFound t c.args.begin c.args.place spot) c.deref.ensures.value
+    let found : IsFoundSpot runs c.args.begin c.args.place spot =
+    subst (λ (t : List (Run g.row.T.Denot)). IsFoundSpot t c.args.begin c.args.place spot) c.deref.ensures.value
     c.find-spot.ensures in
     let inside : spot.run < length runs = spot_partial runs c.args.begin c.args.place spot found c.if-spot-eq0.false in
     let left = left_inside runs c.args.begin c.args.place spot again found inside in

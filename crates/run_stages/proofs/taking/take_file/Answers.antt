@@ -1,7 +1,7 @@
 use Rattle.std.proofs.Common.{◌≡◌, ◌∙◌}
 use Rattle.std.proofs.lemmas.Result.{IfOk-weaker}
 use Rattle.run_stages.specs.Stages.{BreaksLengthRule}
-use Rattle.run_stages.specs.Reading.{IsTaken}
+use Rattle.run_stages.specs.Reading.{IsFileStage}
 use Rattle.run_stages.proofs.StageLemmas.{taken_weaker}
 use Rattle.run_stages.proofs.taking.take_file.Goals as goal
 
@@ -10,7 +10,7 @@ returns-clause-is g c =
     let name = c.args.name.now in
     let held = g.S.Shelf.held c.args.shelf.now in
     let overlong = c.in_ok-overlong.overlong in
-    IfOk-weaker c.take_whole.result (λ t. IsTaken name held (λ o. o ≡ overlong) t)
-    (λ t. IsTaken name held (BreaksLengthRule name) t)
+    IfOk-weaker c.take_whole.result (λ t. IsFileStage name held (λ o. o ≡ overlong) t)
+    (λ t. IsFileStage name held (BreaksLengthRule name) t)
     (λ t is. taken_weaker name held (λ o. o ≡ overlong) (BreaksLengthRule name) t
     (λ o e. e ∙ c.in_ok-overlong.ensures) is) c.take_whole.ensures.is

@@ -1,5 +1,5 @@
 use Rattle.std.proofs.Common.{◌≡◌, ◌∙◌, ap, subst}
-use Rattle.plain_doc.specs.declared.document.Document.{Document}
+use Rattle.doc_model.specs.declared.document.Document.{Document}
 use Rattle.plain_doc.specs.RulesOfSheet.{item_count}
 use Rattle.doc_read.specs.Holds.{IsAccepted}
 use Rattle.script_run.specs.GeneratedRuns.{mark_count}

@@ -1,7 +1,7 @@
 use Rattle.std.proofs.Common.{refl}
 use Rattle.full_save.specs.Layout.{full_save_image}
 use Rattle.script_run.proofs.GeneratedStartLemmas.{never_large, started_blank, again_in_full}
-use Rattle.plain_doc.specs.Blank.{blank_document}
+use Rattle.doc_model.specs.Blank.{blank_document}
 use Rattle.script_run.proofs.generating.save_blank.Goals as goal
 
 pub returns-in-Ok : goal.returns-in-Ok

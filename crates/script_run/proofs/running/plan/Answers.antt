@@ -1,5 +1,5 @@
 use Rattle.std.proofs.Common.{sym, subst}
-use Rattle.plain_doc.specs.declared.document.Document.{Document}
+use Rattle.doc_model.specs.declared.document.Document.{Document}
 use Rattle.edit_ops.specs.Causes.{IsEditFault}
 use Rattle.script_run.proofs.running.plan.Goals as goal
 

@@ -1,5 +1,5 @@
 use Rattle.std.proofs.Common.{map}
-use Rattle.script_run.specs.States.{start_of}
+use Rattle.script_run.specs.States.{starting_state}
 use Rattle.script_run.specs.Steps.{IsRunTo}
 use Rattle.script_run.proofs.running.run_all.Given as goal
 
@@ -7,6 +7,7 @@ use Rattle.script_run.proofs.running.run_all.Given as goal
 abbrev pub invariant-loop-index : goal.invariant-loop-index
 invariant-loop-index g l =
     IsRunTo
-    (start_of l.initial.session (map (λ b. (goal.Guard-dyn g (b.vtable, b.value)).policy b.value) l.initial.guards))
+    (starting_state l.initial.session (map (λ b. (goal.Guard-dyn g (b.vtable, b.value)).policy b.value)
+    l.initial.guards))
     (g.S.Source.commands l.source) l.index l.session
     (map (λ b. (goal.Guard-dyn g (b.vtable, b.value)).policy b.value) l.guards)

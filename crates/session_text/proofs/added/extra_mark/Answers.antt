@@ -1,7 +1,7 @@
 use Rattle.std.proofs.Common.{sym, subst}
 use Rattle.prop_map.specs.Formed.{IsPropertyMap, character_groups, paragraph_groups}
 use Rattle.prop_map.proofs.Public.{IsPropertyMap-empty}
-use Rattle.plain_doc.proofs.Public.{HasPropertyMaps-from_parts}
+use Rattle.doc_model.proofs.Public.{HasPropertyMaps-from_parts}
 use Rattle.session_text.proofs.added.extra_mark.Goals as goal
 
 pub returns-clause-maps : goal.returns-clause-maps

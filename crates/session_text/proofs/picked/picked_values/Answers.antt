@@ -3,7 +3,7 @@ use Rattle.std.specs.Prelude.{slice_range}
 use Rattle.std.proofs.lemmas.List.{take_all}
 use Rattle.doc_columns.proofs.Public.{start_at, begins_at_start}
 use Rattle.session_text.specs.WrittenAgain.{renewed_values, values_for}
-use Rattle.session_text.specs.Picked.{values_in}
+use Rattle.session_text.specs.Picked.{values_of_both}
 use Rattle.session_text.proofs.PickLemmas.{picked_more, next_total, total_upto, renewed_few}
 use Rattle.session_text.proofs.picked.picked_values.Goals as goal
 
@@ -49,7 +49,7 @@ put-requires-clause-room g c =
           c.stretch-stretch.ensures.stretch cp,
       total_upto pieces (number + 1),
       ap length c.loop-number.invariant.values,
-      renewed_few (take number placed.places.now) (take number pieces) (values_in c.args.lists.now),
+      renewed_few (take number placed.places.now) (take number pieces) (values_of_both c.args.lists.now),
       begins,
       cp,
       c.requires.within,
@@ -60,7 +60,7 @@ pub loop-number-preserved : goal.loop-number-preserved
 loop-number-preserved g c =
     let placed = c.args.placed.now in
     let pieces = placed.pieces.now.pieces in
-    let all = values_in c.args.lists.now in
+    let all = values_of_both c.args.lists.now in
     let stretch = c.stretch-stretch.result in
     let more = picked_more placed.places.now pieces c.loop-number.number c.loop-number.cp stretch all
     c.stretch-stretch.ensures.stretch c.loop-number.invariant.cp c.requires.places in
@@ -97,4 +97,4 @@ returns g c =
     let all = take_all number pieces past in
     let each = take_all number places (omega (arith, past, c.requires.places)) in
     c.loop-number.invariant.values
-    ∙ (λ i. renewed_values (each i) (all i) (values_in c.args.lists.now))
+    ∙ (λ i. renewed_values (each i) (all i) (values_of_both c.args.lists.now))

@@ -1,5 +1,5 @@
 use Rattle.std.proofs.Common.{◌∙◌, sym, ap, subst, arith, rules}
-use Rattle.plain_doc.specs.declared.document.Document.{Document}
+use Rattle.doc_model.specs.declared.document.Document.{Document}
 use Rattle.session_text.specs.SectionPlans.{FitsPlan, plan_after}
 use Rattle.session_text.proofs.PlanLemmas.{nothing_planned, planned_fits, planned_more, all_planned}
 use Rattle.session_text.proofs.sections.sections_after.Goals as goal

@@ -1,5 +1,5 @@
 use Rattle.std.proofs.Common.{refl, arith}
-use Rattle.plain_doc.specs.Collected.{joined_texts}
+use Rattle.doc_model.specs.Collected.{joined_texts}
 use Rattle.save_laws.specs.Slots.{note_slots}
 use Rattle.save_laws.specs.Ends.{ends_of}
 use Rattle.session_text.proofs.StepLemmas.{head_spliced, spliced_count, some_any, story_slots_counted}

@@ -1,8 +1,8 @@
 use Rattle.std.proofs.Common.{◌∙◌, ◌+◌, ap, sym, subst}
-use Rattle.plain_doc.specs.declared.document.Document.{Document}
+use Rattle.doc_model.specs.declared.document.Document.{Document}
 use Rattle.doc_patch.specs.declared.changes.Change.TheVariants.{SpliceText}
 use Rattle.doc_patch.specs.Changes.{changed}
-use Rattle.session_text.specs.StoryMarks.{begin_of}
+use Rattle.session_text.specs.StoryMarks.{nth_text_begin}
 use Rattle.session_text.specs.EditSteps.{KeepsNamed}
 use Rattle.session_text.specs.TextSteps.{CanStep, IsTextStep}
 use Rattle.session_text.proofs.TextChangeLemmas.{note_text_step, head_text_step}
@@ -21,8 +21,9 @@ returns-in-Note-clause-step c now are named =
     (sym c.in-Note.is)
     (note_text_step document.notes now stories c.in-Note.number from to c.range_of-all.result.0 c.range_of-all.result.1
     fresh c.note_step.result (λ texts spliced. c.note_step.ensures.step now texts are spliced) same
-    (c.range_of-all.ensures.from ∙ ap (λ (d : Document). begin_of d.notes c.in-Note.number + from) c.document.view_is)
-    (c.range_of-all.ensures.to ∙ ap (λ (d : Document). begin_of d.notes c.in-Note.number + to) c.document.view_is)
+    (c.range_of-all.ensures.from ∙ ap (λ (d : Document). nth_text_begin d.notes c.in-Note.number + from)
+    c.document.view_is)
+    (c.range_of-all.ensures.to ∙ ap (λ (d : Document). nth_text_begin d.notes c.in-Note.number + to) c.document.view_is)
     can.range)
 
 pub returns-in-Head-clause-step : goal.returns-in-Head-clause-step
@@ -40,5 +41,5 @@ returns-in-Head-clause-step c now are named =
     (head_text_step document.heads now stories c.in-Head.number from to c.range_of-all-in-Head.result.0
     c.range_of-all-in-Head.result.1
     fresh c.head_step.result (λ texts spliced. c.head_step.ensures.step now texts are spliced) same
-    (all.from ∙ ap (λ (d : Document). begin_of d.heads c.in-Head.number + from) c.document.view_is)
-    (all.to ∙ ap (λ (d : Document). begin_of d.heads c.in-Head.number + to) c.document.view_is) can.range)
+    (all.from ∙ ap (λ (d : Document). nth_text_begin d.heads c.in-Head.number + from) c.document.view_is)
+    (all.to ∙ ap (λ (d : Document). nth_text_begin d.heads c.in-Head.number + to) c.document.view_is) can.range)

@@ -1,6 +1,6 @@
 use Rattle.std.proofs.Common.{◌∙◌, ap}
-use Rattle.plain_doc.specs.declared.document.Document.{Document}
-use Rattle.session_text.specs.StoryMarks.{begin_of}
+use Rattle.doc_model.specs.declared.document.Document.{Document}
+use Rattle.session_text.specs.StoryMarks.{nth_text_begin}
 use Rattle.session_text.proofs.TextChangeLemmas.{notes_change, heads_change, section_change, characters_change}
 use Rattle.session_text.proofs.TextChangeLemmas.{paragraphs_change, bookmarks_change}
 use Rattle.session_text.proofs.text_changes.step_of.Goals as goal
@@ -11,8 +11,8 @@ returns-in_ok-items-in-SpliceNotes-clause-step c now are named =
     let range = c.range_of_texts-range.ensures in
     notes_change c.args.document.now now c.args.stories c.args.change.now _ _ _ _ _ _ _ c.in-SpliceNotes.is
     c.requires.can named c.in_ok-items-in-SpliceNotes.ensures
-    (range.from ∙ ap (λ (d : Document). begin_of d.notes number.from) c.document.view_is)
-    (range.to ∙ ap (λ (d : Document). begin_of d.notes number.to) c.document.view_is)
+    (range.from ∙ ap (λ (d : Document). nth_text_begin d.notes number.from) c.document.view_is)
+    (range.to ∙ ap (λ (d : Document). nth_text_begin d.notes number.to) c.document.view_is)
     (λ notes spliced. c.note_step.ensures.step now notes are spliced)
 
 pub returns-in_ok-items-in-SpliceHeads-clause-step : goal.returns-in_ok-items-in-SpliceHeads-clause-step
@@ -21,8 +21,8 @@ returns-in_ok-items-in-SpliceHeads-clause-step c now are named =
     let range = c.range_of_texts-range-in-SpliceHeads.ensures in
     heads_change c.args.document.now now c.args.stories c.args.change.now _ _ _ _ _ _ _ c.in-SpliceHeads.is
     c.requires.can named c.in_ok-items-in-SpliceHeads.ensures
-    (range.from ∙ ap (λ (d : Document). begin_of d.heads number.from) c.document.view_is)
-    (range.to ∙ ap (λ (d : Document). begin_of d.heads number.to) c.document.view_is)
+    (range.from ∙ ap (λ (d : Document). nth_text_begin d.heads number.from) c.document.view_is)
+    (range.to ∙ ap (λ (d : Document). nth_text_begin d.heads number.to) c.document.view_is)
     (λ heads spliced. c.head_step.ensures.step now heads are spliced)
 
 pub returns-in-SetSection-clause-step : goal.returns-in-SetSection-clause-step

@@ -1,8 +1,8 @@
 use Rattle.std.proofs.Common.{◌≡◌, ◌∙◌, ◌++◌, ◌<◌, ◌^◌, length, map, ap, sym, subst, arith}
 use Rattle.std.proofs.lemmas.List.{length-append, length-map}
-use Rattle.plain_doc.specs.declared.document.Document.{Document}
+use Rattle.doc_model.specs.declared.document.Document.{Document}
 use Rattle.full_save.specs.Text.{with_mark}
-use Rattle.save_laws.specs.Slots.{note_slots, head_slots, whole_text}
+use Rattle.save_laws.specs.Slots.{note_slots, head_slots, document_slots}
 use Rattle.save_laws.specs.Ends.{ends_of}
 use Rattle.session_text.specs.WrittenAgain.{slot_item}
 use Rattle.session_text.proofs.GatherLemmas.{whole_behind, behind_long}
@@ -20,7 +20,7 @@ with_story-requires c =
       carried = own.carried;
       bookmarks = own.bookmarks;
     } in
-    let few = subst (λ (d : Document). length (whole_text d ends) < 2 ^ 31) (sym c.document.view_is) c.requires in
+    let few = subst (λ (d : Document). length (document_slots d ends) < 2 ^ 31) (sym c.document.view_is) c.requires in
     omega (arith, ap length c.new.ensures, behind_long document ends, few)
 
 pub with_story-requires-2 : goal.with_story-requires-2
@@ -35,7 +35,7 @@ with_story-requires-2 c =
       carried = own.carried;
       bookmarks = own.bookmarks;
     } in
-    let few = subst (λ (d : Document). length (whole_text d ends) < 2 ^ 31) (sym c.document.view_is) c.requires in
+    let few = subst (λ (d : Document). length (document_slots d ends) < 2 ^ 31) (sym c.document.view_is) c.requires in
     omega (
       arith,
       ap length c.new.ensures,
@@ -58,7 +58,7 @@ with_last-requires c =
       carried = own.carried;
       bookmarks = own.bookmarks;
     } in
-    let few = subst (λ (d : Document). length (whole_text d ends) < 2 ^ 31) (sym c.document.view_is) c.requires in
+    let few = subst (λ (d : Document). length (document_slots d ends) < 2 ^ 31) (sym c.document.view_is) c.requires in
     omega (
       arith,
       ap length c.new.ensures,
@@ -91,5 +91,5 @@ returns c =
     let behind : c.finish.result ≡ with_mark (notes ++ heads) =
     c.finish.ensures ∙ (c.in_ok-all.ensures ∙ ap with_mark both) in
     ap (λ l. c.args.document.now.main ++ l) behind
-    ∙ subst (λ (d : Document). d.main ++ with_mark (notes ++ heads) ≡ map slot_item (whole_text d ends))
+    ∙ subst (λ (d : Document). d.main ++ with_mark (notes ++ heads) ≡ map slot_item (document_slots d ends))
     c.document.view_is (whole_behind document ends)

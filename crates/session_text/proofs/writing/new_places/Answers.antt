@@ -4,7 +4,7 @@ use Rattle.std.specs.Prelude.{slice_get, IsTrue, ◌↔◌, MatchOption}
 use Rattle.std.specs.Option.{option_map}
 use Rattle.std.proofs.lemmas.List.{length-append}
 use Rattle.piece_table.specs.Piece.{TextPiece, bare_piece, total_length}
-use Rattle.session_text.specs.WrittenAgain.{IsRewritten, place_at, len_for}
+use Rattle.session_text.specs.WrittenAgain.{IsRewritten, place_if_again, len_for}
 use Rattle.session_text.proofs.PickLemmas.{next_piece}
 use Rattle.session_text.proofs.WritingLemmas.{nothing_written, units_few, total_within, told, chosen_more, units_more}
 use Rattle.session_text.proofs.writing.new_places.Goals as goal
@@ -70,7 +70,7 @@ loop-number-preserved c =
     let begin = c.loop-number.invariant.at in
     let more = chosen_more c.args.which again old before (drop (suc number) pieces) next.piece so_far at next.whole
     c.requires is begin len c.loop-number.invariant.chosen in
-    let places : c.push.new.self.items ≡ so_far ++ place_at again at ∷ [] =
+    let places : c.push.new.self.items ≡ so_far ++ place_if_again again at ∷ [] =
     c.in_ok-push.ensures.items ∙ ap (λ p. so_far ++ p ∷ []) c.place_for-place.ensures.place in
     let front : take (number + 1) pieces ≡ before ++ next.piece ∷ [] = ap (λ n. take n pieces) (add-one number) ∙
     next.next in
@@ -83,7 +83,7 @@ loop-number-preserved c =
           rw (places, front) (omega (
             arith,
             len,
-            length-append so_far (place_at again at ∷ []),
+            length-append so_far (place_if_again again at ∷ []),
             length-append before (next.piece ∷ []),
           ));
       chosen = rw (places, front) more;

@@ -3,7 +3,7 @@ use Rattle.std.proofs.lemmas.Bool.{eqb-true, eqb-false, cases_lt}
 use Rattle.doc_bits.specs.Number.{u16_at}
 use Rattle.doc_bits.proofs.Public.{least_from}
 use Rattle.style_sheet.specs.Counted.{counted_bytes}
-use Rattle.style_sheet.specs.Stsh.{HasListFault}
+use Rattle.style_sheet.specs.Stsh.{HasUpxFault}
 use Rattle.style_sheet.proofs.ReadLemmas.{accepted_empty, list_fault_within}
 use Rattle.style_sheet.proofs.reading.slot_fault.Goals as goal
 
@@ -26,7 +26,7 @@ overflow_add-result-in-Some-2 c =
       | inr h ↦
           absurd (full (omega arith))
     ] in
-    let fault = subst (λ s. HasListFault s c.args.base c.in-Some.offset) bytes c.in-Some.ensures.first.broken in
+    let fault = subst (λ s. HasUpxFault s c.args.base c.in-Some.offset) bytes c.in-Some.ensures.first.broken in
     let within = list_fault_within std c.args.base c.in-Some.offset (c.requires.slot.style some) fault in
     let inside = c.requires.slot.within in
     let room = c.requires.room in
@@ -34,11 +34,11 @@ overflow_add-result-in-Some-2 c =
 
 pub returns-in-None-clause-first : goal.returns-in-None-clause-first
 returns-in-None-clause-first c = λ p w.
-    c.in-None.ensures.first w.offset (subst (λ s. HasListFault s c.args.base w.offset)
+    c.in-None.ensures.first w.offset (subst (λ s. HasUpxFault s c.args.base w.offset)
     (sym c.counted_bytes-std.ensures.bytes) w.broken)
 
 pub returns-in-Some-clause-first : goal.returns-in-Some-clause-first
 returns-in-Some-clause-first c =
-    least_from (HasListFault (counted_bytes c.args.part.now c.args.place) c.args.base) (c.args.at + (c.args.place +
+    least_from (HasUpxFault (counted_bytes c.args.part.now c.args.place) c.args.base) (c.args.at + (c.args.place +
     2)) c.in-Some.offset
     (rw c.counted_bytes-std.ensures.bytes at c.in-Some.ensures.first)

@@ -8,15 +8,15 @@ use Rattle.summary_set.specs.Form.{IsValidPair}
 use Rattle.std.proofs.lemmas.Bool.{false≢true}
 use Rattle.summary_set.specs.declared.set.PropertyPair.{PropertyPair}
 use Rattle.summary_set.specs.declared.set.SetHead.{SetHead}
-use Rattle.summary_set.specs.PropertySet.{set_begin, set_size, pair_count, pair_place, pair_at}
+use Rattle.summary_set.specs.PropertySet.{first_set_begin, first_set_size, pair_count, pair_place, pair_at}
 use Rattle.summary_set.proofs.FormLemmas.{wrong_pair, new_pair, seen_pair, knows_more}
 use Rattle.summary_set.proofs.form.read_pairs.Goals as goal
 
 pub returns-then-not-is_within : goal.returns-then-not-is_within
 returns-then-not-is_within c =
     let b = c.args.stream.now in
-    let begin : c.args.head.begin ≡ set_begin b = ap (λ (h : SetHead). h.begin) c.requires.head in
-    let size : c.args.head.size ≡ set_size b = ap (λ (h : SetHead). h.size) c.requires.head in
+    let begin : c.args.head.begin ≡ first_set_begin b = ap (λ (h : SetHead). h.begin) c.requires.head in
+    let size : c.args.head.size ≡ first_set_size b = ap (λ (h : SetHead). h.size) c.requires.head in
     let count : c.args.head.count ≡ pair_count b = ap (λ (h : SetHead). h.count) c.requires.head in
     let below : c.loop-i.i < pair_count b = omega (arith, c.loop-i-test.true) in
     let place : c.pair_place.result ≡ pair_place b c.loop-i.i = omega (arith, c.pair_place.ensures) in
@@ -30,7 +30,7 @@ returns-then-not-is_within c =
 pub returns-then-not-branch : goal.returns-then-not-branch
 returns-then-not-branch c =
     let b = c.args.stream.now in
-    let begin : c.args.head.begin ≡ set_begin b = ap (λ (h : SetHead). h.begin) c.requires.head in
+    let begin : c.args.head.begin ≡ first_set_begin b = ap (λ (h : SetHead). h.begin) c.requires.head in
     let count : c.args.head.count ≡ pair_count b = ap (λ (h : SetHead). h.count) c.requires.head in
     let below : c.loop-i.i < pair_count b = omega (arith, c.loop-i-test.true) in
     let place : c.pair_place-then-not-branch.result ≡ pair_place b c.loop-i.i = omega (
@@ -49,7 +49,7 @@ loop-i-preserved c =
     let b = c.args.stream.now in
     let i = c.loop-i.i in
     let pair : PropertyPair = c.read_pair-pair.result in
-    let size : c.args.head.size ≡ set_size b = ap (λ (h : SetHead). h.size) c.requires.head in
+    let size : c.args.head.size ≡ first_set_size b = ap (λ (h : SetHead). h.size) c.requires.head in
     let count : c.args.head.count ≡ pair_count b = ap (λ (h : SetHead). h.count) c.requires.head in
     let same : pair ≡ pair_at b i = c.read_pair-pair.ensures in
     let id : pair.id ≡ (pair_at b i).id = ap (λ (p : PropertyPair). p.id) same in

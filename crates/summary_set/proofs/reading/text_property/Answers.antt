@@ -2,8 +2,8 @@ use Rattle.std.proofs.Common.{◌≡◌, ◌≤◌, ◌+◌, ◌∙◌, Some, No
 use Rattle.std.specs.Prelude.{◌==◌, find, option_and_then}
 use Rattle.doc_bits.proofs.Public.{found_has}
 use Rattle.summary_set.specs.declared.set.PropertyPair.{PropertyPair}
-use Rattle.summary_set.specs.PropertySet.{set_size, pairs_of}
-use Rattle.summary_set.specs.Values.{value_of}
+use Rattle.summary_set.specs.PropertySet.{first_set_size, pairs_in_stream}
+use Rattle.summary_set.specs.Values.{pair_value_bytes}
 use Rattle.summary_set.specs.Texts.{text_of_value}
 use Rattle.summary_set.proofs.ValueLemmas.{pairs_within}
 use Rattle.summary_set.proofs.reading.text_property.Goals as goal
@@ -11,18 +11,19 @@ use Rattle.summary_set.proofs.reading.text_property.Goals as goal
 pub value-requires-clause-pair : goal.value-requires-clause-pair
 value-requires-clause-pair c =
     let b = c.args.stream.now in
-    let found : find (λ (pair : PropertyPair). pair.id == c.args.id) (pairs_of b) ≡ Some c.in-Some.pair =
+    let found : find (λ (pair : PropertyPair). pair.id == c.args.id) (pairs_in_stream b) ≡ Some c.in-Some.pair =
     subst (λ xs. find (λ (pair : PropertyPair). pair.id == c.args.id) xs ≡ Some c.in-Some.pair) c.requires.set.pairs
     (sym c.pair_with.ensures ∙ c.in-Some.is) in
-    found_has (λ (pair : PropertyPair). pair.offset + 4 ≤ set_size b) (λ (pair : PropertyPair). pair.id == c.args.id)
-    (pairs_of b) c.in-Some.pair (pairs_within b c.requires.formed) found
+    found_has (λ (pair : PropertyPair). pair.offset + 4 ≤ first_set_size b) (λ (pair : PropertyPair). pair.id ==
+    c.args.id)
+    (pairs_in_stream b) c.in-Some.pair (pairs_within b c.requires.formed) found
 
 pub returns-in-None : goal.returns-in-None
 returns-in-None c =
     let b = c.args.stream.now in
-    let found : find (λ (pair : PropertyPair). pair.id == c.args.id) (pairs_of b) ≡ Some c.in-Some.pair =
+    let found : find (λ (pair : PropertyPair). pair.id == c.args.id) (pairs_in_stream b) ≡ Some c.in-Some.pair =
     subst (λ xs. find (λ (pair : PropertyPair). pair.id == c.args.id) xs ≡ Some c.in-Some.pair) c.requires.set.pairs
     (sym c.pair_with.ensures ∙ c.in-Some.is) in
-    let none : text_of_value (value_of b c.in-Some.pair) ≡ None = rw (← c.value.ensures, ← c.text.ensures, c.in-None.is)
+    let none : text_of_value (pair_value_bytes b c.in-Some.pair) ≡ None = rw (← c.value.ensures, ← c.text.ensures, c.in-None.is)
     refl in
-    sym (ap (λ o. option_and_then (λ pair. text_of_value (value_of b pair)) o) found ∙ none)
+    sym (ap (λ o. option_and_then (λ pair. text_of_value (pair_value_bytes b pair)) o) found ∙ none)

@@ -2,7 +2,7 @@ use Rattle.std.proofs.Common.{◌≡◌, ◌<◌, ◌≤◌, ◌+◌, ◌∙◌,
 use Rattle.std.proofs.Common.{arith}
 use Rattle.std.proofs.lemmas.List.{take_all}
 use Rattle.summary_set.specs.declared.set.PropertyPair.{PropertyPair}
-use Rattle.summary_set.specs.PropertySet.{set_size}
+use Rattle.summary_set.specs.PropertySet.{first_set_size}
 use Rattle.std.specs.Prelude.{All, is_some}
 use Rattle.summary_set.specs.Values.{property_of}
 use Rattle.summary_set.specs.Written.{in_place, title_property}
@@ -16,9 +16,11 @@ renew_property-requires-clause-pair c =
     let pairs = c.args.set.now.pairs in
     let len : vec_len pairs ≡ length pairs.items = search rules in
     let below : c.loop-i.i < length pairs.items = omega (arith, c.loop-i-test.true, c.len-i-end.ensures) in
-    let all : All (λ (pair : PropertyPair). pair.offset + 4 ≤ set_size b) pairs.items = subst (λ xs. All (λ (pair :
-    PropertyPair). pair.offset + 4 ≤ set_size b) xs) (sym c.requires.set.pairs) (pairs_within b c.requires.formed) in
-    subst (λ (pair : PropertyPair). pair.offset + 4 ≤ set_size b) (sym c.index.ensures) (all c.loop-i.i
+    let all : All (λ (pair : PropertyPair). pair.offset + 4 ≤ first_set_size b) pairs.items = subst (λ xs. All (λ (pair
+    :
+    PropertyPair). pair.offset + 4 ≤ first_set_size b) xs) (sym c.requires.set.pairs) (pairs_within b c.requires.formed)
+    in
+    subst (λ (pair : PropertyPair). pair.offset + 4 ≤ first_set_size b) (sym c.index.ensures) (all c.loop-i.i
     c.index.result.now below)
 
 pub returns-then-is_some : goal.returns-then-is_some

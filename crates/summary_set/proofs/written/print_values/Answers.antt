@@ -3,7 +3,7 @@ use Rattle.std.specs.Prelude.{flat_map}
 use Rattle.std.proofs.lemmas.List.{take_more}
 use Rattle.doc_bits.specs.Number.{zeros}
 use Rattle.summary_set.specs.declared.values.Property.{Property}
-use Rattle.summary_set.specs.Written.{padded, pad_len}
+use Rattle.summary_set.specs.Written.{padded_value, pad_len}
 use Rattle.summary_set.proofs.WriteLemmas.{values-push, joined_four, some_zeros}
 use Rattle.summary_set.proofs.written.print_values.Goals as goal
 
@@ -22,13 +22,16 @@ loop-property-preserved c =
     c.loop-property.bytes ++ v) value in
     let second : c.push_all-in-loop-property.new.self ≡ c.push_all.new.self ++ take c.pad_len.result (0 ∷ 0 ∷ 0 ∷ []) =
     c.in_ok-push_all-2.ensures.ok in
-    let spelled : flat_map (λ (p : Property). padded p.value) (take (i + 1) values) ≡ flat_map (λ (p : Property). padded
-    p.value) before ++ (x.value ++ zeros (pad_len (length x.value))) = ap (flat_map (λ (p : Property). padded p.value))
+    let spelled : flat_map (λ (p : Property). padded_value p.value) (take (i + 1) values) ≡ flat_map (λ (p : Property).
+    padded_value
+    p.value) before ++ (x.value ++ zeros (pad_len (length x.value))) = ap (flat_map (λ (p : Property). padded_value
+    p.value))
     more
     ∙ values-push before x in
     second
     ∙ (ap (λ z. c.push_all.new.self ++ z) (some_zeros c.pad_len.result few ∙ ap zeros pad)
     ∙ (ap (λ b. b ++ zeros (pad_len (length x.value))) (first ∙ ap (λ b. b ++ x.value) c.loop-property.invariant)
-    ∙ (joined_four c.args.bytes.now (flat_map (λ (p : Property). padded p.value) before) x.value (zeros (pad_len (length
+    ∙ (joined_four c.args.bytes.now (flat_map (λ (p : Property). padded_value p.value) before) x.value (zeros (pad_len
+    (length
     x.value)))
     ∙ ap (λ b. c.args.bytes.now ++ b) (sym spelled))))

@@ -1,5 +1,5 @@
 use Rattle.std.proofs.Common.{◌≡◌, ◌<◌, ◌∙◌, length, ap, sym, subst, arith}
-use Rattle.cfb_sectors.specs.Claims.{Takes}
+use Rattle.cfb_sectors.specs.Claims.{TakesSectors}
 use Rattle.cfb_sectors.proofs.ClaimLemmas.{take_again, take_free}
 use Rattle.cfb_sectors.proofs.claims.Claims.take.Goals as goal
 
@@ -8,9 +8,12 @@ returns-then-has-clause-takes c =
     let len : length c.self.inside.shared ≡ length c.self.inside.taken = c.self.invariant in
     let view = ap (λ k. length k.taken) c.self.view_is in
     let low : c.args.sector < length c.self.inside.shared = omega (arith, c.requires) in
-    subst (λ k. Takes (λ s. s ≡ c.args.sector) k (record { taken = c.self.inside.taken; shared = c.meet.new.self }))
+    subst (λ k. TakesSectors (λ s. s ≡ c.args.sector) k (record {
+      taken = c.self.inside.taken;
+      shared = c.meet.new.self;
+    }))
     c.self.view_is
-    (subst (λ m. Takes (λ s. s ≡ c.args.sector)
+    (subst (λ m. TakesSectors (λ s. s ≡ c.args.sector)
     (record { taken = c.self.inside.taken; shared = c.self.inside.shared })
     (record { taken = c.self.inside.taken; shared = m })) (sym c.meet.ensures)
     (take_again (record { taken = c.self.inside.taken; shared = c.self.inside.shared }) c.args.sector
@@ -20,9 +23,13 @@ pub returns-clause-takes : goal.returns-clause-takes
 returns-clause-takes c =
     let view = ap (λ k. length k.taken) c.self.view_is in
     let low : c.args.sector < length c.self.inside.taken = omega (arith, c.requires) in
-    subst (λ k. Takes (λ s. s ≡ c.args.sector) k (record { taken = c.meet-2.new.self; shared = c.self.inside.shared }))
+    subst (λ k. TakesSectors (λ s. s ≡ c.args.sector) k (record {
+      taken = c.meet-2.new.self;
+      shared =
+          c.self.inside.shared;
+    }))
     c.self.view_is
-    (subst (λ m. Takes (λ s. s ≡ c.args.sector)
+    (subst (λ m. TakesSectors (λ s. s ≡ c.args.sector)
     (record { taken = c.self.inside.taken; shared = c.self.inside.shared })
     (record { taken = m; shared = c.self.inside.shared })) (sym c.meet-2.ensures)
     (take_free (record { taken = c.self.inside.taken; shared = c.self.inside.shared }) c.args.sector

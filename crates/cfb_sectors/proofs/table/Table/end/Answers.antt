@@ -1,6 +1,6 @@
 use Rattle.std.proofs.Common.{length, slice_index, sym, ap, ◌∙◌, subst}
 use Rattle.cfb_sectors.specs.Ends.{IsEnd, Remembers}
-use Rattle.cfb_sectors.specs.Tables.{IsKept, table_at}
+use Rattle.cfb_sectors.specs.Tables.{IsKeptTable, table_at}
 use Rattle.cfb_sectors.proofs.TableLemmas.{kept_end}
 use Rattle.cfb_sectors.proofs.table.Table.end.Goals as goal
 
@@ -15,7 +15,7 @@ returns-in-Some-clause-end c =
 
 pub invariant_of-self-2 : goal.invariant_of-self-2
 invariant_of-self-2 c = record {
-  kept = subst (IsKept c.self.inside.file.now c.self.inside.sectors.items c.self.inside.entries.items)
+  kept = subst (IsKeptTable c.self.inside.file.now c.self.inside.sectors.items c.self.inside.entries.items)
       (sym c.walk_fresh.ensures.kept) c.self.invariant.kept;
   remembers =
       subst (λ n. Remembers (λ s. slice_index c.self.inside.entries.items s) n c.settle-end.new.ends)

@@ -2,7 +2,7 @@ use Rattle.std.proofs.Common.{◌≡◌, ◌+◌, None, length, slice_index, sym
 use Rattle.doc_bits.specs.Rules.{Among, Nowhere, LeastOrNone, rule}
 use Rattle.doc_bits.proofs.Public.{least_step}
 use Rattle.cfb_streams.specs.StreamRules.{IsWrongStream, BreaksStream}
-use Rattle.cfb_sectors.specs.Judged.{IsRefused}
+use Rattle.cfb_sectors.specs.Judged.{IsRuleFault}
 use Rattle.cfb_sectors.specs.Judged.{IsCfbFault}
 use Rattle.cfb_streams.proofs.ContentLemmas.{match_more}
 use Rattle.cfb_streams.proofs.GatherLemmas.{streams_least}
@@ -39,7 +39,7 @@ returns-clause-judged c =
     (subst (λ q. LeastOrNone (Among c.loop-i.i
     (λ k. IsWrongStream q.file q.parts.directory q.parts.mini_fat (slice_index q.streams k))) c.loop-i.least)
     c.loop-i.invariant.kept c.loop-i.invariant.least) in
-    match_more c.refuse.result (λ x. c.loop-i.least ≡ None) (λ x. Nowhere breaks) (IsRefused 13 c.loop-i.least)
+    match_more c.refuse.result (λ x. c.loop-i.least ≡ None) (λ x. Nowhere breaks) (IsRuleFault 13 c.loop-i.least)
     (IsCfbFault (rule 13 breaks))
     (λ x none. none_nowhere breaks c.loop-i.least least none)
     (λ fault refused. refused_first 13 breaks c.loop-i.least fault least refused)

@@ -1,7 +1,7 @@
 use Rattle.std.proofs.Common.{sym, ap, ◌∙◌, subst}
 use Rattle.std.proofs.lemmas.Result.{err_from_is_err_and}
 use Rattle.cfb_streams.specs.StreamRules.{IsMiniFat, IsMiniStream, BreaksMiniFat, BreaksMiniStream}
-use Rattle.cfb_streams.specs.Layout.{IsLayout, places_of}
+use Rattle.cfb_streams.specs.Layout.{IsSoundLayout, layout_places_of}
 use Rattle.cfb_streams.specs.FoundParts.{IsFoundMiniFat, IsFoundMiniStream}
 use Rattle.cfb_sectors.proofs.Public.{refused_chain}
 use Rattle.cfb_streams.proofs.LoadLemmas.{mini_fat_fault, mini_stream_fault, layout_is}
@@ -62,7 +62,8 @@ returns c =
     c.in_ok-found.ensures.found) in
     let stored : IsMiniStream entries.file entries.directory c.in_ok-mini_stream.mini_stream.items =
     rw c.in_ok-mini_stream.ensures at found in
-    let layout : IsLayout (places_of entries c.in_ok-mini_fat.mini_fat.items c.in_ok-mini_stream.mini_stream.items) =
+    let layout : IsSoundLayout (layout_places_of entries c.in_ok-mini_fat.mini_fat.items
+    c.in_ok-mini_stream.mini_stream.items) =
     record {
       opening = c.requires.opening;
       header = c.requires.header;
@@ -73,5 +74,5 @@ returns c =
     record {
       file = ap (λ q. q.file) c.in_ok-layout.ensures;
       directory = ap (λ q. q.parts.directory) c.in_ok-layout.ensures;
-      is_layout = subst IsLayout (sym c.in_ok-layout.ensures) layout;
+      is_layout = subst IsSoundLayout (sym c.in_ok-layout.ensures) layout;
     }

@@ -3,7 +3,7 @@ use Rattle.std.specs.List.{flat_map}
 use Rattle.cfb_sectors.specs.Header.{sector_bytes}
 use Rattle.cfb_sectors.specs.Chain.{AreSectorsOf}
 use Rattle.cfb_streams.specs.FoundParts.{mini_place}
-use Rattle.cfb_streams.specs.Layout.{IsLayout, places_of}
+use Rattle.cfb_streams.specs.Layout.{IsSoundLayout, layout_places_of}
 use Rattle.cfb_streams.proofs.ContentLemmas.{mini_fat_inside, mini_stream_inside, mini_place_is}
 use Rattle.cfb_sectors.proofs.Public.{whole_length}
 use Rattle.cfb_streams.proofs.layout.Layout.read.Goals as goal
@@ -36,7 +36,7 @@ invariant_of-result c =
     c.in_ok-mini.ensures in
     let sectors = ap (λ t. t.sectors) mini in
     record {
-      is_layout = subst (λ m. IsLayout (places_of c.args.entries m c.args.mini_stream.items)) (sym sectors)
+      is_layout = subst (λ m. IsSoundLayout (layout_places_of c.args.entries m c.args.mini_stream.items)) (sym sectors)
           c.requires.is_layout;
       is_fat = c.requires.is_fat;
       is_mini = mini ∙ ap (mini_place c.args.entries.file c.args.entries.directory) (sym sectors);
@@ -46,4 +46,5 @@ invariant_of-result c =
     }
 
 pub returns : goal.returns
-returns c = ap (λ m. places_of c.args.entries m c.args.mini_stream.items) (ap (λ t. t.sectors) c.in_ok-mini.ensures)
+returns c = ap (λ m. layout_places_of c.args.entries m c.args.mini_stream.items) (ap (λ t. t.sectors)
+    c.in_ok-mini.ensures)

@@ -1,7 +1,7 @@
 use Rattle.std.proofs.Common.{◌≡◌, sym, ap, ◌∙◌, subst}
 use Rattle.doc_bits.specs.Rules.{Nowhere}
 use Rattle.cfb_sectors.specs.Chain.{BreaksChain, fat_table}
-use Rattle.cfb_sectors.specs.Claims.{IsClosed}
+use Rattle.cfb_sectors.specs.Claims.{IsClosedClaim}
 use Rattle.cfb_sectors.specs.Tables.{table_at, fat_place}
 use Rattle.cfb_streams.proofs.GatherLemmas.{long_right, takes_long, long_marks, long_stream}
 use Rattle.cfb_streams.proofs.layout.Layout.read_long.Goals as goal
@@ -20,7 +20,7 @@ pub read_chain-requires-clause-closed : goal.read_chain-requires-clause-closed
 read_chain-requires-clause-closed c =
     let is_fat = subst (λ p. c.self.inside.fat ≡ fat_place p.file) c.self.view_is
     c.self.invariant.is_fat in
-    subst (λ t. IsClosed (table_at t) c.args.taken.now.sectors) (sym is_fat) c.requires.marks.sectors_closed
+    subst (λ t. IsClosedClaim (table_at t) c.args.taken.now.sectors) (sym is_fat) c.requires.marks.sectors_closed
 
 pub returns-in_default-clause-takes : goal.returns-in_default-clause-takes
 returns-in_default-clause-takes c =

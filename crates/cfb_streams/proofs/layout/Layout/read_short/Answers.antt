@@ -1,7 +1,7 @@
 use Rattle.std.proofs.Common.{◌≡◌, ◌+◌, ◌*◌, ◌≤◌, ◌<◌, length, sym, ap, ◌∙◌, subst, arith}
 use Rattle.doc_bits.specs.Rules.{Nowhere}
 use Rattle.cfb_sectors.specs.Chain.{BreaksChain}
-use Rattle.cfb_sectors.specs.Claims.{IsClosed}
+use Rattle.cfb_sectors.specs.Claims.{IsClosedClaim}
 use Rattle.cfb_sectors.specs.Tables.{table_at}
 use Rattle.cfb_sectors.proofs.Public.{whole_length}
 use Rattle.cfb_streams.specs.StreamRules.{mini_table_of}
@@ -26,7 +26,7 @@ pub read_chain-requires-clause-closed : goal.read_chain-requires-clause-closed
 read_chain-requires-clause-closed c =
     let is_mini = subst (λ p. c.self.inside.mini ≡ mini_place p.file p.parts.directory p.parts.mini_fat) c.self.view_is
     c.self.invariant.is_mini in
-    subst (λ t. IsClosed (table_at t) c.args.taken.now.minis) (sym is_mini) c.requires.marks.minis_closed
+    subst (λ t. IsClosedClaim (table_at t) c.args.taken.now.minis) (sym is_mini) c.requires.marks.minis_closed
 
 pub read_chain-requires-clause-inside : goal.read_chain-requires-clause-inside
 read_chain-requires-clause-inside c = λ s low.

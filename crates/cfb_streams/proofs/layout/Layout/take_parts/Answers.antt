@@ -2,7 +2,7 @@ use Rattle.std.proofs.Common.{sym, ap, ◌∙◌, subst}
 use Rattle.cfb_sectors.specs.Claims.{AreDistinctBelow}
 use Rattle.cfb_sectors.specs.Header.{valid_below}
 use Rattle.cfb_sectors.specs.Chain.{fat_table}
-use Rattle.cfb_streams.specs.Layout.{places_of}
+use Rattle.cfb_streams.specs.Layout.{layout_places_of}
 use Rattle.cfb_streams.specs.Gathered.{IsTakenFront}
 use Rattle.cfb_streams.proofs.SharingLemmas.{chain_apart, mini_fat_apart, mini_stream_apart}
 use Rattle.cfb_streams.proofs.GatherLemmas.{parts_taken}
@@ -38,7 +38,7 @@ returns c =
     let marks = c.claim-3.ensures.len
     ∙ (c.claim-2.ensures.len ∙ (c.claim.ensures.len ∙ (c.in_ok-sectors.ensures.len ∙ c.valid.ensures))) in
     subst (λ p. IsTakenFront p 0 (record { sectors = c.claim-3.new.self; minis = c.in_ok-minis.minis })) c.self.view_is
-    (parts_taken (places_of c.self.inside.entries c.self.inside.mini.sectors c.self.inside.mini_stream.items)
+    (parts_taken (layout_places_of c.self.inside.entries c.self.inside.mini.sectors c.self.inside.mini_stream.items)
     c.directory.result.now c.sectors-2.result.now c.deref.result.now
     c.in_ok-sectors.sectors c.claim.new.self c.claim-2.new.self c.claim-3.new.self c.in_ok-minis.minis
     c.self.invariant.is_layout c.directory.ensures.sectors c.sectors-2.ensures c.deref.ensures.value

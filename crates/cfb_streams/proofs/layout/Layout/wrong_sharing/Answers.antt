@@ -5,7 +5,7 @@ use Rattle.cfb_sectors.specs.SectorChain.{HasSector}
 use Rattle.cfb_streams.specs.StreamRules.{BreaksSharing}
 use Rattle.cfb_sectors.specs.Claims.{AreDistinctBelow}
 use Rattle.cfb_sectors.specs.Tables.{table_at}
-use Rattle.cfb_streams.specs.Layout.{places_of}
+use Rattle.cfb_streams.specs.Layout.{layout_places_of}
 use Rattle.cfb_streams.specs.Gathered.{HasMarks, IsTakenFront}
 use Rattle.cfb_sectors.proofs.Public.{fat_apart}
 use Rattle.cfb_streams.proofs.SharingLemmas.{none_unshared}
@@ -26,7 +26,7 @@ returns-clause-least c =
     subst (LeastOrNone (BreaksSharing c.args.self.now.file c.args.self.now.parts)) (sym c.lesser.ensures)
     (subst (λ p. LeastOrNone (BreaksSharing p.file p.parts) (lesser_of c.least.result c.least-2.result))
     c.self.view_is
-    (taken_all (places_of c.self.inside.entries c.self.inside.mini.sectors c.self.inside.mini_stream.items)
+    (taken_all (layout_places_of c.self.inside.entries c.self.inside.mini.sectors c.self.inside.mini_stream.items)
     c.self.inside.fat c.self.inside.mini c.sectors.result.now c.args.taken.now c.claim.new.self c.least.result
     c.least-2.result c.self.invariant.is_layout.are_entries.in_order
     (subst (λ p. IsTakenFront p (length p.streams) c.args.taken.now) (sym c.self.view_is) c.requires)

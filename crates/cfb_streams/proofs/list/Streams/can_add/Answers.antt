@@ -1,7 +1,7 @@
 use Rattle.std.proofs.Common.{◌+◌, ◌-◌, ◌^◌, ◌<◌, ◌≤◌, List, length, arith, rules}
 use Rattle.std.specs.List.{sum_by}
 use Rattle.std.proofs.lemmas.Bool.{ltb-true, lt-ltb}
-use Rattle.cfb_streams.specs.Contents.{NamedBytes, EndsBefore}
+use Rattle.cfb_streams.specs.Contents.{NamedBytes, IsAfterLastName}
 use Rattle.cfb_streams.proofs.AddLemmas.{push-AreStreams, last_total}
 use Rattle.cfb_streams.proofs.list.Streams.can_add.Goals as goal
 
@@ -15,7 +15,7 @@ returns c =
           let less : length c.args.bytes.now < 281474976710656 - c.total.result = ltb-true _ _ t in
           let some : 1 ≤ length last.name = omega arith in
           let short : length last.name ≤ 31 = omega arith in
-          let ends : EndsBefore streams last.name = search rules in
+          let ends : IsAfterLastName streams last.name = search rules in
           let room : sum_by (λ (stream : NamedBytes). length stream.bytes) streams + length last.bytes < 2 ^ 48 =
           omega (arith, less) in
           push-AreStreams streams last c.total.ensures.ordered some short ends room,

@@ -1,7 +1,7 @@
 -- The units of an item more.
 use Rattle.std.proofs.Common.{◌≡◌, ◌+◌, ◌<◌, ◌∙◌, List, length, take, get_or, sym, ap, arith, rules}
 use Rattle.std.specs.Vec.{vec_len}
-use Rattle.chunked_list.specs.Blocks.{units_of}
+use Rattle.chunked_list.specs.Blocks.{total_units}
 use Rattle.chunked_list.proofs.UnitLemmas.{units-nil, units_more, units-take-le}
 use Rattle.chunked_list.proofs.block.Block.units.Goals as goal
 
@@ -15,11 +15,11 @@ overflow_add-total g c =
     let one = c.index.result.now in
     let len : vec_len c.self.inside.items ≡ length items = search rules in
     let low : c.loop-i.i < length items = omega (arith, c.len-i-end.ensures) in
-    let here : c.loop-i.total ≡ units_of units (take c.loop-i.i items) =
-    c.loop-i.invariant ∙ ap (λ (v : List g.row.T.Denot). units_of units (take c.loop-i.i v)) (sym c.self.view_is) in
+    let here : c.loop-i.total ≡ total_units units (take c.loop-i.i items) =
+    c.loop-i.invariant ∙ ap (λ (v : List g.row.T.Denot). total_units units (take c.loop-i.i v)) (sym c.self.view_is) in
     let unit : units (get_or items c.loop-i.i one) ≡ c.units-total.result =
     ap units (sym c.index.ensures) ∙ sym c.units-total.ensures in
-    let all : units_of units items ≡ units_of units c.args.self.now = ap (units_of units) c.self.view_is in
+    let all : total_units units items ≡ total_units units c.args.self.now = ap (total_units units) c.self.view_is in
     omega (
       arith,
       unit,
@@ -38,10 +38,11 @@ loop-i-preserved g c =
     let one = c.index.result.now in
     let len : vec_len c.self.inside.items ≡ length items = search rules in
     let low : c.loop-i.i < length items = omega (arith, c.len-i-end.ensures) in
-    let here : c.loop-i.total ≡ units_of units (take c.loop-i.i items) =
-    c.loop-i.invariant ∙ ap (λ (v : List g.row.T.Denot). units_of units (take c.loop-i.i v)) (sym c.self.view_is) in
+    let here : c.loop-i.total ≡ total_units units (take c.loop-i.i items) =
+    c.loop-i.invariant ∙ ap (λ (v : List g.row.T.Denot). total_units units (take c.loop-i.i v)) (sym c.self.view_is) in
     let unit : units (get_or items c.loop-i.i one) ≡ c.units-total.result =
     ap units (sym c.index.ensures) ∙ sym c.units-total.ensures in
-    let more : units_of units (take (c.loop-i.i + 1) items) ≡ units_of units (take (c.loop-i.i + 1) c.args.self.now) =
-    ap (λ (v : List g.row.T.Denot). units_of units (take (c.loop-i.i + 1) v)) c.self.view_is in
+    let more : total_units units (take (c.loop-i.i + 1) items) ≡ total_units units (take (c.loop-i.i + 1)
+    c.args.self.now) =
+    ap (λ (v : List g.row.T.Denot). total_units units (take (c.loop-i.i + 1) v)) c.self.view_is in
     omega (arith, unit, here, more, units_more units items c.loop-i.i one low)

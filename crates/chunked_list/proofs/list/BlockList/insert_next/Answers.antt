@@ -1,6 +1,6 @@
 -- An item more, in its block.
 use Rattle.std.proofs.Common.{◌+◌, ◌∙◌, ◌∷◌, ◌++◌, ℕ, length, take, drop, ap, arith}
-use Rattle.chunked_list.specs.Blocks.{joined, units_of, MeasuredList}
+use Rattle.chunked_list.specs.Blocks.{joined, total_units, MeasuredList}
 use Rattle.chunked_list.proofs.JoinLemmas.{some_blocks}
 use Rattle.chunked_list.proofs.SizeLemmas.{sized_fewer}
 use Rattle.chunked_list.proofs.PutLemmas.{in_blocks}
@@ -17,7 +17,7 @@ put-requires-clause-most g c =
 
 pub put-requires-clause-units : goal.put-requires-clause-units
 put-requires-clause-units g c =
-    let all = ap (λ (l : MeasuredList g.row.T.Denot). units_of g.T.Measured.units l.items) c.self.view_is in
+    let all = ap (λ (l : MeasuredList g.row.T.Denot). total_units g.T.Measured.units l.items) c.self.view_is in
     omega (arith, all, c.requires.units)
 
 pub invariant_of-self : goal.invariant_of-self
@@ -27,7 +27,7 @@ invariant_of-self g c =
     let place = c.place-place.result in
     let is = c.place-place.ensures.place in
     let long = ap (λ (l : MeasuredList g.row.T.Denot). length l.items) c.self.view_is in
-    let all = ap (λ (l : MeasuredList g.row.T.Denot). units_of units l.items) c.self.view_is in
+    let all = ap (λ (l : MeasuredList g.row.T.Denot). total_units units l.items) c.self.view_is in
     in_blocks units c.put.new.row c.put.new.ready.items (joined blocks) c.args.item c.args.i (c.self.inside.count + 1)
     c.min-full.result
     (c.put.ensures.put.sized c.min-full.result (omega (arith, c.min-full.ensures))

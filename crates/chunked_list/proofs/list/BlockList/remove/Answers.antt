@@ -1,7 +1,7 @@
 -- Items go, and what became short is filled.
 use Rattle.std.proofs.Common.{◌≡◌, ◌+◌, ◌-◌, ◌≤◌, ℕ, ◌∙◌, [], length, ap, subst, arith}
 use Rattle.std.specs.List.{splice}
-use Rattle.chunked_list.specs.Blocks.{joined, units_of, number_of, MeasuredList, AreSizedBut}
+use Rattle.chunked_list.specs.Blocks.{joined, total_units, number_of, MeasuredList, AreSizedBut}
 use Rattle.chunked_list.proofs.JoinLemmas.{some_blocks}
 use Rattle.chunked_list.proofs.SizeLemmas.{sized_fewer}
 use Rattle.chunked_list.proofs.ShortLemmas.{sized_but, but_none}
@@ -27,7 +27,7 @@ mend-requires g c =
     let count = c.args.last - c.args.first in
     omega (
       arith,
-      ap (units_of units) c.erase.ensures.items,
+      ap (total_units units) c.erase.ensures.items,
       units-cut-le units (joined blocks) n (n + count) (omega arith),
       c.self.invariant.total,
     )
@@ -40,8 +40,8 @@ mend-requires-2 g c =
     let count = c.args.last - c.args.first in
     omega (
       arith,
-      ap (units_of units) c.mend.ensures.same,
-      ap (units_of units) c.erase.ensures.items,
+      ap (total_units units) c.mend.ensures.same,
+      ap (total_units units) c.erase.ensures.items,
       units-cut-le units (joined blocks) n (n + count) (omega arith),
       c.self.invariant.total,
     )

@@ -1,6 +1,6 @@
 -- Another item, in its block.
 use Rattle.std.proofs.Common.{◌∙◌, ℕ, length, set, ap, arith}
-use Rattle.chunked_list.specs.Blocks.{joined, units_of, MeasuredList}
+use Rattle.chunked_list.specs.Blocks.{joined, total_units, MeasuredList}
 use Rattle.chunked_list.proofs.JoinLemmas.{some_blocks}
 use Rattle.chunked_list.proofs.SetLemmas.{set_joined, set_in_blocks, set_units}
 use Rattle.chunked_list.proofs.list.BlockList.set.Goals as goal
@@ -18,7 +18,7 @@ set-requires-clause-units g c =
     let place = c.place-place.result in
     let long = ap (λ (l : MeasuredList g.row.T.Denot). length l.items) c.self.view_is in
     let inside = c.place-place.ensures.item (omega (arith, long, c.requires.within)) in
-    let same = ap (λ (l : MeasuredList g.row.T.Denot). units_of units (set l.items c.args.i c.args.item))
+    let same = ap (λ (l : MeasuredList g.row.T.Denot). total_units units (set l.items c.args.i c.args.item))
     c.self.view_is in
     let part = set_units units blocks place.block place.within c.args.i c.args.item is.in_block.there inside is.here in
     omega (arith, same, part, c.requires.units)
@@ -30,7 +30,7 @@ invariant_of-self g c =
     let place = c.place-place.result in
     let long = ap (λ (l : MeasuredList g.row.T.Denot). length l.items) c.self.view_is in
     let inside = c.place-place.ensures.item (omega (arith, long, c.requires.within)) in
-    let same = ap (λ (l : MeasuredList g.row.T.Denot). units_of units (set l.items c.args.i c.args.item))
+    let same = ap (λ (l : MeasuredList g.row.T.Denot). total_units units (set l.items c.args.i c.args.item))
     c.self.view_is in
     set_in_blocks units c.self.inside.row c.set.new.self c.self.inside.ready.items c.self.inside.count
     c.self.inside.full

@@ -1,6 +1,6 @@
 -- The sum is counted anew.
 use Rattle.std.proofs.Common.{set, refl, ap, arith, length-set}
-use Rattle.chunked_list.specs.Blocks.{units_of, BlockRow}
+use Rattle.chunked_list.specs.Blocks.{total_units, BlockRow}
 use Rattle.chunked_list.proofs.UnitLemmas.{numbers_set}
 use Rattle.chunked_list.proofs.RemoveLemmas.{units-cut-le}
 use Rattle.chunked_list.proofs.JoinLemmas.{block_read}
@@ -16,9 +16,9 @@ units-units-requires g c =
     c.index_mut-changed.ensures.value in
     omega (
       arith,
-      ap (units_of units) c.cut.ensures,
+      ap (total_units units) c.cut.ensures,
       units-cut-le units old c.args.first c.args.last c.requires.order,
-      ap (units_of units) read.1,
+      ap (total_units units) read.1,
       c.requires.units,
     )
 
@@ -27,7 +27,8 @@ invariant_of-self g c =
     let blocks = c.self.inside.blocks.items in
     let new = c.cut.new.self in
     record {
-      each = numbers_set (units_of g.T.Measured.units) blocks (set blocks c.args.block new) new c.self.inside.sums.sums
+      each = numbers_set (total_units g.T.Measured.units) blocks (set blocks c.args.block new) new
+          c.self.inside.sums.sums
           c.set.new.self.sums c.args.block c.units-units.result c.self.invariant.each c.units-units.ensures refl
           c.set.ensures.sums;
       room = omega (arith, length-set blocks c.args.block new, c.self.invariant.room);

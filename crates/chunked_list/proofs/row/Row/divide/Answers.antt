@@ -2,7 +2,7 @@
 use Rattle.std.proofs.Common.{◌+◌, ◌∙◌, ◌∷◌, ◌++◌, List, [], length, take, drop, set, refl, ap, arith, length-set}
 use Rattle.std.specs.List.{splice}
 use Rattle.std.proofs.lemmas.List.{append-nil}
-use Rattle.chunked_list.specs.Blocks.{units_of, block_at, BlockRow}
+use Rattle.chunked_list.specs.Blocks.{total_units, block_at, BlockRow}
 use Rattle.chunked_list.proofs.UnitLemmas.{numbers_set}
 use Rattle.chunked_list.proofs.JoinLemmas.{block_read, units_parts, two_parts, splice_two}
 use Rattle.chunked_list.proofs.row.Row.divide.Goals as goal
@@ -27,7 +27,8 @@ invariant_of-self g c =
     let blocks = c.self.inside.blocks.items in
     let new = c.move_tail.new.self in
     record {
-      each = numbers_set (units_of g.T.Measured.units) blocks (set blocks c.args.block new) new c.self.inside.sums.sums
+      each = numbers_set (total_units g.T.Measured.units) blocks (set blocks c.args.block new) new
+          c.self.inside.sums.sums
           c.set.new.self.sums c.args.block c.units-units.result c.self.invariant.each c.units-units.ensures refl
           c.set.ensures.sums;
       room = omega (arith, length-set blocks c.args.block new, c.self.invariant.room);

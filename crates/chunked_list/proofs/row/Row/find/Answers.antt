@@ -3,7 +3,7 @@ use Rattle.std.proofs.Common.{◌≡◌, ◌+◌, ◌<◌, ◌∙◌, List, [], 
 use Rattle.std.specs.Vec.{vec_len}
 use Rattle.std.proofs.lemmas.List.{get_or_read}
 use Rattle.std.proofs.lemmas.Option.{slice_get_within}
-use Rattle.chunked_list.specs.Blocks.{units_of, block_at, BlockRow, IsSpotOf}
+use Rattle.chunked_list.specs.Blocks.{total_units, block_at, BlockRow, IsSpotOf}
 use Rattle.chunked_list.proofs.UnitLemmas.{units-nil}
 use Rattle.chunked_list.proofs.JoinLemmas.{joined-nil, sum_told, found_here, units_more_blocks, joined_more_length}
 use Rattle.chunked_list.proofs.JoinLemmas.{joined-take-le, block_read}
@@ -13,7 +13,7 @@ pub loop-block-init : goal.loop-block-init
 loop-block-init g c =
     let none = joined-nil {T = g.row.T.Denot} in
     record {
-      here = omega (arith, ap (units_of g.T.Measured.units) none, units-nil g.T.Measured.units);
+      here = omega (arith, ap (total_units g.T.Measured.units) none, units-nil g.T.Measured.units);
       counted = sym (ap length none);
       steps = omega arith;
     }
@@ -29,7 +29,7 @@ find-spot-requires g c =
     c.get-units.ensures.found in
     let read : c.index.result.now ≡ block_at blocks b = get_or_read blocks b c.index.result.now low c.index.ensures
     [] in
-    omega (arith, told, ap (units_of units) read, c.if-left-units.true)
+    omega (arith, told, ap (total_units units) read, c.if-left-units.true)
 
 pub overflow_add-result : goal.overflow_add-result
 overflow_add-result g c =
@@ -94,7 +94,7 @@ loop-block-preserved g c =
     let len : vec_len c.self.inside.blocks ≡ length blocks = search rules in
     let less : b < length c.args.self.now.blocks = omega (arith, ap length now, c.len-block-end.ensures) in
     let told = sum_told units c.args.self.now.blocks c.self.inside.sums.sums b c.get-units.result
-    (c.self.invariant.each ∙ ap (map (units_of units)) now) c.get-units.ensures.found in
+    (c.self.invariant.each ∙ ap (map (total_units units)) now) c.get-units.ensures.found in
     let read = block_read blocks c.args.self.now.blocks b c.index-in-loop-block.result.now now less
     c.index-in-loop-block.ensures in
     record {

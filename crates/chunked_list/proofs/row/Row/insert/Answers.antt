@@ -1,6 +1,6 @@
 -- The sums go with the blocks.
 use Rattle.std.proofs.Common.{◌≡◌, ◌++◌, ◌∷◌, take, drop, length, arith, rules, ap}
-use Rattle.chunked_list.specs.Blocks.{units_of}
+use Rattle.chunked_list.specs.Blocks.{total_units}
 use Rattle.chunked_list.proofs.UnitLemmas.{numbers_put, length_put}
 use Rattle.chunked_list.proofs.row.Row.insert.Goals as goal
 
@@ -12,7 +12,7 @@ invariant_of-self g c =
     let old = ap (λ row. length row.blocks) c.self.view_is in
     let count = length_put blocks new c.args.block c.args.number (omega (arith, c.requires.within, old)) put in
     record {
-      each = numbers_put (units_of g.T.Measured.units) blocks new c.args.block c.self.inside.sums.sums
+      each = numbers_put (total_units g.T.Measured.units) blocks new c.args.block c.self.inside.sums.sums
           c.insert-2.new.self.sums c.args.number c.units-units.result c.self.invariant.each c.units-units.ensures put
           c.insert-2.ensures.sums;
       room = omega (arith, count, c.self.invariant.room, c.insert.ensures.capacity);

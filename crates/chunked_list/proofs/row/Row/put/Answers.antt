@@ -3,7 +3,7 @@ use Rattle.std.proofs.Common.{◌+◌, ◌∙◌, ◌∷◌, ◌++◌, List, [],
 use Rattle.std.proofs.Common.{length-set}
 use Rattle.std.specs.List.{splice}
 use Rattle.std.proofs.lemmas.List.{take-append-drop}
-use Rattle.chunked_list.specs.Blocks.{units_of, block_at, BlockRow}
+use Rattle.chunked_list.specs.Blocks.{total_units, block_at, BlockRow}
 use Rattle.chunked_list.proofs.UnitLemmas.{numbers_set, set_spliced, units-append, units-cons}
 use Rattle.chunked_list.proofs.JoinLemmas.{block_read}
 use Rattle.chunked_list.proofs.row.Row.put.Goals as goal
@@ -16,15 +16,15 @@ units-units-requires g c =
     let old = c.index_mut-changed.result.now in
     let read = block_read blocks c.args.self.now.blocks c.args.block old now c.requires.block
     c.index_mut-changed.ensures.value in
-    let e = ap (units_of units) c.insert.ensures in
+    let e = ap (total_units units) c.insert.ensures in
     omega (
       arith,
       e,
-      ap (units_of units) read.1,
+      ap (total_units units) read.1,
       units-append units (take c.args.i old) (c.args.item ∷ drop c.args.i old),
       units-cons units c.args.item (drop c.args.i old),
       units-append units (take c.args.i old) (drop c.args.i old),
-      ap (units_of units) (take-append-drop c.args.i old),
+      ap (total_units units) (take-append-drop c.args.i old),
       c.requires.units,
     )
 
@@ -33,7 +33,8 @@ invariant_of-self g c =
     let blocks = c.self.inside.blocks.items in
     let new = c.insert.new.self in
     record {
-      each = numbers_set (units_of g.T.Measured.units) blocks (set blocks c.args.block new) new c.self.inside.sums.sums
+      each = numbers_set (total_units g.T.Measured.units) blocks (set blocks c.args.block new) new
+          c.self.inside.sums.sums
           c.set.new.self.sums c.args.block c.units-units.result c.self.invariant.each c.units-units.ensures refl
           c.set.ensures.sums;
       room = omega (arith, length-set blocks c.args.block new, c.self.invariant.room);

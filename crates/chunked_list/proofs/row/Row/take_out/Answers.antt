@@ -1,6 +1,6 @@
 -- The sum goes with the block.
 use Rattle.std.proofs.Common.{◌≡◌, ◌+◌, ◌<◌, ◌∙◌, ◌++◌, ℕ, List, [], take, drop, map, length, arith, rules, ap, sym}
-use Rattle.chunked_list.specs.Blocks.{units_of, BlockRow}
+use Rattle.chunked_list.specs.Blocks.{total_units, BlockRow}
 use Rattle.chunked_list.proofs.UnitLemmas.{map_spliced, length_cut}
 use Rattle.chunked_list.proofs.row.Row.take_out.Goals as goal
 
@@ -16,8 +16,8 @@ invariant_of-self g c =
     record {
       each = c.remove-2.ensures.sums
           ∙ ap (λ (l : List ℕ). take b l ++ drop (b + 1) l) c.self.invariant.each
-          ∙ sym (map_spliced (units_of units) blocks [] b (b + 1))
-          ∙ ap (map (units_of units)) (sym out);
+          ∙ sym (map_spliced (total_units units) blocks [] b (b + 1))
+          ∙ ap (map (total_units units)) (sym out);
       room = omega (arith, length_cut blocks new b low out, c.self.invariant.room, c.remove.ensures.capacity);
       further = omega (arith, c.remove-2.ensures.spare, c.self.invariant.further);
     }

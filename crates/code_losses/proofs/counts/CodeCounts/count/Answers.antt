@@ -1,12 +1,12 @@
 use Rattle.std.proofs.Common.{refl, inl, inr, sym, [], ◌∷◌}
 use Rattle.std.proofs.lemmas.Option.{none-some}
-use Rattle.code_losses.specs.Counted.{IsFound}
+use Rattle.code_losses.specs.Counted.{IsFoundPrlList}
 use Rattle.code_losses.proofs.JoinLemmas.{part_none}
 use Rattle.code_losses.proofs.counts.CodeCounts.count.Goals as goal
 
 pub returns-in-Some-clause-counted : goal.returns-in-Some-clause-counted
 returns-in-Some-clause-counted c = λ lists counted.
-    part_none (IsFound c.args.list.now) lists c.args.self.now
+    part_none (IsFoundPrlList c.args.list.now) lists c.args.self.now
     (inr ((λ accepted. none-some _ (sym (c.in-Some.ensures.accepted.1 accepted))), refl)) counted
 
 pub returns-in-None-clause-counted : goal.returns-in-None-clause-counted

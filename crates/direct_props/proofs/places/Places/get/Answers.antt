@@ -2,7 +2,7 @@ use Rattle.std.proofs.Common.{List, ℕ, ◌<◌, ◌+◌, sym, ap, ◌∙◌, a
 use Rattle.std.specs.Prelude.{slice_index}
 use Rattle.std.proofs.lemmas.Option.{slice_get-get_or}
 use Rattle.direct_props.specs.declared.places.PlaceRow.{PlaceRow}
-use Rattle.direct_props.specs.Rows.{places_of}
+use Rattle.direct_props.specs.Rows.{row_places_of}
 use Rattle.direct_props.proofs.RowLemmas.{count_is, index_part, is_in_a_row, left_inside, place_in_row}
 use Rattle.direct_props.proofs.places.Places.get.Goals as goal
 
@@ -11,7 +11,7 @@ returns c =
     let none : PlaceRow = record { at = 0; step = 0; len = 0 } in
     let p = c.self.inside in
     let spot = c.find_row-spot.result in
-    let places = places_of p.rows.now in
+    let places = row_places_of p.rows.now in
     let long = count_is p.rows.now p.skipped p.count c.args.self.now c.self.invariant c.self.view_is in
     let below : c.args.number < p.count = omega (arith, long, c.requires) in
     let inside = is_in_a_row p.rows.now (p.skipped + c.args.number) spot.row spot.left c.find_row-spot.ensures

@@ -2,7 +2,7 @@
 use Rattle.std.proofs.Common.{◌≡◌, ◌∙◌, ℕ, List, map, length, refl, sym, ap, arith}
 use Rattle.std.specs.Cmp.Lexicographic.{same_text}
 use Rattle.std.proofs.lemmas.List.{length-map}
-use Rattle.plain_doc.specs.declared.item.Item.{Item}
+use Rattle.doc_model.specs.declared.item.Item.{Item}
 use Rattle.doc_columns.specs.Attached.{attached_of}
 use Rattle.doc_columns.proofs.EqualityLemmas.{not_false, column_long, same_columns}
 use Rattle.doc_columns.proofs.columns.Columns.equal.Goals as goal

@@ -1,7 +1,7 @@
 -- Each column has an entry more.
 use Rattle.std.proofs.Common.{◌∙◌, [], ◌∷◌, ◌++◌, sym, ap, subst, arith}
-use Rattle.plain_doc.specs.declared.item.Item.{Item}
-use Rattle.plain_doc.specs.Document.{HasPropertyMaps}
+use Rattle.doc_model.specs.declared.item.Item.{Item}
+use Rattle.doc_model.specs.Document.{HasPropertyMaps}
 use Rattle.doc_columns.proofs.ItemsOfLemmas.{text_long, added_columns, added_are}
 use Rattle.doc_columns.proofs.own.OwnColumns.add.Goals as goal
 

@@ -1,6 +1,6 @@
 -- Their properties are the second one.
 use Rattle.std.proofs.Common.{◌∙◌, sym, ap, map}
-use Rattle.plain_doc.specs.declared.item.Item.{Item}
+use Rattle.doc_model.specs.declared.item.Item.{Item}
 use Rattle.doc_columns.proofs.ItemsOfLemmas.{chps-items_of}
 use Rattle.doc_columns.proofs.own.OwnColumns.chps.Goals as goal
 

@@ -1,7 +1,7 @@
 -- The range of each column.
 use Rattle.std.proofs.Common.{◌≡◌, ◌∙◌, ℕ, List, map, sym, ap, arith}
 use Rattle.std.specs.Prelude.{slice_range}
-use Rattle.plain_doc.specs.declared.item.Item.{Item}
+use Rattle.doc_model.specs.declared.item.Item.{Item}
 use Rattle.doc_columns.proofs.ItemsOfLemmas.{text_long, units-items_of}
 use Rattle.doc_columns.proofs.ChangesLemmas.{range_are, range_columns}
 use Rattle.doc_columns.proofs.own.OwnColumns.copy.Goals as goal

@@ -1,7 +1,7 @@
 -- There are as many items as units, and all are well formed.
 use Rattle.std.proofs.Common.{◌≡◌, ap, length, subst, arith, rules}
 use Rattle.std.specs.Vec.{vec_len}
-use Rattle.plain_doc.specs.Document.{IsFormedText}
+use Rattle.doc_model.specs.Document.{IsFormedText}
 use Rattle.doc_columns.proofs.ItemsOfLemmas.{length-items_of}
 use Rattle.doc_columns.proofs.own.OwnColumns.len.Goals as goal
 

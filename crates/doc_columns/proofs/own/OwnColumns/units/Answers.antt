@@ -1,6 +1,6 @@
 -- The units of the items are the first column.
 use Rattle.std.proofs.Common.{◌∙◌, sym, ap, map}
-use Rattle.plain_doc.specs.declared.item.Item.{Item}
+use Rattle.doc_model.specs.declared.item.Item.{Item}
 use Rattle.doc_columns.proofs.ItemsOfLemmas.{units-items_of}
 use Rattle.doc_columns.proofs.own.OwnColumns.units.Goals as goal
 

@@ -1,6 +1,6 @@
 -- What is behind the Rc is the text, and the walk is at its start.
 use Rattle.std.proofs.Common.{◌∙◌, sym, ap, subst}
-use Rattle.doc_columns.specs.Windows.{whole_items, AreWhole}
+use Rattle.doc_columns.specs.Windows.{column_items, AreWhole}
 use Rattle.doc_columns.specs.declared.walk.Walk.{Walk}
 use Rattle.doc_columns.proofs.CollectLemmas.{start_at}
 use Rattle.doc_columns.proofs.shared_text.SharedText.new.Goals as goal
@@ -19,4 +19,4 @@ invariant_of-result c =
     }
 
 pub returns : goal.returns
-returns c = ap whole_items c.in_ok-new.ensures.ok ∙ c.in_ok-whole.ensures.items ∙ c.in_ok-into_own.ensures
+returns c = ap column_items c.in_ok-new.ensures.ok ∙ c.in_ok-whole.ensures.items ∙ c.in_ok-into_own.ensures

@@ -1,7 +1,7 @@
 -- The list with one more text is well formed.
 use Rattle.std.proofs.Common.{rules}
-use Rattle.plain_doc.specs.Document.{IsFormedText}
-use Rattle.plain_doc.proofs.Public.{IsFormedList-add}
+use Rattle.doc_model.specs.Document.{IsFormedText}
+use Rattle.doc_model.proofs.Public.{IsFormedList-add}
 use Rattle.doc_columns.proofs.texts.ColumnTexts.add.Goals as goal
 
 pub invariant_of-self-2 : goal.invariant_of-self-2

@@ -1,7 +1,7 @@
 -- A text more.
 use Rattle.std.proofs.Common.{◌∙◌, ◌<◌, ◌++◌, ◌∷◌, [], List, length, sym, ap, arith}
-use Rattle.plain_doc.proofs.Public.{take_next}
-use Rattle.plain_doc.specs.declared.item.Item.{Item}
+use Rattle.doc_model.proofs.Public.{take_next}
+use Rattle.doc_model.specs.declared.item.Item.{Item}
 use Rattle.doc_columns.proofs.texts.ColumnTexts.expand.Goals as goal
 
 pub loop-k-preserved : goal.loop-k-preserved

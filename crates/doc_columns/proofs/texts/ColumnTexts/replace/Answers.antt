@@ -1,8 +1,8 @@
 -- The list with the other text is well formed, and what is handed back is what was there.
 use Rattle.std.proofs.Common.{rules, refl, ◌<◌, length}
 use Rattle.std.proofs.lemmas.Option.{slice_get_read}
-use Rattle.plain_doc.specs.Document.{IsFormedText}
-use Rattle.plain_doc.proofs.Public.{IsFormedList-set}
+use Rattle.doc_model.specs.Document.{IsFormedText}
+use Rattle.doc_model.proofs.Public.{IsFormedList-set}
 use Rattle.doc_columns.proofs.texts.ColumnTexts.replace.Goals as goal
 
 pub invariant_of-self : goal.invariant_of-self

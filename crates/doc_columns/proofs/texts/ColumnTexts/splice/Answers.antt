@@ -1,7 +1,7 @@
 -- The list with the fresh texts is well formed.
 use Rattle.std.proofs.Common.{rules}
-use Rattle.plain_doc.specs.Document.{IsFormedText}
-use Rattle.plain_doc.proofs.Public.{IsFormedList-splice}
+use Rattle.doc_model.specs.Document.{IsFormedText}
+use Rattle.doc_model.proofs.Public.{IsFormedList-splice}
 use Rattle.doc_columns.proofs.texts.ColumnTexts.splice.Goals as goal
 
 pub invariant_of-self-2 : goal.invariant_of-self-2

@@ -1,5 +1,5 @@
 use Rattle.std.proofs.Common.{subst}
-use Rattle.plain_doc.specs.Document.{IsFormedText}
+use Rattle.doc_model.specs.Document.{IsFormedText}
 use Rattle.doc_columns.proofs.WindowLemmas.{window_long}
 use Rattle.doc_columns.proofs.window.Window.len.Goals as goal
 

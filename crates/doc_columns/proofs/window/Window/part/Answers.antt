@@ -1,8 +1,8 @@
 -- The parts are copied from the start.
 use Rattle.std.proofs.Common.{◌∙◌, sym, ap, subst, length, List, arith}
 use Rattle.std.specs.Prelude.{slice_range}
-use Rattle.plain_doc.specs.declared.item.Item.{Item}
-use Rattle.plain_doc.specs.Document.{IsFormedText}
+use Rattle.doc_model.specs.declared.item.Item.{Item}
+use Rattle.doc_model.specs.Document.{IsFormedText}
 use Rattle.doc_columns.proofs.WalkLemmas.{items_long, first_walk, later_walk}
 use Rattle.doc_columns.proofs.window.Window.part.Goals as goal
 

@@ -1,8 +1,8 @@
 use Rattle.std.proofs.Common.{◌≡◌, ◌+◌, ◌∷◌, ◌++◌, [], ◌≤◌, List, Option, ℕ, arith, subst, sym, ap, true, ◌∙◌, length, take}
 use Rattle.std.proofs.lemmas.Option.{same_Some}
 use Rattle.doc_columns.specs.Walks.{items_in}
-use Rattle.doc_parts.specs.declared.bookmark_order.Bookmark.{Bookmark}
-use Rattle.plain_doc.specs.declared.item.Item.{Item}
+use Rattle.document_bookmarks.specs.declared.bookmark_order.Bookmark.{Bookmark}
+use Rattle.doc_model.specs.declared.item.Item.{Item}
 use Rattle.plain_doc.specs.RightDocument.{HoldsAtItems}
 use Rattle.plain_doc.specs.RulesOfTexts.{HasParagraphStyle}
 use Rattle.view_places.specs.declared.element.Element.{Element}

@@ -4,8 +4,8 @@ use Rattle.std.proofs.Common.{arith}
 use Rattle.std.specs.Prelude.{slice_get}
 use Rattle.style_sheet.specs.Sheet.{Sheet}
 use Rattle.doc_bits.specs.declared.places.Where.TheVariants.{Main, Note}
-use Rattle.plain_doc.specs.declared.document.Document.{Document}
-use Rattle.plain_doc.specs.declared.item.Item.{Item}
+use Rattle.doc_model.specs.declared.document.Document.{Document}
+use Rattle.doc_model.specs.declared.item.Item.{Item}
 use Rattle.plain_doc.specs.RightDocument.{HoldsAtItems}
 use Rattle.plain_doc.specs.RulesOfTexts.{HasParagraphStyle}
 use Rattle.doc_columns.specs.Walks.{items_in}
@@ -19,7 +19,7 @@ use Rattle.symbol_fonts.specs.declared.fonts.SymbolFonts.{SymbolFonts}
 use Rattle.doc_view.specs.Page.{AreFormats, fonts_of}
 use Rattle.doc_view.specs.Seen.{Paragraph, paragraphs_of, references_of, with_values}
 use Rattle.doc_view.proofs.Public.{sound_normal, sound_styles}
-use Rattle.doc_places.specs.Places.{cells_of, hypertext_of, notes_places, text_places}
+use Rattle.doc_places.specs.Places.{table_cells_of, hypertext_of, notes_places, text_places}
 use Rattle.doc_view.specs.declared.reading.TextKind.TheVariants as text_kind
 use Rattle.doc_html.proofs.view.Shown.write_places.Goals as goal
 
@@ -78,7 +78,8 @@ returns g c = λ formats are.
     c.requires.references
     ∙ (λ i. references_of (all (known i) (same i))) in
     let before = c.args.writer.now.page in
-    let hypertext = hypertext_of document.bookmarks 0 document.main (cells_of document.bookmarks values document.main) in
+    let hypertext = hypertext_of document.bookmarks 0 document.main (table_cells_of document.bookmarks values
+    document.main) in
     let text : PutsPlaces g.K.Sink c.args.out.now before main.new.out main.new.writer.page (text_places hypertext [] (all
     fonts document.main)) =
     subst (λ (places : Places). PutsPlaces g.K.Sink c.args.out.now before main.new.out main.new.writer.page places) (λ

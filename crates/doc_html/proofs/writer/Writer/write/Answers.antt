@@ -1,6 +1,6 @@
 use Rattle.std.proofs.Common.{◌≡◌, ◌∷◌, ◌++◌, [], List, Some, None, sym, subst}
 use Rattle.form_page.specs.Forms.{PutsPlaces}
-use Rattle.doc_places.specs.Places.{bare, inline_elements, item_places, link_elements, shown}
+use Rattle.doc_places.specs.Places.{bare_place, inline_elements, item_places, link_elements, shown_place}
 use Rattle.doc_places.proofs.Public.{hidden_item}
 use Rattle.doc_html.proofs.WriteLemmas.{puts_same, shown_item}
 use Rattle.form_page.proofs.Public.{places_none}
@@ -17,7 +17,8 @@ pub returns-in-None-clause-puts : goal.returns-in-None-clause-puts
 returns-in-None-clause-puts g c =
     let old = c.args.self.now in
     let put = c.write_bare in
-    puts_same g.K.Sink c.args.out.now put.new.out old.page put.new.self.page (bare (old.path ++ link_elements c.args.link) ∷
+    puts_same g.K.Sink c.args.out.now put.new.out old.page put.new.self.page (bare_place (old.path ++ link_elements
+    c.args.link) ∷
     []) (item_places old.path c.args.link c.args.count c.args.seen.now) (sym (shown_item old.path c.args.link c.args.count
     c.args.seen.now None (cc) c.in-None.is)) put.ensures.puts
 
@@ -26,7 +27,8 @@ returns-in-Some-clause-puts g c =
     let old = c.args.self.now in
     let seen = c.args.seen.now in
     let put = c.write_glyph in
-    puts_same g.K.Sink c.args.out.now put.new.out old.page put.new.self.page (shown (old.path ++ inline_elements c.args.link
+    puts_same g.K.Sink c.args.out.now put.new.out old.page put.new.self.page (shown_place (old.path ++ inline_elements
+    c.args.link
     c.args.count
     seen.format seen.reference) c.in-Some.glyph ∷ []) (item_places old.path c.args.link c.args.count seen) (sym (shown_item old.path c.args.link
     c.args.count seen (Some c.in-Some.glyph) (cc) c.in-Some.is)) put.ensures.puts

@@ -1,7 +1,7 @@
 use Rattle.std.proofs.Common.{◌≡◌, ◌++◌, ◌∷◌, [], List, ap, subst, ◌∙◌, length, take, ℕ}
 use Rattle.std.proofs.Math.Seq.{take-append_seam}
 use Rattle.view_places.specs.declared.element.Element.{Element}
-use Rattle.doc_places.specs.Places.{bare, link_elements}
+use Rattle.doc_places.specs.Places.{bare_place, link_elements}
 use Rattle.form_page.specs.Forms.{PutsPlaces}
 use Rattle.doc_html.proofs.writer.Writer.write_bare.Goals as goal
 
@@ -15,4 +15,4 @@ returns-clause-path g c =
 pub returns-clause-puts : goal.returns-clause-puts
 returns-clause-puts g c =
     subst (λ (path : List Element). PutsPlaces g.K.Sink c.args.out.now c.args.self.now.page c.put.new.out
-    c.put.new.self (bare path ∷ [])) c.push_link.ensures.is c.put.ensures
+    c.put.new.self (bare_place path ∷ [])) c.push_link.ensures.is c.put.ensures

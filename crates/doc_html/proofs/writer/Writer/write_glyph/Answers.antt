@@ -1,7 +1,7 @@
 use Rattle.std.proofs.Common.{◌≡◌, ◌++◌, ◌∷◌, [], List, ap, subst, sym, ◌∙◌, length, take, ℕ}
 use Rattle.std.proofs.Math.Seq.{take-append_seam}
 use Rattle.view_places.specs.declared.element.Element.{Element}
-use Rattle.doc_places.specs.Places.{inline_elements, shown}
+use Rattle.doc_places.specs.Places.{inline_elements, shown_place}
 use Rattle.form_page.specs.Forms.{PutsPlaces}
 use Rattle.doc_html.proofs.writer.Writer.write_glyph.Goals as goal
 
@@ -17,5 +17,5 @@ returns-clause-path g c =
 pub returns-clause-puts : goal.returns-clause-puts
 returns-clause-puts g c =
     subst (λ (path : List Element). PutsPlaces g.K.Sink c.args.out.now c.args.self.now.page c.put.new.out
-    c.put.new.self (shown
+    c.put.new.self (shown_place
     path c.args.glyph ∷ [])) c.push_inline.ensures c.put.ensures

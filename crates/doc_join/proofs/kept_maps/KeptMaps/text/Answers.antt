@@ -2,12 +2,12 @@ use Rattle.std.proofs.Common.{◌∙◌, List, map, length, sym, ap, subst, arit
 use Rattle.std.specs.Prelude.{All}
 use Rattle.std.proofs.lemmas.List.{length-map}
 use Rattle.run_lists.specs.Spread.{expanded}
-use Rattle.plain_doc.specs.declared.item.Item.{Item}
-use Rattle.plain_doc.specs.Document.{HasPropertyMaps}
+use Rattle.doc_model.specs.declared.item.Item.{Item}
+use Rattle.doc_model.specs.Document.{HasPropertyMaps}
 use Rattle.doc_columns.specs.declared.attached.Attached.{Attached}
 use Rattle.doc_columns.specs.Attached.{attached_of}
 use Rattle.doc_join.specs.declared.renumbering.Renumbering.{Renumbering}
-use Rattle.doc_join.specs.Settings.{renumbered}
+use Rattle.doc_join.specs.Settings.{renumbered_chp}
 use Rattle.doc_join.specs.JoinedColumns.{renumbered_attached, HasOwnMark}
 use Rattle.doc_join.proofs.TextLemmas.{formed_maps}
 use Rattle.doc_join.proofs.ColumnLemmas.{own_marks, character_maps, column_few, text_renumbered}
@@ -53,7 +53,7 @@ from_parts-requires-clause-chps c =
       ap length c.chps-chp_runs.ensures,
       length-map c.args.text.now (λ (item : Item). item.unit),
       length-map c.args.text.now (λ (item : Item). item.chp),
-      length-map (expanded c.chps-chp_runs.result.now) (renumbered c.args.self.now.numbers),
+      length-map (expanded c.chps-chp_runs.result.now) (renumbered_chp c.args.self.now.numbers),
     )
 
 pub from_parts-requires-clause-attachments : goal.from_parts-requires-clause-attachments
@@ -75,7 +75,7 @@ from_parts-requires-clause-maps c =
     let text = c.args.text.now in
     let is = text_renumbered numbers text c.in_ok-units.units.items c.in_ok-chps.chps c.in_ok-attachments.attachments
     (c.in_ok-units.ensures.items ∙ c.units.ensures)
-    (c.in_ok-chps.ensures.made ∙ ap (map (renumbered numbers)) c.chps-chp_runs.ensures)
+    (c.in_ok-chps.ensures.made ∙ ap (map (renumbered_chp numbers)) c.chps-chp_runs.ensures)
     (c.in_ok-attachments.ensures
     ∙ (ap (map (renumbered_attached c.chps.new.self.numbers)) c.attachments-attached_runs.ensures
     ∙ ap (λ (n : Renumbering). map (renumbered_attached n) (map attached_of text)) c.in_ok-chps.ensures.numbers)) in
@@ -88,7 +88,7 @@ returns-clause-made c =
     c.from_parts.ensures
     ∙ text_renumbered numbers text c.in_ok-units.units.items c.in_ok-chps.chps c.in_ok-attachments.attachments
     (c.in_ok-units.ensures.items ∙ c.units.ensures)
-    (c.in_ok-chps.ensures.made ∙ ap (map (renumbered numbers)) c.chps-chp_runs.ensures)
+    (c.in_ok-chps.ensures.made ∙ ap (map (renumbered_chp numbers)) c.chps-chp_runs.ensures)
     (c.in_ok-attachments.ensures
     ∙ (ap (map (renumbered_attached c.chps.new.self.numbers)) c.attachments-attached_runs.ensures
     ∙ ap (λ (n : Renumbering). map (renumbered_attached n) (map attached_of text)) c.in_ok-chps.ensures.numbers))

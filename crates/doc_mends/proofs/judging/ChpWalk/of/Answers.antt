@@ -1,8 +1,8 @@
 use Rattle.std.proofs.Common.{◌≡◌, ◌∙◌, length, ap, sym, subst, arith}
 use Rattle.std.proofs.lemmas.List.{length-map}
 use Rattle.prop_map.specs.Settings.{Properties}
-use Rattle.plain_doc.specs.declared.item.Item.{Item}
-use Rattle.run_lists.specs.Places.{IsAt}
+use Rattle.doc_model.specs.declared.item.Item.{Item}
+use Rattle.run_lists.specs.Places.{IsAtRunBegin}
 use Rattle.run_lists.specs.Spread.{expanded, total_len}
 use Rattle.run_lists.proofs.Public.{extent-nil, length-spread}
 use Rattle.doc_columns.proofs.Public.{chps_formed}
@@ -20,5 +20,8 @@ returns-clause-walk c =
       runs = c.chps.ensures;
       few = omega (arith, all, few);
       maps = chps_formed text (expanded runs) c.chps.ensures formed.each;
-      at = subst (IsAt runs) (sym c.new.ensures) (record { there = omega arith; begins = extent-nil Properties });
+      at = subst (IsAtRunBegin runs) (sym c.new.ensures) (record {
+        there = omega arith;
+        begins = extent-nil Properties;
+      });
     }

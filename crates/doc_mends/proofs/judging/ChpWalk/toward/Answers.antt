@@ -1,8 +1,8 @@
 use Rattle.std.proofs.Common.{◌≡◌, sym, subst, None, List, Option}
 use Rattle.std.specs.Prelude.{MatchOption, ⊤}
 use Rattle.doc_bits.specs.declared.places.Story.{Story}
-use Rattle.plain_doc.specs.declared.item.Item.{Item}
-use Rattle.doc_patch.specs.Places.{items_at, text_at}
+use Rattle.doc_model.specs.declared.item.Item.{Item}
+use Rattle.doc_patch.specs.Places.{items_at, story_text}
 use Rattle.doc_patch.proofs.Public.{items_are}
 use Rattle.doc_mends.specs.Judging.{IsChpWalk}
 use Rattle.doc_mends.proofs.judging.ChpWalk.toward.Goals as goal

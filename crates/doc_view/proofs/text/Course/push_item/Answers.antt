@@ -3,7 +3,7 @@ use Rattle.std.proofs.Common.{◌+◌, sym, subst, arith}
 use Rattle.std.specs.Prelude.{slice_index}
 use Rattle.doc_columns.specs.Walks.{items_in}
 use Rattle.doc_view.specs.declared.text.Course.{Course}
-use Rattle.doc_view.specs.Course.{IsCourse, Passes}
+use Rattle.doc_view.specs.Course.{IsCourse, PutsItems}
 use Rattle.doc_view.proofs.CourseLemmas.{item_course, item_room, item_said, item_there, seen_is}
 use Rattle.doc_view.proofs.RangeLemmas.{seen_range}
 use Rattle.doc_view.proofs.text.Course.push_item.Goals as goal
@@ -58,7 +58,7 @@ returns-clause-passes g c = λ formats istd has.
     seen_is manner format course.front one.0 unit attached c.see-seen.result one.1.1
     (c.requires.attached course.place one.0 (omega arith) ahead one.1.0) c.see-seen.ensures in
     let said = c.say.ensures in
-    subst (λ (x : Course). Passes g.K.Sink
+    subst (λ (x : Course). PutsItems g.K.Sink
     (record {
       out = c.args.out.now;
       page = c.args.page.now;

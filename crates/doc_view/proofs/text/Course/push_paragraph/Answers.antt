@@ -1,6 +1,6 @@
 -- The items of the paragraph, stretch by stretch.
 use Rattle.std.proofs.Common.{◌≡◌, ◌∙◌, ◌≤◌, sym, ap, subst, arith}
-use Rattle.doc_columns.specs.Walks.{items_in, IsWalk}
+use Rattle.doc_columns.specs.Walks.{items_in, IsColumnWalk}
 use Rattle.doc_columns.specs.declared.walk.Walk.{Walk}
 use Rattle.doc_columns.proofs.Public.{later_walk}
 use Rattle.char_formats.proofs.Public.{format_one}
@@ -48,7 +48,7 @@ loop-self-preserved g c =
       low = omega (arith, low, ahead);
       within = omega (arith, place, least);
       walk =
-          subst (λ (w : Walk). IsWalk parts w to) (sym next.ensures.walk)
+          subst (λ (w : Walk). IsColumnWalk parts w to) (sym next.ensures.walk)
           (later_walk parts alike.new.walk at to alike.ensures.walk ahead);
       course = next.ensures.course;
       saying = next.ensures.saying;

@@ -1,6 +1,6 @@
 use Rattle.std.proofs.Common.{◌-◌, ◌≤◌}
-use Rattle.doc_columns.specs.Walks.{items_in, IsWalk}
-use Rattle.doc_view.specs.Course.{IsCourse, Passes}
+use Rattle.doc_columns.specs.Walks.{items_in, IsColumnWalk}
+use Rattle.doc_view.specs.Course.{IsCourse, PutsItems}
 use Rattle.doc_view.specs.Lines.{IsSaying}
 use Rattle.doc_view.specs.Page.{AreFormats}
 use Rattle.doc_view.specs.Seen.{Formats}
@@ -12,10 +12,10 @@ abbrev pub invariant-loop-self : goal.invariant-loop-self
 invariant-loop-self g l = record {
   low : l.fn.self.place ≤ l.self.place;
   within : l.self.place ≤ l.bounds.end;
-  walk : IsWalk l.fn.text.parts l.self.walk l.self.place;
+  walk : IsColumnWalk l.fn.text.parts l.self.walk l.self.place;
   course : IsCourse l.fn.text.manner (items_in l.fn.text.parts) l.self;
   saying : IsSaying l.saying;
-  passes : (formats : Formats) → AreFormats l.fn.text.formats.now formats → Passes g.K.Sink
+  passes : (formats : Formats) → AreFormats l.fn.text.formats.now formats → PutsItems g.K.Sink
       (record { out = l.fn.out; page = l.fn.page; saying = l.fn.saying; references = l.fn.self.references.list })
       (record { out = l.out; page = l.page; saying = l.saying; references = l.self.references.list })
       (seen_range formats l.fn.text.manner l.bounds.istd (items_in l.fn.text.parts) l.fn.self.place l.self.place);

@@ -1,6 +1,6 @@
 use Rattle.std.proofs.Common.{◌≡◌, ℕ, ◌-◌, ◌≤◌}
 use Rattle.doc_columns.specs.Walks.{items_in}
-use Rattle.doc_view.specs.Course.{HasFormat, IsCourse, Passes}
+use Rattle.doc_view.specs.Course.{HasFormat, IsCourse, PutsItems}
 use Rattle.doc_view.specs.Lines.{IsSaying}
 use Rattle.doc_view.specs.Seen.{Formats}
 use Rattle.doc_view.proofs.RangeLemmas.{seen_range}
@@ -15,7 +15,7 @@ invariant-loop-self g l = record {
   course : IsCourse l.fn.text.manner (items_in l.fn.text.parts) l.self;
   saying : IsSaying l.saying;
   passes : (formats : Formats) (istd : ℕ) → HasFormat formats istd (items_in l.fn.text.parts) l.fn.self.place
-      l.fn.stretch.until l.fn.stretch.format → Passes g.K.Sink
+      l.fn.stretch.until l.fn.stretch.format → PutsItems g.K.Sink
       (record { out = l.fn.out; page = l.fn.page; saying = l.fn.saying; references = l.fn.self.references.list })
       (record { out = l.out; page = l.page; saying = l.saying; references = l.self.references.list })
       (seen_range formats l.fn.text.manner istd (items_in l.fn.text.parts) l.fn.self.place l.self.place);

@@ -3,15 +3,15 @@ use Rattle.std.proofs.Common.{◌≡◌, ◌∙◌, ◌+◌, ◌-◌, ◌≤◌,
 use Rattle.std.proofs.Common.{take, Some, None, false}
 use Rattle.std.specs.Prelude.{slice_index, slice_get, option_map}
 use Rattle.std.proofs.lemmas.Option.{slice_get-get_or}
-use Rattle.style_sheet.specs.Chain.{kind_at}
-use Rattle.plain_doc.specs.Settings.{is_inside}
-use Rattle.plain_doc.specs.Stretches.{stretches}
-use Rattle.doc_columns.specs.Walks.{items_in, IsWalk}
+use Rattle.style_sheet.specs.Chain.{style_kind_at}
+use Rattle.doc_model.specs.Settings.{is_inside}
+use Rattle.doc_model.specs.Stretches.{stretches}
+use Rattle.doc_columns.specs.Walks.{items_in, IsColumnWalk}
 use Rattle.doc_columns.proofs.Public.{first_walk, items_long, start_at, begins_at_start}
 use Rattle.doc_view.specs.declared.line.Line.{Line}
 use Rattle.doc_view.specs.declared.references.Reference.{Reference}
 use Rattle.doc_view.specs.declared.standing.Standing.{Standing}
-use Rattle.doc_view.specs.Course.{Passes}
+use Rattle.doc_view.specs.Course.{PutsItems}
 use Rattle.doc_view.specs.Layout.{is_in_table}
 use Rattle.doc_view.specs.Kept.{KeptReferences}
 use Rattle.doc_view.specs.Lines.{lead_text, line_after}
@@ -32,7 +32,7 @@ loop-course-init g c =
       within = omega (arith, place);
       number = omega (arith, place);
       walk =
-          subst (λ (n : ℕ). IsWalk parts course.result.walk n) (sym place)
+          subst (λ (n : ℕ). IsColumnWalk parts course.result.walk n) (sym place)
           (first_walk parts course.result.walk course.ensures.walk);
       marks = start_at parts.attachments.now c.new-marks.result c.new-marks.ensures;
       ahead =
@@ -63,7 +63,7 @@ push_paragraph-requires-clause-style g c =
     let sheet = c.args.self.now.formats.now in
     let some = c.paragraph_end-end.ensures.some in
     let within = c.paragraph_end-end.ensures.within in
-    subst (λ (istd : ℕ). kind_at sheet istd ≡ 1) (sym c.style_of.ensures)
+    subst (λ (istd : ℕ). style_kind_at sheet istd ≡ 1) (sym c.style_of.ensures)
     (right_style sheet parts c.requires.parts (c.paragraph_end-end.result - 1) c.seek-last.result.now
     c.requires.normal c.requires.styles (omega (arith, some, within)) c.seek-last.ensures.value)
 
@@ -90,7 +90,7 @@ loop-course-preserved g c =
     record {
       within = omega (arith, place, inside);
       number = omega (arith, place, number, some);
-      walk = subst (λ (n : ℕ). IsWalk parts put.new.self.walk n) (sym place) put.ensures.walk;
+      walk = subst (λ (n : ℕ). IsColumnWalk parts put.new.self.walk n) (sym place) put.ensures.walk;
       marks = c.seek-last.ensures.at;
       ahead = omega (arith, behind, place);
       course = put.ensures.course;
@@ -121,7 +121,7 @@ loop-course-preserved g c =
           let saying = c.new-saying.ensures in
           let standing = standing_of unit last.mark in
           let passes =
-          subst (λ (istd : ℕ). Passes g.K.Sink
+          subst (λ (istd : ℕ). PutsItems g.K.Sink
           (record {
             out = old.out;
             page = old.page;

@@ -1,8 +1,8 @@
 use Rattle.std.proofs.Common.{◌≤◌, ◌-◌, length, take, drop}
-use Rattle.run_lists.specs.Places.{IsAt}
-use Rattle.plain_doc.specs.Settings.{is_inside}
-use Rattle.plain_doc.specs.Stretches.{stretches}
-use Rattle.doc_columns.specs.Walks.{items_in, IsWalk}
+use Rattle.run_lists.specs.Places.{IsAtRunBegin}
+use Rattle.doc_model.specs.Settings.{is_inside}
+use Rattle.doc_model.specs.Stretches.{stretches}
+use Rattle.doc_columns.specs.Walks.{items_in, IsColumnWalk}
 use Rattle.doc_view.specs.Course.{IsCourse}
 use Rattle.doc_view.specs.Lines.{lead_text}
 use Rattle.doc_view.specs.Page.{AreFormats}
@@ -15,8 +15,8 @@ abbrev pub invariant-loop-course : goal.invariant-loop-course
 invariant-loop-course g l = record {
   within : l.course.place ≤ length l.self.parts.units.now;
   number : l.number ≤ l.course.place;
-  walk : IsWalk l.self.parts l.course.walk l.course.place;
-  marks : IsAt l.self.parts.attachments.now l.marks;
+  walk : IsColumnWalk l.self.parts l.course.walk l.course.place;
+  marks : IsAtRunBegin l.self.parts.attachments.now l.marks;
   ahead : l.marks.begin ≤ l.course.place;
   course : IsCourse l.self.manner (items_in l.self.parts) l.course;
   text : (formats : Formats) → AreFormats l.self.formats.now formats → TextAt g.K.Sink l.fn.out l.fn.page l.out l.page

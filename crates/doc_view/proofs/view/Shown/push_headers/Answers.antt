@@ -1,8 +1,8 @@
 use Rattle.std.proofs.Common.{◌≡◌, List, Some, ap, subst}
 use Rattle.std.specs.Prelude.{slice_get}
 use Rattle.doc_bits.specs.declared.places.Where.TheVariants.{Head}
-use Rattle.plain_doc.specs.declared.document.Document.{Document}
-use Rattle.plain_doc.specs.declared.item.Item.{Item}
+use Rattle.doc_model.specs.declared.document.Document.{Document}
+use Rattle.doc_model.specs.declared.item.Item.{Item}
 use Rattle.doc_view.proofs.PageLemmas.{sound_normal, sound_styles}
 use Rattle.doc_view.proofs.view.Shown.push_headers.Goals as goal
 

@@ -1,7 +1,7 @@
 use Rattle.std.proofs.Common.{◌∙◌, sym, subst, List, ℕ, arith}
 use Rattle.std.proofs.lemmas.Result.{err_from_is_err_and}
 use Rattle.doc_bits.specs.Number.{AreBytes}
-use Rattle.plain_doc.specs.declared.document.Document.{Document}
+use Rattle.doc_model.specs.declared.document.Document.{Document}
 use Rattle.fast_save.specs.Session.{IsSession, IsSessionCounted}
 use Rattle.fast_save.specs.Started.{IsStarted}
 use Rattle.fast_save.proofs.OpenLemmas.{file_whole}

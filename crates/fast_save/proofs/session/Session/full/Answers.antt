@@ -3,9 +3,9 @@ use Rattle.std.proofs.lemmas.Result.{err_from_is_err_and}
 use Rattle.cfb_sectors.specs.Header.{sector_count}
 use Rattle.fib_form.specs.FibFields.{FibFields}
 use Rattle.piece_table.specs.Piece.{TextPiece, one_piece}
-use Rattle.plain_doc.specs.Formed.{IsFormed}
+use Rattle.doc_model.specs.Formed.{IsFormed}
 use Rattle.full_save.specs.Text.{text_items}
-use Rattle.full_save.specs.WordDocument.{full_fib, text_at}
+use Rattle.full_save.specs.WordDocument.{full_fib, text_offset}
 use Rattle.full_save.specs.Layout.{full_save_image, FitsCompoundFile, IsTooLarge}
 use Rattle.fast_save.specs.Laws.{IsSavable, IsHeldInFull}
 use Rattle.fast_save.specs.Ledgers.{AreCountsOf}
@@ -69,7 +69,7 @@ returns-clause-ok c =
     c.in_ok-file.ensures in
     let savable : IsSavable document =
     record { formed = made.1.1; sound = c.self.invariant.0.sound; fits = made.1.0 } in
-    let pieces = one_piece text_at (length (text_items document)) in
+    let pieces = one_piece text_offset (length (text_items document)) in
     let file_is : c.as_slice-2.result.now ≡ full_save_image document = c.as_slice-2.ensures ∙ (both.0 ∙ made.0) in
     let first : AreCountsOf pieces (sector_count c.as_slice-2.result.now) (bin_length parts.fib) counts =
     subst
@@ -83,7 +83,7 @@ returns-clause-ok c =
     subst (λ (f : List ℕ). AreCountsOf pieces (sector_count f) (bin_length (full_fib document)) counts) file_is second
     in
     let same =
-    counts_in_full text_at (length (text_items document)) (sector_count (full_save_image document))
+    counts_in_full text_offset (length (text_items document)) (sector_count (full_save_image document))
     (bin_length (full_fib document)) counts third in
     let quick : parts.fib.quick_saves ≡ 0 =
     ap (λ (f : FibFields). f.quick_saves) fib_is ∙ full_quick_saves document in

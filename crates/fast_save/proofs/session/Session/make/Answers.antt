@@ -1,6 +1,6 @@
 use Rattle.std.proofs.Common.{◌≡◌, ◌∙◌, refl, sym, ap, subst, List, ℕ, arith}
 use Rattle.std.proofs.lemmas.Result.{err_from_is_err_and}
-use Rattle.plain_doc.specs.declared.document.Document.{Document}
+use Rattle.doc_model.specs.declared.document.Document.{Document}
 use Rattle.edit_guards.specs.declared.facts.Facts.{Facts}
 use Rattle.doc_patch.specs.declared.changes.Change.{Change}
 use Rattle.edit_ops.specs.Edits.{changes_of}
@@ -12,7 +12,7 @@ use Rattle.session_text.proofs.Public.{commands_are_steps, pieces_are_few, text_
 use Rattle.fast_save.specs.declared.parts.SessionParts.{SessionParts}
 use Rattle.fast_save.specs.Ledgers.{after_edit}
 use Rattle.fast_save.specs.Session.{SessionView, IsSession, IsSessionCounted, saved_stream}
-use Rattle.fast_save.specs.Edited.{HasRoom, IsPlanned, session_after}
+use Rattle.fast_save.specs.Edited.{HasEditRoom, IsPlannedEdit, session_after}
 use Rattle.fast_save.proofs.EditLemmas.{has_room, session_stays, counted_stays, session_edited}
 use Rattle.fast_save.proofs.CountLemmas.{counted_after}
 use Rattle.fast_save.proofs.AddedBytes.{runs_after, bytes_after}
@@ -24,8 +24,8 @@ pub edit-made-requires-clause-steps : goal.edit-made-requires-clause-steps
 edit-made-requires-clause-steps c =
     let document = c.self.inside.document in
     let command = c.args.command.now in
-    let planned : IsPlanned document command c.args.edit =
-    subst (λ (document : Document). IsPlanned document command c.args.edit)
+    let planned : IsPlannedEdit document command c.args.edit =
+    subst (λ (document : Document). IsPlannedEdit document command c.args.edit)
     (sym (ap (λ (view : SessionView). view.document) c.self.view_is)) c.requires.planned in
     subst (AreEditSteps document) (sym planned.1.0)
     (commands_are_steps document command c.self.invariant.0.sound planned.0)
@@ -38,8 +38,8 @@ edit-made-requires-clause-count c =
 pub edit-made-requires-clause-room : goal.edit-made-requires-clause-room
 edit-made-requires-clause-room c =
     let inside = c.self.inside in
-    let room : HasRoom inside.counts =
-    subst HasRoom (sym (ap (λ (view : SessionView). view.counts) c.self.view_is)) c.requires.room in
+    let room : HasEditRoom inside.counts =
+    subst HasEditRoom (sym (ap (λ (view : SessionView). view.counts) c.self.view_is)) c.requires.room in
     has_room inside.file inside.document inside.parts inside.counts c.self.invariant.0 c.self.invariant.1 room
 
 pub returns-in_err-document-clause-err : goal.returns-in_err-document-clause-err
@@ -71,8 +71,8 @@ invariant_of-self-2 c =
     let new : SessionParts =
     record { text = c.edit-made.new.self; fib = inside.parts.fib; container = inside.parts.container } in
     let is = c.self.invariant.0 in
-    let made : IsPlanned document command c.args.edit =
-    subst (λ (document : Document). IsPlanned document command c.args.edit)
+    let made : IsPlannedEdit document command c.args.edit =
+    subst (λ (document : Document). IsPlannedEdit document command c.args.edit)
     (sym (ap (λ (view : SessionView). view.document) c.self.view_is)) c.requires.planned in
     let changes : c.args.edit.changes ≡ changes_of document command = made.1.0 in
     let both = c.in_ok-document.ensures in
@@ -87,8 +87,8 @@ invariant_of-self-2 c =
     (λ (list : List Change).
     IsSectionsEdit document list inside.parts.text.sections.items c.edit-made.new.self.sections.items)
     changes sections_made in
-    let room : HasRoom inside.counts =
-    subst HasRoom (sym (ap (λ (view : SessionView). view.counts) c.self.view_is)) c.requires.room in
+    let room : HasEditRoom inside.counts =
+    subst HasEditRoom (sym (ap (λ (view : SessionView). view.counts) c.self.view_is)) c.requires.room in
     let units : ℕ = (edit_facts document command).units_in in
     let few = few_units document command made.0 in
     let session : IsSession inside.file c.in_ok-document.document new =
@@ -114,8 +114,8 @@ returns-clause-ok c =
     let inside = c.self.inside in
     let document = inside.document in
     let command = c.args.command.now in
-    let made : IsPlanned document command c.args.edit =
-    subst (λ (document : Document). IsPlanned document command c.args.edit)
+    let made : IsPlannedEdit document command c.args.edit =
+    subst (λ (document : Document). IsPlannedEdit document command c.args.edit)
     (sym (ap (λ (view : SessionView). view.document) c.self.view_is)) c.requires.planned in
     let counts : c.after_edit-self-inside.result
     ≡ after_edit command (edit_facts document command).units_in inside.counts =

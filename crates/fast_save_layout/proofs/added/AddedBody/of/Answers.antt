@@ -6,13 +6,13 @@ use Rattle.fkp_pages.specs.Bin.{IsBinTable, ArePrintableBins, printed_bin}
 use Rattle.fkp_pages.specs.Runs.{AreRuns}
 use Rattle.fkp_pages.specs.Packed.{pages_of}
 use Rattle.fkp_pages.specs.InARow.{numbered_bins}
-use Rattle.plain_doc.specs.declared.item.Item.{Item}
-use Rattle.plain_doc.specs.declared.document.Document.{Document}
-use Rattle.plain_doc.specs.Collected.{sections_of}
+use Rattle.doc_model.specs.declared.item.Item.{Item}
+use Rattle.doc_model.specs.declared.document.Document.{Document}
+use Rattle.doc_model.specs.Collected.{sections_of}
 use Rattle.full_save.specs.Runs.{text_runs}
 use Rattle.full_save.specs.Sections.{HasSavableSection}
 use Rattle.full_save.proofs.Public.{sections_savable, few_items}
-use Rattle.fast_save_layout.specs.Saves.{FastSave, save_of}
+use Rattle.fast_save_layout.specs.Saves.{FastSave, fast_save_of}
 use Rattle.fast_save_layout.specs.KeptBins.{kept_bins}
 use Rattle.fast_save_layout.specs.MarkRuns.{mark_runs, mark_runs_end}
 use Rattle.fast_save_layout.specs.PlannedSections.{planned_sepxes, planned_seds}
@@ -27,27 +27,27 @@ use Rattle.fast_save_layout.proofs.added.AddedBody.of.Goals as goal
 
 pub old_part-table-requires : goal.old_part-table-requires
 old_part-table-requires c =
-    let save : FastSave = save_of c.args.old.now c.args.document.now c.args.text.now in
+    let save : FastSave = fast_save_of c.args.old.now c.args.document.now c.args.text.now in
     let r = ready save c.requires.kept c.requires.formed c.len-len.ensures.formed in
     characters_within r
 
 pub add_characters-requires-clause-old : goal.add_characters-requires-clause-old
 add_characters-requires-clause-old c =
-    let save : FastSave = save_of c.args.old.now c.args.document.now c.args.text.now in
+    let save : FastSave = fast_save_of c.args.old.now c.args.document.now c.args.text.now in
     let r = ready save c.requires.kept c.requires.formed c.len-len.ensures.formed in
     let old = c.old_part-table.ensures ∙ characters_named r in
     subst IsBinTable (sym old) (old_table_is Chpx r)
 
 pub add_characters-requires-clause-runs : goal.add_characters-requires-clause-runs
 add_characters-requires-clause-runs c =
-    let save : FastSave = save_of c.args.old.now c.args.document.now c.args.text.now in
+    let save : FastSave = fast_save_of c.args.old.now c.args.document.now c.args.text.now in
     let r = ready save c.requires.kept c.requires.formed c.len-len.ensures.formed in
     let same : c.args.text.now.added.now ≡ c.args.text.now.added.now = refl in
     subst (λ (xs : List Item). AreRuns Chpx (text_runs Chpx save.base xs)) (sym same) (runs_right Chpx r)
 
 pub add_characters-requires-clause-room : goal.add_characters-requires-clause-room
 add_characters-requires-clause-room c =
-    let save : FastSave = save_of c.args.old.now c.args.document.now c.args.text.now in
+    let save : FastSave = fast_save_of c.args.old.now c.args.document.now c.args.text.now in
     let r = ready save c.requires.kept c.requires.formed c.len-len.ensures.formed in
     let same : c.args.text.now.added.now ≡ c.args.text.now.added.now = refl in
     let first = c.pages_for-first.ensures ∙ ap (λ (n : ℕ). units_for 512 (save.base + 2 * n)) c.len-len.ensures.len in
@@ -56,7 +56,7 @@ add_characters-requires-clause-room c =
 
 pub add_characters-requires-clause-printable : goal.add_characters-requires-clause-printable
 add_characters-requires-clause-printable c =
-    let save : FastSave = save_of c.args.old.now c.args.document.now c.args.text.now in
+    let save : FastSave = fast_save_of c.args.old.now c.args.document.now c.args.text.now in
     let r = ready save c.requires.kept c.requires.formed c.len-len.ensures.formed in
     let same : c.args.text.now.added.now ≡ c.args.text.now.added.now = refl in
     let old = c.old_part-table.ensures ∙ characters_named r in
@@ -67,20 +67,20 @@ add_characters-requires-clause-printable c =
 
 pub old_part-table-requires-2 : goal.old_part-table-requires-2
 old_part-table-requires-2 c =
-    let save : FastSave = save_of c.args.old.now c.args.document.now c.args.text.now in
+    let save : FastSave = fast_save_of c.args.old.now c.args.document.now c.args.text.now in
     let r = ready save c.requires.kept c.requires.formed c.len-len.ensures.formed in
     paragraphs_within r
 
 pub add_paragraphs-requires-clause-old : goal.add_paragraphs-requires-clause-old
 add_paragraphs-requires-clause-old c =
-    let save : FastSave = save_of c.args.old.now c.args.document.now c.args.text.now in
+    let save : FastSave = fast_save_of c.args.old.now c.args.document.now c.args.text.now in
     let r = ready save c.requires.kept c.requires.formed c.len-len.ensures.formed in
     let old = c.old_part-table-2.ensures ∙ paragraphs_named r in
     subst IsBinTable (sym old) (old_table_is Papx r)
 
 pub add_paragraphs-requires-clause-runs : goal.add_paragraphs-requires-clause-runs
 add_paragraphs-requires-clause-runs c =
-    let save : FastSave = save_of c.args.old.now c.args.document.now c.args.text.now in
+    let save : FastSave = fast_save_of c.args.old.now c.args.document.now c.args.text.now in
     let r = ready save c.requires.kept c.requires.formed c.len-len.ensures.formed in
     let same : c.args.text.now.added.now ≡ c.args.text.now.added.now = refl in
     let old = c.old_part-table-2.ensures ∙ paragraphs_named r in
@@ -89,7 +89,7 @@ add_paragraphs-requires-clause-runs c =
 
 pub add_paragraphs-requires-clause-room : goal.add_paragraphs-requires-clause-room
 add_paragraphs-requires-clause-room c =
-    let save : FastSave = save_of c.args.old.now c.args.document.now c.args.text.now in
+    let save : FastSave = fast_save_of c.args.old.now c.args.document.now c.args.text.now in
     let r = ready save c.requires.kept c.requires.formed c.len-len.ensures.formed in
     let same : c.args.text.now.added.now ≡ c.args.text.now.added.now = refl in
     let first = c.pages_for-first.ensures ∙ ap (λ (n : ℕ). units_for 512 (save.base + 2 * n)) c.len-len.ensures.len in
@@ -101,7 +101,7 @@ add_paragraphs-requires-clause-room c =
 
 pub add_paragraphs-requires-clause-printable : goal.add_paragraphs-requires-clause-printable
 add_paragraphs-requires-clause-printable c =
-    let save : FastSave = save_of c.args.old.now c.args.document.now c.args.text.now in
+    let save : FastSave = fast_save_of c.args.old.now c.args.document.now c.args.text.now in
     let r = ready save c.requires.kept c.requires.formed c.len-len.ensures.formed in
     let same : c.args.text.now.added.now ≡ c.args.text.now.added.now = refl in
     let old = c.old_part-table-2.ensures ∙ paragraphs_named r in
@@ -114,14 +114,14 @@ add_paragraphs-requires-clause-printable c =
 
 pub append_sections-requires-clause-sections : goal.append_sections-requires-clause-sections
 append_sections-requires-clause-sections c =
-    let save : FastSave = save_of c.args.old.now c.args.document.now c.args.text.now in
+    let save : FastSave = fast_save_of c.args.old.now c.args.document.now c.args.text.now in
     let r = ready save c.requires.kept c.requires.formed c.len-len.ensures.formed in
     subst (λ (d : Document). All HasSavableSection d.main) (sym c.document.view_is)
     (sections_savable save.document r.formed (is_valid r))
 
 pub append_sections-requires-clause-few : goal.append_sections-requires-clause-few
 append_sections-requires-clause-few c =
-    let save : FastSave = save_of c.args.old.now c.args.document.now c.args.text.now in
+    let save : FastSave = fast_save_of c.args.old.now c.args.document.now c.args.text.now in
     let r = ready save c.requires.kept c.requires.formed c.len-len.ensures.formed in
     let few = few_items save.document (is_valid r) in
     let stories = few.stories in
@@ -130,7 +130,7 @@ append_sections-requires-clause-few c =
 
 pub append_sections-requires-clause-room : goal.append_sections-requires-clause-room
 append_sections-requires-clause-room c =
-    let save : FastSave = save_of c.args.old.now c.args.document.now c.args.text.now in
+    let save : FastSave = fast_save_of c.args.old.now c.args.document.now c.args.text.now in
     let r = ready save c.requires.kept c.requires.formed c.len-len.ensures.formed in
     let same : c.args.text.now.added.now ≡ c.args.text.now.added.now = refl in
     let old = c.old_part-table-2.ensures ∙ paragraphs_named r in
@@ -143,7 +143,7 @@ append_sections-requires-clause-room c =
 
 pub counts_of-requires-clause-main : goal.counts_of-requires-clause-main
 counts_of-requires-clause-main c =
-    let save : FastSave = save_of c.args.old.now c.args.document.now c.args.text.now in
+    let save : FastSave = fast_save_of c.args.old.now c.args.document.now c.args.text.now in
     let r = ready save c.requires.kept c.requires.formed c.len-len.ensures.formed in
     let few = few_items save.document (is_valid r) in
     let n = few.stories in
@@ -151,7 +151,7 @@ counts_of-requires-clause-main c =
 
 pub counts_of-requires-clause-notes : goal.counts_of-requires-clause-notes
 counts_of-requires-clause-notes c =
-    let save : FastSave = save_of c.args.old.now c.args.document.now c.args.text.now in
+    let save : FastSave = fast_save_of c.args.old.now c.args.document.now c.args.text.now in
     let r = ready save c.requires.kept c.requires.formed c.len-len.ensures.formed in
     let few = few_items save.document (is_valid r) in
     let n = few.notes in
@@ -159,7 +159,7 @@ counts_of-requires-clause-notes c =
 
 pub counts_of-requires-clause-heads : goal.counts_of-requires-clause-heads
 counts_of-requires-clause-heads c =
-    let save : FastSave = save_of c.args.old.now c.args.document.now c.args.text.now in
+    let save : FastSave = fast_save_of c.args.old.now c.args.document.now c.args.text.now in
     let r = ready save c.requires.kept c.requires.formed c.len-len.ensures.formed in
     let few = few_items save.document (is_valid r) in
     let n = few.heads in
@@ -167,14 +167,14 @@ counts_of-requires-clause-heads c =
 
 pub print_clx-requires : goal.print_clx-requires
 print_clx-requires c =
-    let save : FastSave = save_of c.args.old.now c.args.document.now c.args.text.now in
+    let save : FastSave = fast_save_of c.args.old.now c.args.document.now c.args.text.now in
     let r = ready save c.requires.kept c.requires.formed c.len-len.ensures.formed in
     printable r
 
 pub returns : goal.returns
 unfolding fast_bin_table
 returns c =
-    let save : FastSave = save_of c.args.old.now c.args.document.now c.args.text.now in
+    let save : FastSave = fast_save_of c.args.old.now c.args.document.now c.args.text.now in
     let r = ready save c.requires.kept c.requires.formed c.len-len.ensures.formed in
     let same : c.args.text.now.added.now ≡ c.args.text.now.added.now = refl in
     let first = c.pages_for-first.ensures ∙ ap (λ (n : ℕ). units_for 512 (save.base + 2 * n)) c.len-len.ensures.len in

@@ -1,6 +1,6 @@
 use Rattle.std.proofs.Common.{Option, sym, subst}
-use Rattle.plain_doc.specs.declared.item.Item.{Item}
-use Rattle.plain_doc.specs.declared.item.Mark.{Mark}
+use Rattle.doc_model.specs.declared.item.Item.{Item}
+use Rattle.doc_model.specs.declared.item.Mark.{Mark}
 use Rattle.full_save.specs.Alike.{HaveAlike}
 use Rattle.fast_save_layout.specs.RunsSoFar.{MarksGoOn}
 use Rattle.fast_save_layout.proofs.MarkRunSteps.{marks_more}

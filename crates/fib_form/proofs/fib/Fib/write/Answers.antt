@@ -4,7 +4,7 @@ use Rattle.doc_bits.specs.Rules.{Hold}
 use Rattle.fib_form.specs.Fib.{form_size}
 use Rattle.fib_form.specs.FibFields.{fib_fields, IsFib}
 use Rattle.fib_form.specs.FibRules.{fib_rules}
-use Rattle.fib_form.specs.FibBytes.{written_fields, pair_bytes, spelled, zeros}
+use Rattle.fib_form.specs.FibBytes.{written_fields, fc_lcb_bytes, spelled, zeros}
 use Rattle.fib_form.proofs.FibLemmas.{read_back}
 use Rattle.fib_form.proofs.PairLemmas.{length-flat_map-pair_bytes}
 use Rattle.fib_form.proofs.WriteLemmas.{filled_zeros, clear_before, fields_put, clear_after, clear_tail, pairs_left}
@@ -50,12 +50,12 @@ write_tail-requires-clause-clear c =
     let left = pairs_left fib size c.self.inside.pairs c.fill.new.self (drop size old) c.write_fields.new.out last
     (omega arith) filled same c.write_fields.ensures c.write.ensures in
     let is : IsFib fib = subst (λ f. IsFib f) c.self.view_is c.self.invariant in
-    let size_pairs : length (flat_map pair_bytes fib.pairs) ≡ 744 = omega (
+    let size_pairs : length (flat_map fc_lcb_bytes fib.pairs) ≡ 744 = omega (
       arith,
       length-flat_map-pair_bytes fib.pairs,
       is.pairs.count,
     ) in
-    let clear = clear_tail (spelled 0 (written_fields fib)) (flat_map pair_bytes fib.pairs) (drop size old) last size
+    let clear = clear_tail (spelled 0 (written_fields fib)) (flat_map fc_lcb_bytes fib.pairs) (drop size old) last size
     (omega arith) (length-fields fib) size_pairs left in
     subst (λ n. drop 898 last ≡ zeros (n - 898) ++ drop n last) size_is clear.1
 

@@ -2,7 +2,7 @@
 use Rattle.std.proofs.Common.{◌≡◌, length, ◌++◌, take, drop, ◌+◌, ◌*◌, sym, subst, arith, length-take}
 use Rattle.std.proofs.lemmas.List.{take-append-drop}
 use Rattle.doc_bits.specs.Number.{number_bytes}
-use Rattle.fib_form.specs.FibFields.{pair_at}
+use Rattle.fib_form.specs.FibFields.{listed_pair}
 use Rattle.fib_form.proofs.PairLemmas.{pairs_more, pairs_all}
 use Rattle.fib_form.proofs.pairs.Pairs.write.Goals as goal
 
@@ -17,12 +17,14 @@ loop-n-preserved c =
     let next = c.put32.new.bytes in
     let last = c.put32-in-loop-n.new.bytes in
     let count : length pairs ≡ 93 = subst (λ ps. length ps ≡ 93) c.self.view_is c.self.invariant.0 in
-    let fc : next ≡ take (154 + 8 * n) out ++ (number_bytes 4 (pair_at pairs n).0 ++ drop (154 + 8 * n + 4) out) =
-    subst (λ ps. next ≡ take (154 + 8 * n) out ++ (number_bytes 4 (pair_at ps n).0 ++ drop (154 + 8 * n + 4) out))
+    let fc : next ≡ take (154 + 8 * n) out ++ (number_bytes 4 (listed_pair pairs n).0 ++ drop (154 + 8 * n + 4) out) =
+    subst (λ ps. next ≡ take (154 + 8 * n) out ++ (number_bytes 4 (listed_pair ps n).0 ++ drop (154 + 8 * n + 4) out))
     c.self.view_is c.put32.ensures in
-    let lcb : last ≡ take (154 + 8 * n + 4) next ++ (number_bytes 4 (pair_at pairs n).1 ++ drop (154 + 8 * n + 4 + 4)
+    let lcb : last ≡ take (154 + 8 * n + 4) next ++ (number_bytes 4 (listed_pair pairs n).1 ++ drop (154 + 8 * n + 4 +
+    4)
     next) =
-    subst (λ ps. last ≡ take (154 + 8 * n + 4) next ++ (number_bytes 4 (pair_at ps n).1 ++ drop (154 + 8 * n + 4 + 4)
+    subst (λ ps. last ≡ take (154 + 8 * n + 4) next ++ (number_bytes 4 (listed_pair ps n).1 ++ drop (154 + 8 * n + 4 +
+    4)
     next)) c.self.view_is c.put32-in-loop-n.ensures in
     let size : length (take 154 c.args.out.now) ≡ 154 = let long = c.requires.size in
     omega (arith, length-take 154 c.args.out.now) in

@@ -1,5 +1,5 @@
 use Rattle.std.proofs.Common.{◌≡◌, ◌+◌, ◌-◌, ◌<◌, length, take, None, Some, ap, ◌∙◌, subst, arith, get_or, set}
-use Rattle.field_links.specs.OpenFields.{separated}
+use Rattle.field_links.specs.OpenFields.{result_begun}
 use Rattle.field_links.specs.declared.places.OpenField.{OpenField}
 use Rattle.field_links.proofs.OpenLemmas.{separated-set}
 use Rattle.field_links.proofs.places.OpenFieldPlaces.separate.Goals as goal
@@ -18,6 +18,6 @@ returns-then-self-gt0 c =
     } in
     let within : at < length fields = omega (arith, c.self.invariant.0, c.self.invariant.1) in
     let count : at + 1 ≡ c.self.inside.len = omega arith in
-    subst (λ n. take n (set fields at made) ≡ separated c.args.place (take n fields)) count
+    subst (λ n. take n (set fields at made) ≡ result_begun c.args.place (take n fields)) count
     (separated-set fields at none c.args.place within)
-    ∙ ap (separated c.args.place) c.self.view_is
+    ∙ ap (result_begun c.args.place) c.self.view_is

@@ -1,6 +1,6 @@
 use Rattle.std.proofs.Common.{[], ◌∷◌, ◌++◌, ap, refl, sym, subst, take, ◌∙◌, arith}
 use Rattle.prop_map.specs.Settings.{Properties}
-use Rattle.plain_doc.specs.declared.item.Item.{Item}
+use Rattle.doc_model.specs.declared.item.Item.{Item}
 use Rattle.full_save.specs.Alike.{HaveAlike}
 use Rattle.full_save.proofs.ColumnRuns.{next_place, characters_more, characters_begin, characters_changed}
 use Rattle.full_save.proofs.runs.CharacterRuns.push_run.Goals as goal

@@ -1,7 +1,7 @@
 use Rattle.std.proofs.Common.{◌≡◌, ap, sym, ◌∙◌, Some, arith}
 use Rattle.std.specs.Prelude.{slice_get}
 use Rattle.std.proofs.lemmas.Option.{slice_get-get_or}
-use Rattle.plain_doc.specs.declared.item.Item.{Item}
+use Rattle.doc_model.specs.declared.item.Item.{Item}
 use Rattle.full_save.specs.RunsSoFar.{AreCharactersSoFar}
 use Rattle.full_save.proofs.ColumnRuns.{walk_begins, walk_next, walk_ends, run_fits}
 use Rattle.full_save.proofs.runs.CharacterRuns.push_runs.Goals as goal

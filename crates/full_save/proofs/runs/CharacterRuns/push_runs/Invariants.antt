@@ -1,4 +1,4 @@
-use Rattle.plain_doc.specs.declared.item.Item.{Item}
+use Rattle.doc_model.specs.declared.item.Item.{Item}
 use Rattle.full_save.specs.RunsSoFar.{AreCharactersSoFar}
 use Rattle.full_save.proofs.ColumnRuns.{IsWalked}
 use Rattle.full_save.proofs.runs.CharacterRuns.push_runs.Given as goal

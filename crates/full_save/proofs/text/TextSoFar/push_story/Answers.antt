@@ -1,7 +1,7 @@
 use Rattle.std.proofs.Common.{◌≡◌, ◌++◌, ℕ, Bool, length, ap, sym, ◌∙◌, arith}
 use Rattle.std.specs.Prelude.{nat_lt}
 use Rattle.std.proofs.lemmas.List.{length-append}
-use Rattle.plain_doc.specs.Collected.{joined_texts}
+use Rattle.doc_model.specs.Collected.{joined_texts}
 use Rattle.full_save.specs.Text.{mark_if, with_mark}
 use Rattle.full_save.proofs.TextLemmas.{goes_on_both, goes_on_by, with_mark_is, came_behind}
 use Rattle.full_save.proofs.text.TextSoFar.push_story.Goals as goal

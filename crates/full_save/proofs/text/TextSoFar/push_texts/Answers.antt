@@ -1,11 +1,11 @@
 use Rattle.std.proofs.Common.{◌≡◌, ◌<◌, ◌+◌, ◌++◌, List, [], length, take, get_or, ap, sym, ◌∙◌, arith}
 use Rattle.std.proofs.lemmas.List.{length-append}
 use Rattle.std.proofs.lemmas.Option.{get_or_from_slice_get}
-use Rattle.plain_doc.specs.declared.item.Item.{Item}
-use Rattle.plain_doc.specs.Collected.{joined_texts}
+use Rattle.doc_model.specs.declared.item.Item.{Item}
+use Rattle.doc_model.specs.Collected.{joined_texts}
 use Rattle.full_save.proofs.TextLemmas.{goes_on_both, goes_on_by, joined_next}
 use Rattle.full_save.proofs.text.TextSoFar.push_texts.Goals as goal
-use Rattle.plain_doc.proofs.Public.{first_joined}
+use Rattle.doc_model.proofs.Public.{first_joined}
 
 pub push_text-requires : goal.push_text-requires
 push_text-requires c =

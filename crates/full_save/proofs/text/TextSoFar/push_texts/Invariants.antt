@@ -1,5 +1,5 @@
 use Rattle.std.proofs.Common.{◌≡◌, ◌+◌, length, take}
-use Rattle.plain_doc.specs.Collected.{joined_texts}
+use Rattle.doc_model.specs.Collected.{joined_texts}
 use Rattle.full_save.specs.RunsSoFar.{GoesOnBy}
 use Rattle.full_save.proofs.text.TextSoFar.push_texts.Given as goal
 

@@ -1,4 +1,4 @@
-use Rattle.plain_doc.specs.declared.document.Document.{Document}
+use Rattle.doc_model.specs.declared.document.Document.{Document}
 use Rattle.std.proofs.Common.{◌≡◌, ◌≤◌, ◌<◌, ◌+◌, ◌*◌, ◌^◌, ◌++◌, ℕ, List, length, ap, sym, subst, ◌∙◌, arith}
 use Rattle.std.specs.Prelude.{All}
 use Rattle.fkp_pages.specs.declared.kind.PageKind.TheVariants.{Chpx, Papx}
@@ -8,11 +8,11 @@ use Rattle.fkp_pages.specs.Bin.{ArePrintableBins, printed_bin}
 use Rattle.fkp_pages.specs.Runs.{AreRuns}
 use Rattle.fkp_pages.specs.Packed.{pages_of}
 use Rattle.fkp_pages.specs.InARow.{numbered_bins}
-use Rattle.cfb_layout.specs.Sectors.{units_for, padded}
-use Rattle.plain_doc.specs.Collected.{sections_of}
+use Rattle.cfb_layout.specs.Sectors.{units_for, padded_to_unit}
+use Rattle.doc_model.specs.Collected.{sections_of}
 use Rattle.full_save.specs.Text.{text_items}
 use Rattle.full_save.specs.Sections.{sepxes, seds_from, HasSavableSection}
-use Rattle.full_save.specs.WordDocument.{text_at, text_bytes, document_pages, one_piece_clx}
+use Rattle.full_save.specs.WordDocument.{text_offset, text_bytes, document_pages, one_piece_clx}
 use Rattle.full_save.specs.WordDocument.{first_character_page, first_paragraph_page, pages_end}
 use Rattle.full_save.proofs.StreamLengths.{few_runs, few_pages}
 use Rattle.full_save.proofs.TextLaidOut.{few_items, runs_are}
@@ -82,7 +82,7 @@ append_chpx_pages-requires-clause-room c =
     let units = length-units d c.args.text.now text in
     let len : c.args.text.now.len ≡ length (text_items d) = units in
     let first = c.pages_for-first.ensures in
-    let runs = few_runs Chpx text_at (text_items d) in
+    let runs = few_runs Chpx text_offset (text_items d) in
     let characters = ap length text.characters in
     omega arith
 
@@ -96,12 +96,12 @@ append_papx_pages-requires-clause-room c =
     let units = length-units d c.args.text.now text in
     let len : c.args.text.now.len ≡ length (text_items d) = units in
     let first = c.pages_for-first.ensures in
-    let runs = few_runs Chpx text_at (text_items d) in
+    let runs = few_runs Chpx text_offset (text_items d) in
     let characters = ap length text.characters in
     let second = c.in_ok-second.ensures.next in
     let pages = few_pages Chpx d formed right in
     let starts = ap (λ (runs : List Run). length (pages_of Chpx runs).starts) text.characters in
-    let later = few_runs Papx text_at (text_items d) in
+    let later = few_runs Papx text_offset (text_items d) in
     let paragraphs = ap length text.paragraphs in
     omega arith
 
@@ -121,16 +121,17 @@ append_sepxes-requires-clause-room c =
     let few = few_items d right in
     let units = length-units d c.args.text.now text in
     let len : c.args.text.now.len ≡ length (text_items d) = units in
-    let one : c.append_document.new.out ≡ padded 512 0 (text_bytes d) =
-    c.in_ok-append_document.ensures ∙ ap (λ (xs : List ℕ). xs ++ padded 512 0 (text_bytes d)) c.new-bytes.ensures in
-    let two : c.append_chpx_pages.new.out ≡ padded 512 0 (text_bytes d) ++ (document_pages Chpx d).bytes =
+    let one : c.append_document.new.out ≡ padded_to_unit 512 0 (text_bytes d) =
+    c.in_ok-append_document.ensures ∙ ap (λ (xs : List ℕ). xs ++ padded_to_unit 512 0 (text_bytes d))
+    c.new-bytes.ensures in
+    let two : c.append_chpx_pages.new.out ≡ padded_to_unit 512 0 (text_bytes d) ++ (document_pages Chpx d).bytes =
     c.in_ok-second.ensures.bytes
     ∙ (ap (λ (xs : List ℕ). xs ++ (pages_of Chpx c.args.text.now.characters).bytes) one
-    ∙ ap (λ (runs : List Run). padded 512 0 (text_bytes d) ++ (pages_of Chpx runs).bytes) text.characters) in
+    ∙ ap (λ (runs : List Run). padded_to_unit 512 0 (text_bytes d) ++ (pages_of Chpx runs).bytes) text.characters) in
     let three : c.append_papx_pages.new.out ≡ text_and_pages d =
     c.in_ok-append_papx_pages.ensures.bytes
     ∙ (ap (λ (xs : List ℕ). xs ++ (pages_of Papx c.args.text.now.paragraphs).bytes) two
-    ∙ ap (λ (runs : List Run). (padded 512 0 (text_bytes d) ++ (document_pages Chpx d).bytes) ++ (pages_of Papx
+    ∙ ap (λ (runs : List Run). (padded_to_unit 512 0 (text_bytes d) ++ (document_pages Chpx d).bytes) ++ (pages_of Papx
     runs).bytes) text.paragraphs) in
     let short = pages_short d formed right in
     let size = ap length three in
@@ -146,7 +147,7 @@ table_text-requires-clause-characters c =
     let units = length-units d c.args.text.now text in
     let len : c.args.text.now.len ≡ length (text_items d) = units in
     let number : c.pages_for-first.result ≡ first_character_page d =
-    c.pages_for-first.ensures ∙ ap (λ (n : ℕ). units_for 512 (text_at + 2 * n)) len in
+    c.pages_for-first.ensures ∙ ap (λ (n : ℕ). units_for 512 (text_offset + 2 * n)) len in
     let starts = ap (λ (runs : List Run). (pages_of Chpx runs).starts) text.characters in
     let character_bins : c.append_chpx_pages.new.bins ≡ numbered_bins (first_character_page d) (document_pages Chpx
     d).starts =
@@ -154,7 +155,8 @@ table_text-requires-clause-characters c =
     ∙ (ap (λ (xs : List Bin). xs ++ numbered_bins c.pages_for-first.result (pages_of Chpx
     c.args.text.now.characters).starts) c.new-characters.ensures
     ∙ (λ i. numbered_bins (number i) (starts i))) in
-    let end : 1024 + 2 * c.args.text.now.len ≡ text_at + 2 * length (text_items d) = ap (λ (n : ℕ). text_at + 2 * n)
+    let end : 1024 + 2 * c.args.text.now.len ≡ text_offset + 2 * length (text_items d) = ap (λ (n : ℕ). text_offset + 2
+    * n)
     len in
     let pages = few_pages Chpx d formed right in
     let small : first_character_page d + length (document_pages Chpx d).starts ≤ 2 ^ 22 = omega arith in
@@ -173,7 +175,7 @@ table_text-requires-clause-paragraphs c =
     let units = length-units d c.args.text.now text in
     let len : c.args.text.now.len ≡ length (text_items d) = units in
     let number : c.pages_for-first.result ≡ first_character_page d =
-    c.pages_for-first.ensures ∙ ap (λ (n : ℕ). units_for 512 (text_at + 2 * n)) len in
+    c.pages_for-first.ensures ∙ ap (λ (n : ℕ). units_for 512 (text_offset + 2 * n)) len in
     let starts = ap (λ (runs : List Run). (pages_of Chpx runs).starts) text.characters in
     let character_bins : c.append_chpx_pages.new.bins ≡ numbered_bins (first_character_page d) (document_pages Chpx
     d).starts =
@@ -181,7 +183,8 @@ table_text-requires-clause-paragraphs c =
     ∙ (ap (λ (xs : List Bin). xs ++ numbered_bins c.pages_for-first.result (pages_of Chpx
     c.args.text.now.characters).starts) c.new-characters.ensures
     ∙ (λ i. numbered_bins (number i) (starts i))) in
-    let end : 1024 + 2 * c.args.text.now.len ≡ text_at + 2 * length (text_items d) = ap (λ (n : ℕ). text_at + 2 * n)
+    let end : 1024 + 2 * c.args.text.now.len ≡ text_offset + 2 * length (text_items d) = ap (λ (n : ℕ). text_offset + 2
+    * n)
     len in
     let pages = few_pages Chpx d formed right in
     let next : c.in_ok-second.second ≡ first_paragraph_page d =
@@ -209,19 +212,20 @@ returns c =
     let few = few_items d right in
     let units = length-units d c.args.text.now text in
     let len : c.args.text.now.len ≡ length (text_items d) = units in
-    let one : c.append_document.new.out ≡ padded 512 0 (text_bytes d) =
-    c.in_ok-append_document.ensures ∙ ap (λ (xs : List ℕ). xs ++ padded 512 0 (text_bytes d)) c.new-bytes.ensures in
-    let two : c.append_chpx_pages.new.out ≡ padded 512 0 (text_bytes d) ++ (document_pages Chpx d).bytes =
+    let one : c.append_document.new.out ≡ padded_to_unit 512 0 (text_bytes d) =
+    c.in_ok-append_document.ensures ∙ ap (λ (xs : List ℕ). xs ++ padded_to_unit 512 0 (text_bytes d))
+    c.new-bytes.ensures in
+    let two : c.append_chpx_pages.new.out ≡ padded_to_unit 512 0 (text_bytes d) ++ (document_pages Chpx d).bytes =
     c.in_ok-second.ensures.bytes
     ∙ (ap (λ (xs : List ℕ). xs ++ (pages_of Chpx c.args.text.now.characters).bytes) one
-    ∙ ap (λ (runs : List Run). padded 512 0 (text_bytes d) ++ (pages_of Chpx runs).bytes) text.characters) in
+    ∙ ap (λ (runs : List Run). padded_to_unit 512 0 (text_bytes d) ++ (pages_of Chpx runs).bytes) text.characters) in
     let three : c.append_papx_pages.new.out ≡ text_and_pages d =
     c.in_ok-append_papx_pages.ensures.bytes
     ∙ (ap (λ (xs : List ℕ). xs ++ (pages_of Papx c.args.text.now.paragraphs).bytes) two
-    ∙ ap (λ (runs : List Run). (padded 512 0 (text_bytes d) ++ (document_pages Chpx d).bytes) ++ (pages_of Papx
+    ∙ ap (λ (runs : List Run). (padded_to_unit 512 0 (text_bytes d) ++ (document_pages Chpx d).bytes) ++ (pages_of Papx
     runs).bytes) text.paragraphs) in
     let number : c.pages_for-first.result ≡ first_character_page d =
-    c.pages_for-first.ensures ∙ ap (λ (n : ℕ). units_for 512 (text_at + 2 * n)) len in
+    c.pages_for-first.ensures ∙ ap (λ (n : ℕ). units_for 512 (text_offset + 2 * n)) len in
     let starts = ap (λ (runs : List Run). (pages_of Chpx runs).starts) text.characters in
     let character_bins : c.append_chpx_pages.new.bins ≡ numbered_bins (first_character_page d) (document_pages Chpx
     d).starts =
@@ -229,7 +233,8 @@ returns c =
     ∙ (ap (λ (xs : List Bin). xs ++ numbered_bins c.pages_for-first.result (pages_of Chpx
     c.args.text.now.characters).starts) c.new-characters.ensures
     ∙ (λ i. numbered_bins (number i) (starts i))) in
-    let end : 1024 + 2 * c.args.text.now.len ≡ text_at + 2 * length (text_items d) = ap (λ (n : ℕ). text_at + 2 * n)
+    let end : 1024 + 2 * c.args.text.now.len ≡ text_offset + 2 * length (text_items d) = ap (λ (n : ℕ). text_offset + 2
+    * n)
     len in
     let pages = few_pages Chpx d formed right in
     let next : c.in_ok-second.second ≡ first_paragraph_page d =
@@ -247,8 +252,8 @@ returns c =
     ∙ pages_end_is d formed right in
     let seds = c.in_ok-seds.ensures.seds ∙ (λ i. seds_from 0 (place i) (sections i)) in
     let positive : 0 < length (text_items d) = omega arith in
-    let last_character = end ∙ sym (last_fc-text_runs Chpx text_at (text_items d) positive) in
-    let last_paragraph = end ∙ sym (last_fc-text_runs Papx text_at (text_items d) positive) in
+    let last_character = end ∙ sym (last_fc-text_runs Chpx text_offset (text_items d) positive) in
+    let last_paragraph = end ∙ sym (last_fc-text_runs Papx text_offset (text_items d) positive) in
     record {
       bytes =
           c.in_ok-seds.ensures.bytes ∙ ((λ i. three i ++ sepxes (sections i)) ∙ body_is d);

@@ -4,7 +4,7 @@ use Rattle.view_places.specs.Same.{same}
 use Rattle.view_places.specs.declared.element.Element.{Element}
 use Rattle.html_page.specs.Pages.{Events}
 use Rattle.html_page.specs.Printed.{PutsEvents}
-use Rattle.html_page.specs.Sources.{source_of}
+use Rattle.html_page.specs.Sources.{page_source_of}
 use Rattle.html_page.specs.Pages.{back_tokens, characters, close_tokens, front_tokens, glyph_tokens, half_of}
 use Rattle.html_page.specs.Pages.{open_tokens}
 use Rattle.html_page.specs.Pages.{other_tokens, style_tokens, tokens_of}
@@ -33,7 +33,8 @@ returns g c =
     c.put_half.new.self.page (printed (characters (half_text h)))) went.half c.put_half.ensures.prints in
     tokens_then g.K.Sink c.args.out.now c.go.new.out c.push_back.new.out old.page c.go.new.self.page
     c.push_back.new.page
-    (tokens_of (source_of old.source) old.half closed) (characters (half_text half) ++ back_tokens) went.prints (tokens_then g.K.Sink
+    (tokens_of (page_source_of old.source) old.half closed) (characters (half_text half) ++ back_tokens) went.prints
+    (tokens_then g.K.Sink
     c.go.new.out
     c.put_half.new.out c.push_back.new.out c.go.new.self.page c.put_half.new.self.page c.push_back.new.page
     (characters (half_text

@@ -1,9 +1,9 @@
 use Rattle.std.proofs.Common.{◌≡◌, [], ap, ◌∙◌}
 use Rattle.view_paths.specs.Events.{Close}
-use Rattle.plain_doc.specs.declared.document.Document.{Document}
+use Rattle.doc_model.specs.declared.document.Document.{Document}
 use Rattle.markdown_page.specs.declared.context.Context.{Context}
 use Rattle.markdown_page.specs.Contexts.{closed}
-use Rattle.markdown_page.specs.Destinations.{address_at, end_tokens}
+use Rattle.markdown_page.specs.Destinations.{address_at, link_end_tokens}
 use Rattle.markdown_page.specs.Pages.{tokens_behind, turn_pieces}
 use Rattle.markdown_page.specs.Printed.{state_in}
 use Rattle.markdown_page.proofs.PutLemmas.{behind_put, turn_put}
@@ -16,7 +16,7 @@ returns-clause-puts g c =
     let pieces = c.put_pieces in
     turn_put g.K.Sink c.args.out.now pieces.new.out c.put_link_end.new.out old pieces.new.self c.put_link_end.new.self.pen
     (tokens_behind (state_in old) (turn_pieces (Close [] c.args.element))) half.new.self.document.now
-    (λ (document : Document). end_tokens (address_at document c.args.element))
+    (λ (document : Document). link_end_tokens (address_at document c.args.element))
     (behind_put g.K.Sink c.args.out.now half.new.out pieces.new.out old half.new.self pieces.new.self
     (turn_pieces (Close [] c.args.element)) c.closing-pieces.result half.ensures.puts half.ensures.context
     c.closing-pieces.ensures pieces.ensures) half.ensures.document c.put_link_end.ensures.puts

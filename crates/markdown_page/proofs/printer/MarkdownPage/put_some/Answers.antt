@@ -4,7 +4,7 @@ use Rattle.std.specs.Prelude.{slice_index, slice_range}
 use Rattle.glyph_units.specs.Glyphs.{unit_places}
 use Rattle.markdown_page.specs.Printed.{PutsPlaces}
 use Rattle.markdown_page.proofs.RunLemmas.{range_next, range_plain, some_put}
-use Rattle.markdown_page.specs.Runs.{is_open}
+use Rattle.markdown_page.specs.Runs.{is_open_line}
 use Rattle.std.specs.Prelude.{not}
 use Rattle.markdown_page.specs.Shape.{inner_kind, is_from_note}
 use Rattle.markdown_page.proofs.printer.MarkdownPage.put_some.Goals as goal
@@ -24,7 +24,7 @@ put_plain-requires-clause-characters g c =
 pub put_plain-requires-clause-line : goal.put_plain-requires-clause-line
 put_plain-requires-clause-line g c =
     let page = c.put.new.self in
-    and_first (is_open page.pen.line page.context) (not (is_from_note (inner_kind c.args.to.now)))
+    and_first (is_open_line page.pen.line page.context) (not (is_from_note (inner_kind c.args.to.now)))
     (sym c.if-not-goes_on.ensures)
 
 pub put_plain-requires-clause-plain : goal.put_plain-requires-clause-plain
@@ -43,6 +43,6 @@ returns-clause-puts g c =
     c.args.to.now us)) (sym (range_next units from end c.requires.within c.run_end-end.ensures.ahead))
     (some_put g.K.Sink c.args.out.now c.put.new.out put.new.out c.args.self.now page put.new.self c.args.to.now
     c.args.in_emphasis c.is_white.result units from end c.requires.emphasis
-    (and_second (is_open page.pen.line page.context) (not (is_from_note (inner_kind c.args.to.now))) (sym
+    (and_second (is_open_line page.pen.line page.context) (not (is_from_note (inner_kind c.args.to.now))) (sym
     c.if-not-goes_on.ensures)) c.is_white.ensures c.run_end-end.ensures.within c.run_end-end.ensures.units c.put.ensures
     put.ensures)

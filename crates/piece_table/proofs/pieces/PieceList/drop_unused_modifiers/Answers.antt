@@ -1,7 +1,7 @@
 use Rattle.std.proofs.Common.{◌≡◌, ◌≢◌, ◌∙◌, All, List, map, length, ap, arith, slice_index}
 use Rattle.piece_table.specs.declared.pieces.Entry.{Entry}
 use Rattle.piece_table.specs.Piece.{TextPiece}
-use Rattle.piece_table.specs.Cuts.{renumbered}
+use Rattle.piece_table.specs.Cuts.{renumbered_entry}
 use Rattle.piece_table.specs.Numbering.{text_piece}
 use Rattle.piece_table.specs.Renumbering.{HaveCopied}
 use Rattle.piece_table.proofs.RenumberLemmas.{seen-copied, copied_named, whole_range}
@@ -23,8 +23,8 @@ invariant_of-self c =
     let have : HaveCopied old made numbers = rw c.deref-2.ensures.value at c.in_ok-modifiers.ensures.copied in
     let all : All (λ (entry : Entry). entry.modifier ≢ 0 → slice_index numbers entry.modifier ≢ 0) items =
     rw (c.deref.ensures.value, c.in_ok-entries.ensures) at c.in_ok-modifiers.ensures.all in
-    let new : c.change.new.self.items ≡ map (renumbered numbers) items =
-    c.change.ensures.items ∙ whole_range (renumbered numbers) items
+    let new : c.change.new.self.items ≡ map (renumbered_entry numbers) items =
+    c.change.ensures.items ∙ whole_range (renumbered_entry numbers) items
     c.len.result (omega (arith, c.len.ensures, ap length c.in_ok-entries.ensures)) in
     let seen = seen-copied old made numbers items c.self.invariant.0.first have all in
     rw new (copied_named old made numbers items have, rw seen c.self.invariant.1)
@@ -38,8 +38,8 @@ returns c =
     let have : HaveCopied old made numbers = rw c.deref-2.ensures.value at c.in_ok-modifiers.ensures.copied in
     let all : All (λ (entry : Entry). entry.modifier ≢ 0 → slice_index numbers entry.modifier ≢ 0) items =
     rw (c.deref.ensures.value, c.in_ok-entries.ensures) at c.in_ok-modifiers.ensures.all in
-    let new : c.change.new.self.items ≡ map (renumbered numbers) items =
-    c.change.ensures.items ∙ whole_range (renumbered numbers) items
+    let new : c.change.new.self.items ≡ map (renumbered_entry numbers) items =
+    c.change.ensures.items ∙ whole_range (renumbered_entry numbers) items
     c.len.result (omega (arith, c.len.ensures, ap length c.in_ok-entries.ensures)) in
     let seen = ap (map (text_piece made)) new ∙ seen-copied old made numbers items c.self.invariant.0.first have all in
     let changed = c.change.new.self in

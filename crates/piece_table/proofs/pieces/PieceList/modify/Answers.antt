@@ -7,7 +7,7 @@ use Rattle.piece_table.specs.declared.pieces.Entry.{Entry}
 use Rattle.piece_table.specs.Piece.{TextPiece, flat_pieces, total_length}
 use Rattle.piece_table.specs.Numbering.{text_piece}
 use Rattle.piece_table.specs.Changes.{AreModified}
-use Rattle.piece_table.specs.Cuts.{flat_entries, renumbered}
+use Rattle.piece_table.specs.Cuts.{flat_entries, renumbered_entry}
 use Rattle.piece_table.proofs.BlockLemmas.{are_few}
 use Rattle.piece_table.proofs.CutLemmas.{entries_sound}
 use Rattle.piece_table.proofs.FlatLemmas.{seen-extended, total_length-seen}
@@ -102,7 +102,7 @@ invariant_of-self-2 c =
       (
         is.pieces,
         c.self.invariant.1.1 ∙ (total_length-seen old_modifiers old ∙ (sym total ∙ sym
-            (total_length-seen modifiers (splice cut first last (map (renumbered numbers) (slice_range cut first
+            (total_length-seen modifiers (splice cut first last (map (renumbered_entry numbers) (slice_range cut first
             last)))))),
       ),
     )
@@ -122,7 +122,7 @@ returns-clause-text c =
     let is = renewed_met old_modifiers modifiers c.args.by.now numbers old cut c.in_ok-range.range.items c.args.from
     c.args.to first last c.self.invariant.0 c.self.invariant.1.0 twice c.requires.order c.compose_all.ensures.extends
     c.requires.formed c.in_ok-numbers.ensures.composed c.in_ok-range.ensures all in
-    let made = splice cut first last (map (renumbered numbers) (slice_range cut first last)) in
+    let made = splice cut first last (map (renumbered_entry numbers) (slice_range cut first last)) in
     let seen : c.lighten.new.self.pieces ≡ map (text_piece modifiers) made =
     ap (λ table. table.pieces) c.lighten.ensures ∙ ap (map (text_piece modifiers)) new in
     rw seen (subst (λ table. AreModified c.args.by.now c.args.from c.args.to (flat_pieces table.pieces)

@@ -1,12 +1,12 @@
 use Rattle.std.proofs.Common.{sym, ap, subst, ◌∙◌}
 use Rattle.std.specs.Ordering.{nat_cmp}
 use Rattle.std.specs.FinMap.{entries, entries-from_sorted}
-use Rattle.prop_map.specs.Block.{entries_in, IsBlock}
+use Rattle.prop_map.specs.Block.{entries_in, IsPropertyBlock}
 use Rattle.prop_map.proofs.EntriesLemmas.{of_true}
 use Rattle.prop_map.proofs.block.Block.entries.Goals as goal
 
 pub invariant_of-result : goal.invariant_of-result
-invariant_of-result c = subst IsBlock (sym c.as_slice.ensures) c.self.invariant.sorted_is.block_is
+invariant_of-result c = subst IsPropertyBlock (sym c.as_slice.ensures) c.self.invariant.sorted_is.block_is
 
 pub returns : goal.returns
 returns c =

@@ -2,7 +2,7 @@ use Rattle.std.proofs.Common.{◌≡◌, ◌++◌, IsTrue, ap, subst, sym, ◌�
 use Rattle.std.specs.Prelude.{IfOk}
 use Rattle.std.specs.Ordering.{nat_cmp}
 use Rattle.std.specs.FinMap.{from_sorted, is_sorted}
-use Rattle.prop_map.specs.Block.{IsBlockEntry, entry_bytes}
+use Rattle.prop_map.specs.Block.{IsBlockEntry, block_entry_bytes}
 use Rattle.prop_map.proofs.BlockLemmas.{HasAppended, none_appended, one_appended, all_appended}
 use Rattle.prop_map.proofs.draft.Draft.into_map.Goals as goal
 
@@ -15,7 +15,7 @@ loop-code-preserved c =
     c.in-Some.ensures.steps c.loop-code.invariant in
     one_appended c.into_iter-code-iterator.result c.next.new.self c.in-Some.code c.in-Some.value c.loop-code.bytes
     c.push_entry.new.bytes appended
-    (subst (λ v. c.push_entry.new.bytes ≡ c.loop-code.bytes ++ entry_bytes (c.in-Some.code, v)) c.as_slice.ensures
+    (subst (λ v. c.push_entry.new.bytes ≡ c.loop-code.bytes ++ block_entry_bytes (c.in-Some.code, v)) c.as_slice.ensures
     c.in_ok-push_entry.ensures.bytes)
     (subst (λ v. IsBlockEntry (c.in-Some.code, v)) c.as_slice.ensures c.in_ok-push_entry.ensures.entry)
 

@@ -4,7 +4,7 @@ use Rattle.std.specs.Prelude.{slice_get}
 use Rattle.std.specs.Vec.{vec_len}
 use Rattle.run_lists.specs.declared.runs.Run.{Run}
 use Rattle.run_lists.specs.Spread.{expanded, total_len}
-use Rattle.run_lists.specs.Places.{IsFound}
+use Rattle.run_lists.specs.Places.{IsFoundSpot}
 use Rattle.run_lists.proofs.SpreadLemmas.{extent-nil}
 use Rattle.run_lists.proofs.RunsLemmas.{extent_of, spot_inside, found_value}
 use Rattle.run_lists.proofs.runs.Runs.at.Goals as goal
@@ -22,8 +22,9 @@ index-requires g c =
     let spot = c.find-spot.result in
     let nothing : total_len {T = g.row.T.Denot} [] ≡ 0 = extent-nil g.row.T.Denot in
     let all : total_len runs ≡ length c.args.self.now = extent_of runs c.args.self.now c.self.view_is in
-    let found : IsFound runs 0 c.args.place spot =
-    subst (λ (t : List (Run g.row.T.Denot)). IsFound t 0 c.args.place spot) c.deref.ensures.value c.find-spot.ensures in
+    let found : IsFoundSpot runs 0 c.args.place spot =
+    subst (λ (t : List (Run g.row.T.Denot)). IsFoundSpot t 0 c.args.place spot) c.deref.ensures.value
+    c.find-spot.ensures in
     let len : vec_len c.self.inside.runs ≡ length runs = search rules in
     omega (arith, spot_inside runs 0 c.args.place spot found (omega (arith, c.requires)))
 
@@ -34,8 +35,9 @@ returns g c =
     let read = c.index.result.now in
     let nothing : total_len {T = g.row.T.Denot} [] ≡ 0 = extent-nil g.row.T.Denot in
     let all : total_len runs ≡ length c.args.self.now = extent_of runs c.args.self.now c.self.view_is in
-    let found : IsFound runs 0 c.args.place spot =
-    subst (λ (t : List (Run g.row.T.Denot)). IsFound t 0 c.args.place spot) c.deref.ensures.value c.find-spot.ensures in
+    let found : IsFoundSpot runs 0 c.args.place spot =
+    subst (λ (t : List (Run g.row.T.Denot)). IsFoundSpot t 0 c.args.place spot) c.deref.ensures.value
+    c.find-spot.ensures in
     let place : total_len {T = g.row.T.Denot} [] + c.args.place ≡ c.args.place = omega arith in
     let value : slice_get (expanded runs) c.args.place ≡ Some (get_or runs spot.run read).value =
     subst (λ (n : ℕ). slice_get (expanded runs) n ≡ Some (get_or runs spot.run read).value) place

@@ -3,7 +3,7 @@ use Rattle.std.proofs.Common.{◌∙◌, ◌++◌, List, ℕ, length, ap, arith}
 use Rattle.std.proofs.lemmas.List.{length-map}
 use Rattle.run_lists.proofs.Public.{length-spread}
 use Rattle.prop_map.specs.Settings.{Properties}
-use Rattle.plain_doc.specs.declared.item.Item.{Item}
+use Rattle.doc_model.specs.declared.item.Item.{Item}
 use Rattle.doc_columns.specs.declared.attached.Attached.{Attached}
 use Rattle.doc_columns.specs.Attached.{attached_of}
 use Rattle.doc_columns.proofs.Public.{text_long}

@@ -1,7 +1,7 @@
 use Rattle.std.proofs.Common.{◌∙◌, ◌++◌, ◌+◌, sym, ap, length, take, append_assoc, arith}
 use Rattle.std.proofs.lemmas.List.{length-append}
-use Rattle.plain_doc.specs.Collected.{joined_texts}
-use Rattle.plain_doc.proofs.Public.{text_joined, first_joined}
+use Rattle.doc_model.specs.Collected.{joined_texts}
+use Rattle.doc_model.proofs.Public.{text_joined, first_joined}
 use Rattle.session_text.proofs.gathered.TextBuilder.with_texts.Goals as goal
 
 pub with_text-requires : goal.with_text-requires

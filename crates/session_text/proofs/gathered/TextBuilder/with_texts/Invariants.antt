@@ -1,5 +1,5 @@
 use Rattle.std.proofs.Common.{◌≡◌, ◌++◌, take}
-use Rattle.plain_doc.specs.Collected.{joined_texts}
+use Rattle.doc_model.specs.Collected.{joined_texts}
 use Rattle.session_text.proofs.gathered.TextBuilder.with_texts.Given as goal
 
 -- the texts so far are there

@@ -4,7 +4,7 @@ use Rattle.std.proofs.lemmas.List.{length-append}
 use Rattle.run_lists.specs.Spread.{expanded}
 use Rattle.run_lists.proofs.Public.{length-spread, extent-take}
 use Rattle.session_text.specs.WrittenAgain.{values_for}
-use Rattle.session_text.specs.Picked.{values_in}
+use Rattle.session_text.specs.Picked.{values_of_both}
 use Rattle.session_text.proofs.PickLemmas.{range_of_two}
 use Rattle.session_text.proofs.picked.TwoLists.put.Goals as goal
 
@@ -73,4 +73,4 @@ returns-clause-values g c =
     ∙ (ap (λ (l : List g.row.T.Denot). l ++ back) c.in_ok-put_range.ensures.values
     ∙ (append_assoc out front back
     ∙ (ap (λ (l : List g.row.T.Denot). out ++ l) (sym both)
-    ∙ ap (λ b. out ++ values_for b (slice_range (values_in lists) stretch.from stretch.to)) (sym on))))
+    ∙ ap (λ b. out ++ values_for b (slice_range (values_of_both lists) stretch.from stretch.to)) (sym on))))

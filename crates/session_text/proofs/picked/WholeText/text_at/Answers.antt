@@ -3,8 +3,8 @@ use Rattle.std.specs.List.{All}
 use Rattle.std.proofs.lemmas.List.{length-map, length-append}
 use Rattle.run_lists.specs.Spread.{expanded}
 use Rattle.run_lists.proofs.Public.{length-spread}
-use Rattle.plain_doc.specs.declared.item.Item.{Item}
-use Rattle.plain_doc.specs.Document.{HasPropertyMaps}
+use Rattle.doc_model.specs.declared.item.Item.{Item}
+use Rattle.doc_model.specs.Document.{HasPropertyMaps}
 use Rattle.doc_columns.specs.Attached.{attached_of}
 use Rattle.session_text.proofs.PickLemmas.{picked_columns, picked_maps, renewed_few}
 use Rattle.session_text.proofs.picked.WholeText.text_at.Goals as goal

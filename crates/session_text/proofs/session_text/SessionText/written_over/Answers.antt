@@ -1,9 +1,9 @@
 use Rattle.std.proofs.Common.{◌≡◌, ◌∙◌, ◌++◌, ap, sym, subst, arith, List, Option, ℕ, length, map}
 use Rattle.std.proofs.lemmas.List.{length-map}
 use Rattle.piece_table.specs.Renewals.{renewed_pieces, AreNewPlaces}
-use Rattle.plain_doc.specs.declared.item.Item.{Item}
-use Rattle.plain_doc.specs.declared.document.Document.{Document}
-use Rattle.save_laws.specs.Slots.{whole_text}
+use Rattle.doc_model.specs.declared.item.Item.{Item}
+use Rattle.doc_model.specs.declared.document.Document.{Document}
+use Rattle.save_laws.specs.Slots.{document_slots}
 use Rattle.save_laws.specs.Ends.{ends_of}
 use Rattle.session_text.specs.WrittenAgain.{slot_item, AreWritten, renewed_values}
 use Rattle.session_text.proofs.WritingLemmas.{written_text, whole_short}
@@ -13,7 +13,7 @@ pub renewed_at-requires : goal.renewed_at-requires
 renewed_at-requires c =
     let old = c.args.self.now in
     let document = c.args.document.now in
-    let slots = whole_text document (ends_of old.ends) in
+    let slots = document_slots document (ends_of old.ends) in
     let written = c.in_ok-places.ensures slots (sym c.requires.count)
     (whole_short document (ends_of old.ends) c.requires.sound) in
     let items : c.document.inside.main ++ c.args.behind.now ≡ map slot_item slots =
@@ -31,7 +31,7 @@ pub returns : goal.returns
 returns c =
     let old = c.args.self.now in
     let document = c.args.document.now in
-    let slots = whole_text document (ends_of old.ends) in
+    let slots = document_slots document (ends_of old.ends) in
     let places = c.in_ok-places.places.items in
     let made = c.in_ok-made.made in
     let written = c.in_ok-places.ensures slots (sym c.requires.count)

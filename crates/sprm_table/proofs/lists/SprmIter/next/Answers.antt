@@ -1,7 +1,7 @@
 use Rattle.std.proofs.Common.{List, ℕ, length, drop, take, ◌-◌, ◌+◌, ap, ◌∙◌, ◌≡◌, subst}
 use Rattle.std.proofs.lemmas.List.{take_rest}
 use Rattle.sprm_table.specs.Cursor.{SprmCursor, left}
-use Rattle.sprm_table.specs.Sprm.{EndsSprmList, IsShort}
+use Rattle.sprm_table.specs.Sprm.{EndsSprmList, IsShortPrl}
 use Rattle.sprm_table.proofs.SprmLemmas.{gives, gives_takes, spells_nothing, spells_no_short}
 use Rattle.sprm_table.proofs.lists.SprmIter.next.Goals as goal
 
@@ -28,4 +28,4 @@ returns-in-End-clause-taken c = λ list spelt.
 pub returns-in-Short-clause-taken : goal.returns-in-Short-clause-taken
 returns-in-Short-clause-taken c = λ list spelt.
     let rest = rest_left c.args.self.now c.self.inside.list.now c.self.inside.at c.self.view_is in
-    absurd (spells_no_short (left c.args.self.now) list (subst IsShort rest c.in-Short.ensures) spelt)
+    absurd (spells_no_short (left c.args.self.now) list (subst IsShortPrl rest c.in-Short.ensures) spelt)

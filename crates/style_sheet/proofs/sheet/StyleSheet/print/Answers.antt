@@ -3,7 +3,7 @@ use Rattle.std.specs.List.{flat_map}
 use Rattle.std.proofs.lemmas.List.{flat_map_more, take_more, take_all}
 use Rattle.style_sheet.specs.Sheet.{Sheet, style_at}
 use Rattle.style_sheet.specs.Counted.{written_counted}
-use Rattle.style_sheet.specs.Written.{written_slot, written_slots, written_front, IsReadAs}
+use Rattle.style_sheet.specs.Written.{written_slot, written_slots, written_front, IsValidStsh}
 use Rattle.style_sheet.proofs.SlotLemmas.{length-written_slots, written_slots_at}
 use Rattle.style_sheet.proofs.SheetBackLemmas.{sheet_back}
 use Rattle.style_sheet.proofs.sheet.StyleSheet.print.Goals as goal
@@ -45,4 +45,4 @@ returns-clause-back c =
     let count = c.slots-istd-end.ensures.count in
     let bytes = c.loop-istd.invariant ∙ ap (λ t. written_front sheet ++ flat_map written_counted t)
     (take_all c.loop-istd.istd (written_slots 0 sheet.styles) (omega arith)) in
-    subst (IsReadAs sheet) (sym bytes) (sheet_back sheet c.slots.ensures.formed c.requires)
+    subst (IsValidStsh sheet) (sym bytes) (sheet_back sheet c.slots.ensures.formed c.requires)

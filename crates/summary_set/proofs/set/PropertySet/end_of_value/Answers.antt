@@ -5,7 +5,7 @@ use Rattle.std.specs.List.Sorted.{IsPartitionPoint, IsPartitionedBy}
 use Rattle.std.proofs.lemmas.Fn.{always_returns_same}
 use Rattle.std.proofs.lemmas.Grind.{get_or_default_zero}
 use Rattle.std.proofs.lemmas.List.Sorted.{IsNonDecreasingBy-from_sort, IsPartitionedBy-leb}
-use Rattle.summary_set.specs.PropertySet.{offsets_of, set_size}
+use Rattle.summary_set.specs.PropertySet.{offsets_of, first_set_size}
 use Rattle.summary_set.proofs.ValueLemmas.{end_found, end_last, offsets_within}
 use Rattle.summary_set.proofs.set.PropertySet.end_of_value.Goals as goal
 
@@ -27,7 +27,8 @@ returns-then-next-len c =
       c.if-next-len.true,
       c.len.ensures,
     ) in
-    let found = end_found (offsets_of c.args.stream.now) set.offsets.items (set_size c.args.stream.now) c.args.offset
+    let found = end_found (offsets_of c.args.stream.now) set.offsets.items (first_set_size c.args.stream.now)
+    c.args.offset
     c.partition_point-next.result c.requires.set.offsets order cut (offsets_within c.args.stream.now c.requires.formed)
     below in
     let here = get_or_default_zero set.offsets.items c.partition_point-next.result c.index.result.now below in
@@ -51,5 +52,5 @@ returns-else-next-len c =
       c.if-next-len.false,
       c.len.ensures,
     ) in
-    c.requires.set.size ∙ end_last (offsets_of c.args.stream.now) set.offsets.items (set_size c.args.stream.now)
+    c.requires.set.size ∙ end_last (offsets_of c.args.stream.now) set.offsets.items (first_set_size c.args.stream.now)
     c.args.offset c.partition_point-next.result c.requires.set.offsets cut past

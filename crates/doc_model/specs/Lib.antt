@@ -1,0 +1,13 @@
+pub mod Document
+pub mod Paragraphs
+pub mod Carried
+pub mod NothingCarried
+pub mod OtherBytes
+pub mod Blank
+pub mod Formed
+pub mod Stretches
+pub mod Settings
+pub mod Entries
+pub mod Collected
+pub mod TextLists
+pub mod Marks

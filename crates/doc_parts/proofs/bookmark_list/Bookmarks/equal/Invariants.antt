@@ -1,6 +1,0 @@
-use Rattle.std.proofs.Common.{◌≡◌, take}
-use Rattle.doc_parts.proofs.bookmark_list.Bookmarks.equal.Given as goal
-
--- the bookmarks so far are the same
-abbrev pub invariant-loop-i : goal.invariant-loop-i
-invariant-loop-i l = take l.i l.fn.self ≡ take l.i l.fn.other

@@ -1,9 +1,0 @@
-use Rattle.std.proofs.Common.{◌≡◌, ◌++◌, map, take, drop}
-use Rattle.doc_parts.specs.Bookmarks.{moved_bookmark}
-use Rattle.doc_parts.proofs.bookmark_order.move_all.Given as goal
-
-abbrev pub invariant-loop-bookmark : goal.invariant-loop-bookmark
-invariant-loop-bookmark l =
-    l.bookmark-items
-    ≡ map (moved_bookmark l.fn.from l.fn.to l.fn.count) (take l.bookmark-index l.fn.list.items)
-    ++ drop l.bookmark-index l.fn.list.items

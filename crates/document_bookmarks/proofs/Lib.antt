@@ -1,0 +1,6 @@
+pub mod Public
+mod OrderLemmas
+mod BookmarkLemmas
+mod MoveLemmas
+mod NameLemmas
+mod ApartLemmas

@@ -1,6 +1,0 @@
--- Each part of the blank document is well formed.
-use Rattle.plain_doc.proofs.BlankLemmas.{blank_document_is_formed}
-use Rattle.plain_doc.proofs.formed.blank_is_formed.Goals as goal
-
-pub returns : goal.returns
-returns c = blank_document_is_formed
