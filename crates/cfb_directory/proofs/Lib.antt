@@ -3,4 +3,5 @@ mod ReachLemmas
 mod LinkLemmas
 mod OrderLemmas
 mod NameLemmas
+mod SortedLemmas
 mod EntryLemmas

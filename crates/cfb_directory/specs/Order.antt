@@ -1,9 +1,9 @@
 -- The streams and the storages of the root in the order of their names, as lists of their entries.
-use Rattle.std.specs.Prelude.{◌≡◌, ◌⊎◌, ℕ, ◌<◌, ◌≤◌, List, length, slice_index}
+use Rattle.std.specs.Prelude.{◌≡◌, ◌⊎◌, ℕ, ◌-◌, ◌<◌, ◌≤◌, List, length, slice_index}
 use Rattle.std.specs.List.{insert}
 use Rattle.cfb_sectors.specs.SectorChain.{HasSector}
-use Rattle.cfb_directory.specs.Directory.{EntryBefore}
-use Rattle.cfb_directory.specs.Reach.{entry_place}
+use Rattle.cfb_directory.specs.Directory.{EntryBefore, HaveOneName, entry_name_length}
+use Rattle.cfb_directory.specs.Reach.{entry_place, IsWrongNameLength}
 use Rattle.cfb_directory.specs.StreamEntries.{IsStreamEntry}
 use Rattle.cfb_directory.specs.Storages.{IsFilledStorage}
 
@@ -44,3 +44,15 @@ IsPutIn file directory entry old new =
 abbrev pub PutsWanted : List ℕ → List ℕ → Type 0 → ℕ → List ℕ → List ℕ → Type 0
 PutsWanted file directory wanted entry old new =
     ((¬ wanted) × (new ≡ old)) ⊎ (wanted × IsPutIn file directory entry old new)
+
+-- the entry in front of a place has the name of the entry at an offset
+abbrev pub IsNameInFront : List ℕ → List ℕ → List ℕ → ℕ → ℕ → Type 0
+IsNameInFront file directory entries place at =
+    (0 < place) × HaveOneName file (entry_place directory (slice_index entries (place - 1))) at
+
+-- the entry's name has a right length and none of the entries has it, and the place is the entry's among them
+pub record IsNewName (file directory entries : List ℕ) (entry place : ℕ) : Type 0 where
+  pub right : ¬ IsWrongNameLength (entry_name_length file (entry_place directory entry))
+  pub fresh : (i : ℕ) → i < length entries →
+      ¬ HaveOneName file (entry_place directory entry) (entry_place directory (slice_index entries i))
+  pub first : IsFirstAfter file directory entries entry place

@@ -61,7 +61,8 @@ impl<'a> Entries<'a> {
         let reached = reach(alloc, file, &directory)?;
         let tree = wrong_tree(alloc, file, &directory, &reached)?;
         refuse(RULE_TREE, tree)?;
-        refuse(RULE_NAMES, wrong_names(file, &directory, &reached))?;
+        let names = wrong_names(alloc, file, &directory, &reached)?;
+        refuse(RULE_NAMES, names)?;
         let streams = list_streams(alloc, file, &directory, &reached)?;
         Ok(Entries {
             file,

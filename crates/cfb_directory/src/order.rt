@@ -38,7 +38,7 @@ fn comes_before(file: &[u8], at: usize, other: usize) -> bool
 
 /// The first of the entries, which are in the order of their names, whose name comes after that of an entry, or their
 /// number. It is looked for by halves.
-fn place_for(file: &[u8], directory: &[u32], entries: &[u32], entry: u32) -> usize
+pub(crate) fn place_for(file: &[u8], directory: &[u32], entries: &[u32], entry: u32) -> usize
     requires sectors { AreSectorsOf file.now directory.now }
     requires within { (i : ℕ) → i < length entries.now → slice_index entries.now i < entry_count directory.now }
     requires there { entry < entry_count directory.now }

@@ -1,5 +1,5 @@
 // Places of text units, kept as rows.
-ghost use Rattle.std.specs.Prelude.{◌≡◌, ◌+◌, ◌*◌, ◌<◌, ◌≤◌, ◌^◌, ◌++◌, ℕ, length, take, drop};
+ghost use Rattle.std.specs.Prelude.{◌≡◌, ◌+◌, ◌*◌, ◌/◌, ◌<◌, ◌≤◌, ◌^◌, ◌++◌, ℕ, length, take, drop};
 ghost use Rattle.std.specs.Prelude.{slice_index, slice_range, IfOk};
 ghost use Rattle.direct_props.specs.Rows.{AreRows, IsInRow, row_places_of};
 
@@ -133,8 +133,22 @@ impl<'a> Places<'a> {
         if row.step == 0 {
             return here;
         }
-        let above = (last - place_in(row, self.skipped)) / row.step;
-        here.min(above as usize + 1)
+        let above = last - place_in(row, self.skipped);
+        let steps = steps_in(above, row.step);
+        here.min(steps as usize + 1)
+    }
+}
+
+/// How many steps are in so many bytes. Units are one or two bytes long, by which nothing is divided.
+#[inline(always)]
+fn steps_in(bytes: u32, step: u32) -> u32
+    requires { 0 < step }
+    ensures { result ≡ bytes / step }
+{
+    match step {
+        1 => bytes,
+        2 => bytes / 2,
+        _ => bytes / step,
     }
 }
 

@@ -1,12 +1,14 @@
 // A document by columns checked by the rules on documents.
-ghost use Rattle.std.specs.Prelude.{MatchResult};
-ghost use Rattle.doc_model.specs.Marks.{HasFormedBookmarks};
-ghost use Rattle.plain_doc.specs.Sound.{IsSound};
+ghost use Rattle.std.specs.Prelude.{IfOk, MatchResult};
+ghost use Rattle.doc_bits.specs.Rules.{Hold, LeastOrNone};
+ghost use Rattle.doc_model.specs.Marks.{AreWrongBookmarks};
+ghost use Rattle.plain_doc.specs.Sound.{document_rules};
 ghost use Rattle.doc_columns.specs.Checking.{IsCheckFault};
 
 use crate::{ColumnDocument, is_sound};
 use doc_bits::{Memory, drop_then};
-use plain_doc::{DocFault, Document};
+use document_bookmarks::Bookmarks;
+use plain_doc::{DocFault, Document, MAX_BOOKMARKS, check_with};
 use std::alloc::Global;
 
 /// Why a document is refused.
@@ -29,25 +31,37 @@ impl From<Memory> for CheckFault {
     }
 }
 
-/// Checks a document by the rules 60 to 71. Where its columns do not tell, its items are put one by one.
+/// Checks a document by the rules 60 to 71. Its bookmarks may be in any order. Where its columns do not tell, its
+/// items are put one by one.
 pub fn check(alloc: Global, document: &ColumnDocument) -> Result<(), CheckFault>
-    requires { HasFormedBookmarks document.now }
-    ensures { MatchResult result (λ _. IsSound document.now) (IsCheckFault document.now) }
+    ensures { MatchResult result (λ _. Hold (document_rules document.now)) (IsCheckFault document.now) }
 {
     if is_sound(alloc, document)? {
         return Ok(());
     }
+    let wrong = wrong_bookmarks(alloc, &document.bookmarks)?;
     let items = document.expand(alloc)?;
-    let verdict = check_items(&items);
+    let verdict = check_items(&items, wrong);
     drop_then(items, verdict)
 }
 
-/// Checks a document item by item.
-fn check_items(document: &Document) -> Result<(), CheckFault>
-    requires { HasFormedBookmarks document.now }
-    ensures { MatchResult result (λ _. IsSound document.now) (IsCheckFault document.now) }
+/// Where the number of bookmarks or their names are wrong: at 0 where there are too many.
+fn wrong_bookmarks(alloc: Global, bookmarks: &Bookmarks) -> Result<Option<u32>, Memory>
+    ensures { IfOk result (LeastOrNone (AreWrongBookmarks bookmarks.now)) }
 {
-    match plain_doc::check(document) {
+    if bookmarks.len() > MAX_BOOKMARKS {
+        return Ok(Some(0));
+    }
+    let same = bookmarks.find_same_name(alloc)?;
+    Ok(same)
+}
+
+/// Checks a document item by item, where it is known at which place its bookmarks are wrong.
+fn check_items(document: &Document, wrong: Option<u32>) -> Result<(), CheckFault>
+    requires { LeastOrNone (AreWrongBookmarks document.now.bookmarks) wrong }
+    ensures { MatchResult result (λ _. Hold (document_rules document.now)) (IsCheckFault document.now) }
+{
+    match check_with(document, wrong) {
         Ok(()) => Ok(()),
         Err(fault) => Err(CheckFault::Rule(fault)),
     }

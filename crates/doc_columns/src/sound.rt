@@ -23,7 +23,7 @@ pub fn is_sound(alloc: Global, document: &ColumnDocument) -> Result<bool, Memory
     if all_items(document) > MAX_ITEMS {
         return Ok(false);
     }
-    if !are_valid(&document.bookmarks, document.main.len()) {
+    if !are_valid(alloc, &document.bookmarks, document.main.len())? {
         return Ok(false);
     }
     let Some(counts) = right_counts(alloc, &document.sheet, Where::Main, &document.main)? else {
@@ -43,13 +43,14 @@ pub fn is_sound(alloc: Global, document: &ColumnDocument) -> Result<bool, Memory
 
 /// Whether the bookmarks of a main text of `len` units are formed, not too many, and none has the
 /// name of an earlier one.
-fn are_valid(bookmarks: &Bookmarks, len: usize) -> bool
-    ensures { IsTrue result → AreValidBookmarks len bookmarks.now }
+fn are_valid(alloc: Global, bookmarks: &Bookmarks, len: usize) -> Result<bool, Memory>
+    ensures { IfOk result (λ valid. IsTrue valid → AreValidBookmarks len bookmarks.now) }
 {
     if bookmarks.len() > MAX_BOOKMARKS || !bookmarks.are_formed(len) {
-        return false;
+        return Ok(false);
     }
-    bookmarks.same_name().is_none()
+    let same = bookmarks.find_same_name(alloc)?;
+    Ok(same.is_none())
 }
 
 /// Whether the numbers of notes and header texts are those that the main text counts.

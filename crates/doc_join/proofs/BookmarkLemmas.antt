@@ -1,8 +1,7 @@
 -- The bookmarks of a joined document: one more, their form, and their names.
-use Rattle.std.proofs.Common.{◌≡◌, ◌∙◌, inl, inr, refl, sym, ap, subst, ℕ, zero, suc, ◌+◌, ◌<◌, ◌≤◌, Bool, true, false}
+use Rattle.std.proofs.Common.{◌≡◌, ◌∙◌, inl, inr, refl, sym, ap, ℕ, ◌+◌, ◌<◌, ◌≤◌, Bool, true, false}
 use Rattle.std.proofs.Common.{cond, not, ◌||◌, List, [], ◌∷◌, ◌++◌, length, take, map, get_or, Some, arith}
 use Rattle.std.proofs.Common.{append_assoc}
-use Rattle.std.proofs.Math.Seq.{take-length}
 use Rattle.std.specs.Prelude.{All, slice_get, Result, Ok, Err}
 use Rattle.std.specs.Result.{is_ok}
 use Rattle.std.specs.List.{filter, count_by}
@@ -10,7 +9,7 @@ use Rattle.std.specs.List.Sorted.{IsSorted, IsSearchInRange, IsBinarySearchResul
 use Rattle.std.specs.Ordering.{nat_cmp, is_eq}
 use Rattle.std.specs.Cmp.Lexicographic.{slice_cmp}
 use Rattle.std.proofs.lemmas.Bool.{cases_lt, cases_Bool}
-use Rattle.std.proofs.lemmas.List.{take_more, map-append, length-map, append-nil}
+use Rattle.std.proofs.lemmas.List.{map-append, length-map, append-nil}
 use Rattle.std.proofs.lemmas.List.Elements.{All-append, All-map, All-weaker, All-filter, filter_more}
 use Rattle.std.proofs.lemmas.List.Sums.{count_by-le-length, length-filter, sum_by-cons, sum_by-append}
 use Rattle.std.proofs.lemmas.Cmp.{nat_list_cmp_total}
@@ -18,13 +17,12 @@ use Rattle.std.proofs.lemmas.List.Folds.{list_any_at, list_any_none}
 use Rattle.std.proofs.lemmas.List.Sorted.{searchable_from_sorted}
 use Rattle.std.proofs.lemmas.Option.{get_or_from_slice_get}
 use Rattle.doc_bits.specs.Rules.{Nowhere}
-use Rattle.doc_bits.proofs.Public.{there_is}
 use Rattle.document_bookmarks.specs.declared.bookmark_order.Bookmark.{Bookmark}
 use Rattle.document_bookmarks.specs.Order.{in_order}
 use Rattle.document_bookmarks.specs.Bookmarks.{bookmark_cmp, IsFormedBookmark, AreFormedBookmarks}
 use Rattle.document_bookmarks.specs.Names.{name_cmp, is_named, AreApart, HasSameName}
 use Rattle.document_bookmarks.proofs.Public.{bookmark_total, in_order_sorted, all_in_order, order_counted, named_is}
-use Rattle.document_bookmarks.proofs.Public.{one_named, apart_more, apart_less, apart_nowhere}
+use Rattle.document_bookmarks.proofs.Public.{one_named, apart_less, apart_nowhere, nowhere_apart}
 use Rattle.doc_join.specs.Bookmarks.{bookmark_behind, has_name, bookmarks_from_second, joined_bookmarks}
 
 -- ---- one more of the second document
@@ -147,32 +145,6 @@ joined_form before len first second formed next_formed =
 
 -- ---- their names
 
--- the names of bookmarks differ where none has that of an earlier one
-apart_upto : (list : List Bookmark) (n : ℕ) → Nowhere (HasSameName list) → n ≤ length list → AreApart (take n list)
-apart_upto list zero none within = λ name. omega arith
-apart_upto list (suc n) none within =
-    let found = there_is list n (omega (arith, within)) in
-    let bookmark = found.0 in
-    let next : suc n ≡ n + 1 = omega arith in
-    let more : take (suc n) list ≡ take n list ++ bookmark ∷ [] =
-    ap (λ k. take k list) next
-    ∙ (take_more list n bookmark (omega (arith, within))
-    ∙ ap (λ (b : Bookmark). take n list ++ b ∷ []) (get_or_from_slice_get list n bookmark bookmark found.1)) in
-    let new : count_by (is_named bookmark.name) (take n list) ≡ 0 =
-    elim (cases_lt 0 (count_by (is_named bookmark.name) (take n list))) [
-      | inl earlier ↦ absurd (none bookmark.from (record {
-        entry = n;
-        below = omega (arith, within);
-        broken = record { bookmark = bookmark; here = found.1; earlier = earlier; begins = refl };
-      }))
-      | inr zero_here ↦ omega (arith, zero_here)
-    ] in
-    subst AreApart (sym more)
-    (apart_more (take n list) bookmark (apart_upto list n none (omega (arith, within))) new)
-
-apart_from : (list : List Bookmark) → Nowhere (HasSameName list) → AreApart list
-apart_from list none = subst AreApart (take-length list) (apart_upto list (length list) none (omega arith))
-
 moved_count : (len : ℕ) (name : List ℕ) (list : List Bookmark) →
     count_by (is_named name) (map (bookmark_behind len) list) ≡ count_by (is_named name) list
 moved_count len name [] = refl
@@ -259,4 +231,4 @@ joined_apart len first second one other =
     apart_nowhere (joined_bookmarks len first second)
     (apart_less list (joined_bookmarks len first second)
     (λ f. let same = order_counted bookmark_cmp list f in omega (arith, same))
-    (both_apart len first second (apart_from first one) (apart_from second other)))
+    (both_apart len first second (nowhere_apart first one) (nowhere_apart second other)))

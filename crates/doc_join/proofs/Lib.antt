@@ -14,3 +14,4 @@ mod RightMainLemmas
 mod RightSheetLemmas
 mod JoinedRightLemmas
 mod BrokenRuleLemmas
+mod ExistLemmas

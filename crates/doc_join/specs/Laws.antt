@@ -1,10 +1,12 @@
 -- What a join keeps, and which rules it may break.
-use Rattle.std.specs.Prelude.{◌≡◌, ◌≢◌, ◌⊎◌, ℕ, ◌+◌, ◌-◌, ◌≤◌, length}
+use Rattle.std.specs.Prelude.{◌≡◌, ◌≢◌, ◌⊎◌, ℕ, ◌+◌, ◌-◌, ◌≤◌, List, length, Some, slice_get}
 use Rattle.doc_bits.specs.declared.places.Where.{Where}
 use Rattle.doc_bits.specs.declared.places.Where.TheVariants.{File, Wd, Table, Sheet, Main, Note, Head}
 use Rattle.doc_bits.specs.Places.{Place, IsFirstPlace}
+use Rattle.doc_model.specs.declared.item.Item.{Item}
 use Rattle.doc_model.specs.declared.document.Document.{Document}
 use Rattle.doc_model.specs.Formed.{IsFormed}
+use Rattle.plain_doc.specs.RulesOfTexts.{text_of_place}
 use Rattle.plain_doc.specs.Sound.{IsSound, document_rules}
 use Rattle.doc_join.specs.Texts.{ending_section}
 use Rattle.doc_join.specs.Join.{document_join, first_numbers, second_numbers, separators, slots_together, most_slots}
@@ -54,6 +56,13 @@ pub record KeepsEffects (first second : Document) : Type 0 where
       (place : Place) (found : Effects) → AreEffectsAt second place found → IsNoSeparator place.0 →
       AreEffectsAt (document_join first second) (place_from_second first place.0 place.1)
       (renumbered_effects (second_numbers first second) found)
+
+-- something is in effect at each item of a sound document
+abbrev pub EffectsExist : Type 0
+EffectsExist =
+    (document : Document) → IsSound document → (place : Place) (text : List Item) (item : Item) →
+    text_of_place document place.0 ≡ Some text → slice_get text place.1 ≡ Some item →
+    (found : Effects) × AreEffectsAt document place found
 
 abbrev pub JoinsKeepEffects : Type 0
 JoinsKeepEffects = (first second : Document) → CanBeJoined first second → KeepsEffects first second

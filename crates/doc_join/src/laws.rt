@@ -1,5 +1,10 @@
 // Laws over the definitions alone.
-ghost use Rattle.doc_join.specs.Laws.{JoinsKeepEffects, JoinsBreakCountsAlone};
+ghost use Rattle.doc_join.specs.Laws.{EffectsExist, JoinsKeepEffects, JoinsBreakCountsAlone};
+
+/// Something is in effect at each item of a sound document, so what a join keeps is something.
+pub fn effects_exist()
+    ensures { EffectsExist }
+{}
 
 /// What a join keeps of each item of both documents: its unit, but for the last one of the first main text, its
 /// properties and those in effect, with the styles renumbered.

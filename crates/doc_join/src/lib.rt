@@ -14,4 +14,4 @@ mod texts;
 
 pub use fault::JoinFault;
 pub use joining::{join, join_of_columns};
-pub use laws::{joins_break_counts_alone, joins_keep_effects};
+pub use laws::{effects_exist, joins_break_counts_alone, joins_keep_effects};

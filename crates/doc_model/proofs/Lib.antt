@@ -9,3 +9,4 @@ mod CutLemmas
 mod SettingsLemmas
 mod CollectedLemmas
 mod TextListLemmas
+mod BookmarkRuleLemmas

@@ -3,6 +3,8 @@
 -- The parts of the blank document are well formed; lists of one entry many times.
 pub use Rattle.doc_model.proofs.BlankLemmas.{blank_document_is_formed, blank_item_maps, bold, default_font_is_formed}
 pub use Rattle.doc_model.proofs.BlankLemmas.{heading_is_formed, normal_is_formed}
+-- Where bookmarks break their rule, as it is found.
+pub use Rattle.doc_model.proofs.BookmarkRuleLemmas.{right_names, wrong_count, wrong_names}
 -- What the items of a text have is found by their CPs.
 pub use Rattle.doc_model.proofs.CollectedLemmas.{collected-append, collected_count, entry_here, entry_later}
 pub use Rattle.doc_model.proofs.CollectedLemmas.{entry_of_item, found_before, length-cuts_from, none_below}

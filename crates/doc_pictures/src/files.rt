@@ -23,7 +23,7 @@ pub fn name_at(pictures: &Pictures, place: Option<u32>) -> Option<PictureName>
     }
 }
 
-/// The same of pictures in their order.
+/// The name of the file of the one of these pictures, in their order, that is at a place.
 fn name_in(pictures: &[Picture], place: u32) -> Option<PictureName>
     requires { ArePlacesAscending pictures.now }
     ensures { result ≡ name_from 1 pictures.now place }

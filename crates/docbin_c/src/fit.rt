@@ -25,7 +25,7 @@ pub extern "C" fn docbin_fit(
     hand_over(ending_fitted(alloc, 0, file), text, out)
 }
 
-/// The same with options: 1 leaves endnotes and comments out.
+/// Fits a file as `docbin_fit` does, with options: 1 leaves endnotes and comments out.
 #[unsafe(no_mangle)]
 pub extern "C" fn docbin_fit_with(
     alloc: Global,

@@ -1,31 +1,32 @@
 -- The names of bookmarks: what keeps them apart, and where the first one is that is there twice.
 use Rattle.std.proofs.Common.{◌≡◌, ◌∙◌, inl, inr, refl, sym, ap, subst, ℕ, zero, suc, ◌+◌, ◌-◌, ◌<◌, ◌≤◌, ◌^◌, Bool}
 use Rattle.std.proofs.Common.{true}
-use Rattle.std.proofs.Common.{false, cond, not, List, [], ◌∷◌, ◌++◌, length, map, take, drop, get_or, set, Some, arith}
+use Rattle.std.proofs.Common.{false, cond, not, ◌||◌, List, [], ◌∷◌, ◌++◌, length, map, take, drop, get_or, set, Some, arith}
 use Rattle.std.proofs.Common.{Ordering}
 use Rattle.std.specs.Prelude.{All, slice_get, slice_range, IsTrue}
-use Rattle.std.specs.List.{sum_by, count_by, filter, splice}
-use Rattle.std.specs.List.Sorted.{IsSorted}
-use Rattle.std.specs.Ordering.{nat_cmp, is_lt, is_eq}
+use Rattle.std.proofs.Math.Seq.{take-length}
+use Rattle.std.specs.Borrow.{Bor}
+use Rattle.std.specs.BTreeSet.{BTreeSet, contains, Updates}
+use Rattle.std.specs.List.{sum_by, count_by, list_any, filter, splice}
+use Rattle.std.specs.Ordering.{nat_cmp, is_eq}
 use Rattle.std.specs.Cmp.Lexicographic.{slice_cmp}
 use Rattle.std.specs.declared.cmp.Ordering.TheVariants.{Less, Equal, Greater}
 use Rattle.std.specs.FinMap.{nat_cmp-IsAntisymmetric, slice_cmp-IsAntisymmetric}
-use Rattle.std.proofs.lemmas.Bool.{cases_lt}
-use Rattle.std.proofs.lemmas.Bool.Decides.{nat_tests}
+use Rattle.std.proofs.lemmas.Bool.{cases_lt, cases_Bool}
 use Rattle.std.proofs.lemmas.Cmp.{nat_list_cmp_total, tied_itself}
 use Rattle.std.proofs.lemmas.List.Elements.{All-append, All-take, All-drop, All-set, All-filter, All-map, All-push}
 use Rattle.std.proofs.lemmas.List.Filters.{sum_by-filter_both}
-use Rattle.std.proofs.lemmas.List.Sorted.{ranks_by, sorted_far}
+use Rattle.std.proofs.lemmas.List.{take_more}
+use Rattle.std.proofs.lemmas.List.Folds.{list_any_more}
 use Rattle.std.proofs.lemmas.List.Sums.{sum_by-cons, sum_by_push, sum_by-take-le, sum_by-take-drop}
 use Rattle.std.proofs.lemmas.Option.{same_Some}
 use Rattle.doc_bits.specs.Rules.{Nowhere, IsLeast}
-use Rattle.doc_bits.proofs.Public.{first_among}
+use Rattle.doc_bits.proofs.Public.{there_is}
 use Rattle.document_bookmarks.specs.declared.bookmark_order.Bookmark.{Bookmark}
 use Rattle.document_bookmarks.specs.Order.{put_in, in_order}
 use Rattle.document_bookmarks.specs.Bookmarks.{bookmark_cmp, HasFileNumbers, end_moved, moved_bookmark, moved_bookmarks}
-use Rattle.document_bookmarks.specs.Names.{is_named, AreApart, IsBookmarkList, RepeatsName, HasSameName}
+use Rattle.document_bookmarks.specs.Names.{is_named, AreApart, IsBookmarkList, HasSameName, NamesDiffer}
 use Rattle.document_bookmarks.proofs.OrderLemmas.{order_counted, put_counted, all_put, all_in_order}
-use Rattle.document_bookmarks.proofs.BookmarkLemmas.{bookmark_total}
 use Rattle.document_bookmarks.proofs.MoveLemmas.{moved_within}
 
 -- ---- one name
@@ -200,17 +201,44 @@ counted_here f (y ∷ ys) zero x here =
 counted_here f (y ∷ ys) (suc k) x here =
     omega (arith, sum_by-cons f y ys, sum_by-cons f y (take k ys), counted_here f ys k x here)
 
-pub apart_nowhere : (xs : List Bookmark) → AreApart xs → Nowhere (HasSameName xs)
-apart_nowhere xs apart p w =
-    let twice = w.broken in
-    let own : one_named twice.bookmark.name twice.bookmark ≡ 1 =
-    ap (λ (b : Bool). cond b 1 0) (named_itself twice.bookmark) in
+-- the same up to a later place
+counted_upto : (f : Bookmark → ℕ) (xs : List Bookmark) (k n : ℕ) (x : Bookmark) → slice_get xs k ≡ Some x → k < n →
+    sum_by f (take k xs) + f x ≤ sum_by f (take n xs)
+counted_upto f [] k n x here low = absurd (cc here)
+counted_upto f (y ∷ ys) k zero x here low = absurd (omega (arith, low))
+counted_upto f (y ∷ ys) zero (suc n) x here low =
+    let same : f y ≡ f x = ap f (same_Some y x here) in omega (arith, sum_by-cons f y (take n ys), same)
+counted_upto f (y ∷ ys) (suc k) (suc n) x here low =
     omega (
       arith,
-      counted_here (one_named twice.bookmark.name) xs w.entry twice.bookmark twice.here,
-      apart twice.bookmark.name,
-      twice.earlier,
-      own,
+      sum_by-cons f y (take k ys),
+      sum_by-cons f y (take n ys),
+      counted_upto f ys k n x here (omega (arith, low)),
+    )
+
+counted_itself : (x : Bookmark) → one_named x.name x ≡ 1
+counted_itself x = ap (λ (b : Bool). cond b 1 0) (named_itself x)
+
+pub apart_nowhere : (xs : List Bookmark) → AreApart xs → Nowhere (HasSameName xs)
+apart_nowhere xs apart p w =
+    omega (
+      arith,
+      counted_here (one_named w.bookmark.name) xs w.entry w.bookmark w.here,
+      apart w.bookmark.name,
+      w.earlier,
+      counted_itself w.bookmark,
+    )
+
+-- where names differ, none of them is there twice
+twice_none : (xs : List Bookmark) (k n : ℕ) (x : Bookmark) → slice_get xs k ≡ Some x → k < n → AreApart (take n xs) →
+    0 < count_by (is_named x.name) (take k xs) → ⊥
+twice_none xs k n x here low apart earlier =
+    omega (
+      arith,
+      counted_upto (one_named x.name) xs k n x here low,
+      apart x.name,
+      earlier,
+      counted_itself x,
     )
 
 -- what is at a place
@@ -220,44 +248,137 @@ there_at [] k x here = absurd (cc here)
 there_at (y ∷ ys) zero x here = (omega arith, λ d. same_Some y x here)
 there_at (y ∷ ys) (suc k) x here = let rest = there_at ys k x here in (omega (arith, rest.0), rest.1)
 
--- a bookmark that does not come before another does not begin before it
-from_upto : (x y : Bookmark) → is_lt (bookmark_cmp y x) ≡ false → x.from ≤ y.from
-from_upto x y h = elim (cases_lt y.from x.from) [
-  | inl low ↦
-      let less : nat_cmp y.from x.from ≡ Less = grind (arith, nat_tests) in
-      let before : is_lt (bookmark_cmp y x) ≡ true = rw less refl in
-      absurd (cc (before, h))
-  | inr high ↦ high
+-- there is one first bookmark whose name an earlier one has
+begins_first : (xs : List Bookmark) (i place : ℕ) (x : Bookmark) → slice_get xs i ≡ Some x → AreApart (take i xs) →
+    0 < count_by (is_named x.name) (take i xs) → HasSameName xs place → x.from ≤ place
+begins_first xs i place x here apart earlier w = elim (cases_lt w.entry i) [
+  | inl low ↦ absurd (twice_none xs w.entry i w.bookmark w.here low apart w.earlier)
+  | inr upto ↦ elim (cases_lt i w.entry) [
+    | inl high ↦ absurd (twice_none xs i w.entry x here high w.first earlier)
+    | inr least ↦
+        let at : w.entry ≡ i = omega (arith, upto, least) in
+        let is : w.bookmark ≡ x = same_Some w.bookmark x (sym w.here ∙ (ap (slice_get xs) at ∙ here)) in
+        let from : w.bookmark.from ≡ x.from = ap (λ (b : Bookmark). b.from) is in
+        omega (arith, from, w.begins)
+  ]
 ]
 
-begins_upto : (xs : List Bookmark) → IsSorted bookmark_cmp xs → (j k a b : ℕ) → j < k → RepeatsName xs j a →
-    RepeatsName xs k b → a ≤ b
-begins_upto xs sorted j k a b low one other =
-    let first = there_at xs j one.bookmark one.here in
-    let second = there_at xs k other.bookmark other.here in
-    let far = sorted_far (λ x y. is_lt (bookmark_cmp x y)) (ranks_by bookmark_total (λ x. x)) xs sorted j k one.bookmark
-    (omega arith) second.0 in
-    let upto : one.bookmark.from ≤ other.bookmark.from =
-    from_upto one.bookmark other.bookmark (rw (first.1 one.bookmark, second.1 one.bookmark) at far) in
-    let here = one.begins in let there = other.begins in omega arith
+pub first_same : (xs : List Bookmark) (i : ℕ) (x : Bookmark) → slice_get xs i ≡ Some x → AreApart (take i xs) →
+    0 < count_by (is_named x.name) (take i xs) → IsLeast (λ a b. a ≤ b) (HasSameName xs) x.from
+first_same xs i x here apart earlier = record {
+  broken = record { entry = i; bookmark = x; here = here; first = apart; earlier = earlier; begins = refl };
+  least = λ place w. begins_first xs i place x here apart earlier w;
+}
 
-pub first_same : (xs : List Bookmark) (i : ℕ) (x : Bookmark) → IsSorted bookmark_cmp xs →
-    slice_get xs i ≡ Some x → 0 < count_by (is_named x.name) (take i xs) →
-    ((k : ℕ) → k < i → Nowhere (RepeatsName xs k)) → IsLeast (λ a b. a ≤ b) (HasSameName xs) x.from
-first_same xs i x sorted here earlier none =
-    first_among (RepeatsName xs) (length xs) i x.from (begins_upto xs sorted) (there_at xs i x here).0 none
-    (record {
-      broken = record { bookmark = x; here = here; earlier = earlier; begins = refl };
-      least = λ p w.
-          let same : x ≡ w.bookmark = same_Some x w.bookmark (sym here ∙ w.here) in
-          let at : x.from ≡ w.bookmark.from = ap (λ (b : Bookmark). b.from) same in
-          let begins = w.begins in omega arith;
-    })
+-- one more whose name is none of those before it
+pub apart_next : (xs : List Bookmark) (i : ℕ) (x : Bookmark) → slice_get xs i ≡ Some x → AreApart (take i xs) →
+    count_by (is_named x.name) (take i xs) ≡ 0 → AreApart (take (i + 1) xs)
+apart_next xs i x here apart none =
+    let there = there_at xs i x here in
+    subst AreApart
+    (sym (take_more xs i x there.0 ∙ ap (λ (b : Bookmark). take i xs ++ b ∷ []) (there.1 x)))
+    (apart_more (take i xs) x apart none)
 
-pub not_here : (xs : List Bookmark) (i : ℕ) (x : Bookmark) → slice_get xs i ≡ Some x →
-    count_by (is_named x.name) (take i xs) ≡ 0 → Nowhere (RepeatsName xs i)
-not_here xs i x here none p w =
-    let same : x ≡ w.bookmark = same_Some x w.bookmark (sym here ∙ w.here) in
-    let zero : count_by (is_named w.bookmark.name) (take i xs) ≡ 0 =
-    subst (λ (b : Bookmark). count_by (is_named b.name) (take i xs) ≡ 0) same none in
-    omega (arith, zero, w.earlier)
+-- no bookmark has the name of an earlier one, so the names differ
+apart_upto : (xs : List Bookmark) (n : ℕ) → Nowhere (HasSameName xs) → n ≤ length xs → AreApart (take n xs)
+apart_upto xs zero none within = λ name. omega arith
+apart_upto xs (suc n) none within =
+    let found = there_is xs n (omega (arith, within)) in
+    let x : Bookmark = found.0 in
+    let apart = apart_upto xs n none (omega (arith, within)) in
+    let new : count_by (is_named x.name) (take n xs) ≡ 0 =
+    elim (cases_lt 0 (count_by (is_named x.name) (take n xs))) [
+      | inl earlier ↦ absurd (none x.from (first_same xs n x found.1 apart earlier).broken)
+      | inr zero_here ↦ omega (arith, zero_here)
+    ] in
+    subst (λ (k : ℕ). AreApart (take k xs)) (let next : n + 1 ≡ suc n = omega arith in next)
+    (apart_next xs n x found.1 apart new)
+
+pub nowhere_apart : (xs : List Bookmark) → Nowhere (HasSameName xs) → AreApart xs
+nowhere_apart xs none = subst AreApart (take-length xs) (apart_upto xs (length xs) none (omega arith))
+
+pub differ_exactly : NamesDiffer
+differ_exactly xs = (nowhere_apart xs, apart_nowhere xs)
+
+-- ---- the names so far, as a set of them answers
+
+abbrev counted_as : (Bookmark → Bool) → Bookmark → ℕ
+counted_as p x = cond (p x) 1 0
+
+any_counted : (p : Bookmark → Bool) (xs : List Bookmark) → list_any p xs ≡ true → 0 < count_by p xs
+any_counted p [] some = absurd (cc some)
+any_counted p (x ∷ xs) some = elim (cases_Bool (p x)) [
+  | inl here ↦
+      let one : counted_as p x ≡ 1 = ap (λ (b : Bool). cond b 1 0) here in
+      omega (arith, one, sum_by-cons (counted_as p) x xs)
+  | inr other ↦
+      let rest : list_any p xs ≡ true = sym (ap (λ (b : Bool). b || list_any p xs) other) ∙ some in
+      omega (arith, any_counted p xs rest, sum_by-cons (counted_as p) x xs)
+]
+
+none_counted : (p : Bookmark → Bool) (xs : List Bookmark) → list_any p xs ≡ false → count_by p xs ≡ 0
+none_counted p [] none = refl
+none_counted p (x ∷ xs) none = elim (cases_Bool (p x)) [
+  | inl here ↦ absurd (cc (none, ap (λ (b : Bool). b || list_any p xs) here))
+  | inr other ↦
+      let rest : list_any p xs ≡ false = sym (ap (λ (b : Bool). b || list_any p xs) other) ∙ none in
+      let zero_here : counted_as p x ≡ 0 = ap (λ (b : Bool). cond b 1 0) other in
+      omega (arith, zero_here, none_counted p xs rest, sum_by-cons (counted_as p) x xs)
+]
+
+-- the order of names as they are lent
+abbrev pub lent_cmp : Bor (List ℕ) → Bor (List ℕ) → Ordering
+lent_cmp one other = slice_cmp nat_cmp one.now other.now
+
+-- the set has the names of these bookmarks, which differ
+pub record HasNames (names : BTreeSet (Bor (List ℕ))) (list : List Bookmark) : Type 0 where
+  pub known : (name : Bor (List ℕ)) → contains lent_cmp names name ≡ list_any (is_named name.now) list
+  pub apart : AreApart list
+
+pub no_names : (names : BTreeSet (Bor (List ℕ))) (xs : List Bookmark) → names.keys ≡ [] → HasNames names (take 0 xs)
+no_names names xs empty = record {
+  known = λ name. ap (λ (keys : List (Bor (List ℕ))). list_any (λ key. is_eq (lent_cmp name key)) keys) empty;
+  apart = λ name. omega arith;
+}
+
+turned : (a b : Bool) → not a ≡ b → a ≡ not b
+turned true b is = ap not is
+turned false b is = ap not is
+
+either : (a b : Bool) → cond b true a ≡ (a || b)
+either true true = refl
+either true false = refl
+either false true = refl
+either false false = refl
+
+-- what a set answered of a name that is put into it
+pub name_twice : (names : BTreeSet (Bor (List ℕ))) (xs : List Bookmark) (i : ℕ) (x : Bookmark) (name : Bor (List ℕ))
+    (new : Bool) → slice_get xs i ≡ Some x → name.now ≡ x.name → HasNames names (take i xs) →
+    new ≡ not (contains lent_cmp names name) → new ≡ false → IsLeast (λ a b. a ≤ b) (HasSameName xs) x.from
+name_twice names xs i x name new here is has said old =
+    let there : list_any (is_named name.now) (take i xs) ≡ true =
+    sym (has.known name) ∙ turned (contains lent_cmp names name) false (sym said ∙ old) in
+    first_same xs i x here has.apart (any_counted (is_named x.name) (take i xs)
+    (subst (λ (n : List ℕ). list_any (is_named n) (take i xs) ≡ true) is there))
+
+pub name_more : (names more : BTreeSet (Bor (List ℕ))) (xs : List Bookmark) (i : ℕ) (x : Bookmark)
+    (name : Bor (List ℕ)) (new : Bool) → slice_get xs i ≡ Some x → name.now ≡ x.name → HasNames names (take i xs) →
+    new ≡ not (contains lent_cmp names name) → new ≡ true → Updates lent_cmp names more name true →
+    HasNames more (take (i + 1) xs)
+name_more names more xs i x name new here is has said fresh put =
+    let there = there_at xs i x here in
+    let none : list_any (is_named name.now) (take i xs) ≡ false =
+    sym (has.known name) ∙ turned (contains lent_cmp names name) true (sym said ∙ fresh) in
+    record {
+      known = λ q.
+          let test : is_eq (slice_cmp nat_cmp name.now q.now) ≡ is_named q.now (get_or xs i x) =
+          ap (λ (n : List ℕ). is_eq (slice_cmp nat_cmp n q.now)) is
+          ∙ ap (λ (b : Bookmark). is_named q.now b) (sym (there.1 x)) in
+          put.0 q
+          ∙ (either (contains lent_cmp names q) (is_eq (slice_cmp nat_cmp name.now q.now))
+          ∙ (ap (λ (b : Bool). b || is_eq (slice_cmp nat_cmp name.now q.now)) (has.known q)
+          ∙ (ap (λ (b : Bool). list_any (is_named q.now) (take i xs) || b) test
+          ∙ sym (list_any_more (is_named q.now) xs i x there.0))));
+      apart = apart_next xs i x here has.apart (none_counted (is_named x.name) (take i xs)
+          (subst (λ (n : List ℕ). list_any (is_named n) (take i xs) ≡ false) is none));
+    }

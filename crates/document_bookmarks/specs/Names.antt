@@ -1,10 +1,10 @@
 -- The names of bookmarks: whether they differ, and which is the first that an earlier bookmark has.
-use Rattle.std.specs.Prelude.{◌≡◌, ℕ, ◌<◌, ◌≤◌, Bool, List, length, take, Some, slice_get, IsTrue, All}
+use Rattle.std.specs.Prelude.{◌≡◌, ◌↔◌, ℕ, ◌<◌, ◌≤◌, Bool, List, take, Some, slice_get, IsTrue, All}
 use Rattle.std.specs.List.{count_by}
 use Rattle.std.specs.Ordering.{nat_cmp, is_eq, on}
 use Rattle.std.specs.declared.cmp.Ordering.{Ordering}
 use Rattle.std.specs.Cmp.Lexicographic.{slice_cmp}
-use Rattle.doc_bits.specs.Rules.{Among}
+use Rattle.doc_bits.specs.Rules.{Nowhere}
 use Rattle.document_bookmarks.specs.declared.bookmark_order.Bookmark.{Bookmark}
 use Rattle.document_bookmarks.specs.Bookmarks.{HasFileNumbers}
 
@@ -25,13 +25,15 @@ pub record IsBookmarkList (list : List Bookmark) (apart : Bool) : Type 0 where
   pub numbers : All HasFileNumbers list
   pub differ : IsTrue apart → AreApart list
 
--- a bookmark before this one has its name, and this one begins at the place
-pub record RepeatsName (list : List Bookmark) (k place : ℕ) : Type 0 where
+-- the first bookmark of the list whose name an earlier one has begins at this place; the list may be in any order
+pub record HasSameName (list : List Bookmark) (place : ℕ) : Type 0 where
+  pub entry : ℕ
   pub bookmark : Bookmark
-  pub here : slice_get list k ≡ Some bookmark
-  pub earlier : 0 < count_by (is_named bookmark.name) (take k list)
+  pub here : slice_get list entry ≡ Some bookmark
+  pub first : AreApart (take entry list)
+  pub earlier : 0 < count_by (is_named bookmark.name) (take entry list)
   pub begins : place ≡ bookmark.from
 
--- where bookmarks begin whose name an earlier one has
-abbrev pub HasSameName : List Bookmark → ℕ → Type 0
-HasSameName list = Among (length list) (RepeatsName list)
+-- there is no such bookmark exactly where the names differ
+abbrev pub NamesDiffer : Type 0
+NamesDiffer = (list : List Bookmark) → Nowhere (HasSameName list) ↔ AreApart list

@@ -14,6 +14,7 @@ use crate::bookmark_order::{Bookmark, compare, move_all, sort};
 use doc_bits::{Memory, splice_list};
 use std::alloc::Global;
 use std::cmp::Ordering;
+use std::collections::BTreeSet;
 use std::marker::Model;
 use std::mem;
 
@@ -185,15 +186,25 @@ impl Bookmarks {
         all_formed(&self.items, len) && is_in_order(&self.items)
     }
 
-    /// Where the first bookmark begins whose name an earlier one has.
+    /// Where the first bookmark of the list begins whose name an earlier one has. Each name is compared with all
+    /// before it; it takes no memory.
     pub fn same_name(&self) -> Option<u32>
-        requires { IsSorted bookmark_cmp self.now }
         ensures { LeastOrNone (HasSameName self.now) result }
     {
         if self.apart {
             return None;
         }
         repeated_name(&self.items)
+    }
+
+    /// The same, where each name is looked for in a tree of those before it.
+    pub fn find_same_name(&self, alloc: Global) -> Result<Option<u32>, Memory>
+        ensures { IfOk result (LeastOrNone (HasSameName self.now)) }
+    {
+        if self.apart {
+            return Ok(None);
+        }
+        find_repeated_name(alloc, &self.items)
     }
 
     /// Whether both have the same bookmarks.
@@ -240,7 +251,6 @@ fn stays_apart(apart: bool, list: &[Bookmark], name: &[u16]) -> bool
 
 /// Where the first bookmark begins whose name one before it has.
 fn repeated_name(list: &[Bookmark]) -> Option<u32>
-    requires { IsSorted bookmark_cmp list.now }
     ensures { LeastOrNone (HasSameName list.now) result }
 {
     for i in 0..list.len() {
@@ -250,6 +260,19 @@ fn repeated_name(list: &[Bookmark]) -> Option<u32>
         }
     }
     None
+}
+
+/// The same. The names so far are kept in order, so that no earlier bookmark is searched for.
+fn find_repeated_name(alloc: Global, list: &[Bookmark]) -> Result<Option<u32>, Memory>
+    ensures { IfOk result (LeastOrNone (HasSameName list.now)) }
+{
+    let mut names: BTreeSet<&[u16]> = BTreeSet::new(alloc);
+    for bookmark in list {
+        if !names.insert(bookmark.name.as_slice())? {
+            return Ok(Some(bookmark.from));
+        }
+    }
+    Ok(None)
 }
 
 /// Whether each bookmark fits into a main text of `len` units.

@@ -8,5 +8,5 @@ mod names;
 
 pub use bookmark_list::{Bookmarks, sort_names};
 pub use bookmark_order::Bookmark;
-pub use laws::moves_keep_form;
+pub use laws::{moves_keep_form, names_differ};
 pub use names::Name;

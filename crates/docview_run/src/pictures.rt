@@ -40,7 +40,7 @@ pub(crate) struct Pictured<'a> {
     pub(crate) album: Album<'a>,
 }
 
-/// The same, and the bytes of the file, or what is read in place of it.
+/// What is asked for, and the bytes of the file, or what is read in place of it.
 #[derive(Clone, Copy)]
 struct Taken<'a> {
     asked: Pictured<'a>,
@@ -134,7 +134,7 @@ fn show_refused<S: Shelf, K: Sink, E: Sink>(
     drop_then(found, status)
 }
 
-/// The same of what was opened in place of a file, or why it was not.
+/// Shows the document that was opened in place of a file with its pictures, or says why none was.
 fn show_found<S: Shelf, K: Sink, E: Sink>(
     alloc: Global,
     shelf: &mut S,
@@ -170,7 +170,7 @@ fn show_found<S: Shelf, K: Sink, E: Sink>(
     }
 }
 
-/// The same of what was opened; what is left out of it and what is mended is told.
+/// Shows a document that was opened with its pictures, and says what is left out of it and what is mended.
 fn show_opened<S: Shelf, K: Sink, E: Sink>(
     alloc: Global,
     shelf: &mut S,

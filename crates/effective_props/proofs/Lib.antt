@@ -10,3 +10,6 @@ mod FormedLayerLemmas
 mod ToggleLemmas
 mod OneLemmas
 mod LastLemmas
+mod MapsExist
+mod StopsExist
+mod EffectsExist

@@ -8,7 +8,7 @@ use Rattle.effective_props.specs.declared.tabs.Tab.{Tab}
 use Rattle.effective_props.specs.TabChange.{deleted_count, deleted_position, added_count, added_position, added_kind}
 use Rattle.effective_props.specs.TabChange.{AddsTab, Mentions}
 use Rattle.effective_props.specs.Stops.{HasTabChange, MentionsStop, HasStop}
-use Rattle.effective_props.specs.StopSteps.{StopTree, stop_at, ChangesBy, ChangesByLayer}
+use Rattle.effective_props.specs.StopSteps.{KindsOfStops, ChangesBy, ChangesByLayer}
 use Rattle.effective_props.proofs.PlaceLemmas.{IsLastPlace, last_place, get_old, get_new, get_past, get_within}
 use Rattle.effective_props.proofs.PlaceLemmas.{some_is}
 
@@ -96,27 +96,27 @@ which_stop layers layer tab h =
 
 -- ---- the tree has exactly the stops of the layers
 
-pub record HoldsStops (layers : List Properties) (stops : StopTree) : Type 0 where
-  pub found : (p : ℤ) (kind : ℕ) → stop_at stops p ≡ Some kind → HasStop layers (record { at = p; kind = kind })
-  pub there : (tab : Tab) → HasStop layers tab → stop_at stops tab.at ≡ Some tab.kind
+pub record HoldsStops (layers : List Properties) (stops : KindsOfStops) : Type 0 where
+  pub found : (p : ℤ) (kind : ℕ) → stops p ≡ Some kind → HasStop layers (record { at = p; kind = kind })
+  pub there : (tab : Tab) → HasStop layers tab → stops tab.at ≡ Some tab.kind
 
-added_here : (value : List ℕ) (old new : StopTree) (p : ℤ) (place : ℕ) → ChangesBy value old new →
-    IsLastPlace (added_position value) p (added_count value) place → stop_at new p ≡ Some (added_kind value place)
+added_here : (value : List ℕ) (old new : KindsOfStops) (p : ℤ) (place : ℕ) → ChangesBy value old new →
+    IsLastPlace (added_position value) p (added_count value) place → new p ≡ Some (added_kind value place)
 added_here value old new p place by h =
-    ap (stop_at new) (sym h.at) ∙ by.adds.there place h.within (λ j past l is. h.last j past l (is ∙ h.at))
+    ap new (sym h.at) ∙ by.adds.there place h.within (λ j past l is. h.last j past l (is ∙ h.at))
 
-kept_here : (value : List ℕ) (old new : StopTree) (p : ℤ) → ChangesBy value old new → ((i : ℕ) → i < deleted_count
+kept_here : (value : List ℕ) (old new : KindsOfStops) (p : ℤ) → ChangesBy value old new → ((i : ℕ) → i < deleted_count
     value → deleted_position value i ≢ p) → ((i : ℕ) → i < added_count value → added_position value i ≢ p) →
-    stop_at new p ≡ stop_at old p
+    new p ≡ old p
 kept_here value old new p by deletes adds = by.adds.kept p adds ∙ by.deletes.kept p deletes
 
 adds_at : (value : List ℕ) (p : ℤ) (place kind : ℕ) → IsLastPlace (added_position value) p (added_count value) place →
     added_kind value place ≡ kind → AddsTab value (record { at = p; kind = kind })
 adds_at value p place kind h is = record { number = place; within = h.within; at = h.at; kind = is; last = h.last }
 
-changed_found : (layers : List Properties) (layer : Properties) (value : List ℕ) (old new : StopTree) (p : ℤ) (kind : ℕ)
+changed_found : (layers : List Properties) (layer : Properties) (value : List ℕ) (old new : KindsOfStops) (p : ℤ) (kind : ℕ)
     →
-    HoldsStops layers old → HasTabChange layer value → ChangesBy value old new → stop_at new p ≡ Some kind →
+    HoldsStops layers old → HasTabChange layer value → ChangesBy value old new → new p ≡ Some kind →
     HasStop (layers ++ layer ∷ []) (record { at = p; kind = kind })
 changed_found layers layer value old new p kind holds change by is =
     elim (last_place (added_position value) p (added_count value)) [
@@ -124,7 +124,7 @@ changed_found layers layer value old new p kind holds change by is =
           (some_is (added_kind value h.0) kind (sym (added_here value old new p h.0 by h.1) ∙ is)))
       | inr adds ↦ elim (last_place (deleted_position value) p (deleted_count value)) [
         | inl h ↦ absurd (cc (
-          sym (by.adds.kept p adds ∙ (ap (stop_at by.between) (sym h.1.at) ∙ by.deletes.gone h.0
+          sym (by.adds.kept p adds ∙ (ap by.between (sym h.1.at) ∙ by.deletes.gone h.0
               h.1.within)),
           is,
         ))
@@ -133,9 +133,9 @@ changed_found layers layer value old new p kind holds change by is =
       ]
     ]
 
-changed_there : (layers : List Properties) (layer : Properties) (value : List ℕ) (old new : StopTree) (tab : Tab) →
+changed_there : (layers : List Properties) (layer : Properties) (value : List ℕ) (old new : KindsOfStops) (tab : Tab) →
     HoldsStops layers old → HasTabChange layer value → ChangesBy value old new → HasStop (layers ++ layer ∷ []) tab →
-    stop_at new tab.at ≡ Some tab.kind
+    new tab.at ≡ Some tab.kind
 changed_there layers layer value old new tab holds change by h =
     elim (which_stop layers layer tab h) [
       | inl new_one ↦
@@ -167,7 +167,7 @@ changed_there layers layer value old new tab holds change by h =
       ]
     ]
 
-pub stops_more : (layers : List Properties) (layer : Properties) (old new : StopTree) → HoldsStops layers old →
+pub stops_more : (layers : List Properties) (layer : Properties) (old new : KindsOfStops) → HoldsStops layers old →
     ChangesByLayer layer old new → HoldsStops (layers ++ layer ∷ []) new
 stops_more layers layer old new holds changes =
     elim changes [

@@ -9,11 +9,11 @@ use Rattle.std.specs.Cmp.{signed_Decides}
 use Rattle.std.specs.List.{slice_get, Contains}
 use Rattle.std.specs.List.Sorted.{IsStrictlySortedBy}
 use Rattle.std.specs.Map.{keys_of}
-use Rattle.std.specs.BTreeMap.{is_at, IsOrdered}
+use Rattle.std.specs.BTreeMap.{BTreeMap, is_at, IsOrdered}
 use Rattle.prop_map.specs.Settings.{Properties}
 use Rattle.effective_props.specs.declared.tabs.Tab.{Tab}
 use Rattle.effective_props.specs.Stops.{AreStops}
-use Rattle.effective_props.specs.StopSteps.{StopTree, tab_of}
+use Rattle.effective_props.specs.StopSteps.{kinds_in, tab_of}
 use Rattle.effective_props.proofs.PlaceLemmas.{get_within, some_is}
 use Rattle.effective_props.proofs.StopLemmas.{HoldsStops}
 
@@ -45,7 +45,7 @@ contains_at xs i x e = (i, get_within xs i x e, get_or_from_slice_get xs i x x e
 pub at_contains : {X : Type 0} → (xs : List X) (x : X) → (h : Contains xs x) → slice_get xs h.0 ≡ Some x
 at_contains xs x h = slice_get-get_or xs h.0 x h.1 ∙ ap Some h.2
 
-pub stops_listed : (layers : List Properties) (stops : StopTree) (tabs : List Tab) → HoldsStops layers stops →
+pub stops_listed : (layers : List Properties) (stops : BTreeMap ℤ ℕ) (tabs : List Tab) → HoldsStops layers (kinds_in stops) →
     IsOrdered int_cmp stops → tabs ≡ map tab_of stops.entries → AreStops layers tabs
 stops_listed layers stops tabs holds ordered is = record {
   ascending = subst (λ ps. IsStrictlySortedBy int_cmp ps) (sym (ap (map (λ (tab : Tab). tab.at)) is ∙ ats_of

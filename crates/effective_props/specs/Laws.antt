@@ -6,6 +6,7 @@ use Rattle.std.specs.FinMap.{get}
 use Rattle.sprm_table.specs.Codes.{class_of}
 use Rattle.prop_map.specs.Settings.{Properties}
 use Rattle.style_sheet.specs.Sheet.{Sheet}
+use Rattle.style_sheet.specs.Chain.{style_kind_at, HasSoundBases}
 use Rattle.effective_props.specs.declared.tabs.Tab.{Tab}
 use Rattle.effective_props.specs.declared.effective.ParaEffect.{ParaEffect}
 use Rattle.effective_props.specs.Toggles.{is_keep, is_turn, opposite, toggle_value}
@@ -73,3 +74,15 @@ abbrev pub EffectiveParagraphIsOne : Type 0
 EffectiveParagraphIsOne =
     (sheet : Sheet) (istd : ℕ) (direct : Properties) (one other : ParaEffect) →
     IsEffectiveParagraph sheet istd direct one → IsEffectiveParagraph sheet istd direct other → one ≡ other
+
+-- where the bases of a sheet are sound, what is in effect for a character of a paragraph with a style is there
+abbrev pub EffectiveCharactersExist : Type 0
+EffectiveCharactersExist =
+    (sheet : Sheet) (istd : ℕ) (direct : Properties) → HasSoundBases sheet → style_kind_at sheet istd ≡ 1 →
+    (map : Properties) × IsEffectiveCharacter sheet istd direct map
+
+-- and for the mark of the paragraph
+abbrev pub EffectiveParagraphsExist : Type 0
+EffectiveParagraphsExist =
+    (sheet : Sheet) (istd : ℕ) (direct : Properties) → HasSoundBases sheet → style_kind_at sheet istd ≡ 1 →
+    (effect : ParaEffect) × IsEffectiveParagraph sheet istd direct effect

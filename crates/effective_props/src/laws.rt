@@ -1,6 +1,7 @@
 // Laws over the definitions alone.
 ghost use Rattle.effective_props.specs.Laws.{ToggleIsSaidByLastValue, LastLayerDecides, EffectiveMapIsOne, StopsAreOne};
 ghost use Rattle.effective_props.specs.Laws.{EffectiveCharacterIsOne, EffectiveParagraphIsOne};
+ghost use Rattle.effective_props.specs.Laws.{EffectiveCharactersExist, EffectiveParagraphsExist};
 
 /// A toggle is said by its last value that goes by nothing, and by how often later values turn it
 /// round.
@@ -31,4 +32,14 @@ pub fn effective_character_is_one()
 /// A paragraph mark has one map of effective properties, and one list of tab stops.
 pub fn effective_paragraph_is_one()
     ensures { EffectiveParagraphIsOne }
+{}
+
+/// A character of a paragraph with a style has effective properties.
+pub fn effective_characters_exist()
+    ensures { EffectiveCharactersExist }
+{}
+
+/// A paragraph mark with a style has effective properties and tab stops.
+pub fn effective_paragraphs_exist()
+    ensures { EffectiveParagraphsExist }
 {}

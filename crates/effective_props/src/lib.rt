@@ -13,8 +13,9 @@ mod values;
 
 pub use effective::{ParaEffect, effective_char, effective_para};
 pub use laws::{
-    effective_character_is_one, effective_map_is_one, effective_paragraph_is_one,
-    last_layer_decides, stops_are_one, toggle_is_said_by_last_value,
+    effective_character_is_one, effective_characters_exist, effective_map_is_one,
+    effective_paragraph_is_one, effective_paragraphs_exist, last_layer_decides, stops_are_one,
+    toggle_is_said_by_last_value,
 };
 pub use tabs::{Tab, Tabs};
 pub use toggles::{TOGGLE_AS_STYLE, TOGGLE_OPPOSITE, is_byte};

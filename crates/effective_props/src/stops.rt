@@ -4,7 +4,7 @@ ghost use Rattle.std.specs.Ordering.{int_cmp};
 ghost use Rattle.std.specs.BTreeMap.{IsOrdered, Updates};
 ghost use Rattle.effective_props.specs.TabChange.{deleted_count, added_count};
 ghost use Rattle.effective_props.specs.Stops.{AreStops};
-ghost use Rattle.effective_props.specs.StopSteps.{ChangesByLayer, DeletesUpTo, AddsUpTo, tab_of};
+ghost use Rattle.effective_props.specs.StopSteps.{ChangesByLayer, DeletesUpTo, AddsUpTo, kinds_in, tab_of};
 
 use crate::tab_change::TabChange;
 use crate::{Tab, Tabs};
@@ -40,7 +40,7 @@ fn tabs_of(alloc: Global, stops: BTreeMap<i16, u8>) -> Result<Tabs, Memory>
 
 /// Deletes and adds the stops that a layer names.
 fn change_by_layer(stops: &mut BTreeMap<i16, u8>, layer: &PropMap) -> Result<(), Memory>
-    ensures { OnOk result (ChangesByLayer layer.now stops.old stops.new) }
+    ensures { OnOk result (ChangesByLayer layer.now (kinds_in stops.old) (kinds_in stops.new)) }
 {
     if let Some(value) = layer.get(SPRM_P_CHG_TABS_PAPX) {
         if let Some(change) = TabChange::of(value) {
@@ -53,7 +53,7 @@ fn change_by_layer(stops: &mut BTreeMap<i16, u8>, layer: &PropMap) -> Result<(),
 
 /// Deletes the stops of a change.
 fn delete(stops: &mut BTreeMap<i16, u8>, change: &TabChange<'_>)
-    ensures { DeletesUpTo change.now (deleted_count change.now) stops.old stops.new }
+    ensures { DeletesUpTo change.now (deleted_count change.now) (kinds_in stops.old) (kinds_in stops.new) }
 {
     for i in 0..change.deleted() {
         stops.remove(&change.deleted_position(i));
@@ -62,7 +62,7 @@ fn delete(stops: &mut BTreeMap<i16, u8>, change: &TabChange<'_>)
 
 /// Adds the stops of a change.
 fn add(stops: &mut BTreeMap<i16, u8>, change: &TabChange<'_>) -> Result<(), Memory>
-    ensures { OnOk result (AddsUpTo change.now (added_count change.now) stops.old stops.new) }
+    ensures { OnOk result (AddsUpTo change.now (added_count change.now) (kinds_in stops.old) (kinds_in stops.new)) }
 {
     for i in 0..change.added() {
         put(stops, change.added_tab(i))?;

@@ -45,7 +45,7 @@ pub(crate) fn mended_sheet(
     }
 }
 
-/// The same by the streams of the file.
+/// The copy with the sheet that keeps a rule, if one does, made by the streams of the file.
 fn mended_by(
     alloc: Global,
     container: &Container,

@@ -46,7 +46,7 @@ pub(crate) fn sheet_among(container: &Container) -> Option<SheetPlace<'_>>
     None
 }
 
-/// The same by one of them, where it is `WordDocument`.
+/// The style sheet of a file that one of its streams leads to, where it is `WordDocument`.
 fn sheet_by(container: &Container, i: usize) -> Option<SheetPlace<'_>>
     requires { i < length container.now.streams }
     ensures { MatchOption result
@@ -79,7 +79,7 @@ fn sheet_for<'a>(container: &'a Container, wd: &[u8]) -> Option<SheetPlace<'a>>
     None
 }
 
-/// The same in one of the streams, where it is the table stream.
+/// The style sheet in one of the streams, where it is the table stream.
 fn sheet_in<'a>(container: &'a Container, i: usize, wd: &[u8]) -> Option<SheetPlace<'a>>
     requires within { i < length container.now.streams }
     requires long { 900 ≤ length wd.now }

@@ -34,7 +34,7 @@ pub(crate) fn last_value(list: &[u8], sought: Sought) -> Option<&[u8]>
     }
 }
 
-/// The same of a list that is not cut short.
+/// The value that the last such sprm has in a list that is not cut short.
 fn value_of_last(list: &[u8], sought: Sought) -> Option<&[u8]>
     requires { IsAcceptedList list.now 0 }
     ensures { (prls : List Prl) → SpellsSprmList list.now prls →

@@ -205,7 +205,7 @@ fn stays_short(alloc: Global, mark: &Option<Mark>, cells: &[u8]) -> Result<bool,
     }
 }
 
-/// The same of the properties.
+/// Whether these properties of a mark fit a page with these cells.
 fn is_short(alloc: Global, pap: &PropMap, cells: &[u8]) -> Result<bool, Memory>
     requires { IsPropertyMap paragraph_groups pap.now }
     ensures { IfOk result (λ short. short ≡ is_short_pap pap.now cells.now) }

@@ -17,4 +17,5 @@ mod DocumentValueLemmas
 mod FitLemmas
 mod OutlineLemmas
 mod LabelLemmas
+mod PlacedLemmas
 mod FontLemmas

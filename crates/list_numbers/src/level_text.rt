@@ -1,9 +1,10 @@
 // The number of a level, by how far it and those below it have counted.
-ghost use Rattle.std.specs.Prelude.{◌≡◌, ◌++◌, ◌<◌, length, slice_index, OnOk, IfOk};
+ghost use Rattle.std.specs.Prelude.{◌≡◌, ◌++◌, ◌∷◌, [], ◌<◌, ◌≤◌, ℕ, List, length, take, slice_index, OnOk, IfOk};
 ghost use Rattle.std.specs.List.{flat_map};
 ghost use Rattle.list_numbers.specs.NumberText.{numeral_in};
 ghost use Rattle.list_numbers.specs.Counts.{list_value};
 ghost use Rattle.list_numbers.specs.Numbers.{text_within, placed_unit, number_units};
+ghost use Rattle.doc_parts.specs.Tabulated.{tabulate};
 
 use crate::level::Level;
 use crate::levels::Levels;
@@ -14,6 +15,9 @@ use std::alloc::Global;
 
 /// Units from here on represent themselves.
 const PLACEHOLDERS: u16 = 9;
+
+/// In a text of more units the number of each level is made once.
+const FEW_UNITS: usize = 64;
 
 /// The units of a number at a level of a list.
 pub(crate) fn number_units(
@@ -66,10 +70,85 @@ fn push_text(
     ensures { OnOk result (units.new ≡ units.old
         ++ flat_map (placed_unit levels.now own (λ level. slice_index counts.now level)) text.now) }
 {
+    if text.len() > FEW_UNITS {
+        let numbers = numbers_within(alloc, levels, own, counts)?;
+        push_long(units, &numbers, text)?;
+        return Ok(());
+    }
     for unit in text {
         push_placed(alloc, units, levels, own, counts, *unit)?;
     }
     Ok(())
+}
+
+/// What each unit below 9 represents.
+#[tactic(auto, using(crate::proofs::TabulatedLemmas::tabulate_steps))]
+fn numbers_within(
+    alloc: Global,
+    levels: &Levels,
+    own: usize,
+    counts: &[u32],
+) -> Result<Vec<Units>, Memory>
+    ensures { IfOk result (λ numbers. numbers.items
+        ≡ tabulate (placed_unit levels.now own (λ level. slice_index counts.now level)) 9) }
+{
+    let mut numbers = Vec::new(alloc);
+    for unit in 0..PLACEHOLDERS {
+        let mut number = Units::new(alloc);
+        push_placed(alloc, &mut number, levels, own, counts, unit)?;
+        numbers.push(number)?;
+    }
+    Ok(numbers)
+}
+
+/// Appends a text, each unit below 9 replaced by its number of these.
+fn push_long(units: &mut Units, numbers: &[Units], text: &[u16]) -> Result<(), Memory>
+    requires { length numbers.now ≡ 9 }
+    ensures { OnOk result ((represented : ℕ → List ℕ) → numbers.now ≡ tabulate represented 9
+        → ((unit : ℕ) → 9 ≤ unit → represented unit ≡ unit ∷ [])
+        → units.new ≡ units.old ++ flat_map represented text.now) }
+{
+    let mut done = 0;
+    while done < text.len() {
+        done += push_front(units, numbers, &text[done..])?;
+    }
+    Ok(())
+}
+
+/// Appends what one or more units of the front of a text represent, and counts them. Those that represent themselves
+/// are appended at once.
+fn push_front(units: &mut Units, numbers: &[Units], text: &[u16]) -> Result<usize, Memory>
+    requires some { 0 < length text.now }
+    requires numbers { length numbers.now ≡ 9 }
+    ensures some { IfOk result (λ count. 0 < count) }
+    ensures within { IfOk result (λ count. count ≤ length text.now) }
+    ensures units { IfOk result (λ count. (represented : ℕ → List ℕ) → numbers.now ≡ tabulate represented 9
+        → ((unit : ℕ) → 9 ≤ unit → represented unit ≡ unit ∷ [])
+        → units.new ≡ units.old ++ flat_map represented (take count text.now)) }
+{
+    let first = text[0];
+    if first < PLACEHOLDERS {
+        units.push_all(numbers[first as usize].as_slice())?;
+        return Ok(1);
+    }
+    let count = plain_len(text);
+    units.push_all(&text[..count])?;
+    Ok(count)
+}
+
+/// How many units at the front of a text represent themselves, where the first one does.
+fn plain_len(text: &[u16]) -> usize
+    requires some { 0 < length text.now }
+    requires first { 9 ≤ slice_index text.now 0 }
+    ensures some { 0 < result }
+    ensures within { result ≤ length text.now }
+    ensures plain { (k : ℕ) → k < result → 9 ≤ slice_index text.now k }
+{
+    let mut count = 1;
+    while count < text.len() && text[count] >= PLACEHOLDERS {
+        count += 1;
+    }
+    count
 }
 
 /// Appends what a unit of a text represents.

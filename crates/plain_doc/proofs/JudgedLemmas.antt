@@ -13,7 +13,7 @@ use Rattle.plain_doc.specs.RulesOfSheet.{HasShortStyle, FitsStd, heads_of_sectio
 use Rattle.plain_doc.specs.Sound.{IsSound, IsValidSheet}
 use Rattle.plain_doc.specs.TextRules.{BreaksText}
 use Rattle.plain_doc.specs.TextWalk.{KeepsTextRules, AreValidTexts, AreTextsRight, HasTextCounts}
-use Rattle.plain_doc.proofs.BookmarkRuleLemmas.{none_wrong_bookmarks}
+use Rattle.doc_model.proofs.Public.{right_names}
 use Rattle.plain_doc.proofs.SheetLemmas.{no_style, texts_after}
 use Rattle.plain_doc.proofs.TextPlaceLemmas.{first_in_heads}
 use Rattle.plain_doc.proofs.TextWalkLemmas.{texts_right}
@@ -50,7 +50,7 @@ judged_sound document counts texts sheet right = record {
             λ place w. w.1 (right.heads ∙ ap heads_of_sections right.counted.sections),
             (
               λ place w. omega (arith, w.1, right.few),
-              none_wrong_bookmarks document right.few_bookmarks right.names,
+              λ place w. right_names document.bookmarks right.few_bookmarks right.names place.1 w.1,
             ),
           ),
         ),

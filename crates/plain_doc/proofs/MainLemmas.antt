@@ -27,7 +27,7 @@ pub main_right : (document : Document) → IsValidDocument document → IsValidT
 main_right document right = right.texts Main document.main refl
 
 -- a text that ends with the unit of a paragraph's end has an item there
-ends_with_mark : (text : List Item) → last_unit text ≡ Some paragraph_mark → HasLastMark text
+pub ends_with_mark : (text : List Item) → last_unit text ≡ Some paragraph_mark → HasLastMark text
 ends_with_mark text unit = elim (slice_get_cases text (length text - 1)).1 [
   | inl w ↦
       let within = slice_get_within text (length text - 1) w.0 w.2 in

@@ -10,8 +10,8 @@ pub use Rattle.plain_doc.proofs.JudgedLemmas.{all_texts, judged_sound}
 -- The terms of the laws, for crates above.
 pub use Rattle.plain_doc.proofs.LawLemmas.{cut_into_stretches, equal_are_same}
 -- What a right document says of its main text: how it ends, and what follows each of its items.
-pub use Rattle.plain_doc.proofs.MainLemmas.{ends_main, item_map, last_marked, main_ends, main_right, maps_there}
-pub use Rattle.plain_doc.proofs.MainLemmas.{some_end}
+pub use Rattle.plain_doc.proofs.MainLemmas.{ends_main, ends_with_mark, item_map, last_marked, main_ends, main_right}
+pub use Rattle.plain_doc.proofs.MainLemmas.{maps_there, some_end}
 -- In a right text a mark is exactly where a paragraph ends.
 pub use Rattle.plain_doc.proofs.MarkedLemmas.{marked_at_ends}
 -- Going through the field characters with the open fields in hand finds exactly what nests.

@@ -1,12 +1,12 @@
 // The rules on documents, checked in their order. No memory is taken.
 ghost use Rattle.std.specs.Prelude.{◌≡◌, MatchResult};
-ghost use Rattle.doc_bits.specs.Rules.{Hold, Nowhere, rule as rule_of};
+ghost use Rattle.doc_bits.specs.Rules.{Hold, LeastOrNone, Nowhere, rule as rule_of};
 ghost use Rattle.doc_bits.specs.Places.{LeastPlaceOrNone};
-ghost use Rattle.doc_model.specs.Marks.{HasFormedBookmarks, HasWrongBookmarks};
+ghost use Rattle.doc_model.specs.Marks.{AreWrongBookmarks, HasWrongBookmarks};
 ghost use Rattle.plain_doc.specs.RulesOfTexts.{InTexts};
 ghost use Rattle.plain_doc.specs.TextRules.{BreaksText};
 ghost use Rattle.plain_doc.specs.TextWalk.{HasTextCounts};
-ghost use Rattle.plain_doc.specs.Sound.{IsSound, NamesFirstRule, document_rules, text_rules, base_rules, count_rules};
+ghost use Rattle.plain_doc.specs.Sound.{NamesFirstRule, document_rules, text_rules, base_rules, count_rules};
 ghost use Rattle.plain_doc.specs.Sound.{size_rules, HasLongProperties};
 
 use crate::Document;
@@ -14,6 +14,7 @@ use crate::rules_counts::{Counts, HEADERS_PER_SECTION, SEPARATORS, all_items, co
 use crate::rules_sheet::{StyleRule, wrong_style};
 use crate::rules_texts::{ItemRule, TextRule, first_in_texts};
 use doc_bits::Where;
+use document_bookmarks::Bookmarks;
 use thiserror::Error;
 
 const RULE_ENDS: u8 = 60;
@@ -56,14 +57,25 @@ pub struct DocFault {
     pub at: u32,
 }
 
-/// Checks a document by the rules 60 to 71.
+/// Checks a document by the rules 60 to 71. Its bookmarks may be in any order. No memory is taken.
 pub fn check(document: &Document) -> Result<(), DocFault>
-    requires { HasFormedBookmarks document.now }
-    ensures { MatchResult result (λ _. IsSound document.now) (NamesFirstRule (document_rules document.now)) }
+    ensures { MatchResult result
+        (λ _. Hold (document_rules document.now))
+        (NamesFirstRule (document_rules document.now)) }
+{
+    check_with(document, wrong_bookmarks(&document.bookmarks))
+}
+
+/// Checks a document by the rules 60 to 71, where it is known at which place its bookmarks break rule 69.
+pub fn check_with(document: &Document, wrong: Option<u32>) -> Result<(), DocFault>
+    requires { LeastOrNone (AreWrongBookmarks document.now.bookmarks) wrong }
+    ensures { MatchResult result
+        (λ _. Hold (document_rules document.now))
+        (NamesFirstRule (document_rules document.now)) }
 {
     check_texts(document)?;
     check_bases(document)?;
-    check_counts(document, counts_in(document.main.as_slice()))?;
+    check_counts(document, counts_in(document.main.as_slice()), wrong)?;
     check_sizes(document, first_long(document))?;
     Ok(())
 }
@@ -103,9 +115,9 @@ fn check_bases(document: &Document) -> Result<(), DocFault>
 }
 
 /// Checks the numbers of texts, items and bookmarks, and the names of these, rules 66 to 69.
-fn check_counts(document: &Document, counts: Counts) -> Result<(), DocFault>
+fn check_counts(document: &Document, counts: Counts, wrong: Option<u32>) -> Result<(), DocFault>
     requires counts { HasTextCounts document.now.main counts }
-    requires bookmarks { HasFormedBookmarks document.now }
+    requires wrong { LeastOrNone (AreWrongBookmarks document.now.bookmarks) wrong }
     ensures { MatchResult result (λ _. Hold (count_rules document.now)) (NamesFirstRule (count_rules document.now)) }
 {
     let notes = document.notes.len();
@@ -119,24 +131,31 @@ fn check_counts(document: &Document, counts: Counts) -> Result<(), DocFault>
     if all_items(document) > MAX_ITEMS as u128 {
         return Err(fault(RULE_ITEMS, Where::Main, MAX_ITEMS));
     }
-    check_bookmarks(document)?;
+    check_bookmarks(document, wrong)?;
     Ok(())
 }
 
-/// Checks the number of bookmarks and their names, rule 69.
-fn check_bookmarks(document: &Document) -> Result<(), DocFault>
-    requires { HasFormedBookmarks document.now }
+/// Checks the bookmarks, rule 69, which they break at this place.
+fn check_bookmarks(document: &Document, wrong: Option<u32>) -> Result<(), DocFault>
+    requires { LeastOrNone (AreWrongBookmarks document.now.bookmarks) wrong }
     ensures { MatchResult result
         (λ _. Nowhere (HasWrongBookmarks document.now))
         (NamesFirstRule (rule_of 69 (HasWrongBookmarks document.now))) }
 {
-    if document.bookmarks.len() > MAX_BOOKMARKS {
-        return Err(fault(RULE_BOOKMARKS, Where::Main, 0));
-    }
-    match document.bookmarks.same_name() {
+    match wrong {
         None => Ok(()),
-        Some(from) => Err(fault(RULE_BOOKMARKS, Where::Main, from)),
+        Some(at) => Err(fault(RULE_BOOKMARKS, Where::Main, at)),
     }
+}
+
+/// Where the number of bookmarks or their names are wrong: at 0 where there are too many.
+fn wrong_bookmarks(bookmarks: &Bookmarks) -> Option<u32>
+    ensures { LeastOrNone (AreWrongBookmarks bookmarks.now) result }
+{
+    if bookmarks.len() > MAX_BOOKMARKS {
+        return Some(0);
+    }
+    bookmarks.same_name()
 }
 
 /// `long` is the first place where properties are too long.

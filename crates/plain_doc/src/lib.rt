@@ -19,7 +19,7 @@ pub use doc_model::{
     has_style_number, is_byte, is_word, paragraph_end, same_mark, same_section,
 };
 pub use fields::MAX_OPEN;
-pub use judge::{DocFault, MAX_BOOKMARKS, RULE_ITEMS, RULE_SETTINGS, RULE_STD, check};
+pub use judge::{DocFault, MAX_BOOKMARKS, RULE_ITEMS, RULE_SETTINGS, RULE_STD, check, check_with};
 pub use laws::{
     equal_properties_are_same, first_doc_fault_is_least, items_are_cut_into_stretches,
     sound_documents_are_valid, sound_sheet_is_writable, stretches_are_one,

@@ -26,12 +26,12 @@ returns c = λ sound.
     let count : c.all_items.result ≡ item_count c.args.document.now = c.all_items.ensures in
     let few : item_count c.args.document.now ≤ most_items = omega (arith, count, c.if-all_items-gt-MAX_ITEMS.false) in
     let marks : AreValidBookmarks (length own.main) own.bookmarks =
-    subst (λ n. AreValidBookmarks n own.bookmarks) c.len.ensures.len (c.if-not-are_valid.ensures refl) in
+    subst (λ n. AreValidBookmarks n own.bookmarks) c.len.ensures.len (c.in_ok-are_valid.ensures c.if-not-branch.false) in
     let main =
     taken (λ (counts : Counts). KeepsTextRules own.sheet Main own.main × HasTextCounts own.main counts) _ counts
     c.in-Some.is c.in_ok-counts.ensures in
-    let notes = c.in_ok-are_valid_texts.ensures c.if-not-branch.false in
-    let heads = c.in_ok-are_valid_texts-2.ensures c.if-not-branch-2.false in
+    let notes = c.in_ok-are_valid_texts.ensures c.if-not-branch-2.false in
+    let heads = c.in_ok-are_valid_texts-2.ensures c.if-not-branch-3.false in
     let fit = c.if-not-fit_counts.ensures refl in
     subst IsSound c.document.view_is
     (judged_sound seen counts (all_texts seen main.0 notes heads) (c.is_valid_sheet.ensures sound) (record {

@@ -26,21 +26,21 @@ returns-in_err-refuse-3 c =
     c.wrong_root.ensures in
     let tree = subst (λ d. LeastOrNone (BreaksTree c.args.file.now d) c.in_ok-tree.tree) c.deref-3.ensures.value
     c.in_ok-tree.ensures in
-    let names = subst (λ d. LeastOrNone (BreaksName c.args.file.now d) c.wrong_names.result) c.deref-5.ensures.value
-    c.wrong_names.ensures in
+    let names = subst (λ d. LeastOrNone (BreaksName c.args.file.now d) c.in_ok-names.names) c.deref-5.ensures.value
+    c.in_ok-names.ensures in
     let p = err_from_is_err_and c.from_residual-in_err-refuse-3.result c.from_residual-in_err-refuse-3.ensures.1 in
     rw (p.1, p.2)
     (names_fault c.args.file.now c.args.directory.items c.in_err-refuse-3.field-0.0
     (none_nowhere (BreaksRoot c.args.file.now c.args.directory.items) c.wrong_root.result root c.in_ok-refuse.ensures)
     (none_nowhere (BreaksTree c.args.file.now c.args.directory.items) c.in_ok-tree.tree tree c.in_ok-refuse-2.ensures)
-    (refused_first 9 (BreaksName c.args.file.now c.args.directory.items) c.wrong_names.result
+    (refused_first 9 (BreaksName c.args.file.now c.args.directory.items) c.in_ok-names.names
     c.in_err-refuse-3.field-0.0 names c.in_err-refuse-3.ensures))
 
 pub list_streams-requires-clause-names : goal.list_streams-requires-clause-names
 list_streams-requires-clause-names c =
     let same = c.deref-5.ensures.value ∙ sym c.deref-7.ensures.value in
     subst (λ d. Nowhere (BreaksName c.args.file.now d)) same
-    (none_nowhere (BreaksName c.args.file.now c.deref-5.result.now) c.wrong_names.result c.wrong_names.ensures
+    (none_nowhere (BreaksName c.args.file.now c.deref-5.result.now) c.in_ok-names.names c.in_ok-names.ensures
     c.in_ok-refuse-3.ensures)
 
 pub invariant_of-result : goal.invariant_of-result
@@ -56,7 +56,7 @@ invariant_of-result c = record {
       (none_nowhere (BreaksTree c.args.file.now c.deref-3.result.now) c.in_ok-tree.tree c.in_ok-tree.ensures
       c.in_ok-refuse-2.ensures);
   names = subst (λ d. Nowhere (BreaksName c.args.file.now d)) c.deref-5.ensures.value
-      (none_nowhere (BreaksName c.args.file.now c.deref-5.result.now) c.wrong_names.result c.wrong_names.ensures
+      (none_nowhere (BreaksName c.args.file.now c.deref-5.result.now) c.in_ok-names.names c.in_ok-names.ensures
       c.in_ok-refuse-3.ensures);
   in_order = subst (λ d. ListsStreams c.args.file.now d c.in_ok-streams.streams.items) c.deref-7.ensures.value
       c.in_ok-streams.ensures.lists;

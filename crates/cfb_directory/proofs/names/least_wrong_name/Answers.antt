@@ -3,7 +3,7 @@ use Rattle.doc_bits.specs.Rules.{Among, LeastOrNone}
 use Rattle.doc_bits.proofs.Public.{least_none, least_step}
 use Rattle.cfb_directory.specs.Reach.{IsWrongName}
 use Rattle.cfb_directory.proofs.ReachLemmas.{reached_least}
-use Rattle.cfb_directory.proofs.names.wrong_names.Goals as goal
+use Rattle.cfb_directory.proofs.names.least_wrong_name.Goals as goal
 
 pub loop-entry-init : goal.loop-entry-init
 loop-entry-init c = least_none (λ i. IsWrongName c.args.file.now c.args.directory.now (slice_index c.args.order.now i))
