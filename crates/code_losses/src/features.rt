@@ -33,7 +33,7 @@ fn push_skipped(
 ) -> Result<(), Memory>
     ensures { OnOk result (features.new.items ≡ features.old.items ++ skipped_of kind code count) }
 {
-    if kind.keeps(Code(code)) || count == 0 {
+    if count == 0 || kind.keeps(Code(code)) {
         return Ok(());
     }
     features.push(TextFeature::Skipped { kind, code, count })?;
@@ -49,7 +49,7 @@ fn push_repeated(
 ) -> Result<(), Memory>
     ensures { OnOk result (features.new.items ≡ features.old.items ++ repeated_of kind code count) }
 {
-    if !is_added(Code(code)) || count == 0 {
+    if count == 0 || !is_added(Code(code)) {
         return Ok(());
     }
     features.push(TextFeature::Repeated { kind, code, count })?;

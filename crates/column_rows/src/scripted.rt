@@ -1,6 +1,8 @@
 // The document that a script makes of the blank one.
 ghost use Rattle.std.specs.Prelude.{IsTrue};
-ghost use Rattle.plain_doc.specs.Sound.{IsSound};
+ghost use Rattle.doc_bits.specs.Rules.{Hold};
+ghost use Rattle.doc_model.specs.Marks.{HasFormedBookmarks};
+ghost use Rattle.plain_doc.specs.Sound.{IsSound, document_rules};
 
 use crate::lent::is_made;
 use doc_bits::Memory;
@@ -86,7 +88,27 @@ fn make(alloc: Global, document: &mut Document, command: &Command) {
 pub fn breaks_none(document: &Document) -> bool
     ensures { IsTrue result → IsSound document.now }
 {
-    document.bookmarks.are_formed(document.main.len()) && check(document).is_ok()
+    if !has_formed_bookmarks(document) {
+        return false;
+    }
+    keeps_rules(document)
+}
+
+/// Whether the bookmarks of a document are formed.
+fn has_formed_bookmarks(document: &Document) -> bool
+    ensures { IsTrue result → HasFormedBookmarks document.now }
+{
+    document.bookmarks.are_formed(document.main.len())
+}
+
+/// Whether a document breaks no rule.
+fn keeps_rules(document: &Document) -> bool
+    ensures { IsTrue result → Hold (document_rules document.now) }
+{
+    match check(document) {
+        Ok(()) => true,
+        Err(_) => false,
+    }
 }
 
 /// Whether a document by columns has the items and all else of a plain one.

@@ -5,7 +5,7 @@ use Rattle.std.proofs.Common.{false, ◌&&◌, ◌||◌, not, List, [], ◌∷�
 use Rattle.std.proofs.Common.{Option, Some, None, All, add-one, append_assoc, arith}
 use Rattle.std.specs.List.{filter_map, flat_map}
 use Rattle.std.proofs.Math.Seq.{take-append_seam, drop-append_seam}
-use Rattle.std.proofs.lemmas.Bool.{cases_lt, eqb-true}
+use Rattle.std.proofs.lemmas.Bool.{cases_lt}
 use Rattle.std.proofs.lemmas.Grind.{flat_map-append}
 use Rattle.std.proofs.lemmas.List.{get_or-take, get_or-drop, get_or_past, length-take}
 use Rattle.std.proofs.lemmas.List.Elements.{All-head, All-take, All-drop}
@@ -40,41 +40,16 @@ use Rattle.doc_mends.specs.declared.mends.Mend.{Mend}
 use Rattle.doc_mends.specs.Mends.{all_struck, struck_ranges}
 use Rattle.doc_mends.specs.Sides.{side_name}
 use Rattle.deleted_text.specs.declared.ranges.StoryBegins.{StoryBegins}
-use Rattle.deleted_text.specs.Deletions.{deleted_by, SaysDeleted}
+use Rattle.deleted_text.specs.Deletions.{SaysDeleted}
 use Rattle.deleted_text.specs.Places.{IsDeletedAt}
 use Rattle.deleted_text.specs.Ranges.{is_deleted, run_end, range_at, text_ranges, text_flags, texts_ranges}
 use Rattle.deleted_text.specs.Ranges.{items_before, document_ranges, begins_of}
 use Rattle.deleted_text.specs.Strikes.{strike_mends}
 use Rattle.deleted_text.specs.Texts.{AreTextDeletions, IsStruckText}
+use Rattle.deleted_text.proofs.CodeLemmas.{deletion_there}
 use Rattle.deleted_text.proofs.PlaceLemmas.{nothing_said}
 
 -- ---- a list that says so has a fault
-
--- an entry of the code, among the others
-record HasDeletion (prls : List Prl) : Type 0 where
-  before : List Prl
-  entry : Prl
-  after : List Prl
-  joined : prls ≡ before ++ entry ∷ after
-  code : entry.0 ≡ 0x0800
-
-deletion_there : (prls : List Prl) → deleted_by false prls ≡ true → HasDeletion prls
-deletion_there [] says = absurd (cc says)
-deletion_there (prl ∷ prls) says = by_code (prl.0 == 0x0800) refl (λ rest. deletion_there prls rest)
-  where
-    by_code : (is : Bool) → (prl.0 == 0x0800) ≡ is → (deleted_by false prls ≡ true → HasDeletion prls) →
-        HasDeletion (prl ∷ prls)
-    by_code true is there =
-        record { before = []; entry = prl; after = prls; joined = refl; code = eqb-true prl.0 0x0800 is }
-    by_code false is there =
-        let rest = there (rw is at says) in
-        record {
-          before = prl ∷ rest.before;
-          entry = rest.entry;
-          after = rest.after;
-          joined = ap (λ (l : List Prl). prl ∷ l) rest.joined;
-          code = rest.code;
-        }
 
 -- the group of characters has the code, and it is not read
 refused_code : (code : ℕ) → code ≡ 0x0800 → IsRefusedIn character_groups code

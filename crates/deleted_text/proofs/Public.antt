@@ -9,4 +9,4 @@ pub use Rattle.deleted_text.proofs.PlaceLemmas.{spells_nothing}
 -- Ranges of texts, one after the other.
 pub use Rattle.deleted_text.proofs.RangeLemmas.{all_joined, left_more}
 -- What striking leaves as it was.
-pub use Rattle.deleted_text.proofs.StrikeLemmas.{struck_formed}
+pub use Rattle.deleted_text.proofs.StrikeLemmas.{struck_formed, struck_units}

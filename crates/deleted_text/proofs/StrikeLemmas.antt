@@ -1,5 +1,5 @@
 -- What striking leaves as it was.
-use Rattle.std.proofs.Common.{◌≡◌, sym, subst, refl, ℕ, List, [], ◌∷◌, length, arith}
+use Rattle.std.proofs.Common.{◌≡◌, ◌∙◌, ap, sym, subst, refl, ℕ, List, [], ◌∷◌, length, arith}
 use Rattle.std.proofs.lemmas.List.Elements.{All-head, All-tail}
 use Rattle.doc_bits.specs.declared.places.Story.{Story}
 use Rattle.doc_bits.specs.declared.places.Story.TheVariants.{Main, Note, Head}
@@ -10,7 +10,8 @@ use Rattle.doc_patch.specs.Changes.{changed, modified_item}
 use Rattle.doc_patch.specs.Places.{HasText, HasRange}
 use Rattle.doc_mends.specs.declared.mends.DeletedRange.{DeletedRange}
 use Rattle.doc_mends.specs.Mends.{AreRanges, all_struck, can_strike, strike_of, striking, struck_ranges}
-use Rattle.doc_mends.proofs.Public.{ranges_stay, filtered, length-map_range}
+use Rattle.doc_mends.specs.UnitsStay.{units_of}
+use Rattle.doc_mends.proofs.Public.{ranges_stay, filtered, length-map_range, modified_units}
 use Rattle.file_rules.specs.FileRules.{FileText}
 use Rattle.doc_mends.specs.declared.mends.Mend.{Mend}
 use Rattle.deleted_text.specs.Ranges.{begins_of}
@@ -58,6 +59,25 @@ struck_formed text meant struck mends formed is =
     subst (AreRanges meant) (sym is.deleted.are) (ranges_there (begins_of text.wd) is.deleted.flags meant) in
     subst HasFormedBookmarks (sym is.is.document_is)
     (all_formed (struck_ranges meant is.ranges) meant (filtered (can_strike meant) meant is.ranges there) formed)
+
+-- units stay
+all_units : (ranges : List DeletedRange) (document : Document) (story : Story) → AreRanges document ranges →
+    units_of (all_struck ranges document) story ≡ units_of document story
+all_units [] document story are = refl
+all_units (range ∷ ranges) document story are =
+    let Is : DeletedRange → Type 0 = λ r. HasText document r.story (HasRange r.from r.to) in
+    let here = All-head Is range ranges are in
+    let rest = All-tail Is range ranges are in
+    all_units ranges (changed (strike_of range) document) story (ranges_stay document range ranges here rest)
+    ∙ modified_units document range.story story range.from range.to striking here
+
+pub struck_units : (text : FileText) (meant struck : Document) (mends : List Mend) (story : Story) →
+    IsStruckText text meant struck mends → units_of struck story ≡ units_of meant story
+struck_units text meant struck mends story is =
+    let there : AreRanges meant is.ranges =
+    subst (AreRanges meant) (sym is.deleted.are) (ranges_there (begins_of text.wd) is.deleted.flags meant) in
+    ap (λ (d : Document). units_of d story) is.is.document_is
+    ∙ all_units (struck_ranges meant is.ranges) meant story (filtered (can_strike meant) meant is.ranges there)
 
 -- where no range is, nothing is struck
 pub no_strikes : (document : Document) (ranges : List DeletedRange) → length ranges ≡ 0 →

@@ -1,6 +1,8 @@
 -- [MS-DOC] sprmCFRMarkDel: the list of a text says that a reviser deleted it.
-use Rattle.std.specs.Prelude.{◌≡◌, ℕ, ◌==◌, Bool, true, false, not, List, Option, Some, None, slice_index}
+use Rattle.std.specs.Prelude.{◌≡◌, ◌≢◌, ℕ, ◌+◌, ◌≤◌, ◌==◌, Bool, true, false, not, List, length, Option, Some, None}
+use Rattle.std.specs.Prelude.{slice_index}
 use Rattle.std.specs.List.{filter, last_or}
+use Rattle.doc_bits.specs.Number.{u16_at}
 use Rattle.sprm_table.specs.Sprm.{Prl, SpellsSprmList}
 
 abbrev pub is_deletion : Prl → Bool
@@ -20,3 +22,7 @@ pub record SaysDeleted (list : List ℕ) : Type 0 where
   pub prls : List Prl
   pub spelt : SpellsSprmList list prls
   pub deleted : deleted_by false prls ≡ true
+
+-- no word of these bytes, wherever it begins, is the code
+abbrev pub LacksCode : List ℕ → Type 0
+LacksCode bytes = (at : ℕ) → at + 2 ≤ length bytes → u16_at bytes at ≢ 0x0800

@@ -5,6 +5,7 @@ use Rattle.std.specs.Prelude.{slice_index, slice_index_or, slice_range}
 use Rattle.fkp_pages.specs.declared.kind.PageKind.TheVariants.{Chpx}
 use Rattle.fkp_pages.specs.declared.kind.RunAnswer.{RunAnswer}
 use Rattle.fkp_pages.specs.declared.kind.RunAnswer.TheVariants.{Found, Empty, NoRun, BadCount, Leaves}
+use Rattle.fkp_pages.specs.Fkp.{page_run_count, HasRunCount, IsListOf}
 use Rattle.fkp_pages.specs.Properties.{HasListAt}
 use Rattle.deleted_text.specs.declared.places.Around.{Around}
 use Rattle.deleted_text.specs.Deletions.{SaysDeleted}
@@ -25,6 +26,12 @@ pub record AreDeletions (wd bin places : List ℕ) (flags : List Bool) : Type 0 
 abbrev pub IsAround : List ℕ → List ℕ → Around → Type 0
 IsAround wd bin around =
     (fc : ℕ) → around.first ≤ fc → fc ≤ around.last → (IsTrue around.deleted ↔ IsDeletedAt wd bin fc)
+
+-- no run of the page has a list that says so
+abbrev pub SaysNothing : List ℕ → Type 0
+SaysNothing page =
+    HasRunCount Chpx page → (run from to : ℕ) → run < page_run_count page → IsListOf Chpx page run from to →
+    ¬ SaysDeleted (slice_range page from to)
 
 -- the range of an answer is in the page
 abbrev pub IsInPage : List ℕ → RunAnswer → Type 0

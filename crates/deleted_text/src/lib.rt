@@ -2,6 +2,7 @@
 #![tactic(auto)]
 
 mod lists;
+mod pages;
 mod places;
 mod ranges;
 mod striking;

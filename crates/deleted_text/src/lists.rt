@@ -1,8 +1,9 @@
 // [MS-DOC] sprmCFRMarkDel: what a list says of whether a reviser deleted its text.
 ghost use Rattle.std.specs.Prelude.{◌≡◌, ◌↔◌, IsTrue, List, false, [], ◌∷◌};
 ghost use Rattle.sprm_table.specs.Sprm.{Prl, SpellsSprmList, IsAcceptedList};
-ghost use Rattle.deleted_text.specs.Deletions.{SaysDeleted, deleted_by};
+ghost use Rattle.deleted_text.specs.Deletions.{SaysDeleted, deleted_by, LacksCode};
 
+use doc_bits::get16;
 use sprm_table::{Code, SprmIter, list_fault};
 
 /// [MS-DOC] sprmCFRMarkDel.
@@ -12,10 +13,25 @@ const DELETED: Code = Code(0x0800);
 pub(crate) fn says_deleted(list: &[u8]) -> bool
     ensures { IsTrue result ↔ SaysDeleted list.now }
 {
+    if lacks_code(list) {
+        return false;
+    }
     match list_fault(list, 0) {
         None => last_says(list),
         Some(_) => false,
     }
+}
+
+/// Whether no word of a list is sprmCFRMarkDel.
+fn lacks_code(list: &[u8]) -> bool
+    ensures { IsTrue result → LacksCode list.now }
+{
+    for k in 1..list.len() {
+        if get16(list, k - 1) == DELETED.0 {
+            return false;
+        }
+    }
+    true
 }
 
 /// What the last such sprm of a list says.

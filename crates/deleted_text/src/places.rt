@@ -1,9 +1,11 @@
 // Byte places whose lists say that their text was deleted.
-ghost use Rattle.std.specs.Prelude.{◌≡◌, ◌↔◌, ◌+◌, ◌*◌, ◌<◌, ◌≤◌, IsTrue, IfOk, MatchOption, false, length};
+ghost use Rattle.std.specs.Prelude.{◌≡◌, ◌↔◌, ◌+◌, ◌*◌, ◌<◌, ◌≤◌, IsTrue, IfOk, MatchOption, false};
+ghost use Rattle.std.specs.Prelude.{length, replicate};
 ghost use Rattle.fkp_pages.specs.Bin.{IsBinTable, page_at};
 ghost use Rattle.deleted_text.specs.Places.{AreDeletions, AnswersDeleted, IsAround, IsDeletedAt, IsInPage};
 
 use crate::lists::says_deleted;
+use crate::pages::is_silent;
 use direct_props::Places;
 use doc_bits::{Memory, get32};
 use fkp_pages::{PAGE_LEN, RunAnswer, bin_range, chpx_stretch};
@@ -33,7 +35,20 @@ pub fn deleted_places(
     if !is_bin_table(bin) {
         return Ok(Vec::new(alloc));
     }
+    let silent = is_silent(alloc, wd, bin)?;
+    if silent {
+        return no_flags(alloc, places.len());
+    }
     flags_of(alloc, wd, bin, places)
+}
+
+/// So many flags, none of which is set.
+fn no_flags(alloc: Global, count: usize) -> Result<Vec<bool>, Memory>
+    ensures { IfOk result (λ flags. flags.items ≡ replicate count false) }
+{
+    let mut flags = Vec::with_capacity(alloc, count)?;
+    flags.resize(count, false)?;
+    Ok(flags)
 }
 
 /// Whether bytes are a bin table: its fcs ascend.
@@ -132,7 +147,7 @@ pub fn page_in(wd: &[u8], number: u32) -> Option<&[u8]>
 }
 
 /// Whether the list that a page answers says so.
-fn answers_deleted(page: &[u8], answer: RunAnswer) -> bool
+pub(crate) fn answers_deleted(page: &[u8], answer: RunAnswer) -> bool
     requires { IsInPage page.now answer }
     ensures { IsTrue result ↔ AnswersDeleted page.now answer }
 {

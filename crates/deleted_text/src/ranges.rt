@@ -1,5 +1,5 @@
 // The ranges of a document that a reviser deleted.
-ghost use Rattle.std.specs.Prelude.{◌≡◌, ◌<◌, ◌≤◌, ◌++◌, ◌∷◌, [], length, take, drop, IfOk, OnOk};
+ghost use Rattle.std.specs.Prelude.{◌≡◌, ◌<◌, ◌≤◌, ◌++◌, ◌∷◌, [], ℕ, false, length, take, drop, slice_index_or, IfOk, OnOk};
 ghost use Rattle.std.specs.List.{filter_map};
 ghost use Rattle.deleted_text.specs.Ranges.{begins_at, run_end, range_at as found_at, text_ranges, texts_ranges};
 ghost use Rattle.deleted_text.specs.Ranges.{begins_of, document_ranges};
@@ -40,6 +40,9 @@ pub fn deleted_ranges(
     ensures { IfOk result (λ ranges. ranges.items ≡ document_ranges begins flags.now document.now) }
 {
     let mut ranges = Vec::new(alloc);
+    if !has_deleted(flags) {
+        return Ok(ranges);
+    }
     add_text(&mut ranges, Story::Main, front(flags, document.main.len()))?;
     add_texts(
         &mut ranges,
@@ -54,6 +57,18 @@ pub fn deleted_ranges(
         behind(flags, begins.heads),
     )?;
     Ok(ranges)
+}
+
+/// Whether one of the flags is set.
+fn has_deleted(flags: &[bool]) -> bool
+    ensures { result ≡ false → (k : ℕ) → slice_index_or flags.now k false ≡ false }
+{
+    for k in 0..flags.len() {
+        if flags[k] {
+            return true;
+        }
+    }
+    false
 }
 
 /// The first so many flags.

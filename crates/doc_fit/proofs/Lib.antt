@@ -9,3 +9,4 @@ mod PieceLemmas
 mod AcceptedLemmas
 mod NotedLemmas
 mod ReadAsLemmas
+mod UnitLemmas

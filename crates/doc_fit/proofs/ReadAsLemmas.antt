@@ -14,12 +14,14 @@ use Rattle.file_mends.specs.Sectors.{FillsSector, IsCutFile}
 use Rattle.file_rules.specs.declared.fault.ReadFault.{ReadFault}
 use Rattle.file_rules.specs.Faults.{IsReadFault}
 use Rattle.file_mends.specs.Mends.{FileCopy, IsMendedBy, MendsRule, StaysUnmended, bytes_read}
-use Rattle.file_mends.proofs.Public.{mend_one, mend_bytes, mend_hold, fill_one, fill_bytes}
+use Rattle.file_mends.specs.Stops.{ReadsStops, HasNoStops}
+use Rattle.file_mends.proofs.Public.{mend_one, mend_bytes, mend_hold, fill_one, fill_bytes, stops_bytes, stops_hold}
+use Rattle.file_mends.proofs.Public.{stops_one}
 use Rattle.doc_fit.specs.declared.opening.OpenedAny.{OpenedAny}
 use Rattle.doc_fit.specs.declared.file_opening.OpenedFile.{OpenedFile}
 use Rattle.doc_fit.specs.Noted.{IsOpenedFit}
 use Rattle.doc_fit.specs.Rules.{fit_rules}
-use Rattle.doc_fit.specs.ReadAs.{MendsFirst, HasNoMend, MendsInTurn, MendsRules, most_mends, IsMendedRead}
+use Rattle.doc_fit.specs.ReadAs.{MendsFirst, HasNoMend, MendsInTurn, MendsRules, most_mends, GivesStops, IsGiven, IsMendedRead}
 use Rattle.doc_fit.specs.ReadAs.{IsOpenedFile, MendsCopyFirst, StaysFirst, IsMendedOn}
 use Rattle.doc_fit.proofs.MeaningLemmas.{fit_single}
 
@@ -124,6 +126,40 @@ rules_bytes : (file whole : List ℕ) (mends : List FileMend) (read : List ℕ) 
 rules_bytes file whole mends read bytes (inl x) = subst AreBytes (sym x.1.1) bytes
 rules_bytes file whole mends read bytes (inr x) = in_turn_bytes most_mends whole mends read bytes x.1
 
+-- the stops are read in one way
+gives_one : (file whole : List ℕ) (mends others : List FileMend) (a b : List ℕ) → GivesStops file whole mends a →
+    GivesStops file whole others b → (mends ≡ others) × (a ≡ b)
+gives_one file whole mends others a b (inl (xn, (x, (xr, xm)))) (inl (yn, (y, (yr, ym)))) =
+    let one = stops_one whole x y a b xr yr in
+    (xm ∙ (ap (λ (m : FileMend). m ∷ []) one.0 ∙ sym ym), one.1)
+gives_one file whole mends others a b (inl (xn, (x, (xr, xm)))) (inr (inl accepted, y)) = absurd (xn accepted)
+gives_one file whole mends others a b (inl (xn, (x, (xr, xm)))) (inr (inr none, y)) = absurd (none x a xr)
+gives_one file whole mends others a b (inr (inl accepted, x)) (inl (yn, (y, (yr, ym)))) = absurd (yn accepted)
+gives_one file whole mends others a b (inr (inr none, x)) (inl (yn, (y, (yr, ym)))) = absurd (none y b yr)
+gives_one file whole mends others a b (inr (xn, x)) (inr (yn, y)) = (x.0 ∙ sym y.0, x.1 ∙ sym y.1)
+
+given_one : (file : List ℕ) (mends others : List FileMend) (a b : List ℕ) → IsGiven file mends a →
+    IsGiven file others b → (mends ≡ others) × (a ≡ b)
+given_one file mends others a b x y =
+    let filled = fill_one file x.sector y.sector x.whole y.whole x.fills y.fills in
+    let rest =
+    gives_one file y.whole x.stops y.stops a b (subst (λ w. GivesStops file w x.stops a) filled.1 x.reads) y.reads in (
+      x.mends_are
+          ∙ (ap (λ (s : List FileMend). s ++ x.stops) filled.0
+          ∙ (ap (λ (p : List FileMend). y.sector ++ p) rest.0 ∙ sym y.mends_are)),
+      rest.1,
+    )
+
+gives_bytes : (file whole : List ℕ) (mends : List FileMend) (given : List ℕ) → AreBytes whole →
+    GivesStops file whole mends given → AreBytes given
+gives_bytes file whole mends given bytes (inl (refused, (mend, (reads, is)))) = stops_bytes whole mend given bytes reads
+gives_bytes file whole mends given bytes (inr (why, is)) = subst AreBytes (sym is.1) bytes
+
+given_bytes : (file : List ℕ) (mends : List FileMend) (given : List ℕ) → AreBytes file → IsGiven file mends given →
+    AreBytes given
+given_bytes file mends given bytes is =
+    gives_bytes file is.whole is.stops given (fill_bytes file is.sector is.whole bytes is.fills) is.reads
+
 -- a file is read in one way, with the same mends
 pub record AreOneRead (mends others : List FileMend) (a b : List ℕ) : Type 0 where
   pub mends_same : mends ≡ others
@@ -133,15 +169,15 @@ pub read_one : (file : List ℕ) (mends others : List FileMend) (a b : List ℕ)
     →
     IsMendedRead file others b → AreOneRead mends others a b
 read_one file mends others a b bytes x y =
-    let filled = fill_one file x.sector y.sector x.whole y.whole x.fills y.fills in
+    let given = given_one file x.before y.before x.given y.given x.is_given y.is_given in
     let rest =
-    rules_one file y.whole x.parts y.parts a b (fill_bytes file y.sector y.whole bytes y.fills)
-    (subst (λ w. MendsRules file w x.parts a) filled.1 x.emptied) y.emptied in
+    rules_one file y.given x.parts y.parts a b (given_bytes file y.before y.given bytes y.is_given)
+    (subst (λ w. MendsRules file w x.parts a) given.1 x.emptied) y.emptied in
     record {
       mends_same =
           x.mends_are
-          ∙ (ap (λ (s : List FileMend). s ++ x.parts) filled.0
-          ∙ (ap (λ (p : List FileMend). y.sector ++ p) rest.0 ∙ sym y.mends_are));
+          ∙ (ap (λ (s : List FileMend). s ++ x.parts) given.0
+          ∙ (ap (λ (p : List FileMend). y.before ++ p) rest.0 ∙ sym y.mends_are));
       read = rest.1;
     }
 
@@ -150,7 +186,7 @@ pub read_bytes : (file : List ℕ) (mends : List FileMend) (read : List ℕ) →
     →
     AreBytes read
 read_bytes file mends read bytes is =
-    rules_bytes file is.whole is.parts read (fill_bytes file is.sector is.whole bytes is.fills) is.emptied
+    rules_bytes file is.given is.parts read (given_bytes file is.before is.given bytes is.is_given) is.emptied
 
 -- ---- accepted files
 
@@ -164,6 +200,21 @@ fills_none : (file : List ℕ) (mends : List FileMend) (filled : List ℕ) → I
 fills_none file mends filled accepted (inl x) = absurd (whole_accepted file accepted x.cut)
 fills_none file mends filled accepted (inr x) = (x.none, x.same)
 
+gives_none : (file whole : List ℕ) (mends : List FileMend) (given : List ℕ) → IsAccepted file →
+    GivesStops file whole mends given → (mends ≡ []) × (given ≡ whole)
+gives_none file whole mends given accepted (inl (refused, x)) = absurd (refused accepted)
+gives_none file whole mends given accepted (inr (why, x)) = x
+
+given_none : (file : List ℕ) (mends : List FileMend) (given : List ℕ) → IsAccepted file → IsGiven file mends given →
+    (mends ≡ []) × (given ≡ file)
+given_none file mends given accepted is =
+    let filled = fills_none file is.sector is.whole accepted is.fills in
+    let rest = gives_none file is.whole is.stops given accepted is.reads in (
+      is.mends_are
+          ∙ (ap (λ (s : List FileMend). s ++ is.stops) filled.0 ∙ ap (λ (p : List FileMend). [] ++ p) rest.0),
+      rest.1 ∙ filled.1,
+    )
+
 rules_none : (file whole : List ℕ) (mends : List FileMend) (read : List ℕ) → IsAccepted file →
     MendsRules file whole mends read → (mends ≡ []) × (read ≡ whole)
 rules_none file whole mends read accepted (inl x) = x.1
@@ -172,28 +223,28 @@ rules_none file whole mends read accepted (inr x) = absurd (x.0 accepted)
 pub accepted_read : (file : List ℕ) (mends : List FileMend) (read : List ℕ) → IsAccepted file →
     IsMendedRead file mends read → AreOneRead mends [] read file
 accepted_read file mends read accepted is =
-    let filled = fills_none file is.sector is.whole accepted is.fills in
-    let rest = rules_none file is.whole is.parts read accepted is.emptied in
+    let given = given_none file is.before is.given accepted is.is_given in
+    let rest = rules_none file is.given is.parts read accepted is.emptied in
     record {
       mends_same =
           is.mends_are
-          ∙ (ap (λ (s : List FileMend). s ++ is.parts) filled.0 ∙ ap (λ (p : List FileMend). [] ++ p) rest.0);
-      read = rest.1 ∙ filled.1;
+          ∙ (ap (λ (s : List FileMend). s ++ is.parts) given.0 ∙ ap (λ (p : List FileMend). [] ++ p) rest.0);
+      read = rest.1 ∙ given.1;
     }
 
 -- ---- what is opened
 
 -- a file that is opened at once
 pub opened_at_once : (plain : Bool) (file : List ℕ) (copy : FileCopy) (opened : OpenedAny) → AreBytes (bytes_read file copy) →
-    FillsSector file copy.mends (bytes_read file copy) → IsOpenedFit plain (bytes_read file copy) opened →
+    IsGiven file copy.mends (bytes_read file copy) → IsOpenedFit plain (bytes_read file copy) opened →
     IsOpenedFile plain file (record { mended = copy; opened = Ok opened })
-opened_at_once plain file copy opened bytes fills is =
+opened_at_once plain file copy opened bytes given is =
     let read = bytes_read file copy in
     record {
       read_as = record {
-        whole = read;
-        sector = copy.mends;
-        fills = fills;
+        given = read;
+        before = copy.mends;
+        is_given = given;
         parts = [];
         mends_are = sym (append-nil copy.mends);
         emptied = inl (inr (none_held read bytes is.holds), (refl, refl));
@@ -203,14 +254,14 @@ opened_at_once plain file copy opened bytes fills is =
 
 -- an accepted file is refused by the rule that it is found to break
 pub refused_accepted : (plain : Bool) (file : List ℕ) (copy : FileCopy) (fault : ReadFault) →
-    FillsSector file copy.mends (bytes_read file copy) → IsAccepted file →
+    IsGiven file copy.mends (bytes_read file copy) → IsAccepted file →
     IsReadFault (fit_rules (bytes_read file copy)) fault →
     IsOpenedFile plain file (record { mended = copy; opened = Err fault })
-refused_accepted plain file copy fault fills accepted refused = record {
+refused_accepted plain file copy fault given accepted refused = record {
   read_as = record {
-    whole = bytes_read file copy;
-    sector = copy.mends;
-    fills = fills;
+    given = bytes_read file copy;
+    before = copy.mends;
+    is_given = given;
     parts = [];
     mends_are = sym (append-nil copy.mends);
     emptied = inl (inl accepted, (refl, refl));
@@ -220,19 +271,50 @@ refused_accepted plain file copy fault fills accepted refused = record {
 
 -- another one is mended
 pub opened_mended : (plain : Bool) (file : List ℕ) (copy : FileCopy) (found : OpenedFile) →
-    FillsSector file copy.mends (bytes_read file copy) → ¬ (IsAccepted file) →
+    IsGiven file copy.mends (bytes_read file copy) → ¬ (IsAccepted file) →
     IsMendedOn plain file most_mends copy found → IsOpenedFile plain file found
-opened_mended plain file copy found fills refused is = record {
+opened_mended plain file copy found given refused is = record {
   read_as = record {
-    whole = bytes_read file copy;
-    sector = copy.mends;
-    fills = fills;
+    given = bytes_read file copy;
+    before = copy.mends;
+    is_given = given;
     parts = is.more;
     mends_are = is.mends_are;
     emptied = inr (refused, is.in_turn);
   };
   opened = is.opened;
 }
+
+-- ---- stops that are read
+
+-- the file has none
+pub given_as_filled : (file : List ℕ) (copy : FileCopy) → FillsSector file copy.mends (bytes_read file copy) →
+    IsAccepted file ⊎ HasNoStops (bytes_read file copy) → IsGiven file copy.mends (bytes_read file copy)
+given_as_filled file copy fills why = record {
+  whole = bytes_read file copy;
+  sector = copy.mends;
+  fills = fills;
+  stops = [];
+  reads = inr (why, (refl, refl));
+  mends_are = sym (append-nil copy.mends);
+}
+
+-- they are read
+pub given_read : (file : List ℕ) (old new : FileCopy) (mend : FileMend) (copy : List ℕ) →
+    FillsSector file old.mends (bytes_read file old) → ¬ (IsAccepted file) →
+    ReadsStops (bytes_read file old) mend copy →
+    new ≡ record { copy = Some copy; mends = old.mends ++ mend ∷ [] } →
+    IsGiven file new.mends (bytes_read file new)
+given_read file old new mend copy fills refused reads is =
+    subst (λ (n : FileCopy). IsGiven file n.mends (bytes_read file n)) (sym is)
+    (record {
+      whole = bytes_read file old;
+      sector = old.mends;
+      fills = fills;
+      stops = mend ∷ [];
+      reads = inl (refused, (mend, (reads, refl)));
+      mends_are = refl;
+    })
 
 -- ---- the first fault
 
@@ -334,10 +416,23 @@ long_fills file mends filled long (inl x) =
     let cut = x.cut in let most = cut.most in absurd (omega (arith, most, long))
 long_fills file mends filled long (inr x) = x.same
 
+long_gives : (file whole : List ℕ) (mends : List FileMend) (given : List ℕ) → 7143936 < length whole →
+    GivesStops file whole mends given → given ≡ whole
+long_gives file whole mends given long (inl (refused, (mend, (reads, is)))) =
+    absurd (outer_short whole (stops_hold whole mend given reads) long)
+long_gives file whole mends given long (inr (why, is)) = is.1
+
+long_given : (file : List ℕ) (mends : List FileMend) (given : List ℕ) → 7143936 < length file →
+    IsGiven file mends given → given ≡ file
+long_given file mends given long is =
+    let whole : is.whole ≡ file = long_fills file is.sector is.whole long is.fills in
+    long_gives file is.whole is.stops given (subst (λ (w : List ℕ). 7143936 < length w) (sym whole) long) is.reads
+    ∙ whole
+
 -- such a file is read as it is
 pub long_read : (file : List ℕ) (mends : List FileMend) (read : List ℕ) → 7143936 < length file →
     IsMendedRead file mends read → read ≡ file
 long_read file mends read long is =
-    let whole : is.whole ≡ file = long_fills file is.sector is.whole long is.fills in
-    long_rules file is.whole is.parts read (subst (λ (w : List ℕ). 7143936 < length w) (sym whole) long) is.emptied
-    ∙ whole
+    let given : is.given ≡ file = long_given file is.before is.given long is.is_given in
+    long_rules file is.given is.parts read (subst (λ (w : List ℕ). 7143936 < length w) (sym given) long) is.emptied
+    ∙ given

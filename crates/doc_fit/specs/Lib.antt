@@ -5,4 +5,5 @@ pub mod Losses
 pub mod Opened
 pub mod Laws
 pub mod Noted
+pub mod UnitsStay
 pub mod ReadAs

@@ -1,15 +1,31 @@
--- What is read in place of a file: the file with its last sector filled, where it is cut, and with the parts and the
--- slots of the style sheet mended that break their own rules.
+-- What is read in place of a file: the file with its last sector filled, where it is cut, with changes of tab stops that
+-- have the code that docbin reads, and with the parts and the slots of the style sheet mended that break their own rules.
 use Rattle.std.specs.Prelude.{◌≡◌, ◌⊎◌, ℕ, Bool, zero, suc, List, [], ◌∷◌, ◌++◌, MatchResult}
 use Rattle.doc_bits.specs.Places.{Place, IsFirstPlace}
 use Rattle.doc_read.specs.Holds.{IsAccepted}
 use Rattle.file_rules.specs.Faults.{IsReadFault}
 use Rattle.file_mends.specs.declared.mends.FileMend.{FileMend}
 use Rattle.file_mends.specs.Sectors.{FillsSector}
+use Rattle.file_mends.specs.Stops.{ReadsStops, HasNoStops}
 use Rattle.file_mends.specs.Mends.{FileCopy, MendsRule, bytes_read}
 use Rattle.doc_fit.specs.declared.file_opening.OpenedFile.{OpenedFile}
 use Rattle.doc_fit.specs.Noted.{IsOpenedFit}
 use Rattle.doc_fit.specs.Rules.{fit_rules}
+
+-- its changes of tab stops that delete none are read, where it has some; a file that is accepted is read as it is
+abbrev pub GivesStops : (file whole : List ℕ) → List FileMend → List ℕ → Type 0
+GivesStops file whole mends given =
+    ((¬ IsAccepted file) × ((mend : FileMend) × (ReadsStops whole mend given × (mends ≡ mend ∷ []))))
+    ⊎ ((IsAccepted file ⊎ HasNoStops whole) × ((mends ≡ []) × (given ≡ whole)))
+
+-- the file with its last sector filled and its stops read
+pub record IsGiven (file : List ℕ) (mends : List FileMend) (given : List ℕ) : Type 0 where
+  pub whole : List ℕ
+  pub sector : List FileMend
+  pub fills : FillsSector file sector whole
+  pub stops : List FileMend
+  pub reads : GivesStops file whole stops given
+  pub mends_are : mends ≡ sector ++ stops
 
 -- the first broken rule of a file is mended in another one
 pub record MendsFirst (file : List ℕ) (mend : FileMend) (mended : List ℕ) : Type 0 where
@@ -42,12 +58,12 @@ MendsRules file whole mends read =
 
 -- the mends of a file, and what is read in place of it
 pub record IsMendedRead (file : List ℕ) (mends : List FileMend) (read : List ℕ) : Type 0 where
-  pub whole : List ℕ
-  pub sector : List FileMend
-  pub fills : FillsSector file sector whole
+  pub given : List ℕ
+  pub before : List FileMend
+  pub is_given : IsGiven file before given
   pub parts : List FileMend
-  pub mends_are : mends ≡ sector ++ parts
-  pub emptied : MendsRules file whole parts read
+  pub mends_are : mends ≡ before ++ parts
+  pub emptied : MendsRules file given parts read
 
 -- what is read is opened, or it breaks a rule first
 abbrev pub IsFitOpened : Bool → List ℕ → OpenedFile → Type 0

@@ -1,5 +1,5 @@
-// A file is opened as it is, or with mends of its bytes: its last sector is filled where it is cut, a part that breaks
-// its own rule is emptied, and so is a slot of the style sheet.
+// A file is opened as it is, or with mends of its bytes: its last sector is filled where it is cut, changes of tab stops
+// get the code that docbin reads, a part that breaks its own rule is emptied, and so is a slot of the style sheet.
 ghost use Rattle.std.specs.Prelude.{◌≡◌, ◌↔◌, Err, IfOk, IsTrue, MatchOption, MatchResult, Ok};
 ghost use Rattle.doc_bits.specs.Number.{AreBytes};
 ghost use Rattle.doc_read.specs.Holds.{IsAccepted};
@@ -7,7 +7,7 @@ ghost use Rattle.file_rules.specs.Faults.{IsReadFault};
 ghost use Rattle.file_mends.specs.Mends.{bytes_read};
 ghost use Rattle.file_mends.specs.Sectors.{FillsSector};
 ghost use Rattle.doc_fit.specs.Noted.{IsOpenedFit};
-ghost use Rattle.doc_fit.specs.ReadAs.{IsMendedOn, IsOpenedFile, MendsCopyFirst, StaysFirst};
+ghost use Rattle.doc_fit.specs.ReadAs.{IsGiven, IsMendedOn, IsOpenedFile, MendsCopyFirst, StaysFirst};
 ghost use Rattle.doc_fit.specs.Rules.{fit_rules};
 
 use crate::noting::open_fit;
@@ -15,7 +15,7 @@ use crate::opening::OpenedAny;
 use doc_bits::Memory;
 use doc_lift::ReadFault;
 use doc_read::open;
-use file_mends::{FileMend, MendedFile, fill_sector, mend_rule};
+use file_mends::{FileMend, MendedFile, fill_sector, mend_rule, with_stops_read};
 use std::alloc::Global;
 
 /// How many parts and slots of the style sheet are mended at most.
@@ -33,11 +33,30 @@ pub struct OpenedFile {
 pub fn open_file(alloc: Global, file: &[u8], plain: bool) -> Result<OpenedFile, Memory>
     ensures { IfOk result (IsOpenedFile plain file.now) }
 {
-    let mended = fill_sector(alloc, file)?;
+    let filled = fill_sector(alloc, file)?;
+    let mended = read_stops(alloc, file, filled)?;
     match open_bytes(alloc, mended.bytes(file), plain) {
         Ok(opened) => Ok(opened_file(mended, opened)),
         Err(fault) => open_refused(alloc, file, mended, fault, plain),
     }
+}
+
+/// The file with its changes of tab stops that delete none read, where docbin does not accept it.
+fn read_stops(alloc: Global, file: &[u8], mut mended: MendedFile) -> Result<MendedFile, Memory>
+    requires { FillsSector file.now mended.mends (bytes_read file.now mended) }
+    ensures { IfOk result (λ given. IsGiven file.now given.mends (bytes_read file.now given)) }
+{
+    let found = with_stops_read(alloc, mended.bytes(file))?;
+    let Some(made) = found else {
+        return Ok(mended);
+    };
+    let accepted = is_accepted(alloc, file)?;
+    if accepted {
+        return Ok(mended);
+    }
+    let mend = made.mend;
+    mended.renew(made.copy, mend)?;
+    Ok(mended)
 }
 
 /// What was opened, as it was read. It takes no memory.
@@ -76,7 +95,7 @@ fn open_refused(
     fault: ReadFault,
     plain: bool,
 ) -> Result<OpenedFile, Memory>
-    requires fills { FillsSector file.now mended.mends (bytes_read file.now mended) }
+    requires given { IsGiven file.now mended.mends (bytes_read file.now mended) }
     requires bytes { AreBytes (bytes_read file.now mended) }
     requires refused { IsReadFault (fit_rules (bytes_read file.now mended)) fault }
     ensures { IfOk result (IsOpenedFile plain file.now) }

@@ -15,7 +15,7 @@ mod status;
 mod streams;
 
 pub use file_opening::{OpenedFile, open_file};
-pub use laws::accepted_files_break_none;
+pub use laws::{accepted_files_break_none, fit_units_stay};
 pub use noting::open_fit;
 pub use opening::{OpenedAny, open_any};
 pub use refusing::{refusal, status_of_rule, why_not_opened};

@@ -1,23 +1,19 @@
 -- What is in effect at each item of a sound document is there.
-use Rattle.std.proofs.Common.{◌≡◌, inl, inr, ℕ, zero, suc, ◌+◌, ◌-◌, ◌<◌, ◌≤◌, List, [], length, Option, Some, None}
+use Rattle.std.proofs.Common.{◌≡◌, inl, inr, ℕ, zero, suc, ◌+◌, ◌-◌, List, length, Option, Some, None}
 use Rattle.std.proofs.Common.{refl, sym, ap, ◌∙◌, subst, arith}
 use Rattle.std.specs.Prelude.{slice_get, IsSome, is_some}
-use Rattle.std.proofs.lemmas.Bool.{cases_le}
+use Rattle.std.proofs.lemmas.Bool.{cases_lt}
 use Rattle.std.proofs.lemmas.Option.{same_Some, none-some, slice_get_cases, slice_get_within}
 use Rattle.doc_bits.specs.declared.places.Where.{Where}
-use Rattle.doc_bits.specs.Places.{Place}
 use Rattle.style_sheet.specs.Sheet.{Sheet}
 use Rattle.style_sheet.specs.Chain.{style_kind_at}
 use Rattle.effective_props.proofs.Public.{characters_there, paragraphs_there}
 use Rattle.doc_model.specs.declared.item.Item.{Item}
 use Rattle.doc_model.specs.declared.item.Mark.{Mark}
-use Rattle.doc_model.specs.declared.document.Document.{Document}
 use Rattle.doc_model.specs.Paragraphs.{EndsParagraph, IsParagraphEnd}
-use Rattle.plain_doc.specs.RulesOfTexts.{text_of_place, HasParagraphStyle}
 use Rattle.plain_doc.specs.RightDocument.{IsValidText}
-use Rattle.plain_doc.specs.Sound.{IsSound}
 use Rattle.plain_doc.proofs.Public.{ends_with_mark, sound_is_valid}
-use Rattle.doc_join.specs.Effects.{Effects, AreEffectsAt, IsMarkFrom}
+use Rattle.doc_join.specs.Effects.{Effects, IsMarkFrom}
 use Rattle.doc_join.specs.Laws.{EffectsExist}
 
 -- ---- the end of the paragraph that holds an item
@@ -42,8 +38,8 @@ end_later text from item here none later = record {
         after = omega (arith, after);
         ends = later.is.ends;
         least = λ at past ends.
-            elim (cases_le (from + 1) at) [
-              | inl more ↦ later.is.least at more ends
+            elim (cases_lt from at) [
+              | inl more ↦ later.is.least at (omega (arith, more)) ends
               | inr same ↦
                   let at_from : at ≡ from = omega (arith, past, same) in
                   let one = same_Some item ends.item (sym here ∙ (ap (slice_get text) (sym at_from) ∙ ends.here)) in
@@ -58,7 +54,7 @@ by_mark text from item None here is later = end_later text from item here is (la
 by_mark text from item (Some mark) here is later = end_here text from (record {
   item = item;
   here = here;
-  marked = subst (λ m. IsSome m) (sym is) tt;
+  marked = subst (λ m. IsSome m) (sym is) refl;
 })
 
 -- from each item before one with a mark on there is an end

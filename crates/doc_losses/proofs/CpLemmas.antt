@@ -1,6 +1,6 @@
 -- CPs that are kept in order, and found.
-use Rattle.std.proofs.Common.{◌≡◌, ◌∙◌, ap, sym, ℕ, ◌+◌, ◌-◌, ◌*◌, ◌/◌, ◌<◌, ◌≤◌, ◌==◌, ◌⊎◌, inl, inr, true, false}
-use Rattle.std.proofs.Common.{List, length, get_or, arith}
+use Rattle.std.proofs.Common.{◌≡◌, refl, ℕ, ◌+◌, ◌-◌, ◌*◌, ◌/◌, ◌<◌, ◌≤◌, ◌==◌, inl, inr, true, false}
+use Rattle.std.proofs.Common.{List, [], ◌∷◌, length, get_or, arith}
 use Rattle.std.specs.Prelude.{Result, Ok, Err, MatchResult}
 use Rattle.std.specs.List.{list_any}
 use Rattle.std.specs.List.Sorted.{IsSorted, IsBinarySearchResult}
@@ -11,6 +11,9 @@ use Rattle.std.proofs.lemmas.Bool.Decides.{nat_tests}
 use Rattle.std.proofs.lemmas.List.Folds.{list_any_at, list_any_none}
 use Rattle.std.proofs.lemmas.List.Sorted.{IsNonDecreasingBy-from_sort, searched}
 use Rattle.std.proofs.lemmas.List.Elements.{All-from_get_or}
+use Rattle.fib_versions.specs.declared.further.Further.TheVariants.{Comments, Endnotes, TextBoxes, HeaderTextBoxes}
+use Rattle.doc_losses.specs.declared.cps.Marks.{Marks}
+use Rattle.doc_losses.specs.Marks.{names_of_marks, NamesNoMark}
 
 -- the CP at a place of a table is there
 pub cp_room : (len size k : ℕ) → k < (len - 4) / (4 + size) → 4 * k + 4 ≤ len
@@ -43,3 +46,15 @@ found_nowhere xs x i found =
       | inl before ↦ let less : get_or xs k 0 < x = found.1 k before in grind (arith, nat_tests)
       | inr behind ↦ let more : x < get_or xs k 0 = found.2 k behind low in grind (arith, nat_tests)
     ]))
+
+nowhere : (cps : List ℕ) (cp : ℕ) → length cps ≡ 0 → list_any (λ named. named == cp) cps ≡ false
+nowhere [] cp none = refl
+nowhere (first ∷ cps) cp none = absurd (omega (arith, none))
+
+-- where no CP is kept none is named
+pub none_kept_named : (marks : Marks) → length marks.comments ≡ 0 → length marks.endnotes ≡ 0 →
+    length marks.boxes ≡ 0 → length marks.head_boxes ≡ 0 → NamesNoMark (names_of_marks marks)
+none_kept_named marks comments endnotes boxes heads Comments cp = nowhere marks.comments cp comments
+none_kept_named marks comments endnotes boxes heads Endnotes cp = nowhere marks.endnotes cp endnotes
+none_kept_named marks comments endnotes boxes heads TextBoxes cp = nowhere marks.boxes cp boxes
+none_kept_named marks comments endnotes boxes heads HeaderTextBoxes cp = nowhere marks.head_boxes cp heads

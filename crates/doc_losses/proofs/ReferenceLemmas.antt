@@ -1,28 +1,18 @@
 -- The marks of texts, one item and one text after the other.
-use Rattle.std.proofs.Common.{◌≡◌, ◌∙◌, ap, sym, refl, subst, ℕ, zero, suc, ◌+◌, ◌<◌, ◌≤◌, ◌==◌, Bool, true, false}
-use Rattle.std.proofs.Common.{List, [], ◌∷◌, ◌++◌, length, map, arith, Option, Some, None, slice_get, append_assoc}
-use Rattle.std.specs.Prelude.{option_map, if◌then◌else◌}
-use Rattle.std.specs.Option.{option_and_then, unwrap_or}
-use Rattle.std.specs.List.{filter_map, flat_map, list_any}
+use Rattle.std.proofs.Common.{◌≡◌, ◌∙◌, ap, sym, ℕ, ◌+◌, ◌==◌}
+use Rattle.std.proofs.Common.{List, map, Some, None, slice_get}
+use Rattle.std.specs.Prelude.{if◌then◌else◌}
+use Rattle.std.specs.Option.{option_and_then}
 use Rattle.std.specs.List.Sorted.{IsPermutation}
 use Rattle.std.proofs.lemmas.List.Sorted.{list_any-IsPermutation}
-use Rattle.std.proofs.lemmas.List.Elements.{filter_map-append}
-use Rattle.std.proofs.lemmas.List.{append-nil}
-use Rattle.std.proofs.lemmas.Grind.{flat_map-append}
 use Rattle.std.proofs.lemmas.Option.{same_Some}
 use Rattle.doc_bits.proofs.Public.{from_map, get-map}
 use Rattle.doc_bits.specs.declared.places.Story.{Story}
-use Rattle.fib_versions.specs.declared.further.Further.{Further}
 use Rattle.fib_versions.specs.declared.further.Further.TheVariants.{Comments, Endnotes, TextBoxes, HeaderTextBoxes}
-use Rattle.doc_parts.specs.Tabulated.{tabulate}
-use Rattle.doc_parts.proofs.Public.{tabulate-next}
 use Rattle.doc_model.specs.declared.item.Item.{Item}
-use Rattle.doc_model.specs.declared.document.Document.{Document}
 use Rattle.doc_columns.specs.declared.attached.Attached.{Attached}
 use Rattle.doc_columns.specs.Attached.{attached_of, has_something}
-use Rattle.text_losses.specs.declared.features.Reference.{Reference}
-use Rattle.doc_losses.specs.References.{Names, marked_story, marked_story_at, mark_of_unit, where_named, text_marks}
-use Rattle.doc_losses.specs.References.{reference_at}
+use Rattle.doc_losses.specs.References.{Names, marked_story, marked_story_at, mark_of_unit, where_named}
 use Rattle.doc_losses.specs.References.{names_of, mark_cps}
 use Rattle.doc_losses.specs.declared.cps.Marks.{Marks}
 use Rattle.doc_losses.specs.Marks.{names_of_marks, AreFileMarks}

@@ -1,5 +1,5 @@
 -- The CPs of marks, as they are kept to be found.
-use Rattle.std.specs.Prelude.{◌≡◌, ℕ, ◌==◌, List}
+use Rattle.std.specs.Prelude.{◌≡◌, ℕ, ◌==◌, false, List}
 use Rattle.std.specs.List.{list_any}
 use Rattle.fib_versions.specs.declared.further.Further.{Further}
 use Rattle.fib_versions.specs.declared.further.Further.TheVariants.{Comments, Endnotes, TextBoxes, HeaderTextBoxes}
@@ -19,3 +19,7 @@ names_of_marks marks story cp = list_any (λ named. named == cp) (cps_in marks s
 -- they are those of a file
 abbrev pub AreFileMarks : List ℕ → List ℕ → Marks → Type 0
 AreFileMarks wd table marks = (story : Further) (cp : ℕ) → names_of_marks marks story cp ≡ names_of wd table story cp
+
+-- no mark of a story is said to be anywhere
+abbrev pub NamesNoMark : Names → Type 0
+NamesNoMark names = (story : Further) (cp : ℕ) → names story cp ≡ false

@@ -1,9 +1,9 @@
 -- [MS-DOC] PlcfandRef, PlcfendRef, PlcfSpa: CPs at which the marks of comments, of endnotes and of shapes are. A mark
 -- is the character of its story at such a CP, with nothing beside it. What it refers to is left out.
-use Rattle.std.specs.Prelude.{ℕ, ◌+◌, ◌==◌, Bool, false, List, [], ◌++◌, length, map, take, Option, Some, None, slice_get}
+use Rattle.std.specs.Prelude.{ℕ, ◌+◌, ◌==◌, Bool, false, List, [], ◌++◌, length, take, Option, Some, None, slice_get}
 use Rattle.std.specs.Prelude.{option_map, if◌then◌else◌}
 use Rattle.std.specs.Option.{option_and_then, unwrap_or}
-use Rattle.std.specs.List.{filter_map, flat_map, list_any, range_with_len, sum_by}
+use Rattle.std.specs.List.{filter_map, flat_map, list_any, sum_by}
 use Rattle.doc_bits.specs.Plc.{plc_cp}
 use Rattle.doc_bits.specs.declared.places.Story.{Story}
 use Rattle.doc_bits.specs.declared.places.Story.TheVariants.{Main, Note, Head}

@@ -1,12 +1,12 @@
 // The CPs at which the marks of further stories are said to be, and whether an item is such a mark.
-ghost use Rattle.std.specs.Prelude.{◌≡◌, ◌==◌, ◌≤◌, if◌then◌else◌, Some, None, IfOk};
+ghost use Rattle.std.specs.Prelude.{◌≡◌, ◌==◌, ◌≤◌, if◌then◌else◌, Some, None, length, IsTrue, IfOk};
 ghost use Rattle.std.specs.List.{list_any};
 ghost use Rattle.std.specs.List.Sorted.{IsPermutation};
 ghost use Rattle.doc_columns.specs.Attached.{has_something};
 ghost use Rattle.doc_losses.specs.References.{table_cps, mark_cps, main_mark as main_mark_of, head_mark as head_mark_of};
 ghost use Rattle.doc_losses.specs.References.{mark_of_unit as mark_by_unit, where_named, mark_pair, mark_size};
 ghost use Rattle.doc_losses.specs.References.{has_no_marks as no_marks_of};
-ghost use Rattle.doc_losses.specs.Marks.{names_of_marks, AreFileMarks};
+ghost use Rattle.doc_losses.specs.Marks.{names_of_marks, AreFileMarks, NamesNoMark};
 
 use doc_bits::{Memory, Story, get32};
 use doc_columns::Attached;
@@ -50,6 +50,13 @@ impl CpSet {
         CpSet { cps }
     }
 
+    /// Whether no CP is there.
+    fn is_empty(&self) -> bool
+        ensures { IsTrue result → length self.now ≡ 0 }
+    {
+        self.cps.len() == 0
+    }
+
     /// Whether a CP is there.
     fn has(&self, cp: usize) -> bool
         ensures { result ≡ list_any (λ named. named == cp) self.now }
@@ -85,6 +92,16 @@ impl Marks {
             boxes,
             head_boxes,
         })
+    }
+
+    /// Whether no mark is said to be anywhere.
+    pub fn are_none(&self) -> bool
+        ensures { IsTrue result → NamesNoMark (names_of_marks self.now) }
+    {
+        if !self.comments.is_empty() || !self.endnotes.is_empty() {
+            return false;
+        }
+        self.boxes.is_empty() && self.head_boxes.is_empty()
     }
 
     /// Whether a mark of the story is said to be at a CP.

@@ -19,3 +19,10 @@ mod FitRowLemmas
 mod WholeRowLemmas
 mod WholeLemmas
 mod LaterRowLemmas
+mod GroupLemmas
+mod PlainUnitLemmas
+mod UnitLemmas
+mod TextUnitLemmas
+mod ModifiedLemmas
+mod ListedLemmas
+mod UnitsStayLemmas

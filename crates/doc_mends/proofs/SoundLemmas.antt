@@ -1,5 +1,5 @@
 -- A document that breaks no rule has no mends.
-use Rattle.std.proofs.Common.{◌≡◌, ◌∙◌, ap, refl, subst, ℕ, zero, suc, ◌<◌, ◌==◌, inl, inr}
+use Rattle.std.proofs.Common.{◌≡◌, ◌∙◌, sym, ap, refl, subst, ℕ, zero, suc, ◌<◌, ◌==◌, inl, inr}
 use Rattle.std.proofs.Common.{Bool, true, false, List, [], ◌∷◌, ◌++◌, length, map, arith, Option, Some, None, slice_get}
 use Rattle.std.specs.Prelude.{◌&&◌, ◌||◌, not, nat_lt, option_map, if◌then◌else◌}
 use Rattle.std.specs.Option.{option_and_then, unwrap_or}
@@ -20,6 +20,7 @@ use Rattle.doc_model.specs.declared.item.Mark.{Mark}
 use Rattle.doc_model.specs.declared.document.Document.{Document}
 use Rattle.plain_doc.specs.declared.rules_texts.Side.{Side}
 use Rattle.plain_doc.specs.declared.rules_texts.Side.TheVariants.{Notes, Heads}
+use Rattle.plain_doc.specs.Sound.{IsSound}
 use Rattle.plain_doc.specs.RulesOfTexts.{EndsRight, IsHead, HasParagraphStyle}
 use Rattle.plain_doc.specs.RightDocument.{HoldsAtItems, IsValidDocument}
 use Rattle.plain_doc.proofs.Public.{sound_is_valid}
@@ -253,4 +254,17 @@ no_mends names meant mended mends sound none is =
       is.mends_are
           ∙ (ap (λ (l : List Mend). l ++ mends_after names is.based) bases.1
           ∙ (ap (mends_after names) bases.0 ∙ rest)),
+    )
+
+-- what breaks no rule, and has no marks of stories that are left out, stays as it is
+pub right_stays : (names : Names) (based : Document) → IsSound based → references names based ≡ [] →
+    (based ≡ with_ends (references_cut names (mended_in_place based)))
+    × (mends_in_place based ++ mends_of_texts names (mended_in_place based) ≡ [])
+right_stays names based sound none =
+    let right : IsValidDocument based = sound_is_valid based sound in
+    let same : mended_in_place based ≡ based = in_place based right in
+    let cut : references_cut names based ≡ based = uncut names based sound.bookmarks none in (
+      sym (ap (λ (d : Document). with_ends (references_cut names d)) same ∙ (ap with_ends cut ∙ ends_stay based right)),
+      ap (λ (l : List Mend). l ++ mends_of_texts names (mended_in_place based)) (none_in_place based right)
+          ∙ (ap (mends_of_texts names) same ∙ none_of_texts names based right none cut),
     )

@@ -15,3 +15,4 @@ pub mod Ends
 pub mod Lines
 pub mod Mending
 pub mod WholeRows
+pub mod UnitsStay

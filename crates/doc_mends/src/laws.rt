@@ -1,5 +1,6 @@
 // Laws over the definitions alone.
 ghost use Rattle.doc_mends.specs.Mending.{MendsAreOne, MendsKeepBookmarks, SoundHasNoMends};
+ghost use Rattle.doc_mends.specs.UnitsStay.{UnitsStay};
 ghost use Rattle.doc_mends.specs.WholeRows.{MendedRowsAreWhole};
 
 /// A document is mended in one way.
@@ -20,4 +21,9 @@ pub fn mends_keep_bookmarks()
 /// No row of a mended document breaks rule 63.
 pub fn mended_rows_are_whole()
     ensures { MendedRowsAreWhole }
+{}
+
+/// The units of a mended document are those that it had, but for what is printed of its mends.
+pub fn units_stay()
+    ensures { UnitsStay }
 {}

@@ -21,7 +21,9 @@ mod tables;
 pub use bases::drop_bases;
 pub use cutting::cut_references;
 pub use ending::end_texts;
-pub use laws::{mended_rows_are_whole, mends_are_one, mends_keep_bookmarks, sound_has_no_mends};
+pub use laws::{
+    mended_rows_are_whole, mends_are_one, mends_keep_bookmarks, sound_has_no_mends, units_stay,
+};
 pub use lines::push_mends;
 pub use marking::normal_marks;
 pub use mending::mend;

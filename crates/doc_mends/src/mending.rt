@@ -1,7 +1,9 @@
 // All mends of a document, one kind after the other.
-ghost use Rattle.std.specs.Prelude.{◌≡◌, IfOk, OnOk, OnErr};
-ghost use Rattle.doc_losses.specs.Marks.{names_of_marks};
+ghost use Rattle.std.specs.Prelude.{◌≡◌, [], IsTrue, IfOk, OnOk, OnErr};
 ghost use Rattle.doc_model.specs.Marks.{HasFormedBookmarks};
+ghost use Rattle.plain_doc.specs.Sound.{IsSound};
+ghost use Rattle.doc_losses.specs.Marks.{names_of_marks};
+ghost use Rattle.doc_losses.specs.References.{references};
 ghost use Rattle.doc_mends.specs.Kept.{KeepsAllButTexts};
 ghost use Rattle.doc_mends.specs.Mending.{IsMended, mended_in_place, mends_in_place};
 
@@ -12,7 +14,7 @@ use crate::marking::normal_marks;
 use crate::mends::Mend;
 use crate::tables::plain_rows;
 use doc_bits::Memory;
-use doc_columns::ColumnDocument;
+use doc_columns::{ColumnDocument, is_sound};
 use doc_losses::Marks;
 use std::alloc::Global;
 
@@ -30,6 +32,10 @@ pub fn mend(
     ensures err { OnErr result (document.new.carried ≡ document.old.carried) }
 {
     let mut mends = drop_bases(alloc, document)?;
+    let right = is_right(alloc, document, marks)?;
+    if right {
+        return Ok(mends);
+    }
     let placed = mend_in_place(alloc, document)?;
     let cuts = cut_references(alloc, document, marks)?;
     let ends = end_texts(alloc, document)?;
@@ -37,6 +43,17 @@ pub fn mend(
     mends.extend_from_slice(&cuts)?;
     mends.extend_from_slice(&ends)?;
     Ok(mends)
+}
+
+/// Whether a document is known to break no rule, and to have no marks of stories that are left out.
+fn is_right(alloc: Global, document: &ColumnDocument, marks: &Marks) -> Result<bool, Memory>
+    ensures { IfOk result (λ right. IsTrue right
+        → IsSound document.now × (references (names_of_marks marks.now) document.now ≡ [])) }
+{
+    if !marks.are_none() {
+        return Ok(false);
+    }
+    is_sound(alloc, document)
 }
 
 /// Mends items that stay where they are.

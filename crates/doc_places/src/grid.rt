@@ -183,7 +183,7 @@ fn is_row_end(place: Option<NestedPlace>) -> bool
 /// Puts a paragraph with this number, where it is seen.
 fn push_own(path: &mut Path<Element>, is_bare: bool, number: usize, look: &Look)
     requires { length path.old < MAX_DEPTH }
-    ensures { path.new ≡ path.old ++ own_elements is_bare_in_cell number look.now }
+    ensures { path.new ≡ path.old ++ own_elements is_bare number look.now }
 {
     if is_bare {
         return;

@@ -1,6 +1,8 @@
 // Documents, as the calls of the layers below read, edit and write them.
 ghost use Rattle.std.specs.Prelude.{IsTrue};
-ghost use Rattle.plain_doc.specs.Sound.{IsSound};
+ghost use Rattle.doc_bits.specs.Rules.{Hold};
+ghost use Rattle.doc_model.specs.Marks.{HasFormedBookmarks};
+ghost use Rattle.plain_doc.specs.Sound.{IsSound, document_rules};
 
 use crate::edits::Edits;
 use doc_bits::{Bytes, Memory, Text};
@@ -96,7 +98,27 @@ impl Plain for Document {
 fn is_sound(document: &Document) -> bool
     ensures { IsTrue result → IsSound document.now }
 {
-    document.bookmarks.are_formed(document.main.len()) && check(document).is_ok()
+    if !has_formed_bookmarks(document) {
+        return false;
+    }
+    keeps_rules(document)
+}
+
+/// Whether the bookmarks of a document are formed.
+fn has_formed_bookmarks(document: &Document) -> bool
+    ensures { IsTrue result → HasFormedBookmarks document.now }
+{
+    document.bookmarks.are_formed(document.main.len())
+}
+
+/// Whether a document breaks no rule.
+fn keeps_rules(document: &Document) -> bool
+    ensures { IsTrue result → Hold (document_rules document.now) }
+{
+    match check(document) {
+        Ok(()) => true,
+        Err(_) => false,
+    }
 }
 
 /// The document of a file that is opened.

@@ -2,7 +2,7 @@
 #![tactic(auto)]
 
 use doc_outer::{HostShelf, HostSink};
-use docfit_run::{PROGRAM, docfit_run};
+use docfit_run::{PROGRAM, program};
 use run_stages::{STATUS_MEMORY, tell_status};
 use std::alloc::{AllocError, Global};
 use std::env;
@@ -21,8 +21,7 @@ fn main(rt: HostRuntime) -> ExitCode {
     };
     let mut shelf = HostShelf::new(alloc, PROGRAM, &rt, &rt);
     let mut out = HostSink::new(PROGRAM, &rt, &rt);
-    let status = docfit_run(alloc, &words, &mut shelf, &mut out, &mut reasons);
-    ExitCode::from(status)
+    program(alloc, &words, &mut shelf, &mut out, &mut reasons)
 }
 
 /// The words after the program's name. Words that are no UTF-8 ask for nothing; that is written to the standard error.

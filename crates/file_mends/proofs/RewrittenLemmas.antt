@@ -26,7 +26,7 @@ behind_file file found place byte is past =
     sym (ap (λ p. with_byte file p byte) is ∙ set_past file place byte past)
 
 -- bytes stay bytes
-with_byte_bytes : (file : List ℕ) (place : Option ℕ) (byte : ℕ) → AreBytes file → byte < 256 →
+pub with_byte_bytes : (file : List ℕ) (place : Option ℕ) (byte : ℕ) → AreBytes file → byte < 256 →
     AreBytes (with_byte file place byte)
 with_byte_bytes file None byte are small i = are i
 with_byte_bytes file (Some place) byte are small i = elim (cases_eq i place) [

@@ -4,7 +4,7 @@ use Rattle.std.proofs.Common.{Option, Some, None, MatchOption}
 use Rattle.std.proofs.lemmas.Bool.{cases_lt}
 use Rattle.doc_bits.specs.Number.{AreBytes, number_bytes}
 use Rattle.doc_bits.proofs.Public.{AreBytes-drop, joined_bytes, length-number_bytes, number_are_bytes, one_byte}
-use Rattle.style_sheet.specs.Counted.{IsCountedPart, counted_end, even_up}
+use Rattle.style_sheet.specs.Counted.{IsCountedPart, counted_end}
 use Rattle.style_sheet.specs.Stsh.{HasStshif, cstd, slot_place}
 use Rattle.file_mends.specs.declared.sheet_changes.SheetChange.{SheetChange}
 use Rattle.file_mends.specs.SheetPlaces.{SheetPlace}
@@ -71,13 +71,6 @@ slot_room sheet istd change low (inr x) =
     (cut_room sheet.at istd sheet.part)
 
 -- ---- for the code
-
--- the next slot is where the next count is
-pub next_slot : (part : List ℕ) (k place next : ℕ) → place ≡ slot_place part k → next ≡ even_up (counted_end part place) →
-    next ≡ slot_place part (k + 1)
-next_slot part k place next here is =
-    let count : suc k ≡ k + 1 = omega arith in
-    is ∙ (ap (λ p. even_up (counted_end part p)) here ∙ ap (slot_place part) count)
 
 -- no slot of the sheet ends behind the offset
 pub no_slot : (part : List ℕ) (at offset count : ℕ) → count ≡ cstd part →

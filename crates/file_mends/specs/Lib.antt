@@ -5,5 +5,7 @@ pub mod Rewritten
 pub mod SheetPlaces
 pub mod Slots
 pub mod SheetChanges
+pub mod Streams
+pub mod Stops
 pub mod Mends
 pub mod Lines

@@ -4,6 +4,7 @@ use Rattle.std.specs.Fmt.{decimal}
 use Rattle.fib_versions.specs.PartNames.{name_of_part}
 use Rattle.file_mends.specs.declared.mends.FileMend.{FileMend}
 use Rattle.file_mends.specs.declared.mends.FileMend.TheVariants.{LastSectorFilled, PartEmptied, StyleEmptied, StylesCut}
+use Rattle.file_mends.specs.declared.mends.FileMend.TheVariants.{StopsRead}
 
 -- how many bytes were missing
 abbrev pub sector_line : ℕ → List ℕ
@@ -21,8 +22,13 @@ emptied_style_line istd = codes "style " ++ (decimal istd ++ (codes ": emptied" 
 abbrev pub cut_styles_line : ℕ → List ℕ
 cut_styles_line istd = codes "styles " ++ (decimal istd ++ (codes ": cut" ++ 10 ∷ []))
 
+-- how many changes of tab stops are read
+abbrev pub stops_line : ℕ → List ℕ
+stops_line count = codes "stops " ++ (decimal count ++ (codes ": read" ++ 10 ∷ []))
+
 abbrev pub file_mend_line : FileMend → List ℕ
 file_mend_line (LastSectorFilled missing) = sector_line missing
 file_mend_line (PartEmptied n) = part_line n
 file_mend_line (StyleEmptied istd) = emptied_style_line istd
 file_mend_line (StylesCut istd) = cut_styles_line istd
+file_mend_line (StopsRead count) = stops_line count

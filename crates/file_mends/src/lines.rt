@@ -3,6 +3,7 @@ ghost use Rattle.std.specs.Prelude.{◌≡◌, ◌++◌, IfOk, OnOk};
 ghost use Rattle.std.specs.List.{flat_map};
 ghost use Rattle.file_mends.specs.Lines.{file_mend_line, part_line as line_of_part, sector_line as line_of_sector};
 ghost use Rattle.file_mends.specs.Lines.{emptied_style_line as line_of_style, cut_styles_line as line_of_styles};
+ghost use Rattle.file_mends.specs.Lines.{stops_line as line_of_stops};
 
 use crate::mends::FileMend;
 use doc_bits::{Memory, Text};
@@ -36,6 +37,7 @@ fn mend_line(alloc: Global, mend: &FileMend) -> Result<Text, Memory>
         FileMend::PartEmptied(pair) => part_line(alloc, *pair),
         FileMend::StyleEmptied(istd) => style_line(alloc, *istd),
         FileMend::StylesCut(istd) => styles_line(alloc, *istd),
+        FileMend::StopsRead(count) => stops_line(alloc, *count),
     }
 }
 
@@ -69,5 +71,13 @@ fn styles_line(alloc: Global, istd: usize) -> Result<Text, Memory>
     ensures { IfOk result (λ line. line ≡ line_of_styles istd) }
 {
     let line = format!(in alloc; "styles {istd}: cut\n")?;
+    Ok(Text::from_string(line))
+}
+
+/// The line of changes of tab stops that are read.
+fn stops_line(alloc: Global, count: usize) -> Result<Text, Memory>
+    ensures { IfOk result (λ line. line ≡ line_of_stops count) }
+{
+    let line = format!(in alloc; "stops {count}: read\n")?;
     Ok(Text::from_string(line))
 }

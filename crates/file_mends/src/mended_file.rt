@@ -93,7 +93,7 @@ impl MendedFile {
     }
 
     /// Another copy, with the mend that this is.
-    fn renew(&mut self, copy: Vec<u8>, mend: FileMend) -> Result<(), Memory>
+    pub fn renew(&mut self, copy: Vec<u8>, mend: FileMend) -> Result<(), Memory>
         ensures { OnOk result
             (self.new ≡ record { copy = Some copy.items; mends = self.old.mends ++ mend ∷ [] }) }
     {

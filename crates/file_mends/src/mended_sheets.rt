@@ -17,9 +17,9 @@ use std::alloc::Global;
 
 /// A copy of a file with a mend.
 #[derive(Drop)]
-pub(crate) struct MendedCopy {
-    pub(crate) mend: FileMend,
-    pub(crate) copy: Vec<u8>,
+pub struct MendedCopy {
+    pub mend: FileMend,
+    pub copy: Vec<u8>,
 }
 
 /// The copy of a file in which the slot of the style sheet is mended that breaks a rule at an offset of the table stream.

@@ -11,4 +11,6 @@ pub enum FileMend {
     StyleEmptied(usize),
     /// This style and all behind it are gone.
     StylesCut(usize),
+    /// So many changes of tab stops that delete none have the code that docbin reads.
+    StopsRead(usize),
 }

@@ -25,7 +25,7 @@ pub(crate) fn rewritten(
 }
 
 /// Puts byte `x` of a stream at its place, where the file has it.
-fn put_byte(file: &mut [u8], sectors: &[u32], x: usize, byte: u8)
+pub(crate) fn put_byte(file: &mut [u8], sectors: &[u32], x: usize, byte: u8)
     ensures { file.new ≡ with_byte file.old (place_of_byte sectors.now x) byte }
 {
     if let Some(sector) = sectors.get(x / SECTOR_LEN) {

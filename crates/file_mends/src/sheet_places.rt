@@ -1,17 +1,13 @@
 // Where the style sheet of a file is.
 ghost use Rattle.std.specs.Prelude.{◌≡◌, ◌<◌, ◌≤◌, ◌^◌, MatchOption, Some, length, slice_get};
 ghost use Rattle.cfb_streams.specs.Contents.{Stream};
-ghost use Rattle.fib_form.specs.Fib.{fib_pair, table_part};
 ghost use Rattle.file_mends.specs.SheetPlaces.{IsSheetAmong, IsSheetBy, IsSheetIn, IsSheetOf};
 ghost use Rattle.file_mends.specs.SheetPlaces.{SheetPlace as Sheet};
 
-use cfb_streams::{Container, equal_names, table_name, word_document};
-use doc_bits::{get16, get32};
-use fib_form::{EARLY_SIZE, F_WHICH_TBL_STM, FLAGS, RG_FC_LCB, bit_of};
+use crate::file_streams::{STSHF, part_begin, part_bytes, used_table};
+use cfb_streams::{Container, equal_names, word_document};
+use fib_form::EARLY_SIZE;
 use std::marker::Model;
-
-/// [MS-DOC] FibRgFcLcb97: the place of the pair of the style sheet.
-const STSHF: usize = RG_FC_LCB + 8;
 
 /// Where the style sheet begins in the table stream, its bytes, and the sectors of the table stream.
 #[derive(Drop)]
@@ -88,29 +84,15 @@ fn sheet_in<'a>(container: &'a Container, i: usize, wd: &[u8]) -> Option<SheetPl
         → ¬ IsSheetOf stream wd.now sheet)
         (IsSheetIn container.now wd.now) }
 {
-    let which = bit_of(get16(wd, FLAGS), F_WHICH_TBL_STM) as u8;
-    if !equal_names(container.name(i), table_name(which)) {
+    if !equal_names(container.name(i), used_table(wd)) {
         return None;
     }
     let Some(sectors) = container.chain(i) else {
         return None;
     };
-    let part = sheet_part(wd, container.bytes(i));
     Some(SheetPlace {
-        at: get32(wd, STSHF) as usize,
-        part,
+        at: part_begin(wd, STSHF),
+        part: part_bytes(wd, container.bytes(i), STSHF),
         sectors,
     })
-}
-
-/// The bytes of the style sheet, as far as they are in the table stream.
-fn sheet_part<'a>(wd: &[u8], table: &'a [u8]) -> &'a [u8]
-    requires { 900 ≤ length wd.now }
-    ensures part { result.now ≡ table_part wd.now table.now 1 }
-    ensures short { length result.now < 2 ^ 32 }
-{
-    let from = get32(wd, STSHF) as usize;
-    let to = from + get32(wd, STSHF + 4) as usize;
-    let end = to.min(table.len());
-    &table[from.min(end)..end]
 }

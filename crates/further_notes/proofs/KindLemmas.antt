@@ -34,7 +34,7 @@ kind_there text at attached is =
 
 -- ---- how many references are before an item
 
-one_counted : (kind : Option NoteKind) → count_by is_some (kind ∷ []) ≡ cond (is_some kind) 1 0
+pub one_counted : (kind : Option NoteKind) → count_by is_some (kind ∷ []) ≡ cond (is_some kind) 1 0
 one_counted kind =
     let one = sum_by-cons (λ (k : Option NoteKind). cond (is_some k) 1 0) kind [] in omega (arith, one)
 

@@ -5,3 +5,5 @@ mod FileLemmas
 mod FormLemmas
 mod SourceLemmas
 mod SpliceLemmas
+mod ReferLemmas
+mod StoryLemmas

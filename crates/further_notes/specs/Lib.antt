@@ -3,3 +3,4 @@ pub mod Forms
 pub mod Sources
 pub mod Splices
 pub mod Noted
+pub mod UnitsStay

@@ -11,6 +11,6 @@ mod sources;
 mod splicing;
 mod stories;
 
-pub use laws::splice_is_one;
+pub use laws::{splice_is_one, stories_are_held};
 pub use splicing::{Spliced, with_further_notes};
 pub use stories::NotedStories;

@@ -16,7 +16,8 @@ use Rattle.doc_model.specs.Marks.{HasFormedBookmarks}
 use Rattle.doc_patch.specs.Changes.{changed, all_changed, modified_item}
 use Rattle.doc_patch.specs.Makes.{CanMakeAll}
 use Rattle.doc_patch.specs.Places.{story_text, HasText, HasRange}
-use Rattle.doc_mends.proofs.Public.{length-map_range, texts_kept, range_kept}
+use Rattle.doc_mends.specs.UnitsStay.{units_of}
+use Rattle.doc_mends.proofs.Public.{length-map_range, modified_units, texts_kept, range_kept}
 use Rattle.huge_papx.specs.declared.rows.DefinedRow.{DefinedRow}
 use Rattle.huge_papx.specs.Rows.{row_set, defining}
 use Rattle.huge_papx.specs.Defined.{definition_change}
@@ -133,3 +134,14 @@ all_formed (row ∷ rows) document are formed =
     let rest = All-tail (IsRowOf document) row rows are in
     all_formed rows (changed (definition_change row) document) (rows_stay document row rows here rest)
     (one_formed document row here formed)
+
+-- ---- units stay
+
+pub all_units : (rows : List DefinedRow) (document : Document) (story : Story) → All (IsRowOf document) rows →
+    units_of (all_changed (map definition_change rows) document) story ≡ units_of document story
+all_units [] document story are = refl
+all_units (row ∷ rows) document story are =
+    let here = All-head (IsRowOf document) row rows are in
+    let rest = All-tail (IsRowOf document) row rows are in
+    all_units rows (changed (definition_change row) document) story (rows_stay document row rows here rest)
+    ∙ modified_units document row.story story row.at (row.at + 1) (defining row.cells) here.there

@@ -1,12 +1,13 @@
 -- A file that is accepted names no place of Data, so no row of its document gets cells.
-use Rattle.std.specs.Prelude.{IsTrue, slice_index, slice_index_or, slice_range, slice_get, MatchOption, is_some}
+use Rattle.std.specs.Prelude.{IsTrue, slice_index, slice_index_or, slice_range, slice_get, MatchOption, is_some, replicate}
 use Rattle.std.proofs.Common.{◌≡◌, ◌∙◌, sym, ap, subst, refl, inl, inr, ℕ, ◌+◌, ◌-◌, ◌<◌, ◌≤◌, ◌==◌, Bool, true, false, ◌||◌}
 use Rattle.std.proofs.Common.{List, [], ◌∷◌, ◌++◌, length, map, take, drop, get_or, Option, Some, None, arith}
 use Rattle.std.specs.Option.{option_and_then, unwrap_or}
 use Rattle.std.specs.FinMap.{empty}
 use Rattle.std.proofs.lemmas.Bool.{cases_lt, eqb-true}
 use Rattle.std.proofs.lemmas.Option.{slice_get-get_or}
-use Rattle.std.proofs.lemmas.List.{get_or-take, get_or-drop, get_or_past, length-map, length-take, drop-take, drop-drop}
+use Rattle.std.proofs.lemmas.List.{get_or-take, get_or-drop, get_or-replicate, get_or_past}
+use Rattle.std.proofs.lemmas.List.{length-map, length-replicate, length-take, drop-take, drop-drop}
 use Rattle.doc_bits.specs.Rules.{Nowhere}
 use Rattle.doc_bits.specs.declared.places.Story.{Story}
 use Rattle.doc_bits.specs.declared.places.Story.TheVariants.{Main}
@@ -51,7 +52,8 @@ use Rattle.huge_papx.specs.Lists.{is_sought, last_value, HasLastValue}
 use Rattle.huge_papx.specs.Definitions.{IsDefinitionOf, AreDefinitions}
 use Rattle.huge_papx.specs.Offsets.{NamesOffset, IsNamedAt, IsOffsetOf}
 use Rattle.huge_papx.specs.Rows.{row_with, item_mark_at, defined_row_at, text_rows, texts_rows, document_rows}
-use Rattle.huge_papx.specs.Defined.{definition_change, definition_mend, most_defined}
+use Rattle.huge_papx.specs.Data.{data_of}
+use Rattle.huge_papx.specs.Defined.{definition_change, definition_mend, most_defined, AreRowsOf}
 use Rattle.huge_papx.specs.Texts.{AreTextOffsets, IsDefinedText, IsStruckDefined}
 use Rattle.huge_papx.proofs.OffsetLemmas.{bare_names_none}
 
@@ -231,6 +233,27 @@ rows_none begins found document none =
     let notes = texts_none Notes (drop begins.notes found) document.notes (back_none found begins.notes none) in
     let heads = texts_none Heads (drop begins.heads found) document.heads (back_none found begins.heads none) in
     λ i. main i ++ (notes i ++ heads i)
+
+-- where no place is named, no row gets cells
+pub no_row_of : (begins : StoryBegins) (offsets : List (Option ℕ)) (document : Document) → AreNone offsets →
+    AreRowsOf begins offsets document []
+no_row_of begins offsets document none =
+    let found : List (Option RowDefinition) = replicate (length offsets) None in
+    let size : length found ≡ length offsets = length-replicate (length offsets) None in
+    let nothing : AreNone found = λ k. elim (cases_lt k (length offsets)) [
+      | inl low ↦ get_or-replicate (length offsets) k None None low
+      | inr past ↦ get_or_past found k None (omega (arith, past, size))
+    ] in
+    record {
+      definitions = found;
+      are = record {
+        len = size;
+        each = λ k low.
+            subst (λ (o : Option ℕ). IsDefinitionOf (data_of document.carried.streams) o (slice_index_or found k None))
+            (sym (none k)) (nothing k);
+      };
+      rows_are = sym (rows_none begins found document nothing);
+    }
 
 defined_none : (r : RightText) (before after : Document) (mends : List Mend) →
     IsDefinedText r.text before after mends → (after ≡ before) × (mends ≡ [])

@@ -5,4 +5,4 @@ pub use Rattle.huge_papx.proofs.NoneLemmas.{struck_defined_none}
 -- A document is struck, and its rows get their cells, in one way.
 pub use Rattle.huge_papx.proofs.OneLemmas.{struck_defined_one}
 -- What a text whose rows got their cells keeps.
-pub use Rattle.huge_papx.proofs.TextLemmas.{struck_defined_formed}
+pub use Rattle.huge_papx.proofs.TextLemmas.{struck_defined_formed, struck_defined_units}

@@ -1,5 +1,5 @@
 // Rows of a document get the cells that Data has for them.
-ghost use Rattle.std.specs.Prelude.{◌≡◌, map, take, All, IfOk};
+ghost use Rattle.std.specs.Prelude.{◌≡◌, ℕ, false, None, slice_index_or, map, take, All, IfOk};
 ghost use Rattle.doc_bits.specs.Number.{AreBytes};
 ghost use Rattle.huge_papx.specs.Defined.{definition_change, definition_mend, AreRowsOf, IsDefined, IsStruckThenDefined};
 
@@ -65,10 +65,35 @@ fn rows_in(
 ) -> Result<Vec<DefinedRow>, Memory>
     ensures { IfOk result (λ rows. AreRowsOf begins offsets.now document.now rows.items) }
 {
+    if !names_some(offsets) {
+        return Ok(Vec::new(alloc));
+    }
     let stream = data_of(&document.carried.streams);
     let definitions = definitions_at(alloc, stream, offsets)?;
     let rows = document_rows(alloc, document, begins, &definitions)?;
     Ok(rows)
+}
+
+/// Whether one of the places is named.
+fn names_some(offsets: &[Option<u32>]) -> bool
+    ensures { result ≡ false → (k : ℕ) → slice_index_or offsets.now k None ≡ None }
+{
+    for k in 0..offsets.len() {
+        if is_named(offsets[k]) {
+            return true;
+        }
+    }
+    false
+}
+
+/// Whether a place is named.
+fn is_named(offset: Option<u32>) -> bool
+    ensures { result ≡ false → offset ≡ None }
+{
+    match offset {
+        None => false,
+        Some(_) => true,
+    }
 }
 
 /// The first so many rows.

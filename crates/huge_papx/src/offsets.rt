@@ -1,5 +1,6 @@
 // Which ends of cells and rows name a place of Data where their properties are.
-ghost use Rattle.std.specs.Prelude.{◌≡◌, ◌↔◌, ℕ, List, drop, slice_index, IsTrue, IfOk, MatchOption};
+ghost use Rattle.std.specs.Prelude.{◌≡◌, ◌≢◌, ◌↔◌, ◌+◌, ◌^◌, ◌<◌, ◌≤◌, ◌++◌, ℕ, List, None, length, replicate, drop};
+ghost use Rattle.std.specs.Prelude.{slice_index, IsTrue, IfOk, OnOk, MatchOption};
 ghost use Rattle.text_codes.specs.Paragraph.{cell_mark};
 ghost use Rattle.fkp_pages.specs.declared.kind.PageKind.TheVariants as kinds;
 ghost use Rattle.fkp_pages.specs.Bin.{IsBinTable};
@@ -47,11 +48,37 @@ fn offsets_of(
     let mut offsets = Vec::with_capacity(alloc, places.len())?;
     let mut left = places.skip(0);
     while left.len() > 0 {
+        let bare = bare_len(units, offsets.len(), left.len() - 1);
+        let rest = left.skip(bare);
+        add_nothing(&mut offsets, bare)?;
         let unit = unit_at(units, offsets.len());
-        offsets.push(offset_of(wd, bin, left.first(), unit))?;
-        left = left.skip(1);
+        offsets.push(offset_of(wd, bin, rest.first(), unit))?;
+        left = rest.skip(1);
     }
     Ok(offsets)
+}
+
+/// How many units from a place on, at most so many, end no cell and no row, up to the first that does.
+fn bare_len(units: &[u16], from: usize, most: usize) -> usize
+    requires { from + most < 2 ^ 32 }
+    ensures within { result ≤ most }
+    ensures bare { (k : ℕ) → k < result → slice_index units.now (from + k) ≢ cell_mark }
+{
+    for k in 0..most {
+        if ends_cell(unit_at(units, from + k)) {
+            return k;
+        }
+    }
+    most
+}
+
+/// Appends so many places of Data that are not named.
+fn add_nothing(offsets: &mut Vec<Option<u32>>, count: usize) -> Result<(), Memory>
+    requires { length offsets.old.items + count < 2 ^ 32 }
+    ensures { OnOk result (offsets.new.items ≡ offsets.old.items ++ replicate count None) }
+{
+    offsets.resize(offsets.len() + count, None)?;
+    Ok(())
 }
 
 /// The unit of a number, or 0.

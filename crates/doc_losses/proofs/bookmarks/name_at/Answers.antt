@@ -1,4 +1,4 @@
-use Rattle.std.proofs.Common.{◌≡◌, rules, ℕ, ◌+◌, ◌*◌}
+use Rattle.std.proofs.Common.{rules, ℕ, ◌+◌, ◌*◌}
 use Rattle.doc_bits.specs.Number.{u16_at}
 use Rattle.doc_parts.specs.Tabulated.{tabulate}
 use Rattle.doc_parts.proofs.Public.{tabulate-next}

@@ -1,8 +1,7 @@
-use Rattle.std.proofs.Common.{◌≡◌, rules, arith}
+use Rattle.std.proofs.Common.{rules}
 use Rattle.doc_bits.specs.Plc.{plc_cp}
 use Rattle.doc_parts.specs.Tabulated.{tabulate}
 use Rattle.doc_parts.proofs.Public.{tabulate-next}
-use Rattle.doc_losses.proofs.CpLemmas.{cp_room}
 use Rattle.doc_losses.proofs.cps.table_cps.Goals as goal
 
 pub loop-k-init : goal.loop-k-init

@@ -1,4 +1,4 @@
-use Rattle.std.proofs.Common.{◌≡◌, ◌∙◌, ap, sym, rules, ◌++◌, ℕ, [], ◌∷◌, List, append_assoc, Option, Some, None, slice_get, get_or}
+use Rattle.std.proofs.Common.{◌≡◌, ◌∙◌, ap, sym, rules, ◌++◌, ℕ, [], ◌∷◌, List, append_assoc, Option, None, slice_get, get_or}
 use Rattle.std.specs.Option.{unwrap_or}
 use Rattle.std.specs.List.{filter_map}
 use Rattle.std.proofs.lemmas.Option.{unwrap_or-slice_get}

@@ -1,10 +1,10 @@
-use Rattle.std.proofs.Common.{◌≡◌, ◌∙◌, ◌≤◌, ◌<◌, ap, sym, subst, arith, length, map, ℕ, List, [], ◌∷◌, ◌++◌, Option, Some, slice_get}
+use Rattle.std.proofs.Common.{◌≡◌, ◌∙◌, ◌≤◌, ap, sym, subst, arith, length, map, ℕ, List, [], ◌∷◌, ◌++◌, Option, Some, slice_get}
 use Rattle.std.specs.Prelude.{slice_index}
 use Rattle.std.proofs.lemmas.List.{length-map}
 use Rattle.std.proofs.lemmas.Option.{slice_get-get_or}
 use Rattle.fib_versions.specs.declared.further.Further.{Further}
 use Rattle.doc_model.specs.declared.item.Item.{Item}
-use Rattle.run_lists.specs.Spread.{expanded, total_len}
+use Rattle.run_lists.specs.Spread.{total_len}
 use Rattle.run_lists.specs.Places.{IsAtRunBegin}
 use Rattle.run_lists.specs.declared.cursor.Cursor.{Cursor}
 use Rattle.run_lists.proofs.Public.{extent-nil, length-spread}

@@ -1,4 +1,5 @@
 use Rattle.std.proofs.Common.{◌≡◌, ◌∙◌, ◌++◌, ap, sym, subst, List, map, append_assoc}
+use Rattle.std.proofs.lemmas.List.{append-nil}
 use Rattle.doc_model.specs.declared.document.Document.{Document}
 use Rattle.doc_model.specs.Marks.{HasFormedBookmarks}
 use Rattle.doc_losses.specs.References.{Names, references}
@@ -9,6 +10,7 @@ use Rattle.doc_mends.specs.Cuts.{references_cut}
 use Rattle.doc_mends.specs.Ends.{with_ends, open_stories}
 use Rattle.doc_mends.specs.Mending.{mended_in_place, mends_in_place, mends_of_texts}
 use Rattle.doc_mends.proofs.BookmarkLemmas.{placed_formed}
+use Rattle.doc_mends.proofs.SoundLemmas.{right_stays}
 use Rattle.doc_mends.proofs.mending.mend.Goals as goal
 
 pub cut_references-requires : goal.cut_references-requires
@@ -16,6 +18,20 @@ cut_references-requires c =
     subst HasFormedBookmarks (sym c.in_ok-placed.ensures.document)
     (placed_formed c.args.document.now c.drop_bases.new.document c.in_ok-mends.mends.items c.requires
     c.in_ok-mends.ensures.ok)
+
+pub returns-then-right-clause-ok : goal.returns-then-right-clause-ok
+returns-then-right-clause-ok c =
+    let based : Document = c.drop_bases.new.document in
+    let bases : List Mend = c.in_ok-mends.mends.items in
+    let right = c.in_ok-right.ensures c.if-right.true in
+    let stays = right_stays (names_of_marks c.args.marks.now) based right.0 right.1 in
+    record {
+      based = based;
+      bases = bases;
+      drops = c.in_ok-mends.ensures.ok;
+      document_is = stays.0;
+      mends_are = sym (append-nil bases) ∙ ap (λ (l : List Mend). bases ++ l) (sym stays.1);
+    }
 
 pub returns-clause-ok : goal.returns-clause-ok
 returns-clause-ok c =

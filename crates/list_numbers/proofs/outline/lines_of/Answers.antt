@@ -3,9 +3,9 @@ use Rattle.std.proofs.Common.{length, slice_index_or, arith, length-take}
 use Rattle.std.specs.Prelude.{slice_range, map}
 use Rattle.std.proofs.lemmas.List.{take_at}
 use Rattle.std.proofs.lemmas.Option.{slice_get-get_or, slice_get_within}
-use Rattle.plain_doc.specs.declared.item.Item.{Item}
-use Rattle.plain_doc.specs.declared.document.Document.{Document}
-use Rattle.plain_doc.specs.Paragraphs.{IsParagraphEnd}
+use Rattle.doc_model.specs.declared.item.Item.{Item}
+use Rattle.doc_model.specs.declared.document.Document.{Document}
+use Rattle.doc_model.specs.Paragraphs.{IsParagraphEnd}
 use Rattle.doc_columns.specs.Attached.{attached_of}
 use Rattle.doc_columns.proofs.Public.{start_at, column_long, begins_at_start}
 use Rattle.list_numbers.specs.MarkValues.{no_values}

@@ -1,5 +1,5 @@
 use Rattle.std.proofs.Common.{◌≡◌, subst}
-use Rattle.plain_doc.specs.declared.document.Document.{Document}
+use Rattle.doc_model.specs.declared.document.Document.{Document}
 use Rattle.list_numbers.specs.Places.{paragraphs}
 use Rattle.list_numbers.specs.Numbers.{AreFit, numbers_of}
 use Rattle.list_numbers.specs.Outline.{outline_of}
