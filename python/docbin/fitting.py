@@ -42,6 +42,7 @@ _FORMS = {
     "bookmark": r"(?P<name>.*) (?P<begin>\d+) (?P<end>\d+)",
     "sheet": r"(?P<bytes>\d+)",
     "sector": r"(?P<bytes>\d+): (?P<made>.*)",
+    "stops": r"(?P<count>\d+): (?P<made>read)",
     "style": r"(?P<style>\d+): (?P<made>emptied)",
     "styles": r"(?P<style>\d+): (?P<made>cut)",
     "base": r"(?P<style>\d+)",
